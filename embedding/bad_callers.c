@@ -1,5 +1,5 @@
-/* Callers that hand over nonsense within the types: each has to get a status, and no memory may be touched that is not
- * theirs, which valgrind watches. Link with -Wl,--wrap=malloc,--wrap=realloc, by which memory is refused here. */
+/* Callers with bad arguments of the right types: each has to get a status, and no foreign memory may be touched, which
+ * valgrind tests. Link with -Wl,--wrap=malloc,--wrap=realloc, which lets allocations fail here. */
 #include <stdio.h>
 #include <stdlib.h>
 #include <string.h>
@@ -18,12 +18,12 @@ static int failures;
 
 #define COUNT(array) (sizeof(array) / sizeof *(array))
 
-/* ---- an allocator that refuses ---- */
+/* ---- an allocator that fails ---- */
 
-static long until_refusal = -1; /* so many requests are met, and then none; below 0 all are */
+static long until_refusal = -1; /* how many requests succeed before all fail; below 0 none fails */
 static long requests;
 
-/* More than this no caller here can want: words may name a group of a great number, whose marks take that much. */
+/* No test needs more at once: bytecode may name a group of a great number, whose captures take that much. */
 #define MOST_BYTES ((size_t)1 << 26)
 
 static bool is_refused(size_t size) {
@@ -39,7 +39,7 @@ void *__wrap_realloc(void *old, size_t size);
 void *__wrap_malloc(size_t size) { return is_refused(size) ? NULL : __real_malloc(size); }
 void *__wrap_realloc(void *old, size_t size) { return is_refused(size) ? NULL : __real_realloc(old, size); }
 
-/* ---- what is asked ---- */
+/* ---- codes and requests ---- */
 
 /* (\w+)=(\d+) */
 static const uint32_t setting[] = {14, 4, 0,  3,  4294967295, 17, 0, 24, 9, 1, 4294967295, 13, 4, 8, 14, 0, 1, 17,
@@ -53,7 +53,7 @@ static const uint32_t referring[] = {14, 4, 0, 1, 4294967295, 23, 13, 0, 4294967
 
 static sre_table ascii = SRE_ASCII;
 
-/* Words in memory of just their size, so that a read past them is seen; the caller frees them. */
+/* A copy of bytecode in a block of just its size, so that valgrind sees a read past it; the caller frees it. */
 static sre_code code_of(const uint32_t *words, size_t count) {
   uint32_t *copy = __real_malloc(count * sizeof *copy + !count * sizeof *copy);
   memcpy(copy, words, count * sizeof *copy);
@@ -62,14 +62,14 @@ static sre_code code_of(const uint32_t *words, size_t count) {
 
 static void let_go(sre_code *code) { free((void *)code->words); }
 
-static const sre_asked anywhere = {.end = SIZE_MAX, .turns = UINT64_MAX, .search = true};
+static const sre_asked anywhere = {.end = SIZE_MAX, .steps = UINT64_MAX, .search = true};
 
 static uint32_t answer(const sre_code *code, const char *text, const sre_asked *asked, sre_found *found, size_t *marks,
                        size_t room) {
   return sre_answer_bytes(code, (const uint8_t *)text, strlen(text), asked, found, marks, room);
 }
 
-/* ---- windows and turns ---- */
+/* ---- ranges and step limits ---- */
 
 static void windows(void) {
   static const size_t places[] = {0, 1, 5, 6, 7, SIZE_MAX / 2, SIZE_MAX - 1, SIZE_MAX};
@@ -84,7 +84,7 @@ static void windows(void) {
         sre_walked walked = {0};
         uint32_t told = answer(&code, text, &asked, &found, marks, 4);
         CHECK(told == SRE_YES || told == SRE_NO);
-        /* by the model: the runs of letters end at 2, those of digits at 6; no window but these has a match */
+        /* by the specification: the letters end at 2, the digits at 6; no other range has a match */
         bool begins = places[s] == 0 || places[s] == 1, ends = places[e] >= 5;
         CHECK((told == SRE_YES) == (begins && ends));
         CHECK(told == SRE_NO || (found.start == places[s] && found.end == (places[e] < 6 ? places[e] : 6)));
@@ -95,17 +95,17 @@ static void windows(void) {
   let_go(&code);
 }
 
-static void no_turns(void) {
+static void no_steps(void) {
   sre_code code = code_of(setting, COUNT(setting));
   sre_asked asked = anywhere;
-  asked.turns = 0;
+  asked.steps = 0;
   sre_found found = {0};
   size_t marks[4], rows[7];
   sre_walked walked = {.count = 9};
-  CHECK(answer(&code, "a=1", &asked, &found, marks, 4) == SRE_USED_UP);
-  CHECK(found.turns == 0);
-  CHECK(sre_walk_bytes(&code, (const uint8_t *)"a=1", 3, &asked, 7, rows, 7, &walked) == SRE_USED_UP);
-  CHECK(walked.count == 0 && walked.turns == 0 && walked.start == 0);
+  CHECK(answer(&code, "a=1", &asked, &found, marks, 4) == SRE_STEP_LIMIT);
+  CHECK(found.steps == 0);
+  CHECK(sre_walk_bytes(&code, (const uint8_t *)"a=1", 3, &asked, 7, rows, 7, &walked) == SRE_STEP_LIMIT);
+  CHECK(walked.count == 0 && walked.steps == 0 && walked.start == 0);
   let_go(&code);
 }
 
@@ -133,15 +133,15 @@ static void no_room(void) {
   let_go(&code);
 }
 
-/* ---- words ---- */
+/* ---- bytecode ---- */
 
-/* A check and an answer agree on words, whatever these are, and so do an answer that rests on the check and one that
- * checks the words itself. */
+/* A check and an answer agree on any bytecode, and so do an answer over checked bytecode and one that checks it
+ * itself. */
 static uint32_t agreed(sre_code *code) {
   sre_found found, again;
   size_t marks[8], marks_again[8], room = COUNT(marks);
   sre_asked asked = anywhere;
-  asked.turns = 10000;
+  asked.steps = 10000;
   uint32_t checked = sre_check_code(code), told;
   CHECK(checked == SRE_YES || (checked == SRE_NO_CODE && code->place <= code->words_count && code->error > 1));
   CHECK(code->checked == (checked == SRE_YES));
@@ -151,7 +151,7 @@ static uint32_t agreed(sre_code *code) {
   code->checked = false;
   CHECK(answer(code, "xxab=12y", &asked, &again, marks_again, room) == told);
   if (told == SRE_YES) {
-    CHECK(found.start == again.start && found.end == again.end && found.turns == again.turns);
+    CHECK(found.start == again.start && found.end == again.end && found.steps == again.steps);
     CHECK(memcmp(marks, marks_again, found.marks * sizeof *marks) == 0);
   }
   return checked;
@@ -213,7 +213,7 @@ static void no_utf8(void) {
   let_go(&code);
 }
 
-/* Code points that are none, and surrogates, are characters as any other. */
+/* Numbers that are no code points, and surrogates, are characters like any other. */
 static void no_points(void) {
   static const uint32_t points[] = {0xD800, 0xDFFF, 0x110000, UINT32_MAX, 'a', '=', '1'};
   static const uint16_t units[] = {0xD800, 0xDFFF, 0xFFFF, 'a', '=', '1'};
@@ -253,7 +253,7 @@ static void faulty_tables(void) {
 
 /* ---- memory ---- */
 
-/* Each request in turn is refused, with all behind it: the call says so, or answers as it does with all of them. */
+/* Each allocation in turn fails, and all after it: the call reports that, or returns the same as without failures. */
 static void refused(const uint32_t *words, size_t count, const char *text, bool is_checked) {
   sre_code code = code_of(words, count);
   if (is_checked)
@@ -302,7 +302,7 @@ static void no_memory(void) {
 int main(void) {
   CHECK(sre_check_table(&ascii) == SRE_YES);
   windows();
-  no_turns();
+  no_steps();
   no_room();
   no_code();
   no_utf8();

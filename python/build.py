@@ -135,7 +135,7 @@ def build_package(folder, library, python):
     if facts is None:
         return None
     into = f"{folder}/gaffsilver"
-    shutil.copytree(f"{HERE}/gaffsilver", into, ignore=shutil.ignore_patterns("__pycache__"))
+    shutil.copytree(f"{HERE}/gaffsilver", into, ignore=shutil.ignore_patterns("__pycache__"), dirs_exist_ok=True)
     shutil.copyfile(f"{library}/libsre_c.so", f"{into}/libsre_c.so")
     lack = lack_of_extension(facts)
     if lack:
@@ -207,6 +207,11 @@ def main(words):
         if not given.library:
             build_library(room, given.archive)
         library = os.path.realpath(given.library or room)
+        lacking = [it for it in ("libsre_c.a", "libsre_c.so", "sre.h") if not os.path.isfile(f"{library}/{it}")]
+        if lacking:
+            lacks = " and no ".join(lacking)
+            print(f"build.py: {library} has no {lacks}: `build.py library` makes such a folder", file=sys.stderr)
+            return 1
         if given.what == "package":
             return int(build_package(given.folder, library, pythons[0]) is None)
         made = [build_wheel(given.folder, library, it) for it in pythons]
@@ -215,5 +220,21 @@ def main(words):
     return int(None in made)
 
 
+def guarded(words):
+    """The status of `main`; after a fault of the system one line, and 1."""
+    try:
+        return main(words)
+    except subprocess.CalledProcessError as error:
+        line = f"{error.cmd[0]} ended with status {error.returncode}"
+    except OSError as error:
+        line = f"{error.filename}: {error.strerror}" if error.filename else str(error)
+        if error.filename == "rt":
+            line = "there is no rt on the path: the Rattle kit has it; without a kit, name a library by --library"
+    except KeyboardInterrupt:
+        line = "interrupted"
+    print(f"build.py: {line}", file=sys.stderr)
+    return 1
+
+
 if __name__ == "__main__":
-    sys.exit(main(sys.argv[1:]))
+    sys.exit(guarded(sys.argv[1:]))

@@ -1,4 +1,4 @@
-// Calls each export of `sre_c`, since a program keeps only what it calls (`tools/unproved.py`).
+// Calls each export of `sre_c`, since a program contains only what it calls (`tools/unproved.py`).
 fn main(rt: HostRuntime) -> Result<(), std::alloc::AllocError> {
     let alloc = rt.alloc();
     let mut table = SreTable {
@@ -34,7 +34,7 @@ fn main(rt: HostRuntime) -> Result<(), std::alloc::AllocError> {
     let asked = SreAsked {
         start: 0,
         end: 0,
-        turns: 0,
+        steps: 0,
         search: false,
         match_all: false,
         must_advance: false,
@@ -45,13 +45,13 @@ fn main(rt: HostRuntime) -> Result<(), std::alloc::AllocError> {
         end: 0,
         last_index: 0,
         marks: 0,
-        turns: 0,
+        steps: 0,
     };
     let mut walked = SreWalked {
         count: 0,
         start: 0,
-        turns: 0,
-        step_turns: 0,
+        steps: 0,
+        steps_before: 0,
         must_advance: false,
     };
     let mut rows = [0; 2];

@@ -1,39 +1,48 @@
 #!/usr/bin/env python3
-"""Runs the callers that README.md, docs/CALLING.md, docs/DEPENDING.md and the pages of examples show, as a reader who
-copies them would.
+"""Runs the callers and commands that README.md, docs/CALLING.md, docs/PROGRAM.md and the pages of examples show, as a
+reader who copies them would.
 
-    callers.py [--prove] [NAME ..]     those of these names; with no name all of them
+    callers.py [--prove] [NAME ..]     those of these names; with no name all of them, and the commands
+    callers.py --names                 lists the names
 
-A caller is a whole program: a block of Rust that begins with its head comment. In front of it the page names it, and
-what it lists in `crates.txt`; behind it stands what it writes, and what it reads where the page hands it lines. The
-other blocks of Rust of a section are one caller, too, by the section's name, as `Recipes`: their functions and lines
-are put into a program with a table, a code for `(\\w+)=(\\d+)`, an allocator, a text and an error type. Each is put
-beside the crates of a copy of the repository, where `rt try` builds and runs it, and proves nothing; with --prove
-`rt run` proves it first. Where the page shows what that writes, it has to write the same. The status is 1 where it does
-not, or does not end well, or where no caller has a name.
+A caller is a whole program: a block of Rust that begins with its head comment. Above it the page has its name and what
+it lists in `crates.txt`; below it is its output, and its input where the page gives one. The other blocks of Rust of a
+section are one caller, too, by the section's name, as `Recipes`: their functions and lines are put into a program with
+a table, a code for `(\\w+)=(\\d+)`, an allocator, a text and an error type. Each is put beside the crates of a copy of
+the repository, where `rt try` builds and runs it, and proves nothing; with --prove `rt run` proves it first. If the
+page shows output, the caller has to print the same. A command is a line `$ python3.11 tools/words.py ..` with its
+output; it is run if that Python, and the program that it names, are found. So is `python3 tools/words.py --try ..`,
+whose status has to be 0. The status is 1 if one of them fails.
 """
 import collections
 import os
 import re
+import shlex
 import shutil
 import subprocess
 import sys
 import tempfile
 
-from repository import ROOT, read, write
+from embedding import found_pythons
+from ending import ended
+from repository import ROOT, read, row_of, write
 
-PAGES = ("README.md", "docs/CALLING.md", "docs/DEPENDING.md",
+PAGES = ("README.md", "docs/CALLING.md",
          *sorted(f"examples/{it}" for it in os.listdir(f"{ROOT}/examples") if it.endswith(".md")))
+COMMAND_PAGES = ("README.md", "docs/CALLING.md", "docs/PROGRAM.md")
 
 # A line of crates.txt as a page gives it, by itself or in a sentence.
 LISTED = re.compile(r"(?:^|(?<=`))(\w+):\s+(sre_\w+(?:\s+\w+)*)(?=$|`)", re.M)
 BLOCK = re.compile(r"(?ms)^```(\w*)\n(.*?)^```$")
+COMMAND = re.compile(r"^\$ (python3\.11) (tools/words\.py .*)\n((?:(?!\$ ).*\n)*)", re.M)
+TRIED = re.compile(r"^python3 (tools/words\.py --try .*)$", re.M)
+PROGRAM = "crates/sre_cases/out/sre_cases"
 
-# Where a line of a part belongs: what is used, an item, or what is done.
+# Where a line of a part belongs: a `use`, an item, or the rest.
 USE = re.compile(r"use .*?;\n", re.S)
 ITEM = re.compile(r"mod \w+;\n|(?://.*\n|#.*\n)*(?:pub )?(?:fn|struct|enum|const|static)\b(?:.*;|(?s:.*?)\n[}\]];?)\n")
 
-# What stands round the parts of a section. Of the names that they use too, each is used once.
+# What surrounds the parts of a section. A name that they use as well is used once.
 USES = """use sre_engine::{Code, CodeError, Request, SearchIter, SreError, State, UniError, UniTable};
 use std::alloc::{AllocError, Global};
 use std::io;
@@ -78,7 +87,7 @@ EMITS = """
     #[error("emit: {0}")]
     Emit(#[from] sre_emit::EmitError),"""
 
-# A program of a page: its name, what it lists, its source, and the lines that it is said to write, and that it reads.
+# A program of a page: its name, what it lists, its source, the output that the page shows, and the input.
 Caller = collections.namedtuple("Caller", "name listed source written read")
 
 
@@ -121,43 +130,85 @@ def callers_of(page):
 
 
 def put(caller, folder):
-    """Writes a caller's crate into a copy of the repository, and gives its folder."""
+    """Writes a caller's crate into a copy of the repository, and returns its folder. It replaces a crate of that name,
+    such as one that a reader made of the page."""
     name = re.sub(r"\W+", "_", caller.name).lower()
+    shutil.rmtree(f"{folder}/crates/{name}", ignore_errors=True)
     os.makedirs(f"{folder}/crates/{name}/src")
     write(f"{folder}/crates/{name}/src/main.rt", caller.source)
     if "mod unicode;" in caller.source:
         with open(f"{folder}/crates/{name}/src/unicode.rt", "wb") as file:
             subprocess.run([sys.executable, f"{ROOT}/tools/unicode.py"], stdout=file, check=True)
-    write(f"{folder}/crates.txt", read(f"{folder}/crates.txt") + " ".join([f"{name}:", *caller.listed.split()]) + "\n")
+    rows = [it for it in read(f"{folder}/crates.txt").splitlines() if row_of(it)[0] != name]
+    write(f"{folder}/crates.txt", "\n".join([*rows, " ".join([f"{name}:", *caller.listed.split()])]) + "\n")
     return f"{folder}/crates/{name}"
 
 
 def answers(caller, folder, command):
-    """Runs a caller in a copy of the repository, and says whether it writes what it should."""
+    """Runs a caller in a copy of the repository, and returns whether it prints what the page shows."""
     how = {"capture_output": True, "encoding": "utf-8"}
     ran = subprocess.run(["rt", command], cwd=put(caller, folder), input=caller.read, **how)
     if ran.returncode:
         print(f"{caller.name}: status {ran.returncode}\n{ran.stdout}{ran.stderr}", end="")
         return False
     if caller.written not in (None, ran.stdout):
-        print(f"{caller.name}: the page shows\n{caller.written}and it writes\n{ran.stdout}", end="")
+        print(f"{caller.name}: the page shows\n{caller.written}and it prints\n{ran.stdout}", end="")
         return False
-    print(f"{caller.name}: {'runs' if caller.written is None else 'writes what the page shows'}\n{ran.stdout}", end="")
+    print(f"{caller.name}: {'runs' if caller.written is None else 'prints what the page shows'}\n{ran.stdout}", end="")
+    return True
+
+
+def commands():
+    """The commands of the pages that words.py answers: each with its words, and the output that the page shows."""
+    for page in COMMAND_PAGES:
+        for language, block in BLOCK.findall(read(f"{ROOT}/{page}")):
+            if language == "sh":
+                yield from ((it[1], shlex.split(it[2], comments=True), it[3]) for it in COMMAND.finditer(block))
+                yield from (("python3.11", shlex.split(it, comments=True), None) for it in TRIED.findall(block))
+
+
+def command_answers(python, words, written):
+    """Runs a command of a page, and returns whether it prints what the page shows."""
+    shown = " ".join(words)
+    found = found_pythons()[0].get(python.removeprefix("python"))
+    if not found or PROGRAM in words and not os.path.isfile(f"{ROOT}/{PROGRAM}"):
+        print(f"{shown}: not tried, as there is no {python if not found else PROGRAM}")
+        return True
+    with tempfile.TemporaryDirectory() as room:
+        words = [it.replace("/tmp", room) for it in words]
+        with open(f"{room}/table", "wb") as file:
+            subprocess.run([found, f"{ROOT}/tools/unicode.py", "--lines"], stdout=file, check=True)
+        ran = subprocess.run([found, *words], cwd=ROOT, capture_output=True, encoding="utf-8")
+    if ran.returncode or written not in (None, ran.stdout):
+        print(f"{shown}: the page shows\n{written}and it prints\n{ran.stdout}{ran.stderr}", end="")
+        return False
+    print(f"{shown}: {'runs' if written is None else 'prints what the page shows'}")
     return True
 
 
 def main(names):
     command, names = ("run", names[1:]) if names[:1] == ["--prove"] else ("try", names)
     found = {it.name: it for page in PAGES for it in callers_of(page)}
-    if not set(names) <= set(found):
+    if names == ["--help"]:
         print(__doc__.strip())
-        return 1
+        return 0
+    if names == ["--names"]:
+        print(*found, sep="\n")
+        return 0
+    unknown = [it for it in names if it not in found]
+    if unknown:
+        print(f"callers.py: no caller is named {', '.join(unknown)}; --names lists them", file=sys.stderr)
+        return 2
+    if not shutil.which("rt"):
+        print("callers.py: there is no rt on the path: the Rattle kit has it", file=sys.stderr)
+        return 2
+    held = [] if names else [command_answers(*it) for it in commands()]
     with tempfile.TemporaryDirectory() as folder:
         shutil.copytree(f"{ROOT}/crates", f"{folder}/crates", ignore=shutil.ignore_patterns("out"))
         shutil.copy(f"{ROOT}/crates.txt", folder)
-        told = [answers(found[it], folder, command) for it in names or found]
-    return 0 if all(told) else 1
+        held += [answers(found[it], folder, command) for it in names or found]
+    return 0 if all(held) else 1
 
 
 if __name__ == "__main__":
-    sys.exit(main(sys.argv[1:]))
+    sys.exit(ended(main, sys.argv[1:]))

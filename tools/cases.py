@@ -28,6 +28,7 @@ import subprocess
 import sys
 import tempfile
 
+import bounds
 import finders
 import hostile
 import large
@@ -197,6 +198,7 @@ class Cases:
         whole = [f"{ROOT}/{it}" for it in ("crates/sre_cases/cases", "examples")]
         lines = [it.decode() for folder in whole for it in lines_of(folder)]
         self.made("sre_probes", "cases by finders", lambda it: finders.agree(it, lines, self.tell))
+        self.made("sre_probes", "step bounds of random patterns", lambda it: bounds.held(it, 1000, 7, self.tell))
         self.made("sre_probes", "large lines", lambda it: large.are_answered(it, large.probes, self.tell))
 
 

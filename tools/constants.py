@@ -1,10 +1,11 @@
-"""Words of patterns as constants of a Rust file, with the numbers of their named groups, in the layout of `rt fmt`."""
+"""Bytecode of patterns as constants of a Rust file, with the numbers of named groups, in the layout of `rt fmt`."""
 import re
 import sys
 import textwrap
 
 # The columns that `rt fmt` gives a line at most, a row where there are several, and a list on the line of its head.
 COLUMNS, ROW_COLUMNS, LIST_COLUMNS = 100, 99, 60
+SHOWN = 92  # of a pattern, in a comment
 INDENT = ' ' * 4
 NAME = re.compile('[A-Z][A-Z0-9_]{0,47}')
 
@@ -21,22 +22,27 @@ def listed(head, values):
 
 
 def shown(source):
-    """The lines of a comment that show a pattern as it stands, or escaped where a comment could not show it."""
-    lines = source.split('\n') if isinstance(source, str) else [repr(source)]
-    if all(line.isprintable() and line == line.rstrip() for line in lines) and source:
-        return [f'///     {line}'.rstrip() for line in lines]
-    return [f'///     {ascii(source)}']
+    """The lines of a comment that quote a pattern as it is, or escaped if a comment could not show it, and whether one
+    of them is cut into pieces."""
+    lines = (source if isinstance(source, str) else source.decode('latin-1')).split('\n')
+    is_quoted = all(line.isprintable() and line == line.rstrip() for line in lines) and source
+    if not is_quoted or isinstance(source, bytes) and not source.isascii():
+        lines = [ascii(source)]
+    pieces = [line[at:at + SHOWN] for line in lines for at in range(0, len(line) or 1, SHOWN)]
+    return [f'///     {it}'.rstrip() for it in pieces], len(pieces) > len(lines)
 
 
 def comment(pattern, known):
-    """What stands above the words: the pattern, its flags, those that it sets itself among them, and whose words."""
+    """What is above the bytecode: the pattern, its flags, those that it sets itself among them, and whose words."""
     flags = pattern.flags | pattern.tree.state.flags
     # a pattern of characters has u by itself
     letters = ''.join(letter for letter, flag in known.items() if flags & flag and letter != 'u')
     kind = 'bytes' if isinstance(pattern.source, bytes) else 'characters'
-    head = '/// Words of CPython {}.{} for a pattern of {}, {}:'.format(
-        *sys.version_info[:2], kind, f'flags {letters}' if letters else 'no flags')
-    return '\n'.join([head, '///', *shown(pattern.source)])
+    lines, is_cut = shown(pattern.source)
+    head = '/// Words of CPython {}.{} for a pattern of {}, {}{}:'.format(
+        *sys.version_info[:2], kind, f'flags {letters}' if letters else 'no flags',
+        f', {SHOWN} characters a line' if is_cut else '')
+    return '\n'.join([head, '///', *lines])
 
 
 def faults(named):

@@ -3,12 +3,12 @@
 
     embedding.py [LIBRARY]     over a folder that `python/build.py library` has made, or one that is made now
 
-The programs of docs/EMBEDDING.md are compiled and run, and have to write what the page says. The callers of
-embedding/bad_callers.c have to get a status for all that they hand over. All run under valgrind, too. And the
-package of python/ is built for each Python that is found: the examples of docs/PYTHON.md, the package's own tests, and
-CPython's `test_re` with the engine in place of `_sre` are run over it; with one Python the tests run by ctypes, too.
-Whatever is made is in a folder that is taken away. A compiler or Python that was not found is named, and fails nothing.
-The status is 1 where something fails.
+The programs of docs/EMBEDDING.md and the lines in C and Rust of README.md are compiled and run, and have to print what
+the page says. The callers of embedding/bad_callers.c have to get a status for all that they pass. All run under
+valgrind, too. And the package of python/ is built for each Python that is found: the examples of docs/PYTHON.md and of
+README.md, the package's own tests, and CPython's `test_re` with the engine instead of `_sre` are run over it; with one
+Python the tests run by ctypes, too. Whatever is made is in a folder that is removed. A compiler or Python that was not
+found is named, and fails nothing. The status is 1 if something fails.
 """
 import glob
 import os
@@ -19,10 +19,16 @@ import sys
 import tempfile
 
 import kept
+from ending import ended
 from repository import PARTS, ROOT, crates, kit, read as text_of
 
 PAGE = "docs/EMBEDDING.md"
-EXAMPLES = "docs/PYTHON.md"
+EXAMPLES = ("docs/PYTHON.md", "README.md")
+# The lines of README.md, by the language that the page names, in whole programs.
+LINES = {
+    "c": ("c", '#include <stdio.h>\n#include "sre.h"\nint main(void) {\n', "}\n"),
+    "rs": ("rust", "mod sre;\nuse sre::{ASCII, Code};\nfn main() -> Result<(), u32> {\n", "Ok(())\n}\n"),
+}
 BLOCK = re.compile(r"(?ms)^```(\w*)\n(.*?)^```$")
 PYTHONS = ("3.11", "3.12", "3.13")
 CRATE = "sre_c"
@@ -94,11 +100,16 @@ def told(python):
 
 
 def programs():
-    """The whole programs of the page: the language, the source, and what each has to write."""
+    """The programs of the pages: the page, the language, the source, and what each has to print."""
     blocks = BLOCK.findall(read(PAGE))
     for (language, source), (_, written) in zip(blocks, blocks[1:]):
         if language in ("c", "rust") and "main(" in source:
-            yield language, source, written
+            yield PAGE, language, source, written
+    for language, source in BLOCK.findall(read("README.md")):
+        if language in LINES:
+            kind, above, below = LINES[language]
+            # what they print is in the comment of the last line
+            yield "README.md", kind, above + source + below, source.rstrip().rpartition("// ")[2] + "\n"
 
 
 class Embedding:
@@ -138,19 +149,21 @@ class Embedding:
             "rust": ("settings.rs", ["rustc", "--edition", "2021", "-C", f"link-arg={archive}", "settings.rs"]),
         }
         found = list(programs())
-        self.count(sorted(it[0] for it in found) == sorted(compilers), f"{PAGE} has a program in C and one in Rust")
-        for language, source, written in found:
+        self.count(sorted(it[1] for it in found) == sorted([*compilers] * 2), "two pages have C and Rust")
+        shutil.copy(f"{ROOT}/embedding/sre.rs", self.room)
+        for page, language, source, written in found:
             name, words = compilers[language]
-            if self.lacks(words[0], f"the program in {language}"):
+            what = f"the program in {language} of {page}"
+            if self.lacks(words[0], what):
                 continue
             with open(f"{self.room}/{name}", "w", encoding="utf-8") as file:
                 file.write(source)
             # a warning is no example
-            if self.ran(f"the program in {language} is compiled", *words, writes=""):
-                self.ran(f"the program in {language}", f"{self.room}/settings", writes=written)
+            if self.ran(f"{what} is compiled", *words, writes=""):
+                self.ran(what, f"{self.room}/settings", writes=written)
                 # Rust's own runtime leaves memory that is still reachable
                 leaks = "all" if language == "c" else "definite,indirect,possible"
-                self.watched(f"the program in {language}", f"{self.room}/settings", written, leaks)
+                self.watched(what, f"{self.room}/settings", written, leaks)
 
     def watched(self, what, program, written, leaks="all"):
         """Runs a program under valgrind: it may touch its own memory alone, and has to free it."""
@@ -176,9 +189,10 @@ class Embedding:
             return
         path = {"PYTHONPATH": site, "PYTHONDONTWRITEBYTECODE": "1"}
         examples = f"{self.room}/examples.txt"
-        with open(examples, "w", encoding="utf-8") as file:
-            file.write("\n".join(it[1] for it in BLOCK.findall(read(EXAMPLES)) if it[0] == "python"))
-        self.ran(f"the examples of {EXAMPLES}, Python {version}", python, "-m", "doctest", examples, **path, writes="")
+        for page in EXAMPLES:
+            with open(examples, "w", encoding="utf-8") as file:
+                file.write("\n".join(it[1] for it in BLOCK.findall(read(page)) if it[0] == "python"))
+            self.ran(f"the examples of {page}, Python {version}", python, "-m", "doctest", examples, **path, writes="")
         tests = [python, "-W", "error", "-m", "unittest", "discover", "-s", f"{ROOT}/python/tests"]
         has_extension = bool(glob.glob(f"{site}/gaffsilver/_native*"))
         if has_extension:
@@ -224,6 +238,10 @@ class Embedding:
 def main(words):
     if len(words) > 1 or words[:1] == ["--help"]:
         print(__doc__.strip())
+        return 0 if words == ["--help"] else 2
+    if words and not os.path.isfile(f"{words[0]}/libsre_c.a"):
+        print(f"embedding.py: {words[0]}/libsre_c.a: no such file; `python/build.py library {words[0]}` makes it",
+              file=sys.stderr)
         return 2
     trials = Embedding(lambda line: print(line, flush=True))
     with tempfile.TemporaryDirectory(prefix="library-") as room:
@@ -235,4 +253,4 @@ def main(words):
 
 
 if __name__ == "__main__":
-    sys.exit(main(sys.argv[1:]))
+    sys.exit(ended(main, sys.argv[1:]))

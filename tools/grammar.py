@@ -1,8 +1,9 @@
 """The grammar of words: whether they are a code, what they say item by item, and else where and why they are none.
 
 This is the one reader of words among the tools: `listing.py` writes lines of what it reads, `trees.py` an expression,
-and `hostile.py` holds the program to its judgement. It is written from docs/WORDS.md and takes nothing of the check and
-its proofs. It looks at the same words as `Code::check` and in the same order, so both name the same cause and place.
+and `hostile.py` holds the program to its judgement. It is written from docs/BYTECODE.md and takes nothing of the check
+and its proofs. It looks at the same words as `Code::check` and in the same order, so both name the same cause and
+place.
 """
 import re
 import sys

@@ -1,13 +1,13 @@
 """Random and changed words, as `check` lines for the program `sre_cases`, and whether they are a code.
 
-The gate (`cases.py`) holds the program to the reader of `grammar.py`, which is written from docs/WORDS.md. Of that the
-codes that are written here take the opcodes' numbers alone: a fault of a layout in one of the two shows. Most random
-lists are codes in which a few words were changed, since words that are drawn one by one are hardly ever a code. The
-same seed gives the same lists. At least a fifth of them have to be codes, and a fifth none.
+The gate (`cases.py`) holds the program to the reader of `grammar.py`, which is written from docs/BYTECODE.md. Of that
+the codes that are written here take the opcodes' numbers alone: a fault of a layout in one of the two shows. Most
+random lists are codes in which a few words were changed, since words that are drawn one by one are hardly ever a code.
+The same seed gives the same lists. At least a fifth of them have to be codes, and a fifth none.
 
 To these come the codes of the probes that are refused memory, which have items of most families: each cut short at each
 place, and with each word changed. Where such a list is a code, `sre_probes` matches and searches short texts within
-turns, and a search finds what a match at the window's start finds.
+a step limit, and a search finds what a match at the window's start finds.
 """
 import random
 import re
@@ -158,8 +158,8 @@ class Lists(Judged):
 
 # Texts, and windows in them.
 TEXTS = ("s: 0..9", "s:61 0..9", "s:6162 0..9", "s:6162 1..1")
-# More turns than a code of few words takes in such a text, but for one that counts far.
-TURNS = 10_000
+# More steps than a code of few words takes in such a text, but for one that counts far.
+STEPS = 10_000
 
 
 class Changed(Judged):
@@ -181,7 +181,7 @@ class Changed(Judged):
             is_far = any(opcode == NUMBER["MARK"] and number > 10_000 for opcode, number in zip(words, words[1:]))
             if is_a_code and not is_far:
                 for text in TEXTS:
-                    yield [f"within {TURNS} {verb} {written(words)} {text} -" for verb in ("match", "search")]
+                    yield [f"within {STEPS} {verb} {written(words)} {text} -" for verb in ("match", "search")]
 
     def agree(self, program, tell):
         """Whether a search finds what a match at the window's start finds, where that finds something."""
@@ -189,7 +189,8 @@ class Changed(Judged):
         told = answers(program, [it for pair in asked for it in pair])
         pairs = list(zip(told[::2], told[1::2]))
         differing = [line for (line, _), (one, other) in zip(asked, pairs) if one.startswith("yes ") and one != other]
-        other = [line for (line, _), it in zip(asked, pairs) for word in it if not re.match("yes |no$|given up$", word)]
+        known = re.compile("yes |no$|step limit exceeded$")
+        other = [line for (line, _), it in zip(asked, pairs) for word in it if not known.match(word)]
         for line in [*differing, *other][:10]:
             tell(f"found otherwise: {line}")
         found = sum(one.startswith("yes ") for one, _ in pairs)

@@ -12,7 +12,8 @@ from repository import ROOT, read
 
 def main():
     try:
-        said = subprocess.run(["rt", "version"], stdout=subprocess.PIPE, text=True, check=True).stdout.strip()
+        how = {"stdout": subprocess.PIPE, "universal_newlines": True, "check": True}
+        said = subprocess.run(["rt", "version"], **how).stdout.strip()
     except (OSError, subprocess.CalledProcessError):
         print("kit: there is none, since `rt version` says nothing")
         return 1

@@ -2,7 +2,7 @@
 import repository
 
 LETTERS, TEXT = 100_000, "61" * 100_000
-# (?:(?:a|b)*c|a), (?:a|b)*, which saves a choice at each turn, and (?:.|b)*, which saves two
+# (?:(?:a|b)*c|a), (?:a|b)*, which saves a choice in each iteration, and (?:.|b)*, which saves two
 LOOP_OR_A = "7,22,23,15,0,4294967295,7,5,16,97,15,7,5,16,98,15,2,0,18,16,99,15,7,5,16,97,15,2,0,1"
 BRANCH_IN_LOOP = "23,15,0,4294967295,7,5,16,97,15,7,5,16,98,15,2,0,18,1"
 ANY_IN_LOOP = "23,14,0,4294967295,7,4,3,15,7,5,16,98,15,2,0,18,1"

@@ -19,6 +19,7 @@ import cases
 import embedding
 import standing
 import unproved
+from ending import ended
 from repository import ROOT
 
 PRINTING = threading.Lock()
@@ -102,4 +103,4 @@ def main(words):
 
 
 if __name__ == "__main__":
-    sys.exit(main(sys.argv[1:]))
+    sys.exit(ended(main, sys.argv[1:]))

@@ -10,8 +10,13 @@
 CPython 3.11 to 3.13. Each has its own Unicode: 14.0, 15.0 and 15.1.
 """
 import _sre
+import os
+import re
 import sys
 import unicodedata
+
+if not hasattr(_sre, "unicode_tolower"):
+    sys.exit(f"unicode.py: this is Python {sys.version.split()[0]}: run it with CPython 3.11, 3.12 or 3.13")
 
 COLUMNS, INDENT = 100, " " * 4
 PAST_ASCII = [it for it in range(128, sys.maxunicode + 1) if not 0xD800 <= it <= 0xDFFF]
@@ -28,7 +33,7 @@ use std::alloc::Global;
 ///
 /// # Errors
 ///
-/// [`UniError::Memory`], where memory was refused.
+/// [`UniError::Memory`], if an allocation fails.
 pub fn table(alloc: Global) -> Result<UniTable, UniError> {{
     let mut uni = UniTable::new(alloc, &LOWER, &UPPER, &ALNUM)?;
     uni.set_digits(&DIGITS)?;
@@ -86,7 +91,7 @@ def lines_of(held):
 
 def file_of(held):
     version = ".".join(map(str, sys.version_info[:2]))
-    head = HEAD.format(python=version, unicode=unicodedata.unidata_version.removesuffix(".0"))
+    head = HEAD.format(python=version, unicode=re.sub(r"\.0$", "", unicodedata.unidata_version))
     return "\n".join([head, "\n\n".join(shown(name, pairs) for name, pairs in held.items())])
 
 
@@ -102,4 +107,12 @@ def main(words):
 
 
 if __name__ == "__main__":
-    sys.exit(main(sys.argv[1:]))
+    try:
+        STATUS = main(sys.argv[1:])
+        sys.stdout.flush()
+    except OSError as error:
+        print(f"unicode.py: output failed: {error.strerror}", file=sys.stderr)
+        # what could not be written is not tried again at the end
+        os.dup2(os.open(os.devnull, os.O_WRONLY), 1)
+        STATUS = 2
+    sys.exit(STATUS)

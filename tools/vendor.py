@@ -1,15 +1,18 @@
 #!/usr/bin/env python3
-"""Copies crates of this repository into another one, with all that they stand on, and writes their lines there.
+"""Copies crates of this repository into another one, with all that they need, and writes their lines there.
 
     vendor.py [--force] TARGET [CRATE ..]
+    vendor.py --crates
 
-TARGET is the top folder of a repository that lists its crates in crates.txt, or of a new one. CRATE is sre_engine,
-sre_recipes or sre_emit; with none it is sre_engine. Of each crate the code, the specs and the proofs are copied into
+TARGET is the top folder of a repository that lists its crates in crates.txt, or of a new one. CRATE is a library of
+crates.txt, such as sre_engine, sre_finder, sre_recipes or sre_emit; by default it is sre_engine. --crates lists the
+libraries, each with the crates that it needs. Of each crate the code, the specs and the proofs are copied into
 TARGET/crates, beside the licence, and no tests, no mutants and no results of checks. TARGET/crates.txt gets a part
-with their lines, between two notes. A later run renews all crates of that part.
+with their lines, between two notes, and TARGET/tools/gaffsilver the tools that write bytecode and tables (words.py,
+unicode.py). A later run renews all crates of that part.
 
-A crate of TARGET that differs from the one here is not overwritten, nor is another line of it, but with --force. Where
-one does, nothing is written at all, and the status is 1. The kit has to be there in any case (docs/DEPENDING.md).
+If a crate of TARGET differs from the one here, or another line for it is in TARGET/crates.txt, nothing is written, and
+the status is 1; --force overwrites both. The kit has to be there in any case (docs/CALLING.md, "Another repository").
 """
 import os
 import re
@@ -19,10 +22,16 @@ import sys
 
 from repository import PARTS, ROOT, crates, read, row_of, write
 
-OFFERED = {"sre_engine", "sre_recipes", "sre_emit"}
+DEFAULT = "sre_engine"
 PART = re.compile(r"^# Gaffsilver begins.*?(?:^# Gaffsilver ends\n|\Z)", re.M | re.S)
-BEGIN = "# Gaffsilver begins: commit {}; no crate but sre_growth may list sre_refusal_seal (docs/TRUST.md there)"
+BEGIN = "# Gaffsilver begins: commit {}; no crate but sre_growth may list sre_refusal_seal (docs/GUARANTEES.md there)"
 END = "# Gaffsilver ends"
+# What writes bytecode and tables, with the modules that it imports.
+TOOLS = ("words.py", "unicode.py", "constants.py", "grammar.py", "listing.py", "repository.py", "trees.py")
+
+
+class Fault(Exception):
+    """What ends the tool, with its lines."""
 
 
 def files_of(folder):
@@ -36,8 +45,20 @@ def line_of(crate):
     return f"{crate.name}: {' '.join([*(it.name for it in crate.own), *crate.of_kit[1:]])}".rstrip()
 
 
+def libraries(known):
+    """The crates that a caller can list."""
+    return {name: it for name, it in known.items() if not it.is_program and not it.is_static}
+
+
+def table(known):
+    """A line for each library: how many crates come with it, and which."""
+    for name, crate in libraries(known).items():
+        below = [it.name for it in crate.below()]
+        yield f"{name}: {len(below) + 1} crates, with {' '.join(below)}" if below else f"{name}: 1 crate"
+
+
 def copy(crate, folder):
-    """Copies a crate in place of what is there of it, and says so."""
+    """Copies a crate over what is there of it, and reports that."""
     if files_of(folder) == files_of(crate.folder):
         return f"{crate.name}: is the same already"
     for part in PARTS:
@@ -46,6 +67,15 @@ def copy(crate, folder):
             shutil.copytree(f"{crate.folder}/{part}", f"{folder}/{part}", copy_function=shutil.copyfile)
     shutil.copy(f"{ROOT}/LICENSE", folder)
     return f"{crate.name}: {len(files_of(folder))} files copied"
+
+
+def copy_tools(folder):
+    """Copies the tools that write bytecode and tables, and reports that."""
+    os.makedirs(folder, exist_ok=True)
+    for it in TOOLS:
+        shutil.copy(f"{ROOT}/tools/{it}", folder)
+    shutil.copy(f"{ROOT}/LICENSE", folder)
+    return f"tools/gaffsilver: {len(TOOLS)} files copied"
 
 
 def differing(taken, top, own):
@@ -59,33 +89,81 @@ def differing(taken, top, own):
             yield f"crates.txt has another line for {crate.name}"
 
 
-def main(words):
-    is_forced, words = "--force" in words, [it for it in words if it != "--force"]
-    if not words or not os.path.isdir(words[0]) or os.path.realpath(words[0]) == ROOT or not {*words[1:]} <= OFFERED:
-        print(__doc__.strip())
-        return 2
-    top, listed, known = f"{words[0]}/crates", f"{words[0]}/crates.txt", crates()
+def commit(taken):
+    """The commit here, and whether the crates that are taken differ from it."""
+    def git(*words):
+        return subprocess.run(["git", "-C", ROOT, *words], stdout=subprocess.PIPE, stderr=subprocess.DEVNULL, text=True)
+
+    try:
+        name = git("rev-parse", "--short", "HEAD").stdout.strip()
+        changed = git("status", "--porcelain", "--", *(f"{it.folder}/{part}" for it in taken for part in PARTS))
+    except OSError:
+        return "unknown"
+    return f"{name}-dirty" if name and changed.stdout else name or "unknown"
+
+
+def vendor(target, names, is_forced):
+    """Copies crates into a repository, and reports each; the status."""
+    top, listed, known = f"{target}/crates", f"{target}/crates.txt", crates()
+    unknown = [it for it in names if it not in libraries(known)]
+    if unknown:
+        raise Fault(f"{', '.join(unknown)}: no library of this repository; --crates lists them")
+    if not os.path.isdir(target):
+        raise Fault(f"{target}: no folder")
+    if os.path.realpath(target) == ROOT:
+        raise Fault(f"{target}: this repository itself")
     text = read(listed) if os.path.isfile(listed) else ""
-    if text and not os.path.isdir(top):
-        print(f"the crates of {words[0]} stand right in it: they have to stand in {top}")
-        return 1
     own, part = PART.sub("", text).splitlines(), "".join(PART.findall(text)).splitlines()
-    named = [known[it] for it in {*(words[1:] or ["sre_engine"]), *(row_of(it)[0] for it in part)} if it in known]
+    if any(row_of(it)[0] for it in own) and not os.path.isdir(top):
+        raise Fault(f"{listed} lists crates, and there is no folder {top}: move the crates there first")
+    named = [known[it] for it in {*(names or [DEFAULT]), *(row_of(it)[0] for it in part)} if it in known]
     wanted = {it.name for crate in named for it in [*crate.below(), crate]}
     taken = [crate for name, crate in known.items() if name in wanted]
     lost = list(differing(taken, top, own))
     if lost and not is_forced:
-        print(*lost, "nothing is written; --force overwrites these", sep="\n")
-        return 1
-    for crate in taken:
-        print(copy(crate, f"{top}/{crate.name}"))
-    ran = subprocess.run(["git", "-C", ROOT, "describe", "--always", "--dirty"], stdout=subprocess.PIPE, text=True)
+        raise Fault(*lost, "nothing is written; --force overwrites these")
+    said = [copy(crate, f"{top}/{crate.name}") for crate in taken]
+    said.append(copy_tools(f"{target}/tools/gaffsilver"))
     lines = [it for it in own if row_of(it)[0] not in wanted]
-    lines += [BEGIN.format(ran.stdout.strip() or "unknown"), *map(line_of, taken), END]
-    write(listed, "\n".join(lines) + "\n")
-    print(f"crates.txt: {len(taken)} lines")
+    write(listed, "\n".join([*lines, BEGIN.format(commit(taken)), *map(line_of, taken), END]) + "\n")
+    print(*said, f"crates.txt: {len(taken)} lines", sep="\n")
     return 0
 
 
+def main(words):
+    if words == ["--help"] or not words:
+        print(__doc__.strip())
+        return 0 if words else 2
+    if words == ["--crates"]:
+        print(*table(crates()), sep="\n")
+        return 0
+    is_forced, words = "--force" in words, [it for it in words if it != "--force"]
+    options = [it for it in words if it.startswith("-")]
+    if options or not words:
+        raise Fault(f"{', '.join(options) or 'no TARGET'}: write [--force] TARGET [CRATE ..], --crates or --help")
+    return vendor(words[0], words[1:], is_forced)
+
+
+def guarded(words):
+    """The status of `main`; after a fault a line for each part of it, and 1."""
+    try:
+        status = main(words)
+        sys.stdout.flush()
+        return status
+    except Fault as fault:
+        lines = fault.args
+    except BrokenPipeError:
+        lines = []
+    except shutil.Error as error:
+        lines = [f"{error.args[0][0][1]}: {error.args[0][0][2]}"]
+    except (OSError, UnicodeError) as error:
+        lines = [f"{getattr(error, 'filename', None) or 'output failed'}: {getattr(error, 'strerror', None) or error}"]
+    for line in lines:
+        print(f"vendor.py: {line}", file=sys.stderr)
+    # what could not be written is not tried again at the end
+    os.dup2(os.open(os.devnull, os.O_WRONLY), 1)
+    return 1
+
+
 if __name__ == "__main__":
-    sys.exit(main(sys.argv[1:]))
+    sys.exit(guarded(sys.argv[1:]))

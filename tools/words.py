@@ -1,19 +1,19 @@
 #!/usr/bin/env python3
-"""Words of Python's patterns, as cases for the program `sre_cases` (docs/PROGRAM.md).
+"""The bytecode of Python's patterns, as cases for the program `sre_cases` (docs/PROGRAM.md).
 
     words.py VERB PATTERN [TEXT]        writes the case; the verb is match, search, walk or check
-    words.py --raw VERB WORDS [TEXT]    does so for words in place of a pattern
+    words.py --raw VERB WORDS [TEXT]    does so for bytecode instead of a pattern
     words.py --cases FILE NAME          writes NAME.txt and NAME.expected from a file of patterns
-    words.py --rust NAME PATTERN ..     writes each pattern's words as a constant, and the numbers of its named groups
+    words.py --rust NAME PATTERN ..     writes each pattern's bytecode and the numbers of its named groups as constants
     words.py --tree PATTERN             writes the pattern's tree as a Rust expression of `Part`
 
-With --explain a case's words are listed item by item, and with --run the program answers it. The words of a pattern
-are those that CPython's own compiler makes, and the answers those of CPython's `re`. Where a text has letters past
-ASCII, which the program's table doesn't know, and the words ask about such letters, a line on standard error says so,
-unless --table names one that the program is to read (unicode.py --lines). Flags are joined: `-f im` is `-f i -f m`.
+--try builds the program without proofs and prints its answer beside Python's; --run does so with a program that is
+there. --items lists the bytecode item by item. CPython's own compiler makes the bytecode. Python's answer can differ if
+a text has letters past ASCII, which the program's table lacks: then a line on standard error says so, and --table names
+a table for the program (unicode.py --lines). Flags add up: `-f im` is `-f i -f m`.
 
-It runs under CPython 3.11 to 3.13 and needs nothing else. The status is 0; or 1 where --run finds that the answers
-differ, or --explain that the words are refused; or 2 behind what standard error tells of a fault.
+It runs under CPython 3.11 to 3.13; --try needs the Rattle kit as well. The status is 0; 1 if the answers differ, or if
+--items finds that the bytecode is rejected; 2 after a fault, which is a line on standard error.
 """
 import argparse
 import contextlib
@@ -44,9 +44,9 @@ import constants
 import trees
 from grammar import CATEGORIES, NUMBER, OPCODES, POSITIONS, UNLIMITED, Reader
 from listing import Listing, unknown_letters
-from repository import write
+from repository import ROOT, write
 
-# CPython 3.11, 3.12 and 3.13: the layouts of their words were compared.
+# CPython 3.11, 3.12 and 3.13: the layouts of their bytecode were compared.
 MAGICS = (20220615, 20221023, 20230612)
 FLAGS = {'i': re.I, 'm': re.M, 's': re.S, 'x': re.X, 'a': re.A, 'u': re.U, 'L': re.L}
 VERBS = ('match', 'search', 'walk', 'check')
@@ -58,42 +58,68 @@ class Fault(Exception):
 
 
 def require_known_numbers():
-    """Refuses a Python whose words may mean something else."""
+    """Rejects a Python whose bytecode can mean something else."""
     theirs = ([code.name for code in _constants.OPCODES],
               [code.name.removeprefix('AT_') for code in _constants.ATCODES],
               [code.name.removeprefix('CATEGORY_') for code in _constants.CHCODES],
               _constants.MAXREPEAT, _sre.CODESIZE)
     if theirs != (OPCODES, POSITIONS, CATEGORIES, UNLIMITED, 4) or _constants.MAGIC not in MAGICS:
         raise Fault(f'the opcodes of this Python (magic {_constants.MAGIC}) differ from those of '
-                    f'the project, or may be laid out otherwise: {SERVES}')
+                    f'the project, or can have another layout: {SERVES}')
 
 
 def require_program(path):
-    """Refuses a program that is not there, and says how it is built."""
+    """Rejects a program that is not there, and says how it is built."""
     if shutil.which(path) is None:
         raise Fault(f'{path} is no program; `cd crates/sre_cases && rt run -- FILE` builds out/sre_cases there')
 
 
+def require_table(options):
+    """Rejects a table that no program is to read, or that cannot be read."""
+    if options.table:
+        if options.run is None:
+            raise Fault('--table names a table for the program: write --run PROGRAM as well')
+        with open(options.table[1], 'rb'):
+            pass
+
+
+def line_of(error):
+    """What went wrong with a file or with memory, without the number that Python puts in front."""
+    if isinstance(error, OSError) and error.strerror:
+        return f'{error.filename}: {error.strerror}' if error.filename is not None else error.strerror
+    return str(error)
+
+
 def status_of(main):
-    """The status that `main` gives, or 2 behind the lines of a fault that ends it."""
-    # what Python says of patterns that a later one may read otherwise is no matter of the words
+    """The status that `main` returns, or 2 after the lines of a fault that ends it."""
+    # what Python says of patterns that a later one may read otherwise is no matter of the bytecode
     warnings.simplefilter('ignore')
     try:
-        return main()
+        if sys.stdout is None:
+            raise Fault('output failed: standard output is closed')
+        status = main()
+        sys.stdout.flush()
+        return status
     except Fault as fault:
         lines = fault.args
     except RecursionError:
         lines = ['the pattern is nested too deeply for this Python']
+    except KeyboardInterrupt:
+        lines = ['interrupted']
+    except BrokenPipeError:
+        lines = []
     except (OSError, UnicodeError, subprocess.SubprocessError) as error:
-        lines = [str(error)]
+        lines = [line_of(error)]
     for line in lines:
         shown = ''.join(it if it.isprintable() else ascii(it)[1:-1] for it in line)
         print(f'{COMMAND}: {shown}', file=sys.stderr)
+    with contextlib.suppress(AttributeError, OSError):  # what could not be written is not tried again at the end
+        os.dup2(os.open(os.devnull, os.O_WRONLY), sys.stdout.fileno())
     return 2
 
 
 class Pattern(typing.NamedTuple):
-    """A pattern with its flags as a number, the tree that `re` parses it to, and its words."""
+    """A pattern with its flags as a number, the tree that `re` parses it to, and its bytecode."""
     source: str | bytes
     flags: int
     tree: object
@@ -105,7 +131,7 @@ class Pattern(typing.NamedTuple):
 
 
 class Asked(typing.NamedTuple):
-    """What a case asks of a pattern; `window` is None or two positions."""
+    """What a case needs besides a pattern; `window` is its range, None or two positions."""
     verb: str
     text: str | bytes
     window: tuple | None = None
@@ -125,12 +151,14 @@ def compiled(source, flags):
     try:
         tree = _parser.parse(source, flags)
         return Pattern(source, flags, tree, [int(word) for word in _compiler._code(tree, flags)])
-    except (re.error, ValueError, OverflowError, RecursionError) as error:
+    except RecursionError:
+        raise Fault('the pattern is nested too deeply for this Python') from None
+    except (re.error, ValueError, OverflowError) as error:
         raise Fault(f'bad pattern {ascii(source)}: {error}') from None
 
 
 def without_block(words, is_cut=True):
-    """Words without the information block in front, whose skip stands at place 1; as they are where none is cut."""
+    """Bytecode without the INFO block in front, whose skip is at address 1; all of it if nothing is cut."""
     return words[1 + words[1]:] if is_cut and words[0] == NUMBER['INFO'] else words
 
 
@@ -139,15 +167,15 @@ def case_words(words):
 
 
 def words_of(written):
-    """The words that are written as a case has them."""
+    """The bytecode that is written as a case has it."""
     words = [int(number) for number in re.findall('[0-9]{1,10}', written)]
     if case_words(words) != written or max(words, default=0) > UNLIMITED:
-        raise Fault(f'{ascii(written)} are no words: write numbers up to {UNLIMITED}, divided by commas, or - for none')
+        raise Fault(f'{ascii(written)} is no bytecode: write numbers up to {UNLIMITED} with commas, or - for none')
     return words
 
 
 def characters(value, is_bytes, escapes=False):
-    """A pattern or a text as it is given, with Python's escapes in it where `escapes` says so."""
+    """A pattern or a text as it is given; with `escapes`, Python's escapes in it count."""
     try:
         if is_bytes:
             octets = os.fsencode(value)
@@ -160,18 +188,18 @@ def characters(value, is_bytes, escapes=False):
 
 
 def window_of(written):
-    """The window that is written as `all` or `START..END`."""
+    """The range that is written as `all` or `START..END`."""
     if written == 'all':
         return None
     ends = re.fullmatch(r'(0|[1-9][0-9]{0,19})\.\.(0|[1-9][0-9]{0,19})', written)
     window = ends and tuple(map(int, ends.groups()))
     if not window or max(window) >= 2 ** 64:
-        raise Fault(f'{written} is no window: write all, or START..END with numbers below 2^64')
+        raise Fault(f'{written} is no range: write all, or START..END with numbers below 2^64')
     return window
 
 
 def case_line(words, asked):
-    """The line of a case file that asks `asked` of the words."""
+    """The line of a case file for this bytecode."""
     if asked.verb == 'check':
         return f'check {case_words(words)}'
     text = 'b:' + asked.text.hex() if isinstance(asked.text, bytes) else 's:' + asked.text.encode().hex()
@@ -180,15 +208,15 @@ def case_line(words, asked):
 
 
 def of_words(pattern, words):
-    """The compiled pattern that has these words in place of its own."""
+    """The compiled pattern with this bytecode instead of its own."""
     state = pattern.tree.state
     return _sre.compile(
         pattern.source, pattern.flags | state.flags, words, state.groups - 1, {}, (None,) * state.groups)
 
 
 def matches(pattern, asked):
-    """Python's matches, one after the other. `re` asks for matches that end at the window's end by `fullmatch` alone;
-    else END_STRING before the last SUCCESS asks for them."""
+    """Python's matches, one after the other. In `re` only `fullmatch` needs matches that end at the end of the range;
+    else END_STRING before the last SUCCESS does."""
     window = [min(place, sys.maxsize) for place in asked.window or (0, sys.maxsize)]
     asking = re.compile(pattern.source, pattern.flags)
     if asked.verb == 'match' and asked.match_all:
@@ -201,8 +229,8 @@ def matches(pattern, asked):
 
 
 def answer(pattern, asked):
-    """Python's answer as the program writes it; to `check` the first word, which is all it says. The marks are listed
-    up to the last one that is set."""
+    """Python's answer as the program prints it; of `check` the first word alone. Capture slots are listed up to the
+    last one that is set."""
     if asked.verb == 'check':
         return 'ok'
     found = matches(pattern, asked)
@@ -230,12 +258,12 @@ def block_of(lines):
 
 
 def cases_of(lines, cut):
-    """The words, the lines and the answers of a block."""
+    """The bytecode, the lines and the answers of a block."""
     fields = block_of(lines)
     verb, is_bytes = ''.join(fields['verb']) or 'search', bool(fields['bytes'])
     if not (fields['name'] and fields['pattern'] and is_bytes != bool(fields['text'])
             and verb in ('match', 'search', 'walk', 'fullmatch')):
-        raise Fault('a block has a name, a pattern, either text or bytes, and perhaps a verb: '
+        raise Fault('a block has a name, a pattern, either text or bytes, and optionally a verb: '
                     'match, search, walk or fullmatch')
     pattern = compiled(characters('\n'.join(fields['pattern']), is_bytes), flags_of(''.join(fields['flags'])))
     words = without_block(pattern.words, cut)
@@ -247,7 +275,7 @@ def cases_of(lines, cut):
 
 
 def write_cases(path, name, cut):
-    """Writes NAME.txt and NAME.expected from a file of patterns, whose blocks stand between empty lines."""
+    """Writes NAME.txt and NAME.expected from a file of patterns, whose blocks have empty lines between them."""
     opcodes, lines, answers = set(), [], []
     with open(path, encoding='utf-8', errors='surrogateescape') as file:
         blocks = re.split(r'\n{2,}', file.read())
@@ -270,12 +298,12 @@ def write_cases(path, name, cut):
 
 @contextlib.contextmanager
 def limited(seconds, what):
-    """Ends what is done here by a fault where it takes longer."""
+    """Ends what is done here by a fault if it takes longer."""
 
-    def give_up(*_):
+    def stop(*_):
         raise Fault(f'{what} has no answer after {seconds} s; --seconds N gives it more')
 
-    signal.signal(signal.SIGALRM, give_up)
+    signal.signal(signal.SIGALRM, stop)
     signal.setitimer(signal.ITIMER_REAL, seconds)
     try:
         yield
@@ -283,24 +311,37 @@ def limited(seconds, what):
         signal.setitimer(signal.ITIMER_REAL, 0)
 
 
-def compare(options, line, names, expected):
-    """Writes the case, the names of groups and both answers, and gives the status: 0 where they are the same, or where
-    the words are of no pattern, so that Python has no answer."""
-    with tempfile.TemporaryDirectory() as room, limited(options.seconds, options.run):
+def answer_of(options, line):
+    """The program's answer to a case: that of --run, or that of a build without proofs."""
+    with tempfile.TemporaryDirectory() as room:
         write(f'{room}/cases', f'{line}\n')
-        done = subprocess.run([options.run, *options.table, f'{room}/cases'], capture_output=True, text=True)
-    ours = (done.stdout + done.stderr).strip() or f'nothing, and status {done.returncode}'
+        if options.run is not None:
+            with limited(options.seconds, options.run):
+                done = subprocess.run([options.run, *options.table, f'{room}/cases'], capture_output=True, text=True)
+            return (done.stdout + done.stderr).strip() or f'nothing, and status {done.returncode}'
+        print(f'{COMMAND}: building sre_cases without proofs: one to two minutes', file=sys.stderr)
+        tried = ['rt', 'try', '--seconds', str(options.seconds), '--', f'{room}/cases']
+        done = subprocess.run(tried, cwd=f'{ROOT}/crates/sre_cases', capture_output=True, text=True)
+    if done.returncode or not done.stdout.strip():
+        raise Fault(*(done.stderr.strip().splitlines() or ['rt try prints nothing']))
+    return done.stdout.strip()
+
+
+def compare(options, line, names, expected):
+    """Writes the case, the names of groups and both answers, and returns the status: 0 if they are the same, or if
+    the bytecode is of no pattern, so that Python has no answer."""
+    ours = answer_of(options, line)
     is_same = expected in (None, ours.split()[0] if line.startswith('check ') else ours)
-    told = {'case': line, 'names': ', '.join(f'{number} {name}' for number, name in names.items()),
+    shown = {'case': line, 'names': ', '.join(f'{number} {name}' for number, name in names.items()),
             'Python': expected, 'ours': ours}
-    print(*(f'{what:<8}{told[what]}' for what in told if told[what]), sep='\n')
+    print(*(f'{what:<8}{shown[what]}' for what in shown if shown[what]), sep='\n')
     if expected is not None:
         print('same' if is_same else 'different')
     return int(not is_same)
 
 
 def options_of(given):
-    """The options that are given, and the other words, among them all behind --."""
+    """The options that are given, and the other words, among them all after --."""
     end = given.index('--') if '--' in given else len(given)
     options = arguments().parse_intermixed_args(given[:end])
     options.words += given[end + 1:]
@@ -312,20 +353,21 @@ def arguments():
         description=__doc__, formatter_class=argparse.RawDescriptionHelpFormatter, allow_abbrev=False)
     add = parser.add_argument
     add('words', nargs='*', metavar='VERB PATTERN TEXT',
-        help=f'{", ".join(VERBS)}; a pattern; a text for every verb but check; behind -- where one begins with a dash')
+        help=f'{", ".join(VERBS)}; a pattern; a text for every verb but check; after -- if one begins with a dash')
     add('-f', '--flags', action='append', default=[], metavar='LETTERS', help=f'of {"".join(FLAGS)}, as in re')
-    add('-w', '--window', default='all', metavar='I..J', help='the window in the text, or all')
-    add('--match-all', action='store_true', help="a match has to end at the window's end")
+    add('-w', '--window', default='all', metavar='I..J', help='the range in the text, or all')
+    add('--match-all', action='store_true', help='a match has to end at the end of the range')
     add('--bytes', action='store_true', help='pattern and text are bytes')
-    add('--no-block', action='store_true', help='cut the information block off the words')
-    add('--raw', action='store_true', help='in place of a pattern there are words, as a case has them')
-    add('--explain', action='store_true', help='list the words, item by item, or up to where they are refused')
+    add('--no-block', action='store_true', help='cut the INFO block off the bytecode')
+    add('--raw', action='store_true', help='instead of a pattern there is bytecode, as a case has it')
+    add('--items', action='store_true', help='list the bytecode, item by item, or up to where it is rejected')
+    add('--try', dest='attempt', action='store_true', help="as --run, with sre_cases as `rt try` builds it")
     add('--run', metavar='PROGRAM', help="run sre_cases, and compare its answer with Python's")
     add('--table', type=lambda it: ['--table', it], default=[], metavar='FILE', help='a table for --run (unicode.py)')
-    add('--seconds', type=int, default=20, metavar='N', help='what --run gives the program, and Python (20)')
+    add('--seconds', type=int, default=20, metavar='N', help='seconds for the program, and for Python (20)')
     add = parser.add_mutually_exclusive_group().add_argument
     add('--cases', nargs=2, metavar=('FILE', 'NAME'), help='write a case file from patterns')
-    add('--rust', action='store_true', help='write words as constants: NAME PATTERN, or several such pairs')
+    add('--rust', action='store_true', help='write bytecode as constants: NAME PATTERN, or several such pairs')
     add('--tree', metavar='PATTERN', help='write the tree of a pattern as a Rust expression (--tree=-x for -x)')
     return parser
 
@@ -336,15 +378,20 @@ def pattern_of(source, options):
 
 
 def one_case(options):
-    """Does what the options say of one pattern, and gives the status."""
+    """Does what the options say with one pattern, and returns the status."""
     verb, *given = options.words or ['']
     if verb not in VERBS or len(given) != 2 - (verb == 'check'):
         raise Fault('write match, search or walk, a pattern and a text, or check and a pattern; '
-                    '--help tells the options')
+                    '--help lists the options')
+    if options.run is not None and options.attempt:
+        raise Fault('--run takes a program that is there, and --try builds one: write one of them')
     if options.run is not None:
         require_program(options.run)
+    if options.attempt and not (shutil.which('rt') and os.path.isdir(f'{ROOT}/crates/sre_cases')):
+        raise Fault('--try needs the Rattle kit (`rt` on the path) and the folder crates/sre_cases')
+    require_table(options)
     if options.raw and (options.flags or options.no_block):
-        raise Fault('--raw takes words as they are, and neither --flags nor --no-block beside')
+        raise Fault('--raw takes bytecode as it is, and neither --flags nor --no-block')
     pattern = None if options.raw else pattern_of(given[0], options)
     code = without_block(pattern.words, options.no_block) if pattern else words_of(given[0])
     listing = Listing(code, pattern and pattern.names())
@@ -353,12 +400,13 @@ def one_case(options):
     if note and not options.table:
         print(f'{COMMAND}: {note}', file=sys.stderr)
     line = case_line(code, asked)
-    if options.explain:
+    is_answered = options.attempt or options.run is not None
+    if options.items:
         print('\n'.join(listing.lines))
-    elif options.run is None:
+    elif not is_answered:
         print(line)
-    status = int(options.explain and not listing.is_code)
-    if options.run is not None:
+    status = int(options.items and not listing.is_code)
+    if is_answered:
         with limited(options.seconds, 'Python'):
             expected = pattern and answer(pattern, asked)
         status |= compare(options, line, listing.groups, expected)
@@ -366,9 +414,9 @@ def one_case(options):
 
 
 def show_constants(options):
-    """Writes patterns' words as constants; where a name can't be one, nothing but a line for each fault."""
+    """Writes the bytecode of patterns as constants; if a name can't be one, nothing but a line for each fault."""
     if not options.words or len(options.words) % 2:
-        raise Fault('--rust takes pairs, a name and a pattern each; --help tells the options')
+        raise Fault('--rust takes pairs, a name and a pattern each; --help lists the options')
     named = [(name, pattern_of(source, options)) for name, source in zip(options.words[::2], options.words[1::2])]
     faults = list(constants.faults(named))
     if faults:
@@ -381,8 +429,8 @@ def main():
     options = options_of(sys.argv[1:])
     if options.tree is None and options.cases is None and not options.rust:
         return one_case(options)
-    if options.run or options.explain or options.raw or options.words and not options.rust:
-        raise Fault('--cases, --rust and --tree take no verb, and none of --run, --explain and --raw beside')
+    if options.run or options.attempt or options.items or options.raw or options.words and not options.rust:
+        raise Fault('--cases, --rust and --tree take no verb, and none of --run, --try, --items and --raw')
     if options.rust:
         show_constants(options)
     elif options.tree is not None:

@@ -1,9 +1,9 @@
 """Python's `re` over a regex engine whose answers are proved.
 
 The functions, patterns and matches are those of `re`: `compile`, `search`, `match`, `fullmatch`, `findall`, `finditer`,
-`split`, `sub`, `subn`, `escape`, `purge`. Patterns are compiled by CPython's own compiler, and letters, digits and
-cases are this Python's own. Each call takes a `timeout` beside, a number of turns of the engine: a call that has made
-them raises `TooLong` in place of hanging. `install()` puts the engine below the module `re` itself.
+`split`, `sub`, `subn`, `escape`, `purge`. CPython's own compiler compiles the patterns, and letters, digits and cases
+are those of this Python. Each call also takes `max_steps`, a limit of steps of the engine: a call that exceeds it
+raises `StepLimitExceeded` instead of hanging. `install()` puts the engine below the module `re` itself.
 
     >>> import gaffsilver
     >>> gaffsilver.search(r"(\\w+)=", "let size=12")[1]
@@ -20,21 +20,22 @@ from re import (
 from gaffsilver import _shared
 from gaffsilver._engine import Match, Pattern
 from gaffsilver._install import install, is_installed, uninstall
-from gaffsilver._shared import TooLong
+from gaffsilver._shared import StepLimitExceeded
 from gaffsilver._words import compiler as _compiler, scanner_init as _scanner_init
 
-# What `typing` takes from `re` is what stands there when it is imported: so nothing here imports it but a type checker.
+# `typing` copies names from `re` when it is imported, so only a type checker imports it here.
 TYPE_CHECKING = False
 if TYPE_CHECKING:
     from typing import Any, AnyStr, Callable, Iterator
 
 __all__ = [
     "A", "ASCII", "DEBUG", "DOTALL", "I", "IGNORECASE", "L", "LOCALE", "M", "MULTILINE", "Match", "NOFLAG", "Pattern",
-    "RegexFlag", "S", "Scanner", "TooLong", "U", "UNICODE", "VERBOSE", "X", "compile", "error", "escape", "findall",
-    "finditer", "fullmatch", "install", "is_installed", "match", "purge", "search", "split", "sub", "subn", "uninstall",
+    "RegexFlag", "S", "Scanner", "StepLimitExceeded", "U", "UNICODE", "VERBOSE", "X", "compile", "error", "escape",
+    "findall", "finditer", "fullmatch", "install", "is_installed", "match", "purge", "search", "split", "sub", "subn",
+    "uninstall",
 ]
 
-# As many patterns as `re` keeps; the one that was compiled first goes first.
+# The size of the cache of patterns, as in `re`. The pattern that was compiled first is evicted first.
 _MOST_KEPT = 512
 _kept: dict[tuple[type, Any, int], Any] = {}
 
@@ -62,14 +63,14 @@ def _compiled(pattern: Any, flags: int) -> Any:
 
 
 def compile(
-    pattern: AnyStr | Pattern[AnyStr], flags: int | RegexFlag = 0, *, timeout: int | None = None
+    pattern: AnyStr | Pattern[AnyStr], flags: int | RegexFlag = 0, *, max_steps: int | None = None
 ) -> Pattern[AnyStr]:
-    """The pattern, compiled. With a `timeout` each of its calls has so many turns where it names none.
+    """The pattern, compiled. `max_steps` is the step limit of each of its calls without one.
 
-    Raises `error` where it is no pattern.
+    Raises `error` if it is no valid pattern.
     """
     made = _compiled(pattern, flags)
-    return made if timeout is None else made.within(timeout)
+    return made if max_steps is None else made.within(max_steps)
 
 
 def search(
@@ -77,10 +78,10 @@ def search(
     string: AnyStr,
     flags: int | RegexFlag = 0,
     *,
-    timeout: int | None = None,
+    max_steps: int | None = None,
 ) -> Match[AnyStr] | None:
     """The match that starts first in the string, or None."""
-    return _compiled(pattern, flags).search(string, timeout=timeout)
+    return _compiled(pattern, flags).search(string, max_steps=max_steps)
 
 
 def match(
@@ -88,10 +89,10 @@ def match(
     string: AnyStr,
     flags: int | RegexFlag = 0,
     *,
-    timeout: int | None = None,
+    max_steps: int | None = None,
 ) -> Match[AnyStr] | None:
     """The match at the beginning of the string, or None."""
-    return _compiled(pattern, flags).match(string, timeout=timeout)
+    return _compiled(pattern, flags).match(string, max_steps=max_steps)
 
 
 def fullmatch(
@@ -99,10 +100,10 @@ def fullmatch(
     string: AnyStr,
     flags: int | RegexFlag = 0,
     *,
-    timeout: int | None = None,
+    max_steps: int | None = None,
 ) -> Match[AnyStr] | None:
     """The match that is all of the string, or None."""
-    return _compiled(pattern, flags).fullmatch(string, timeout=timeout)
+    return _compiled(pattern, flags).fullmatch(string, max_steps=max_steps)
 
 
 def findall(
@@ -110,10 +111,10 @@ def findall(
     string: AnyStr,
     flags: int | RegexFlag = 0,
     *,
-    timeout: int | None = None,
+    max_steps: int | None = None,
 ) -> list[Any]:
-    """The texts of all matches; those of the group where there is one, and tuples where there are more."""
-    return _compiled(pattern, flags).findall(string, timeout=timeout)
+    """The texts of all matches, or of the group if there is one, or tuples of all groups if there are more."""
+    return _compiled(pattern, flags).findall(string, max_steps=max_steps)
 
 
 def finditer(
@@ -121,10 +122,10 @@ def finditer(
     string: AnyStr,
     flags: int | RegexFlag = 0,
     *,
-    timeout: int | None = None,
+    max_steps: int | None = None,
 ) -> Iterator[Match[AnyStr]]:
-    """An iterator over all matches. The turns are those of all its steps together."""
-    return _compiled(pattern, flags).finditer(string, timeout=timeout)
+    """An iterator over all matches. The step limit covers all of them together."""
+    return _compiled(pattern, flags).finditer(string, max_steps=max_steps)
 
 
 def split(
@@ -133,10 +134,10 @@ def split(
     maxsplit: int = 0,
     flags: int | RegexFlag = 0,
     *,
-    timeout: int | None = None,
+    max_steps: int | None = None,
 ) -> list[Any]:
-    """The pieces between matches, and behind each piece the groups of the match; at most `maxsplit`, if not 0."""
-    return _compiled(pattern, flags).split(string, maxsplit, timeout=timeout)
+    """The pieces between matches, each followed by the groups of the match. At most `maxsplit` splits, if not 0."""
+    return _compiled(pattern, flags).split(string, maxsplit, max_steps=max_steps)
 
 
 def sub(
@@ -146,10 +147,10 @@ def sub(
     count: int = 0,
     flags: int | RegexFlag = 0,
     *,
-    timeout: int | None = None,
+    max_steps: int | None = None,
 ) -> AnyStr:
-    """The string with each match, or the first `count`, replaced by a template, or by what a function gives for it."""
-    return _compiled(pattern, flags).sub(repl, string, count, timeout=timeout)
+    """The string with each match, or the first `count`, replaced by a template or by the result of a function."""
+    return _compiled(pattern, flags).sub(repl, string, count, max_steps=max_steps)
 
 
 def subn(
@@ -159,19 +160,19 @@ def subn(
     count: int = 0,
     flags: int | RegexFlag = 0,
     *,
-    timeout: int | None = None,
+    max_steps: int | None = None,
 ) -> tuple[AnyStr, int]:
-    """What `sub` gives, and how many matches were replaced."""
-    return _compiled(pattern, flags).subn(repl, string, count, timeout=timeout)
+    """The result of `sub`, and how many matches were replaced."""
+    return _compiled(pattern, flags).subn(repl, string, count, max_steps=max_steps)
 
 
 def purge() -> None:
-    """Lets go all patterns and templates that are kept."""
+    """Clears the caches of patterns and templates."""
     _kept.clear()
     _shared.purge()
 
 
 class Scanner(_re.Scanner):  # type: ignore[name-defined,misc]
-    """A lexicon of phrases and actions, as `re.Scanner` is one: `scan` cuts a string into tokens."""
+    """A lexicon of phrases and actions, like `re.Scanner`: `scan` splits a string into tokens."""
 
     __init__ = _scanner_init

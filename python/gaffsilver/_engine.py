@@ -1,6 +1,6 @@
-"""The engine that patterns run on: the extension in C, or where it is missing the library by ctypes.
+"""The engine that patterns run on: the extension in C, or if that is missing, the library by ctypes.
 
-`GAFFSILVER_ENGINE=ctypes` in the environment asks for the second though there is the first.
+`GAFFSILVER_ENGINE=ctypes` in the environment selects the library even if there is the extension.
 """
 from __future__ import annotations
 

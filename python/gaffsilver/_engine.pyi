@@ -1,4 +1,4 @@
-"""What the engine's classes are for a type checker."""
+"""The engine's classes for a type checker."""
 from types import GenericAlias
 from typing import Any, AnyStr, Callable, Generic, Iterator, Mapping, final, overload
 
@@ -45,30 +45,30 @@ class Pattern(Generic[AnyStr]):
     @property
     def groupindex(self) -> Mapping[str, int]: ...
     @property
-    def timeout(self) -> int | None: ...
+    def max_steps(self) -> int | None: ...
     def match(
-        self, string: AnyStr, pos: int = 0, endpos: int = ..., *, timeout: int | None = None
+        self, string: AnyStr, pos: int = 0, endpos: int = ..., *, max_steps: int | None = None
     ) -> Match[AnyStr] | None: ...
     def fullmatch(
-        self, string: AnyStr, pos: int = 0, endpos: int = ..., *, timeout: int | None = None
+        self, string: AnyStr, pos: int = 0, endpos: int = ..., *, max_steps: int | None = None
     ) -> Match[AnyStr] | None: ...
     def search(
-        self, string: AnyStr, pos: int = 0, endpos: int = ..., *, timeout: int | None = None
+        self, string: AnyStr, pos: int = 0, endpos: int = ..., *, max_steps: int | None = None
     ) -> Match[AnyStr] | None: ...
     def findall(
-        self, string: AnyStr, pos: int = 0, endpos: int = ..., *, timeout: int | None = None
+        self, string: AnyStr, pos: int = 0, endpos: int = ..., *, max_steps: int | None = None
     ) -> list[Any]: ...
     def finditer(
-        self, string: AnyStr, pos: int = 0, endpos: int = ..., *, timeout: int | None = None
+        self, string: AnyStr, pos: int = 0, endpos: int = ..., *, max_steps: int | None = None
     ) -> Iterator[Match[AnyStr]]: ...
-    def split(self, string: AnyStr, maxsplit: int = 0, *, timeout: int | None = None) -> list[Any]: ...
+    def split(self, string: AnyStr, maxsplit: int = 0, *, max_steps: int | None = None) -> list[Any]: ...
     def sub(
         self,
         repl: AnyStr | Callable[[Match[AnyStr]], AnyStr],
         string: AnyStr,
         count: int = 0,
         *,
-        timeout: int | None = None,
+        max_steps: int | None = None,
     ) -> AnyStr: ...
     def subn(
         self,
@@ -76,9 +76,9 @@ class Pattern(Generic[AnyStr]):
         string: AnyStr,
         count: int = 0,
         *,
-        timeout: int | None = None,
+        max_steps: int | None = None,
     ) -> tuple[AnyStr, int]: ...
-    def within(self, timeout: int | None, /) -> Pattern[AnyStr]: ...
+    def within(self, max_steps: int | None, /) -> Pattern[AnyStr]: ...
     def __copy__(self) -> Pattern[AnyStr]: ...
     def __deepcopy__(self, memo: Any, /) -> Pattern[AnyStr]: ...
     @classmethod

@@ -1,4 +1,4 @@
-"""Pattern and Match over the library by ctypes, for a Python without the extension in C: as good, but slower."""
+"""Pattern and Match over the library by ctypes, for a Python without the extension in C: the same, but slower."""
 from __future__ import annotations
 
 import operator
@@ -7,7 +7,7 @@ import types
 from ctypes import byref, c_size_t, c_uint32
 
 from gaffsilver import _library as library
-from gaffsilver._shared import TooLong, parts_of, repr_of
+from gaffsilver._shared import StepLimitExceeded, parts_of, repr_of
 
 TYPE_CHECKING = False
 if TYPE_CHECKING:
@@ -24,7 +24,7 @@ def set_twins(pattern: Any, match: Any) -> None:
 
 
 class _Fixed(type):
-    """A class that is not changed, nor made by a call, nor stood on, as those of `_sre`."""
+    """A class that cannot be changed, called or subclassed, like those of `_sre`."""
 
     def __new__(cls, name: str, bases: tuple[Any, ...], body: Any) -> Any:
         if bases:
@@ -50,18 +50,18 @@ def _size(number: Any) -> int:
     return number
 
 
-def _turns(given: Any, otherwise: int) -> int:
+def _steps(given: Any, otherwise: int) -> int:
     if given is None:
         return otherwise
     number = operator.index(given)
     if not 0 <= number <= library.FOREVER:
-        raise OverflowError("can't convert this number of turns to 64 bits")
+        raise OverflowError("can't convert this number of steps to 64 bits")
     return number
 
 
 def _fail(status: int) -> None:
-    if status == library.USED_UP:
-        raise TooLong("the turns were used up before the answer was known")
+    if status == library.STEP_LIMIT:
+        raise StepLimitExceeded("step limit exceeded")
     if status == library.MEMORY:
         raise MemoryError
     if status == library.NO_CODE:
@@ -83,7 +83,7 @@ class _Text:
             except UnicodeEncodeError:
                 self.data, self.which = self.plain.encode("utf-32-le", "surrogatepass"), 1
         else:
-            self.view, self.plain = _buffer(string)  # the view keeps the buffer's size
+            self.view, self.plain = _buffer(string)  # the view fixes the buffer's size
             if isinstance(pattern, str):
                 raise TypeError("cannot use a string pattern on a bytes-like object")
             self.data, self.which = self.plain, 0
@@ -91,13 +91,13 @@ class _Text:
         self.is_fixed = isinstance(string, str) or type(string) is bytes
 
     def look_again(self) -> None:
-        """Reads what a buffer has now."""
+        """Reads the current contents of a buffer."""
         if not self.is_fixed:
             self.data = self.plain = _buffer(self.string)[1]
 
 
 def _buffer(string: Any) -> tuple[Any, bytes]:
-    """A view of a bytes-like object, and its bytes as they now are."""
+    """A view of a bytes-like object, and its current bytes."""
     if type(string) is bytes:
         return None, string
     try:
@@ -108,20 +108,20 @@ def _buffer(string: Any) -> tuple[Any, bytes]:
 
 
 def _span(row: Row, group: int) -> tuple[int, int]:
-    """The span of a group, (-1, -1) where it took no part."""
+    """The span of a group, (-1, -1) if it took no part."""
     at = 1 + 2 * group if group else 0
     start, end = row[at : at + 2]
     return (start, end) if start <= end != library.UNSET else (-1, -1)
 
 
 def _slice(plain: Any, row: Row, group: int, otherwise: Any) -> Any:
-    """The text of a group; `otherwise` where it took no part."""
+    """The text of a group; `otherwise` if it took no part."""
     start, end = _span(row, group)
     return otherwise if start < 0 else plain[start:end]
 
 
 def _fill(pieces: list[Any], parts: Any, plain: Any, row: Row) -> None:
-    """Appends the parts of a template."""
+    """Appends the parts of a template, with the groups of a row."""
     for part in parts if isinstance(parts, list) else [parts]:
         if isinstance(part, int):
             part = _slice(plain, row, part, None)
@@ -133,7 +133,7 @@ class Pattern(metaclass=_Fixed):
     """Compiled regular expression object."""
 
     __module__, __qualname__ = "re", "Pattern"
-    __slots__ = ("pattern", "flags", "groups", "_words", "_code", "_names", "_indexgroup", "_turns", "__weakref__")
+    __slots__ = ("pattern", "flags", "groups", "_words", "_code", "_names", "_indexgroup", "_max_steps", "__weakref__")
     __class_getitem__ = classmethod(types.GenericAlias)
 
     @property
@@ -141,20 +141,20 @@ class Pattern(metaclass=_Fixed):
         return types.MappingProxyType(self._names)
 
     @property
-    def timeout(self) -> int | None:
-        return None if self._turns == library.FOREVER else self._turns
+    def max_steps(self) -> int | None:
+        return None if self._max_steps == library.FOREVER else self._max_steps
 
-    def _asked(self, text: _Text, pos: Any, endpos: Any, timeout: Any) -> Any:
+    def _asked(self, text: _Text, pos: Any, endpos: Any, max_steps: Any) -> Any:
         start, end = (min(max(it, 0), text.length) for it in (pos, endpos))
-        turns = _turns(timeout, self._turns)
-        return library.Asked(start, end, turns, True, False, False, sys.version_info >= (3, 14))
+        steps = _steps(max_steps, self._max_steps)
+        return library.Asked(start, end, steps, True, False, False, sys.version_info >= (3, 14))
 
     def _over(self, text: _Text) -> tuple[Any, ...]:
         """The code and the text, as the library takes them."""
         return byref(self._code), text.data, text.length
 
     def _row(self, text: _Text, asked: Any) -> Row | None:
-        """The match as a row: start, end, the group that was closed last, and the marks."""
+        """The match as a row: start, end, the group that was closed last, and the capture slots."""
         if asked.start > asked.end:
             return None
         found, room = library.Found(), 2 * self.groups
@@ -168,7 +168,7 @@ class Pattern(metaclass=_Fixed):
         return [found.start, found.end, found.last_index % 2**64, *marks[: found.marks], *unset]
 
     def _rows(self, text: _Text, asked: Any) -> Iterator[Row]:
-        """The rows of a walk, read in batches, or one at a time where the text may change."""
+        """The rows of an iteration, read in batches, or one at a time if the text may change."""
         width, walked, status = 3 + 2 * self.groups, library.Walked(), library.NO_ROOM
         room = 8 if text.is_fixed else 1
         while status == library.NO_ROOM and asked.start <= asked.end:
@@ -179,82 +179,82 @@ class Pattern(metaclass=_Fixed):
             numbers = rows[: walked.count * width]
             for at in range(0, len(numbers), width):
                 yield numbers[at : at + width]
-            asked.start, asked.must_advance, asked.turns = walked.start, walked.must_advance, walked.turns
+            asked.start, asked.must_advance, asked.steps = walked.start, walked.must_advance, walked.steps
             room = min(4 * room, 2048) if text.is_fixed else 1
         if status not in (library.NO, library.NO_ROOM):
             _fail(status)
 
-    def _one(self, string: Any, pos: Any, endpos: Any, timeout: Any, search: bool, match_all: bool) -> Any:
+    def _one(self, string: Any, pos: Any, endpos: Any, max_steps: Any, search: bool, match_all: bool) -> Any:
         pos, endpos = _size(pos), _size(endpos)
         text = _Text(self.pattern, string)
-        asked = self._asked(text, pos, endpos, timeout)
+        asked = self._asked(text, pos, endpos, max_steps)
         asked.search, asked.match_all = search, match_all
         row = self._row(text, asked)
         return row and _match(self, text, (asked.start, asked.end), row)
 
-    def match(self, string: Any, pos: int = 0, endpos: int = sys.maxsize, *, timeout: int | None = None) -> Any:
-        """The match at the beginning of the window, or None."""
-        return self._one(string, pos, endpos, timeout, False, False)
+    def match(self, string: Any, pos: int = 0, endpos: int = sys.maxsize, *, max_steps: int | None = None) -> Any:
+        """The match at the beginning of the range, or None."""
+        return self._one(string, pos, endpos, max_steps, False, False)
 
-    def fullmatch(self, string: Any, pos: int = 0, endpos: int = sys.maxsize, *, timeout: int | None = None) -> Any:
-        """The match that is all of the window, or None."""
-        return self._one(string, pos, endpos, timeout, False, True)
+    def fullmatch(self, string: Any, pos: int = 0, endpos: int = sys.maxsize, *, max_steps: int | None = None) -> Any:
+        """The match that is all of the range, or None."""
+        return self._one(string, pos, endpos, max_steps, False, True)
 
-    def search(self, string: Any, pos: int = 0, endpos: int = sys.maxsize, *, timeout: int | None = None) -> Any:
-        """The match that starts first in the window, or None."""
-        return self._one(string, pos, endpos, timeout, True, False)
+    def search(self, string: Any, pos: int = 0, endpos: int = sys.maxsize, *, max_steps: int | None = None) -> Any:
+        """The match that starts first in the range, or None."""
+        return self._one(string, pos, endpos, max_steps, True, False)
 
-    def scanner(self, string: Any, pos: int = 0, endpos: int = sys.maxsize, *, timeout: int | None = None) -> Any:
-        """What is asked for one match after the other."""
+    def scanner(self, string: Any, pos: int = 0, endpos: int = sys.maxsize, *, max_steps: int | None = None) -> Any:
+        """A scanner, whose calls return one match after the other."""
         made: Any = object.__new__(Scanner)
         pos, endpos = _size(pos), _size(endpos)
         made.pattern, made._text, made._has_ended = self, _Text(self.pattern, string), False
-        made._asked = self._asked(made._text, pos, endpos, timeout)
+        made._asked = self._asked(made._text, pos, endpos, max_steps)
         made._window = made._asked.start, made._asked.end
         return made
 
-    def finditer(self, string: Any, pos: int = 0, endpos: int = sys.maxsize, *, timeout: int | None = None) -> Any:
+    def finditer(self, string: Any, pos: int = 0, endpos: int = sys.maxsize, *, max_steps: int | None = None) -> Any:
         """An iterator over all matches."""
         pos, endpos = _size(pos), _size(endpos)
         text = _Text(self.pattern, string)
-        asked = self._asked(text, pos, endpos, timeout)
+        asked = self._asked(text, pos, endpos, max_steps)
         window = asked.start, asked.end
         return (_match(self, text, window, row) for row in self._rows(text, asked))
 
     def findall(
-        self, string: Any, pos: int = 0, endpos: int = sys.maxsize, *, timeout: int | None = None
+        self, string: Any, pos: int = 0, endpos: int = sys.maxsize, *, max_steps: int | None = None
     ) -> list[Any]:
         """The texts of all matches, or of their groups."""
         pos, endpos = _size(pos), _size(endpos)
         text = _Text(self.pattern, string)
-        rows, empty = self._rows(text, self._asked(text, pos, endpos, timeout)), text.plain[:0]
+        rows, empty = self._rows(text, self._asked(text, pos, endpos, max_steps)), text.plain[:0]
         if self.groups < 2:
             return [_slice(text.plain, row, self.groups, empty) for row in rows]
         numbers = range(1, self.groups + 1)
         return [tuple(_slice(text.plain, row, it, empty) for it in numbers) for row in rows]
 
-    def split(self, string: Any, maxsplit: int = 0, *, timeout: int | None = None) -> list[Any]:
-        """The pieces between matches, and the groups of those."""
+    def split(self, string: Any, maxsplit: int = 0, *, max_steps: int | None = None) -> list[Any]:
+        """The pieces between matches, each followed by the groups of the match."""
         maxsplit = _size(maxsplit)
         text = _Text(self.pattern, string)
         pieces: list[Any] = []
         last = 0
-        for row in self._first(text, maxsplit, timeout):
+        for row in self._first(text, maxsplit, max_steps):
             pieces.append(text.plain[last : row[0]])
             pieces += [_slice(text.plain, row, it, None) for it in range(1, self.groups + 1)]
             last = row[1]
         return [*pieces, text.plain[last:]]
 
-    def _first(self, text: _Text, most: int, timeout: Any) -> Iterator[Row]:
-        """The rows of the first matches: of all, where `most` is 0."""
+    def _first(self, text: _Text, most: int, max_steps: Any) -> Iterator[Row]:
+        """The rows of the first `most` matches, or of all if `most` is 0."""
         if most < 0:
             return
-        for number, row in enumerate(self._rows(text, self._asked(text, 0, sys.maxsize, timeout)), 1):
+        for number, row in enumerate(self._rows(text, self._asked(text, 0, sys.maxsize, max_steps)), 1):
             yield row
             if number == most:
                 return
 
-    def subn(self, repl: Any, string: Any, count: int = 0, *, timeout: int | None = None) -> tuple[Any, int]:
+    def subn(self, repl: Any, string: Any, count: int = 0, *, max_steps: int | None = None) -> tuple[Any, int]:
         """The tuple (new_string, number_of_subs_made)."""
         count = _size(count)
         is_literal = isinstance(repl, (str, bytes)) and ("\\" if isinstance(repl, str) else b"\\") not in repl
@@ -262,7 +262,7 @@ class Pattern(metaclass=_Fixed):
         text = _Text(self.pattern, string)
         pieces: list[Any] = []
         last = made = 0
-        for row in self._first(text, count, timeout):
+        for row in self._first(text, count, max_steps):
             if last < row[0]:
                 pieces.append(text.plain[last : row[0]])
             if callable(parts):
@@ -277,16 +277,16 @@ class Pattern(metaclass=_Fixed):
             pieces.append(text.plain[last:])
         return text.plain[:0].join(pieces), made
 
-    def sub(self, repl: Any, string: Any, count: int = 0, *, timeout: int | None = None) -> Any:
+    def sub(self, repl: Any, string: Any, count: int = 0, *, max_steps: int | None = None) -> Any:
         """The string with each match replaced by repl."""
-        return self.subn(repl, string, count, timeout=timeout)[0]
+        return self.subn(repl, string, count, max_steps=max_steps)[0]
 
-    def within(self, timeout: Any, /) -> Any:
-        """The same pattern, each call of which has so many turns where it names none."""
+    def within(self, max_steps: Any, /) -> Any:
+        """The same pattern with another step limit, for each call without one."""
         made: Any = object.__new__(Pattern)
         for name in Pattern.__slots__[:-1]:
             setattr(made, name, getattr(self, name))
-        made._turns = _turns(timeout, library.FOREVER)
+        made._max_steps = _steps(max_steps, library.FOREVER)
         return made
 
     def __copy__(self) -> Any:
@@ -296,7 +296,7 @@ class Pattern(metaclass=_Fixed):
         return self
 
     def _key(self) -> tuple[Any, ...]:
-        return self.flags, self.groups, self._turns, type(self.pattern), self._words, self.pattern
+        return self.flags, self.groups, self._max_steps, type(self.pattern), self._words, self.pattern
 
     def __eq__(self, other: object) -> Any:
         return self._key() == other._key() if type(other) is Pattern else NotImplemented
@@ -337,7 +337,7 @@ class Match(metaclass=_Fixed):
 
     @property
     def _plain(self) -> Any:
-        """The text, or what a buffer has now."""
+        """The text, or the current contents of a buffer."""
         return _buffer(self.string)[1] if self._str is None else self._str
 
     def _of(self, group: int, otherwise: Any) -> Any:
@@ -347,11 +347,11 @@ class Match(metaclass=_Fixed):
         return self._of(self._number(group), None)
 
     def group(self, *groups: Any) -> Any:
-        """The texts of groups by number or name; with none, that of the match."""
+        """The texts of groups by number or name; without arguments, that of the match."""
         return self[groups[0] if groups else 0] if len(groups) < 2 else tuple(self[it] for it in groups)
 
     def groups(self, default: Any = None) -> tuple[Any, ...]:
-        """The texts of all groups; default for those that took no part."""
+        """The texts of all groups; `default` for those that took no part."""
         return tuple(self._of(group, default) for group in range(1, self.re.groups + 1))
 
     def groupdict(self, default: Any = None) -> Any:
@@ -359,19 +359,19 @@ class Match(metaclass=_Fixed):
         return {name: self._of(group, default) for name, group in self.re._names.items()}
 
     def span(self, group: Any = 0, /) -> tuple[int, int]:
-        """Where a group starts and ends; (-1, -1) where it took no part."""
+        """Where a group starts and ends; (-1, -1) if it took no part."""
         return _span(self._row, self._number(group))
 
     def start(self, group: Any = 0, /) -> int:
-        """Where a group starts; -1 where it took no part."""
+        """Where a group starts; -1 if it took no part."""
         return self.span(group)[0]
 
     def end(self, group: Any = 0, /) -> int:
-        """Where a group ends; -1 where it took no part."""
+        """Where a group ends; -1 if it took no part."""
         return self.span(group)[1]
 
     def expand(self, template: Any) -> Any:
-        """A template with the texts of its groups, as sub() does it."""
+        """A template filled in with the texts of groups, as by sub()."""
         pieces: list[Any] = []
         _fill(pieces, parts_of(self.re, template), self._plain, self._row)
         return template[:0].join(pieces)
@@ -390,7 +390,7 @@ class Match(metaclass=_Fixed):
 
 
 class Scanner(metaclass=_Fixed):
-    """What is asked for one match after the other."""
+    """A scanner: each call returns the next match."""
 
     __module__, __qualname__ = "_sre", "SRE_Scanner"
     __slots__ = ("pattern", "_text", "_asked", "_window", "_has_ended")
@@ -406,7 +406,7 @@ class Scanner(metaclass=_Fixed):
         return _match(self.pattern, self._text, self._window, row)
 
     def match(self) -> Any:
-        """The match where the last one ended, or None."""
+        """The match at the end of the last one, or None."""
         return self._step(False)
 
     def search(self) -> Any:
@@ -423,11 +423,11 @@ def _match(pattern: Any, text: _Text, window: tuple[int, int], row: Row) -> Any:
 
 
 def compile(pattern: Any, flags: int, code: list[int], groups: int, groupindex: Any, indexgroup: Any) -> Any:
-    """A pattern of compiled words, as `_sre.compile` gives one."""
+    """A pattern from bytecode, with the arguments of `_sre.compile`."""
     made: Any = object.__new__(Pattern)
     made.pattern = pattern if pattern is None or isinstance(pattern, (str, bytes)) else bytes(memoryview(pattern))
     made.flags, made.groups, made._names, made._indexgroup = int(flags), groups, groupindex, indexgroup
-    made._turns, made._words = library.FOREVER, bytes((c_uint32 * len(code))(*code))
+    made._max_steps, made._words = library.FOREVER, bytes((c_uint32 * len(code))(*code))
     table = library.table(not isinstance(made.pattern, bytes))
     made._code = library.Code(library.bytes_of(made._words), len(code), library.pointer_to(table))
     status = library.check_code(byref(made._code))

@@ -1,4 +1,4 @@
-"""The engine in place of `_sre` for a whole process."""
+"""The engine instead of `_sre`, for a whole process."""
 from __future__ import annotations
 
 import copyreg
@@ -28,27 +28,27 @@ def is_installed() -> bool:
 def install() -> None:
     """From now on the module `re` itself compiles for this engine, in the whole process.
 
-    Patterns that were compiled before stay those of CPython's `_sre`, and `re` still takes them.
+    Patterns that were compiled before remain those of CPython's `_sre`, and `re` still accepts them.
     """
     _put(sre, engine.Pattern, engine.Match)
     engine.set_twins(*_theirs[1:])
 
 
 def uninstall() -> None:
-    """From now on `re` compiles for CPython's `_sre` again. Patterns that were compiled meanwhile stay as they are."""
+    """From now on `re` compiles for CPython's `_sre` again. Patterns that were compiled meanwhile do not change."""
     _put(*_theirs)
     engine.set_twins(None, None)
 
 
-def _compile_anew(pattern: Any, flags: int, timeout: int | None) -> Any:
-    return compiler.compile(pattern, flags).within(timeout)
+def _compile_anew(pattern: Any, flags: int, max_steps: int | None) -> Any:
+    return compiler.compile(pattern, flags).within(max_steps)
 
 
 def _reduced(pattern: Any) -> tuple[Any, tuple[Any, ...]]:
-    """A pickled pattern is one of `re` while the engine stands in its place, and else one of this package."""
-    if is_installed() and pattern.timeout is None:
+    """How to unpickle a pattern: as one of `re` if the engine is installed, else as one of this package."""
+    if is_installed() and pattern.max_steps is None:
         return re._compile, (pattern.pattern, pattern.flags)  # type: ignore[attr-defined]
-    return _compile_anew, (pattern.pattern, pattern.flags, pattern.timeout)
+    return _compile_anew, (pattern.pattern, pattern.flags, pattern.max_steps)
 
 
 copyreg.pickle(engine.Pattern, _reduced)

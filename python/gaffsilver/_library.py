@@ -11,7 +11,7 @@ TYPE_CHECKING = False
 if TYPE_CHECKING:
     from typing import Any
 
-NO, YES, USED_UP, MEMORY, NO_CODE, NO_ROOM = range(6)
+NO, YES, STEP_LIMIT, MEMORY, NO_CODE, NO_ROOM = range(6)
 UNSET = FOREVER = 2**64 - 1
 
 
@@ -51,7 +51,7 @@ class Asked(Structure):
     _fields_ = [
         ("start", c_size_t),
         ("end", c_size_t),
-        ("turns", c_uint64),
+        ("steps", c_uint64),
         *((name, c_bool) for name in ("search", "match_all", "must_advance", "non_boundary")),
     ]
 
@@ -62,7 +62,7 @@ class Found(Structure):
         ("end", c_size_t),
         ("last_index", c_ssize_t),
         ("marks", c_size_t),
-        ("turns", c_uint64),
+        ("steps", c_uint64),
     ]
 
 
@@ -70,13 +70,16 @@ class Walked(Structure):
     _fields_ = [
         ("count", c_size_t),
         ("start", c_size_t),
-        ("turns", c_uint64),
-        ("step_turns", c_uint64),
+        ("steps", c_uint64),
+        ("steps_before", c_uint64),
         ("must_advance", c_bool),
     ]
 
 
-_library = ctypes.CDLL(os.path.join(os.path.dirname(os.path.abspath(__file__)), "libsre_c.so"))
+_path = os.path.join(os.path.dirname(os.path.abspath(__file__)), "libsre_c.so")
+if not os.path.isfile(_path):
+    raise ImportError(f"{_path} is missing: `python/build.py package DIR` makes the package with its library")
+_library = ctypes.CDLL(_path)
 
 
 def _function(name: str, *arguments: Any) -> Any:
@@ -86,7 +89,7 @@ def _function(name: str, *arguments: Any) -> Any:
 
 
 def _of_text(what: str, *arguments: Any) -> tuple[Any, Any]:
-    """The function for characters of one byte, and that for those of four."""
+    """The functions for texts of one byte and of four bytes a character."""
     before = POINTER(Code), c_void_p, c_size_t, POINTER(Asked)
     return tuple(_function(f"sre_{what}_{text}", *before, *arguments) for text in ("bytes", "points"))  # type: ignore
 
@@ -129,7 +132,7 @@ def _lists_of_unicode() -> tuple[list[Any], list[Any], list[Any], list[Any]]:
 
 
 def _table(*lists: list[Any]) -> Table:
-    """The checked table of lists. It holds the arrays that it points to."""
+    """The checked table of these lists. It owns the arrays that it points to."""
     table = Table()
     for name, pairs in zip(("lower", "upper", "alnum", "digits"), lists):
         setattr(table, name, (Pair * (len(pairs) or 1))(*map(tuple, pairs)))
@@ -150,7 +153,7 @@ def table(is_unicode: bool) -> Table:
 
 
 def bytes_of(text: bytes) -> Any:
-    """The address of bytes, which stays good for as long as they are held."""
+    """The address of bytes, which is valid as long as they are referenced."""
     return ctypes.cast(text, c_void_p)
 
 

@@ -1,4 +1,4 @@
-"""What both engines share: the error of a call that was given up, templates, and how a pattern prints."""
+"""For both engines: the error of a call that exceeds its step limit, templates, and the repr of a pattern."""
 from __future__ import annotations
 
 import functools
@@ -13,21 +13,21 @@ _constants = re._constants  # type: ignore[attr-defined]
 
 Part = str | bytes | int
 
-# Flags in the order in which a pattern prints them.
+# Flags in the order of the repr of a pattern.
 _FLAGS = ("TEMPLATE", "IGNORECASE", "LOCALE", "MULTILINE", "DOTALL", "UNICODE", "VERBOSE", "DEBUG", "ASCII")
 
 
-class TooLong(RuntimeError):
-    """The turns of a call were used up before its answer was known."""
+class StepLimitExceeded(RuntimeError, TimeoutError):
+    """A call exceeded its step limit before its result was known."""
 
     __module__ = "gaffsilver"
 
 
 def _alternating(parsed: Any) -> list[Part]:
-    """Literals and numbers of groups in order, of what this Python's parser of templates gives."""
+    """The literals and group numbers of a template in order, from the result of this Python's parser."""
     if isinstance(parsed, list):
         return parsed
-    groups, parts = parsed  # CPython 3.11: where the groups stand among the literals, and which they are
+    groups, parts = parsed  # CPython 3.11: the indices and numbers of the groups, and the literals
     for place, group in groups:
         parts[place] = group
     return parts
@@ -35,7 +35,7 @@ def _alternating(parsed: Any) -> list[Part]:
 
 @functools.lru_cache(512)
 def _parts(pattern: Any, template: str | bytes) -> str | bytes | list[Part]:
-    # the parser's warnings count calls up to whoever called `sub`, so it is asked right here
+    # the parser's warnings count calls up to the caller of `sub`, so the parser is called right here
     parsed = _parser.parse_template(template, pattern)
     parts = [it for it in _alternating(parsed) if isinstance(it, int) or it]
     return parts if any(isinstance(it, int) for it in parts) else template[:0].join(parts)
@@ -44,7 +44,7 @@ def _parts(pattern: Any, template: str | bytes) -> str | bytes | list[Part]:
 def parts_of(pattern: Any, template: Any) -> str | bytes | list[Part]:
     """A template as a literal, or as a list of literals and the numbers of groups.
 
-    Raises `re.error` where it is no template of the pattern, and IndexError where it names a group that there is not.
+    Raises `re.error` if it is no valid template of the pattern, and IndexError if it names an unknown group.
     """
     if not isinstance(template, (str, bytes)) and isinstance(pattern.pattern, bytes):
         template = bytes(memoryview(template))

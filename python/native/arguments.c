@@ -1,4 +1,4 @@
-/* What a call is given: arguments by position and by name, sizes and turns. */
+/* The arguments of a call, by position and by name; sizes and step limits. */
 #include "native.h"
 
 static bool put_named(const Signature *signature, PyObject *name, PyObject *value, PyObject **into) {
@@ -43,7 +43,7 @@ bool arguments_size(PyObject *given, Py_ssize_t otherwise, Py_ssize_t *into) {
   return *into != -1 || !PyErr_Occurred();
 }
 
-bool arguments_turns(PyObject *given, uint64_t otherwise, uint64_t *into) {
+bool arguments_steps(PyObject *given, uint64_t otherwise, uint64_t *into) {
   *into = otherwise;
   if (!given || given == Py_None)
     return true;

@@ -1,7 +1,7 @@
-/* The calls of the engine: its tables, a match, and the rows of a walk. */
+/* The calls of the engine: its tables, a match, and the rows of an iteration. */
 #include "native.h"
 
-/* A text of so many characters or more is worth letting other threads run. */
+/* The least number of characters of a text over which other threads may run. */
 #define LONG_TEXT 4096
 
 /* ---- tables ---- */
@@ -25,7 +25,7 @@ static bool list_add(List *list, uint32_t low, uint32_t high) {
   return true;
 }
 
-/* Takes a character into the ranges of a list. */
+/* Adds a character to the ranges of a list. */
 static bool list_extend(List *list, uint32_t character) {
   if (list->count && list->pairs[list->count - 1].high + 1 == character) {
     list->pairs[list->count - 1].high = character;
@@ -34,7 +34,7 @@ static bool list_extend(List *list, uint32_t character) {
   return list_add(list, character, character);
 }
 
-/* The lists of this Python's Unicode data, the one that its own `_sre` reads. */
+/* The lists of this Python's Unicode data, which its own `_sre` also reads. */
 static bool lists_of_unicode(List *lower, List *upper, List *alnum, List *digits) {
   for (Py_UCS4 c = 128; c < 0x110000; c++) {
     if (Py_UNICODE_IS_SURROGATE(c))
@@ -51,7 +51,7 @@ static bool lists_of_unicode(List *lower, List *upper, List *alnum, List *digits
   return true;
 }
 
-/* Fills in and checks the table of Unicode, which then stays for as long as the process runs. */
+/* Fills in and checks the Unicode table, which is never freed. */
 static bool fill_unicode(sre_table *table) {
   List lower = {0}, upper = {0}, alnum = {0}, digits = {0};
   if (lists_of_unicode(&lower, &upper, &alnum, &digits)) {
@@ -91,8 +91,8 @@ const sre_table *engine_table(bool is_unicode) {
 /* ---- calls ---- */
 
 void engine_fail(uint32_t status) {
-  if (status == SRE_USED_UP)
-    PyErr_SetString(shared.too_long, "the turns were used up before the answer was known");
+  if (status == SRE_STEP_LIMIT)
+    PyErr_SetString(shared.step_limit_exceeded, "step limit exceeded");
   else if (status == SRE_MEMORY)
     PyErr_NoMemory();
   else if (status == SRE_NO_CODE)
@@ -105,17 +105,17 @@ static Py_ssize_t held(Py_ssize_t position, Py_ssize_t length) {
   return position < 0 ? 0 : position > length ? length : position;
 }
 
-sre_asked engine_asked(const Text *text, Py_ssize_t pos, Py_ssize_t endpos, uint64_t turns) {
+sre_asked engine_asked(const Text *text, Py_ssize_t pos, Py_ssize_t endpos, uint64_t steps) {
   return (sre_asked){
       .start = (size_t)held(pos, text->length),
       .end = (size_t)held(endpos, text->length),
-      .turns = turns,
+      .steps = steps,
       .search = true,
       .non_boundary = PY_VERSION_HEX >= 0x030E0000,
   };
 }
 
-/* Lets other threads run, where nothing can change the text meanwhile and that is worth while. */
+/* Lets other threads run, if none can change the text and it is long enough. */
 static PyThreadState *let_others_run(const Text *text) {
   return text->is_fixed && text->length >= LONG_TEXT ? PyEval_SaveThread() : NULL;
 }

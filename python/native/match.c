@@ -1,4 +1,4 @@
-/* Matches, and what is made of a row: texts of groups, and of the parts of a template. */
+/* Matches, and the texts of groups and of template parts from a row. */
 #include "native.h"
 
 typedef struct {
@@ -11,10 +11,10 @@ typedef struct {
 
 /* ---- rows ---- */
 
-/* Where a group starts in a row; its end stands behind. */
+/* The index of the start of a group in a row; its end is next. */
 #define GROUP(group) ((group) ? 1 + 2 * (group) : 0)
 
-/* The span of a group of a row, -1 and -1 where it took no part. */
+/* The span of a group of a row, -1 and -1 if it took no part. */
 static Window span_of(const size_t *row, Py_ssize_t group) {
   Window span = {(Py_ssize_t)row[GROUP(group)], (Py_ssize_t)row[GROUP(group) + 1]};
   return span.pos < 0 || span.endpos < span.pos ? (Window){-1, -1} : span;
@@ -25,7 +25,7 @@ PyObject *row_group(const Text *text, const size_t *row, Py_ssize_t group, PyObj
   return span.pos < 0 ? Py_NewRef(otherwise) : text_slice(text, span.pos, span.endpos);
 }
 
-/* Appends what was made, and lets it go. */
+/* Appends a new reference, and releases it. */
 static bool append(PyObject *list, PyObject *made) {
   int failed = !made || PyList_Append(list, made) < 0;
   Py_XDECREF(made);
@@ -113,7 +113,7 @@ static Py_ssize_t number_of(const Match *self, PyObject *group) {
   return -1;
 }
 
-/* Opens the text again, and holds a span within it: a bytearray may be shorter by now. */
+/* The text of a span, clamped to the text as it is now: a bytearray may be shorter than it was. */
 static PyObject *slice_now(const Match *self, Window span) {
   Text text;
   if (!text_open(&text, NULL, self->string))

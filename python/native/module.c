@@ -1,12 +1,12 @@
-/* The module gaffsilver._native: Pattern and Match over the proved engine, for calls that cost little more than it. */
+/* The module gaffsilver._native: Pattern and Match over the proved engine, with little overhead per call. */
 #include "native.h"
 
 Shared shared;
 
 /* ---- the type of Pattern and Match ---- */
 
-/* What `re` itself calls Pattern and Match, while the engine stands in its place: an instance of those is one of ours,
- * too, since a pattern that was compiled before is still good. */
+/* The own Pattern and Match of `re` while this engine is installed, else null. Their instances count as instances of
+ * ours, since patterns that were compiled before remain valid. */
 static PyObject *twins[2];
 
 static PyObject *twin_of(PyObject *type) {
@@ -58,11 +58,11 @@ static bool read_shared(void) {
   PyObject *module = PyImport_ImportModule("gaffsilver._shared");
   if (!module)
     return false;
-  shared.too_long = PyObject_GetAttrString(module, "TooLong");
+  shared.step_limit_exceeded = PyObject_GetAttrString(module, "StepLimitExceeded");
   shared.parts_of = PyObject_GetAttrString(module, "parts_of");
   shared.repr_of = PyObject_GetAttrString(module, "repr_of");
   Py_DECREF(module);
-  return shared.too_long && shared.parts_of && shared.repr_of;
+  return shared.step_limit_exceeded && shared.parts_of && shared.repr_of;
 }
 
 static bool ready_types(void) {

@@ -1,4 +1,4 @@
-/* What the files of the extension share: its types, and what they ask of each other. */
+/* The types and functions that the files of the extension share. */
 #ifndef GAFFSILVER_NATIVE_H
 #define GAFFSILVER_NATIVE_H
 
@@ -8,13 +8,13 @@
 
 #include "sre.h"
 
-/* ---- what a module in Python gives (module.c) ---- */
+/* ---- from a module in Python (module.c) ---- */
 
-/* gaffsilver._shared: the error of a call whose turns were used up, and two functions. */
+/* gaffsilver._shared: the error of a call that exceeds its step limit, and two functions. */
 typedef struct {
-  PyObject *too_long; /* the class TooLong */
-  PyObject *parts_of; /* (pattern, template): a literal, or a list of literals and numbers of groups */
-  PyObject *repr_of;  /* (pattern): its repr */
+  PyObject *step_limit_exceeded; /* the class StepLimitExceeded */
+  PyObject *parts_of;            /* (pattern, template): a literal, or a list of literals and numbers of groups */
+  PyObject *repr_of;             /* (pattern): its repr */
 } Shared;
 
 extern Shared shared;
@@ -23,27 +23,27 @@ extern Shared shared;
 
 typedef struct {
   PyObject_HEAD
-  PyObject *pattern;    /* str, bytes, or None where a Scanner made it */
-  PyObject *words;      /* bytes: the compiled words, 32 bits each */
+  PyObject *pattern;    /* str, bytes, or None if a Scanner made it */
+  PyObject *words;      /* bytes: the bytecode, 32 bits a word */
   PyObject *groupindex; /* dict: the number of each name */
   PyObject *indexgroup; /* tuple: the name of each number, or None */
   PyObject *weak_references;
   Py_ssize_t groups;
   int flags;
-  uint64_t turns; /* of a call that names none */
+  uint64_t max_steps; /* the step limit of a call without one */
   sre_code code;
 } Pattern;
 
 extern PyTypeObject PatternType;
 
-/* A new pattern, as `_sre.compile` gives one. */
+/* A new pattern, with the arguments of `_sre.compile`. */
 PyObject *pattern_compile(PyObject *module, PyObject *args);
 
 /* ---- texts (text.c) ---- */
 
 /* A str or bytes-like object, read in place. */
 typedef struct {
-  PyObject *string; /* borrowed: whoever opened the text holds it */
+  PyObject *string; /* borrowed: the caller of text_open holds it */
   const void *data;
   Py_ssize_t length; /* in characters */
   int size;          /* of a character, in bytes: 1, 2 or 4 */
@@ -52,76 +52,76 @@ typedef struct {
   Py_buffer view;
 } Text;
 
-/* Opens a text for a pattern, or for any where that is null. False with TypeError where it cannot be read so. */
+/* Opens a text for a pattern, or for any pattern if that is null. False with TypeError if the types do not match. */
 bool text_open(Text *text, const Pattern *pattern, PyObject *string);
 void text_close(Text *text);
 
 /* The characters from start to end as a new str or bytes. */
 PyObject *text_slice(const Text *text, Py_ssize_t start, Py_ssize_t end);
 
-/* ---- what a call is given (arguments.c) ---- */
+/* ---- arguments of a call (arguments.c) ---- */
 
-/* The names of a call's arguments, ended by null. */
+/* The names of a call's arguments, terminated by null. */
 typedef struct {
   const char *function;
-  int needed;     /* so many have to be there */
-  int positional; /* so many may be given by position */
+  int needed;     /* how many are required */
+  int positional; /* how many may be positional */
   const char *names[5];
 } Signature;
 
-/* Puts each argument where its name stands; one that is not given is null there. */
+/* Stores each argument at the index of its name, and null for one that is not given. */
 bool arguments_read(const Signature *signature, PyObject *const *args, Py_ssize_t count, PyObject *names,
                     PyObject **into);
 
-/* A number of characters or matches; `otherwise` where none is given. */
+/* A number of characters or matches; `otherwise` if none is given. */
 bool arguments_size(PyObject *given, Py_ssize_t otherwise, Py_ssize_t *into);
 
-/* A number of turns; `otherwise` where it is not given or None. */
-bool arguments_turns(PyObject *given, uint64_t otherwise, uint64_t *into);
+/* A step limit; `otherwise` if it is not given or None. */
+bool arguments_steps(PyObject *given, uint64_t otherwise, uint64_t *into);
 
 /* ---- the engine (engine.c) ---- */
 
-/* A match is a row of numbers: start, end, the group that was closed last, and two marks for each group; -1 where one
- * is not set. This many there are. */
+/* The length of a row, which is a match: start, end, the group that was closed last, and two capture slots a group. An
+ * unset one is -1. */
 #define ROW_WIDTH(pattern) (3 + 2 * (size_t)(pattern)->groups)
 
-/* A row of a walk has no more than start and end where there are no groups: then it takes no run of the machine to fill
- * in. */
+/* The length of a row of an iteration: only start and end if there are no groups. Then no run of the machine is needed
+ * to fill it in. */
 #define WALK_WIDTH(pattern) ((pattern)->groups ? ROW_WIDTH(pattern) : 2)
 
 /* The table of this Python's own letters, digits and cases, or with false that of ASCII. Null with an exception. */
 const sre_table *engine_table(bool is_unicode);
 
-/* What is asked of the window from pos to endpos of a text. */
-sre_asked engine_asked(const Text *text, Py_ssize_t pos, Py_ssize_t endpos, uint64_t turns);
+/* The request for the range from pos to endpos of a text. */
+sre_asked engine_asked(const Text *text, Py_ssize_t pos, Py_ssize_t endpos, uint64_t steps);
 
 /* Whether there is a match, which is written as a row: 1 or 0, or -1 with an exception. */
 int engine_match(const Pattern *pattern, const Text *text, const sre_asked *asked, size_t *row);
 
-/* Writes rows of a walk, as many as there is room for, and gives the status. */
+/* Writes rows of an iteration, as many as there is room for, and returns the status. */
 uint32_t engine_walk(const Pattern *pattern, const Text *text, const sre_asked *asked, size_t *rows, size_t room,
                      sre_walked *walked);
 
-/* Sets the exception of a status that is no answer. */
+/* Sets the exception of a status other than SRE_YES and SRE_NO. */
 void engine_fail(uint32_t status);
 
-/* ---- walks (walk.c) ---- */
+/* ---- iterations over matches (walk.c) ---- */
 
-/* The matches of a window one after the other, read in batches. */
+/* The matches of a range in order, read in batches. */
 typedef struct {
   const Pattern *pattern;
   const Text *text;
-  sre_asked asked; /* of the next batch */
+  sre_asked asked; /* the request for the next batch */
   size_t width;
   size_t room;      /* rows that a batch may have */
-  size_t count, at; /* rows of this batch, and which is next */
+  size_t count, at; /* rows of this batch, and the next of them */
   uint32_t status;  /* of this batch */
-  const size_t *batch; /* its rows: in one of these */
+  const size_t *batch; /* its rows, in `rows` or `first` */
   size_t *rows;
-  size_t first[48]; /* so that a short walk needs no memory */
+  size_t first[48]; /* so a short iteration allocates nothing */
 } Walk;
 
-/* Begins a walk; where `most` is above 0 no more matches than that are wanted. */
+/* Begins an iteration. If `most` is above 0, the caller wants at most that many matches. */
 void walk_begin(Walk *walk, const Pattern *pattern, const Text *text, const sre_asked *asked, Py_ssize_t most);
 void walk_end(Walk *walk);
 
@@ -132,24 +132,24 @@ const size_t *walk_next(Walk *walk);
 
 extern PyTypeObject MatchType;
 
-/* The window that a match was asked in. */
+/* The range of a request, or a span. */
 typedef struct {
   Py_ssize_t pos, endpos;
 } Window;
 
-/* A new match of a row, that of a walk, too. */
+/* A new match from a row, also from that of an iteration. */
 PyObject *match_new(const Pattern *pattern, PyObject *string, Window window, const size_t *row);
 
-/* The text of a group of a row; `otherwise` where it took no part. */
+/* The text of a group of a row; `otherwise` if it took no part. */
 PyObject *row_group(const Text *text, const size_t *row, Py_ssize_t group, PyObject *otherwise);
 
-/* Appends the parts of a template to a list, the groups as a row has them. */
+/* Appends the parts of a template to a list, with the groups of a row. */
 bool parts_append(PyObject *list, PyObject *parts, const Text *text, const size_t *row);
 
-/* What pieces make together: a str, or bytes. */
+/* The concatenation of pieces: a str, or bytes. */
 PyObject *pieces_joined(const Text *text, PyObject *pieces);
 
-/* ---- what a pattern does along a walk (walks.c), one match after the other (scanner.c) ---- */
+/* ---- calls of a pattern that iterate (walks.c), and its iterators (scanner.c) ---- */
 
 PyObject *pattern_findall(Pattern *self, PyObject *const *args, Py_ssize_t count, PyObject *names);
 PyObject *pattern_split(Pattern *self, PyObject *const *args, Py_ssize_t count, PyObject *names);

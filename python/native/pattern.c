@@ -1,9 +1,9 @@
-/* Patterns: a compiled pattern's words with what `re` tells of it, and the calls that ask for one match. */
+/* Patterns: bytecode with the attributes of a pattern of `re`, and the calls for one match. */
 #include "native.h"
 
 /* ---- making one ---- */
 
-/* The words of a list of numbers as bytes, 32 bits each. */
+/* Bytecode from a list of numbers, as bytes, 32 bits a word. */
 static PyObject *words_of(PyObject *list) {
   Py_ssize_t count = PyList_GET_SIZE(list);
   PyObject *words = PyBytes_FromStringAndSize(NULL, count * (Py_ssize_t)sizeof(uint32_t));
@@ -19,13 +19,13 @@ static PyObject *words_of(PyObject *list) {
   return words;
 }
 
-/* The pattern itself as it is kept: a str, bytes of a buffer, or None. */
+/* The pattern as it is stored: a str, the bytes of a buffer, or None. */
 static PyObject *source_of(PyObject *pattern) {
   return pattern == Py_None || PyUnicode_Check(pattern) || PyBytes_Check(pattern) ? Py_NewRef(pattern)
                                                                                   : PyBytes_FromObject(pattern);
 }
 
-/* Has the engine check the words. */
+/* Lets the engine check the bytecode. */
 static bool check(Pattern *self) {
   self->code = (sre_code){
       .words = (const uint32_t *)PyBytes_AS_STRING(self->words),
@@ -57,7 +57,7 @@ PyObject *pattern_compile(PyObject *module, PyObject *args) {
   self->weak_references = NULL;
   self->groups = groups;
   self->flags = flags;
-  self->turns = UINT64_MAX;
+  self->max_steps = UINT64_MAX;
   self->groupindex = Py_NewRef(groupindex);
   self->indexgroup = Py_NewRef(indexgroup);
   self->pattern = source_of(pattern);
@@ -86,10 +86,10 @@ static void dealloc(Pattern *self) {
   PyObject_GC_Del(self);
 }
 
-/* The same pattern, each call of which has so many turns where it names none. */
+/* The same pattern with another step limit, for each call without one. */
 static PyObject *within(Pattern *self, PyObject *given) {
-  uint64_t turns;
-  if (!arguments_turns(given, UINT64_MAX, &turns))
+  uint64_t steps;
+  if (!arguments_steps(given, UINT64_MAX, &steps))
     return NULL;
   Pattern *made = PyObject_GC_New(Pattern, &PatternType);
   if (!made)
@@ -101,7 +101,7 @@ static PyObject *within(Pattern *self, PyObject *given) {
   made->weak_references = NULL;
   made->groups = self->groups;
   made->flags = self->flags;
-  made->turns = turns;
+  made->max_steps = steps;
   made->code = self->code;
   PyObject_GC_Track(made);
   return (PyObject *)made;
@@ -109,11 +109,11 @@ static PyObject *within(Pattern *self, PyObject *given) {
 
 /* ---- one match ---- */
 
-static const Signature of_match = {"match", 1, 3, {"string", "pos", "endpos", "timeout"}};
-static const Signature of_fullmatch = {"fullmatch", 1, 3, {"string", "pos", "endpos", "timeout"}};
-static const Signature of_search = {"search", 1, 3, {"string", "pos", "endpos", "timeout"}};
+static const Signature of_match = {"match", 1, 3, {"string", "pos", "endpos", "max_steps"}};
+static const Signature of_fullmatch = {"fullmatch", 1, 3, {"string", "pos", "endpos", "max_steps"}};
+static const Signature of_search = {"search", 1, 3, {"string", "pos", "endpos", "max_steps"}};
 
-/* The match of what is asked, or None. */
+/* The match for a request, or None. */
 static PyObject *answer(const Pattern *self, const Text *text, const sre_asked *asked) {
   size_t few[3 + 2 * 12], *row = few, width = ROW_WIDTH(self);
   if (asked->start > asked->end)
@@ -135,13 +135,13 @@ static PyObject *ask(Pattern *self, const Signature *signature, PyObject *const 
                      PyObject *names, bool search, bool match_all) {
   PyObject *given[4] = {NULL};
   Py_ssize_t pos, endpos;
-  uint64_t turns;
+  uint64_t steps;
   Text text;
   if (!arguments_read(signature, args, count, names, given) || !arguments_size(given[1], 0, &pos) ||
-      !arguments_size(given[2], PY_SSIZE_T_MAX, &endpos) || !arguments_turns(given[3], self->turns, &turns) ||
+      !arguments_size(given[2], PY_SSIZE_T_MAX, &endpos) || !arguments_steps(given[3], self->max_steps, &steps) ||
       !text_open(&text, self, given[0]))
     return NULL;
-  sre_asked asked = engine_asked(&text, pos, endpos, turns);
+  sre_asked asked = engine_asked(&text, pos, endpos, steps);
   asked.search = search;
   asked.match_all = match_all;
   PyObject *match = answer(self, &text, &asked);
@@ -177,7 +177,7 @@ static PyObject *compare(PyObject *one, PyObject *two, int how) {
   if ((how != Py_EQ && how != Py_NE) || Py_TYPE(two) != &PatternType)
     Py_RETURN_NOTIMPLEMENTED;
   Pattern *left = (Pattern *)one, *right = (Pattern *)two;
-  int same = left->flags == right->flags && left->groups == right->groups && left->turns == right->turns &&
+  int same = left->flags == right->flags && left->groups == right->groups && left->max_steps == right->max_steps &&
              Py_TYPE(left->pattern) == Py_TYPE(right->pattern);
   if (same)
     same = PyObject_RichCompareBool(left->words, right->words, Py_EQ);
@@ -193,8 +193,8 @@ static PyObject *get_flags(Pattern *self, void *unused) { return PyLong_FromLong
 static PyObject *get_groups(Pattern *self, void *unused) { return PyLong_FromSsize_t(self->groups); }
 static PyObject *get_groupindex(Pattern *self, void *unused) { return PyDictProxy_New(self->groupindex); }
 
-static PyObject *get_timeout(Pattern *self, void *unused) {
-  return self->turns == UINT64_MAX ? Py_NewRef(Py_None) : PyLong_FromUnsignedLongLong(self->turns);
+static PyObject *get_max_steps(Pattern *self, void *unused) {
+  return self->max_steps == UINT64_MAX ? Py_NewRef(Py_None) : PyLong_FromUnsignedLongLong(self->max_steps);
 }
 
 static PyGetSetDef attributes[] = {
@@ -202,11 +202,11 @@ static PyGetSetDef attributes[] = {
     {"flags", (getter)get_flags, NULL, "The regex matching flags.", NULL},
     {"groups", (getter)get_groups, NULL, "The number of capturing groups in the pattern.", NULL},
     {"groupindex", (getter)get_groupindex, NULL, "A dictionary mapping group names to group numbers.", NULL},
-    {"timeout", (getter)get_timeout, NULL, "The turns of a call that names none, or None.", NULL},
+    {"max_steps", (getter)get_max_steps, NULL, "The step limit of a call that names none, or None.", NULL},
     {NULL},
 };
 
-#define WINDOWED "string, pos=0, endpos=sys.maxsize, *, timeout=None"
+#define WINDOWED "string, pos=0, endpos=sys.maxsize, *, max_steps=None"
 
 #define BY_NAME METH_FASTCALL | METH_KEYWORDS
 
@@ -223,13 +223,13 @@ static PyMethodDef methods[] = {
      "finditer($self, /, " WINDOWED ")\n--\n\nAn iterator over all matches."},
     {"scanner", (PyCFunction)(void *)pattern_scanner, BY_NAME, "scanner($self, /, " WINDOWED ")\n--\n\n"},
     {"split", (PyCFunction)(void *)pattern_split, BY_NAME,
-     "split($self, /, string, maxsplit=0, *, timeout=None)\n--\n\nThe pieces between matches, and their groups."},
+     "split($self, /, string, maxsplit=0, *, max_steps=None)\n--\n\nThe pieces between matches, and their groups."},
     {"sub", (PyCFunction)(void *)pattern_sub, BY_NAME,
-     "sub($self, /, repl, string, count=0, *, timeout=None)\n--\n\nThe string with each match replaced by repl."},
+     "sub($self, /, repl, string, count=0, *, max_steps=None)\n--\n\nThe string with each match replaced by repl."},
     {"subn", (PyCFunction)(void *)pattern_subn, BY_NAME,
-     "subn($self, /, repl, string, count=0, *, timeout=None)\n--\n\nThe tuple (new_string, number_of_subs_made)."},
+     "subn($self, /, repl, string, count=0, *, max_steps=None)\n--\n\nThe tuple (new_string, number_of_subs_made)."},
     {"within", (PyCFunction)within, METH_O,
-     "within($self, timeout, /)\n--\n\nThe same pattern, each call of which has so many turns where it names none."},
+     "within($self, max_steps, /)\n--\n\nThe same pattern with another step limit, for each call that names none."},
     {"__copy__", itself, METH_NOARGS, "__copy__($self, /)\n--\n\n"},
     {"__deepcopy__", itself, METH_O, "__deepcopy__($self, memo, /)\n--\n\n"},
     {"__class_getitem__", Py_GenericAlias, METH_O | METH_CLASS, "See PEP 585"},

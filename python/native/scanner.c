@@ -1,21 +1,21 @@
-/* One match after the other: the iterator of finditer, and the scanner that is asked for each. */
+/* The iterator of finditer, and the scanner. */
 #include "native.h"
 
-static const Signature of_finditer = {"finditer", 1, 3, {"string", "pos", "endpos", "timeout"}};
-static const Signature of_scanner = {"scanner", 1, 3, {"string", "pos", "endpos", "timeout"}};
+static const Signature of_finditer = {"finditer", 1, 3, {"string", "pos", "endpos", "max_steps"}};
+static const Signature of_scanner = {"scanner", 1, 3, {"string", "pos", "endpos", "max_steps"}};
 
-/* What both keep: the pattern, the text, and its string, which they hold. */
+/* What both have: the pattern, the text, and its string, to which they hold references. */
 typedef struct {
   PyObject_HEAD
   Pattern *pattern;
   PyObject *string;
   Text text;
   Window window;
-  bool is_running; /* in a step, during which another thread may run */
+  bool is_running; /* in a call, during which another thread may run */
 } Reader;
 
-/* Begins a step, of which there is one at a time. */
-static bool step_begin(Reader *self) {
+/* Begins a call. There is at most one at a time. */
+static bool call_begin(Reader *self) {
   if (self->is_running)
     PyErr_SetString(PyExc_ValueError, "regular expression scanner already executing");
   else
@@ -23,19 +23,19 @@ static bool step_begin(Reader *self) {
   return !PyErr_Occurred();
 }
 
-static PyObject *step_end(Reader *self, PyObject *match) {
+static PyObject *call_end(Reader *self, PyObject *match) {
   self->is_running = false;
   return match;
 }
 
-/* A new object of a type that begins as a reader, over the window that a call names; what is asked of it first. */
+/* A new object of a type that begins with a Reader, over the range of a call; `asked` is its first request. */
 static Reader *reader_new(PyTypeObject *type, Pattern *pattern, const Signature *signature, PyObject *const *args,
                           Py_ssize_t count, PyObject *names, sre_asked *asked) {
   PyObject *given[4] = {NULL};
   Py_ssize_t pos, endpos;
-  uint64_t turns;
+  uint64_t steps;
   if (!arguments_read(signature, args, count, names, given) || !arguments_size(given[1], 0, &pos) ||
-      !arguments_size(given[2], PY_SSIZE_T_MAX, &endpos) || !arguments_turns(given[3], pattern->turns, &turns))
+      !arguments_size(given[2], PY_SSIZE_T_MAX, &endpos) || !arguments_steps(given[3], pattern->max_steps, &steps))
     return NULL;
   Reader *self = (Reader *)type->tp_alloc(type, 0);
   if (!self)
@@ -46,7 +46,7 @@ static Reader *reader_new(PyTypeObject *type, Pattern *pattern, const Signature 
   }
   self->pattern = (Pattern *)Py_NewRef((PyObject *)pattern);
   self->string = Py_NewRef(given[0]);
-  *asked = engine_asked(&self->text, pos, endpos, turns);
+  *asked = engine_asked(&self->text, pos, endpos, steps);
   self->window = (Window){(Py_ssize_t)asked->start, (Py_ssize_t)asked->end};
   return self;
 }
@@ -82,14 +82,14 @@ PyObject *pattern_finditer(Pattern *pattern, PyObject *const *args, Py_ssize_t c
 
 static PyObject *matches_next(Matches *self) {
   PyObject *match = NULL;
-  if (!step_begin(&self->reader))
+  if (!call_begin(&self->reader))
     return NULL;
   const size_t *row = walk_next(&self->walk);
   if (row)
     match = match_new(self->reader.pattern, self->reader.string, self->reader.window, row);
   else if (!PyErr_Occurred())
-    text_close(&self->reader.text); /* at its end it is read no more */
-  return step_end(&self->reader, match);
+    text_close(&self->reader.text); /* the text is not read again */
+  return call_end(&self->reader, match);
 }
 
 static void matches_dealloc(Matches *self) {
@@ -124,7 +124,7 @@ PyObject *pattern_scanner(Pattern *pattern, PyObject *const *args, Py_ssize_t co
   return (PyObject *)self;
 }
 
-/* The next match by a row of so many numbers, or None. */
+/* The next match, or None; `row` has room for it. */
 static PyObject *next_by(Scanner *self, size_t *row) {
   PyObject *match = NULL;
   int told = engine_match(self->reader.pattern, &self->reader.text, &self->asked, row);
@@ -139,24 +139,24 @@ static PyObject *next_by(Scanner *self, size_t *row) {
   return match;
 }
 
-static PyObject *step(Scanner *self, bool search) {
+static PyObject *next_match(Scanner *self, bool search) {
   size_t few[3 + 2 * 12], *row = few, width = ROW_WIDTH(self->reader.pattern);
   if (self->has_ended || self->asked.start > self->asked.end)
     Py_RETURN_NONE;
   if (width > sizeof few / sizeof *few && !(row = PyMem_Malloc(width * sizeof *row)))
     return PyErr_NoMemory();
   PyObject *match = NULL;
-  if (step_begin(&self->reader)) {
+  if (call_begin(&self->reader)) {
     self->asked.search = search;
-    match = step_end(&self->reader, next_by(self, row));
+    match = call_end(&self->reader, next_by(self, row));
   }
   if (row != few)
     PyMem_Free(row);
   return match;
 }
 
-static PyObject *scanner_match(Scanner *self, PyObject *unused) { return step(self, false); }
-static PyObject *scanner_search(Scanner *self, PyObject *unused) { return step(self, true); }
+static PyObject *scanner_match(Scanner *self, PyObject *unused) { return next_match(self, false); }
+static PyObject *scanner_search(Scanner *self, PyObject *unused) { return next_match(self, true); }
 static PyObject *get_pattern(Scanner *self, void *unused) { return Py_NewRef((PyObject *)self->reader.pattern); }
 
 static PyMethodDef methods[] = {

@@ -1,13 +1,13 @@
-/* A walk: the matches of a window one after the other, read in batches so that a match costs no call. */
+/* An iteration over the matches of a range, read in batches, so that not every match costs a call. */
 #include "native.h"
 
-/* A batch has at most so many numbers. */
+/* The most numbers of a batch. */
 #define MOST_NUMBERS 262144
 
-/* Rows of the first batch: as many as are wanted, or as there is room for in the walk itself. */
+/* The rows of the first batch: as many as are wanted, or as fit into `first`. */
 static size_t first_room(const Walk *walk, Py_ssize_t most) {
   size_t room = sizeof walk->first / sizeof *walk->first / walk->width;
-  /* what changes a text between two matches is to be seen */
+  /* a change of the text between two matches has to be seen */
   if (!walk->text->is_fixed || room == 0)
     return 1;
   return most > 0 && (size_t)most < room ? (size_t)most : room;
@@ -26,7 +26,7 @@ void walk_begin(Walk *walk, const Pattern *pattern, const Text *text, const sre_
 
 void walk_end(Walk *walk) { PyMem_Free(walk->rows); }
 
-/* The place of a batch's rows, or null where memory was refused. */
+/* The array for a batch's rows, or null with an exception if the allocation failed. */
 static size_t *place_of_rows(Walk *walk) {
   size_t numbers = walk->width * walk->room;
   if (numbers <= sizeof walk->first / sizeof *walk->first)
@@ -50,11 +50,11 @@ static bool read_batch(Walk *walk) {
   walk->at = 0;
   walk->asked.start = walked.start;
   walk->asked.must_advance = walked.must_advance;
-  walk->asked.turns = walked.turns;
+  walk->asked.steps = walked.steps;
   return true;
 }
 
-/* The next batch may have more rows. */
+/* Lets the next batch have more rows, unless the text may change. */
 static void grow(Walk *walk) {
   size_t most = MOST_NUMBERS / walk->width;
   if (walk->text->is_fixed && walk->room * 4 <= most)

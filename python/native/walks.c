@@ -1,25 +1,25 @@
-/* What a pattern does along a walk: findall, split, sub and subn. */
+/* The calls of a pattern that iterate over matches: findall, split, sub and subn. */
 #include "native.h"
 
-/* A call that walks: what it was given, the text, and the walk. */
+/* A call that iterates: its arguments, the text, and the iteration. */
 typedef struct {
   PyObject *given[5];
   Text text;
   Walk walk;
 } Call;
 
-/* Opens the text and begins the walk over a window of it. */
-static bool begin(Call *call, Pattern *self, PyObject *string, Py_ssize_t pos, Py_ssize_t endpos, PyObject *timeout,
+/* Opens the text and begins the iteration over a range of it. */
+static bool begin(Call *call, Pattern *self, PyObject *string, Py_ssize_t pos, Py_ssize_t endpos, PyObject *max_steps,
                   Py_ssize_t most) {
-  uint64_t turns;
-  if (!arguments_turns(timeout, self->turns, &turns) || !text_open(&call->text, self, string))
+  uint64_t steps;
+  if (!arguments_steps(max_steps, self->max_steps, &steps) || !text_open(&call->text, self, string))
     return false;
-  sre_asked asked = engine_asked(&call->text, pos, endpos, turns);
+  sre_asked asked = engine_asked(&call->text, pos, endpos, steps);
   walk_begin(&call->walk, self, &call->text, &asked, most);
   return true;
 }
 
-/* Ends the call: what it made, or null where that failed or the walk did. */
+/* Ends the call, and returns what it made, or null if that or the iteration failed. */
 static PyObject *end(Call *call, PyObject *made, bool is_well) {
   walk_end(&call->walk);
   text_close(&call->text);
@@ -37,9 +37,9 @@ static bool append(PyObject *list, PyObject *made) {
 
 /* ---- findall ---- */
 
-static const Signature of_findall = {"findall", 1, 3, {"string", "pos", "endpos", "timeout"}};
+static const Signature of_findall = {"findall", 1, 3, {"string", "pos", "endpos", "max_steps"}};
 
-/* What findall has of a match: its text, that of its one group, or those of its groups. */
+/* The item of findall for a match: its text, that of its only group, or a tuple of those of its groups. */
 static PyObject *item_of(const Text *text, const size_t *row, Py_ssize_t groups, PyObject *empty) {
   if (groups < 2)
     return row_group(text, row, groups, empty);
@@ -72,9 +72,9 @@ PyObject *pattern_findall(Pattern *self, PyObject *const *args, Py_ssize_t count
 
 /* ---- split ---- */
 
-static const Signature of_split = {"split", 1, 2, {"string", "maxsplit", "timeout"}};
+static const Signature of_split = {"split", 1, 2, {"string", "maxsplit", "max_steps"}};
 
-/* Appends the piece in front of a match, and its groups. */
+/* Appends the piece before a match, and its groups. */
 static bool split_at(PyObject *pieces, const Text *text, Py_ssize_t from, const size_t *row, Py_ssize_t groups) {
   bool is_well = append(pieces, text_slice(text, from, (Py_ssize_t)row[0]));
   for (Py_ssize_t group = 1; is_well && group <= groups; group++)
@@ -101,24 +101,24 @@ PyObject *pattern_split(Pattern *self, PyObject *const *args, Py_ssize_t count, 
 
 /* ---- sub and subn ---- */
 
-static const Signature of_sub = {"sub", 2, 3, {"repl", "string", "count", "timeout"}};
-static const Signature of_subn = {"subn", 2, 3, {"repl", "string", "count", "timeout"}};
+static const Signature of_sub = {"sub", 2, 3, {"repl", "string", "count", "max_steps"}};
+static const Signature of_subn = {"subn", 2, 3, {"repl", "string", "count", "max_steps"}};
 
-/* Whether a template has no backslash, so that it stands for itself. */
+/* Whether a template has no backslash, so that it is its own text. */
 static bool is_literal(PyObject *repl) {
   if (PyUnicode_Check(repl))
     return PyUnicode_FindChar(repl, '\\', 0, PyUnicode_GET_LENGTH(repl), 1) == -1;
   return PyBytes_Check(repl) && !memchr(PyBytes_AS_STRING(repl), '\\', (size_t)PyBytes_GET_SIZE(repl));
 }
 
-/* What stands in place of a match: a function as it is, and else the parts of a template. */
+/* The replacement of a match: a function or a literal as it is, else the parts of a template. */
 static PyObject *replacement_of(Pattern *self, PyObject *repl) {
   if (PyCallable_Check(repl) || is_literal(repl))
     return Py_NewRef(repl);
   return PyObject_CallFunctionObjArgs(shared.parts_of, self, repl, NULL);
 }
 
-/* Appends what a function gives for a match. */
+/* Appends what a function returns for a match, unless that is None. */
 static bool call_append(PyObject *pieces, PyObject *function, const Walk *walk, const size_t *row) {
   PyObject *match = match_new(walk->pattern, walk->text->string, (Window){0, walk->text->length}, row);
   if (!match)
@@ -131,7 +131,7 @@ static bool call_append(PyObject *pieces, PyObject *function, const Walk *walk, 
   return true;
 }
 
-/* The pieces and replacements of a text in order, and how many matches were replaced. */
+/* Appends the pieces and replacements of a text in order, and counts the replaced matches. */
 static bool replace(Call *call, PyObject *pieces, PyObject *replacement, Py_ssize_t most, Py_ssize_t *made) {
   const Text *text = &call->text;
   const size_t *row;

@@ -1,4 +1,4 @@
-//! What a check says of words, and a table of a character.
+//! The check of bytecode, and the Unicode tables' entries of a character.
 
 use crate::probe::{Desk, number_of, word_of};
 use sre_engine::string::{category, lower_ascii, lower_unicode, upper_ascii, upper_unicode};
@@ -7,7 +7,7 @@ use sre_lines::answer::push_hints;
 use sre_lines::line::{Case, read_case, split_once};
 use std::alloc::{AllocError, Global};
 
-/// Appends what a code shows of its words, or why they are refused.
+/// Appends what a code reports about its bytecode, or why the check rejects it.
 pub(crate) fn push_code(
     desk: &mut Desk<Global>,
     table: &UniTable,
@@ -32,7 +32,7 @@ pub(crate) fn push_code(
     }
 }
 
-/// Appends how many turns are enough for a code on a text of so many characters, where such a number is known.
+/// Appends the step bound of a code for a text of so many characters, if one is known.
 pub(crate) fn push_enough(
     desk: &mut Desk<Global>,
     table: &UniTable,
@@ -51,18 +51,18 @@ pub(crate) fn push_enough(
     let Ok(code) = Code::check(desk.alloc, desk.operands.words.as_slice(), table) else {
         return answer.push_str("refused");
     };
-    match code.enough_turns(characters as usize) {
-        Some(turns) => write!(answer, "{turns}"),
+    match code.step_bound(characters as usize) {
+        Some(steps) => write!(answer, "{steps}"),
         None => answer.push_str("none"),
     }
 }
 
-// Why words are refused.
+// Why bytecode is rejected.
 fn refusal(alloc: Global, words: &[u32], table: &UniTable) -> Option<CodeError> {
     Code::check(alloc, words, table).err()
 }
 
-// Whether less than the words is refused as cut short, and more for what is behind them.
+// Whether each proper prefix of the bytecode is rejected as truncated, and a longer list for its trailing words.
 fn are_whole(desk: &mut Desk<Global>, table: &UniTable) -> Result<bool, AllocError> {
     let length = desk.operands.words.len();
     for cut in 0..length {
@@ -76,7 +76,7 @@ fn are_whole(desk: &mut Desk<Global>, table: &UniTable) -> Result<bool, AllocErr
     Ok(longer == Some(CodeError::TrailingWords(length)))
 }
 
-/// Appends whether words are refused as `Truncated` wherever they are cut, and as `TrailingWords` with one word more.
+/// Appends whether bytecode is rejected as `Truncated` wherever it is cut, and as `TrailingWords` with one more word.
 pub(crate) fn push_cuts(
     desk: &mut Desk<Global>,
     table: &UniTable,
@@ -93,7 +93,7 @@ pub(crate) fn push_cuts(
     })
 }
 
-/// Appends the cases of a character by ASCII and by the table, and whether the table has it for a letter of a word.
+/// Appends the other cases of a character by ASCII and by the tables, and whether the tables have it as alphanumeric.
 pub(crate) fn push_letter(
     table: &UniTable,
     field: &[u8],

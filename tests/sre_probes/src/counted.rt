@@ -1,4 +1,4 @@
-//! A text that counts how often it is asked for a character.
+//! A text that counts the reads of its characters.
 
 ghost use Rattle.std.proofs.Props.{props};
 ghost use Rattle.sre_chars.specs.Texts.{StandsInBytes};
@@ -6,7 +6,7 @@ ghost use Rattle.sre_chars.specs.Texts.{StandsInBytes};
 use sre_engine::{StrDrive, StringCursor};
 use std::cell::Cell;
 
-/// Bytes, each of which is a character, and how many characters were read.
+/// Bytes, each of them a character, and the number of characters read.
 #[derive(Clone, Copy)]
 pub(crate) struct Counted<'a> {
     pub(crate) bytes: &'a [u8],
@@ -19,7 +19,7 @@ impl<'a> Counted<'a> {
     }
 }
 
-// Only the calls that every text has to write.
+// Only the required calls of the trait.
 impl<'a> StrDrive for Counted<'a> {
     ghost text = { λ s. s.bytes.now };
 

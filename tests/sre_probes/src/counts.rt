@@ -8,14 +8,14 @@ use sre_lines::line::{Case, Finding, read_case, split_once};
 use std::alloc::{AllocError, Allocator, Global};
 use std::cell::Cell;
 
-/// The least and the greatest count that are wanted.
+/// The least and the greatest accepted count.
 #[derive(Clone, Copy)]
 pub(crate) struct Bounds {
     least: u64,
     most: u64,
 }
 
-// The bounds that a field writes as `LEAST..MOST`.
+// The bounds in a field of the form `LEAST..MOST`.
 fn bounds_of(field: &[u8]) -> Option<Bounds> {
     let (least, rest) = split_once(field, b'.')?;
     let most = number_of(rest.strip_prefix(b".".as_slice())?)?;
@@ -23,13 +23,13 @@ fn bounds_of(field: &[u8]) -> Option<Bounds> {
     Some(Bounds { least, most })
 }
 
-/// The bounds that a field writes, divided by a comma.
+/// The two bounds in a field, separated by a comma.
 pub(crate) fn two_bounds_of(field: &[u8]) -> Option<(Bounds, Bounds)> {
     let (first, second) = split_once(field, b',')?;
     Some((bounds_of(first)?, bounds_of(second)?))
 }
 
-/// Appends a count that lies outside its bounds.
+/// Appends a count that is out of bounds.
 pub(crate) fn push_count(
     what: &str,
     count: u64,
@@ -42,8 +42,8 @@ pub(crate) fn push_count(
     write!(answer, " {what} {count}")
 }
 
-/// Appends what a search finds, or all matches of a walk, and how many runs were begun and how often was compared,
-/// where that lies outside the bounds that a field writes.
+/// Appends the result of a search, or all matches of an iteration. Appends the numbers of runs and of comparisons if
+/// they are out of the bounds in a field.
 pub(crate) fn push_counts<S: StrDrive, A: Allocator + Copy>(
     state: &mut State<A>,
     finding: Finding,
@@ -65,7 +65,7 @@ pub(crate) fn push_counts<S: StrDrive, A: Allocator + Copy>(
     push_count("compared", state.compared(), comparisons, answer)
 }
 
-/// Appends what a search over bytes finds, and how many characters it reads, where that lies outside its bounds.
+/// Appends the result of a search over bytes, and how many characters it reads if that is out of bounds.
 pub(crate) fn push_reads(
     desk: &mut Desk<Global>,
     table: &UniTable,

@@ -1,5 +1,5 @@
-//! What is found by a finder, whose automata tell where the next match can begin, and by one whose automata tell spans.
-//! Each answers as `shown` does, which asks the machine alone.
+//! The matches that a finder finds: by DFAs that find starts, or spans. Both answer as `shown` does, which uses the
+//! machine alone.
 
 ghost use Rattle.std.specs.Prelude.{◌≡◌};
 ghost use Rattle.sre_finder.specs.SpanIters.{request_of, has_ended};
@@ -10,7 +10,7 @@ use sre_finder::{Encoding, Finder, FinderIter, Haystack, SpanFinder, SpanIter};
 use sre_lines::line::Finding;
 use std::alloc::{AllocError, Allocator, Global};
 
-// Appends each match of a walk, with the starts passed of which a finder tells that they have none.
+// Appends each match of an iteration with a prefilter.
 fn push_starts<S: Haystack, A: Allocator + Copy>(
     walk: &mut FinderIter<'_, '_, S, A>,
     answer: &mut String,
@@ -25,7 +25,7 @@ fn push_starts<S: Haystack, A: Allocator + Copy>(
     answer.push_str("end")
 }
 
-/// Appends what a call finds, or each match of a walk, where a finder is asked.
+/// Appends the result of a call, or each match of an iteration, with a prefilter.
 pub(crate) fn push_by_finder<S: Haystack, A: Allocator + Copy>(
     alloc: Global,
     heap: A,
@@ -44,7 +44,7 @@ pub(crate) fn push_by_finder<S: Haystack, A: Allocator + Copy>(
     push_answer(state, found, answer)
 }
 
-// Appends the match whose span came last, as a run of the machine at its start shows it.
+// Appends the match of the last span, as `show` finds it by a run of the machine.
 fn push_span<S: Haystack, A: Allocator + Copy>(
     walk: &mut SpanIter<'_, '_, S, A>,
     start: usize,
@@ -64,7 +64,7 @@ fn push_span<S: Haystack, A: Allocator + Copy>(
     push_state(state, answer)
 }
 
-// Appends each match of a walk over spans.
+// Appends each match of an iteration over spans.
 fn push_spans<S: Haystack, A: Allocator + Copy>(
     walk: &mut SpanIter<'_, '_, S, A>,
     answer: &mut String,
@@ -79,7 +79,7 @@ fn push_spans<S: Haystack, A: Allocator + Copy>(
     answer.push_str("end")
 }
 
-// Appends the first match of a walk over spans.
+// Appends the first match of an iteration over spans.
 fn push_first<S: Haystack, A: Allocator + Copy>(
     walk: &mut SpanIter<'_, '_, S, A>,
     answer: &mut String,
@@ -91,7 +91,7 @@ fn push_first<S: Haystack, A: Allocator + Copy>(
     }
 }
 
-// Appends the first match of a walk over spans, or each of them: a function of its own, so that the walk is dropped in
+// Appends the first match of an iteration over spans, or all. A separate function, so that the iteration is dropped at
 // one place.
 fn push_told<S: Haystack, A: Allocator + Copy>(
     walk: &mut SpanIter<'_, '_, S, A>,
@@ -104,7 +104,7 @@ fn push_told<S: Haystack, A: Allocator + Copy>(
     }
 }
 
-/// Appends what a call finds, or each match of a walk, where a finder of spans is asked.
+/// Appends the result of a call, or each match of an iteration, with DFAs that find spans.
 pub(crate) fn push_by_spans<S: Haystack, A: Allocator + Copy>(
     alloc: Global,
     heap: A,

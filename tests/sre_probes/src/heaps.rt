@@ -1,4 +1,4 @@
-//! Probes with each request for memory refused in turn, and on a heap of a fixed size.
+//! Probes with each allocation failed in turn, and on a heap of a fixed size.
 
 use crate::counts::{Bounds, push_count, two_bounds_of};
 use crate::probe::{Desk, cut, number_of, push_plain};
@@ -8,7 +8,7 @@ use sre_failing_allocator::Refusing;
 use sre_lines::line::split_once;
 use std::alloc::{AllocError, Allocator, Global};
 
-// More requests than any line makes.
+// More allocations than any line makes.
 pub(crate) const MOST_REQUESTS: u64 = 1000;
 
 // Appends the answer to a probe, or `memory`.
@@ -25,7 +25,7 @@ fn push_outcome<A: Allocator + Copy>(
     }
 }
 
-// Appends the answers to probes, which are divided by `|`.
+// Appends the answers to probes, which are separated by `|`.
 fn push_outcomes<A: Allocator + Copy>(
     desk: &mut Desk<A>,
     table: &UniTable,
@@ -45,7 +45,7 @@ fn push_outcomes<A: Allocator + Copy>(
     Ok(())
 }
 
-/// Appends the answers to probes by a state whose memory is a heap of so many bytes.
+/// Appends the answers to probes by a state on a heap of so many bytes.
 pub(crate) fn push_on_heap(
     alloc: Global,
     table: &UniTable,
@@ -62,14 +62,14 @@ pub(crate) fn push_on_heap(
     push_outcomes(&mut Desk::new(alloc, &heap), table, probes, answer)
 }
 
-// How often a probe of which a request was refused was answered `memory`, and how often as with ample memory.
+// How often a probe with a failed allocation was answered `memory`, and how often as without failures.
 #[derive(Clone, Copy)]
 struct Fates {
     memory: u64,
     same: u64,
 }
 
-// A probe and those behind it, with their answers where memory is ample.
+// A probe and the probes after it, with their answers without failures.
 #[derive(Clone, Copy)]
 struct Refused<'a> {
     first: &'a [u8],
@@ -78,7 +78,7 @@ struct Refused<'a> {
     behind: &'a str,
 }
 
-// Asks a probe, and, where a request of it was refused, the others: whether it made fewer requests.
+// Answers a probe and, if one of its allocations was failed, the others. Returns whether it made fewer allocations.
 fn ask(
     heap: &Refusing<Global>,
     desk: &mut Desk<&Refusing<Global>>,
@@ -95,7 +95,7 @@ fn ask(
     Ok(false)
 }
 
-// Counts what became of a probe of which a request was refused, and of the others: whether it is one of the two.
+// Counts the outcome of a probe with a failed allocation, and of the others. Returns whether it is one of the two.
 fn count(fates: &mut Fates, probes: Refused<'_>, told: &str, again: &str) -> bool {
     if told == probes.wanted {
         fates.same = fates.same.saturating_add(1);
@@ -105,37 +105,36 @@ fn count(fates: &mut Fates, probes: Refused<'_>, told: &str, again: &str) -> boo
     told == "memory" && again == probes.behind
 }
 
-/// What a turn of refusals comes to.
+/// The outcome of failing one allocation.
 #[derive(Clone, Copy)]
-pub(crate) enum Turn {
+pub(crate) enum Refusal {
     Counted,
     Otherwise,
     NoRequest,
 }
 
-// Refuses the request of a number, and counts what becomes of it.
+// Fails the allocation with a number, and counts the outcome.
 fn refuse(
     alloc: Global,
     table: &UniTable,
     probes: Refused<'_>,
     refused: u64,
     fates: &mut Fates,
-) -> Result<Turn, AllocError> {
+) -> Result<Refusal, AllocError> {
     let heap = Refusing::new(alloc, refused);
     let (mut told, mut again) = (String::new(alloc), String::new(alloc));
     let mut desk = Desk::new(alloc, &heap);
     match ask(&heap, &mut desk, table, probes, &mut told, &mut again) {
-        Ok(true) if told.as_str() == probes.wanted => Ok(Turn::NoRequest),
-        Ok(true) => Ok(Turn::Otherwise),
-        Ok(false) if count(fates, probes, told.as_str(), again.as_str()) => Ok(Turn::Counted),
-        Ok(false) => Ok(Turn::Otherwise),
+        Ok(true) if told.as_str() == probes.wanted => Ok(Refusal::NoRequest),
+        Ok(true) => Ok(Refusal::Otherwise),
+        Ok(false) if count(fates, probes, told.as_str(), again.as_str()) => Ok(Refusal::Counted),
+        Ok(false) => Ok(Refusal::Otherwise),
         Err(error) => Err(error),
     }
 }
 
-// Appends the answer to a probe, once each of its requests for memory was refused in turn, and a count that lies
-// outside its bounds.
-fn push_in_turn(
+// Appends the answer to a probe, with each allocation failed in turn, and any count that is out of bounds.
+fn push_one_by_one(
     alloc: Global,
     table: &UniTable,
     probes: Refused<'_>,
@@ -146,9 +145,9 @@ fn push_in_turn(
     let mut fates = Fates { memory: 0, same: 0 };
     for refused in 1..MOST_REQUESTS {
         match refuse(alloc, table, probes, refused, &mut fates)? {
-            Turn::Counted => {}
-            Turn::Otherwise => return write!(answer, " and otherwise without request {refused}"),
-            Turn::NoRequest => {
+            Refusal::Counted => {}
+            Refusal::Otherwise => return write!(answer, " and otherwise without request {refused}"),
+            Refusal::NoRequest => {
                 push_count("memory", fates.memory, of_memory, answer)?;
                 return push_count("same", fates.same, of_same, answer);
             }
@@ -157,7 +156,7 @@ fn push_in_turn(
     answer.push_str(" with no end")
 }
 
-// Appends the answers to a probe and to those behind it, each to a text of its own.
+// Appends the answers to a probe and to the probes after it, each to a text of its own.
 fn push_both(
     desk: &mut Desk<Global>,
     table: &UniTable,
@@ -169,9 +168,9 @@ fn push_both(
     push_outcomes(desk, table, others, behind)
 }
 
-/// Appends the answer to a probe. Each of its requests for memory is refused in turn: its answer is `memory` then, or
-/// the same, and a count of either that lies outside its bounds is appended. Where none is refused the answer is the
-/// same. Probes behind it, which are divided by `|`, are answered each time by the same state, as with ample memory.
+/// Appends the answer to a probe. Then each of its allocations is failed in turn: the answer is `memory` or the same. A
+/// count of either that is out of bounds is appended. Probes after it, which are separated by `|`, are answered each
+/// time by the same state, as without failures.
 pub(crate) fn push_refused(
     alloc: Global,
     table: &UniTable,
@@ -195,7 +194,7 @@ pub(crate) fn push_refused(
                 wanted: wanted.as_str(),
                 behind: behind.as_str(),
             };
-            push_in_turn(alloc, table, probes, bounds, answer)
+            push_one_by_one(alloc, table, probes, bounds, answer)
         }
         Err(error) => Err(error),
     }

@@ -1,14 +1,14 @@
-//! Lines as `sre_cases` answers them, with each request for memory refused in turn.
+//! Lines as `sre_cases` answers them, with each allocation failed in turn.
 
 use crate::counts::{Bounds, push_count, two_bounds_of};
-use crate::heaps::{MOST_REQUESTS, Turn};
+use crate::heaps::{MOST_REQUESTS, Refusal};
 use crate::probe::cut;
 use sre_failing_allocator::Refusing;
 use sre_lines::cases::{CaseFault, answer_lines};
 use sre_lines::line::split_once;
 use std::alloc::{AllocError, Global};
 
-// How a run of lines ends, its answers, and whether a request was refused.
+// A run over some lines: how it ends, its answers, and whether an allocation was failed.
 #[derive(Drop)]
 struct Run {
     end: Result<(), CaseFault>,
@@ -16,7 +16,7 @@ struct Run {
     is_refused: bool,
 }
 
-// Runs lines with the request of a number refused; of number 0 none is.
+// Answers lines with the allocation of a number failed. With number 0 none fails.
 fn run_refused(alloc: Global, refused: u64, lines: &[u8]) -> Run {
     let heap = Refusing::new(alloc, refused);
     let mut answers = Vec::new(alloc);
@@ -28,7 +28,7 @@ fn run_refused(alloc: Global, refused: u64, lines: &[u8]) -> Run {
     }
 }
 
-// The first of some lines, and those behind it.
+// The first of some lines, and the lines after it.
 fn first_and_rest(lines: &[u8]) -> (&[u8], &[u8]) {
     match split_once(lines, b'\n') {
         Some(parts) => parts,
@@ -36,7 +36,7 @@ fn first_and_rest(lines: &[u8]) -> (&[u8], &[u8]) {
     }
 }
 
-// How many answers are `memory` in place of the wanted ones, where all others are these.
+// The number of answers that are `memory` instead of the wanted ones. `None` if another answer differs.
 fn memories(answers: &[u8], wanted: &[u8]) -> Option<u64> {
     let (mut left, mut others, mut found) = (answers, wanted, 0u64);
     for _ in 0..MOST_REQUESTS {
@@ -60,7 +60,7 @@ struct Fates {
     memory: u64,
 }
 
-// Counts what became of lines of which a request was refused: whether it is one of the two.
+// Counts the outcome of lines with a failed allocation. Returns whether it is one of the two.
 fn count(fates: &mut Fates, ran: &Run, ample: &Run) -> bool {
     let (answers, wanted) = (ran.answers.as_slice(), ample.answers.as_slice());
     if ran.end == Err(CaseFault::NoMemory) {
@@ -71,24 +71,24 @@ fn count(fates: &mut Fates, ran: &Run, ample: &Run) -> bool {
     ran.end == ample.end && memories(answers, wanted) == Some(1)
 }
 
-// Whether lines end and are answered as others.
+// Whether two runs have the same end and answers.
 fn is_same(ran: &Run, ample: &Run) -> bool {
     ran.end == ample.end && ran.answers.as_slice() == ample.answers.as_slice()
 }
 
-// Refuses the request of a number, and counts what becomes of the lines.
-fn refuse(alloc: Global, refused: u64, lines: &[u8], ample: &Run, fates: &mut Fates) -> Turn {
+// Fails the allocation with a number, and counts the outcome of the lines.
+fn refuse(alloc: Global, refused: u64, lines: &[u8], ample: &Run, fates: &mut Fates) -> Refusal {
     let ran = run_refused(alloc, refused, lines);
     if !ran.is_refused && is_same(&ran, ample) {
-        Turn::NoRequest
+        Refusal::NoRequest
     } else if ran.is_refused && count(fates, &ran, ample) {
-        Turn::Counted
+        Refusal::Counted
     } else {
-        Turn::Otherwise
+        Refusal::Otherwise
     }
 }
 
-// Refuses each request for memory of lines in turn, until they make fewer: what became of them.
+// Fails each allocation in turn, until the lines make fewer. Returns the outcomes.
 fn fates_of(alloc: Global, lines: &[u8], ample: &Run) -> Option<Fates> {
     let mut fates = Fates {
         reading: 0,
@@ -96,15 +96,15 @@ fn fates_of(alloc: Global, lines: &[u8], ample: &Run) -> Option<Fates> {
     };
     for refused in 1..MOST_REQUESTS {
         match refuse(alloc, refused, lines, ample, &mut fates) {
-            Turn::Counted => {}
-            Turn::Otherwise => return None,
-            Turn::NoRequest => return Some(fates),
+            Refusal::Counted => {}
+            Refusal::Otherwise => return None,
+            Refusal::NoRequest => return Some(fates),
         }
     }
     None
 }
 
-// Appends lines as a file has them, which a probe divides by `|`.
+// Appends the lines of a probe, which separates them by `|`, as a file has them.
 fn push_divided(field: &[u8], lines: &mut Vec<u8>) -> Result<(), AllocError> {
     for byte in field {
         lines.push(if *byte == b'|' { b'\n' } else { *byte })?;
@@ -127,7 +127,7 @@ fn push_each(lines: &[u8], answer: &mut String) -> Result<(), AllocError> {
     Ok(())
 }
 
-// Appends answers and the fault behind them.
+// Appends answers, and the fault after them.
 fn push_run(run: &Run, answer: &mut String) -> Result<(), AllocError> {
     push_each(run.answers.as_slice(), answer)?;
     match run.end {
@@ -136,9 +136,8 @@ fn push_run(run: &Run, answer: &mut String) -> Result<(), AllocError> {
     }
 }
 
-// Appends the answers to lines, once each of their requests was refused in turn, and a count that lies outside its
-// bounds.
-fn push_in_turn(
+// Appends the answers to lines, with each allocation failed in turn, and any count that is out of bounds.
+fn push_one_by_one(
     alloc: Global,
     lines: &[u8],
     ample: &Run,
@@ -153,7 +152,7 @@ fn push_in_turn(
     push_count("memory", fates.memory, of_memory, answer)
 }
 
-// The same, with the run whose memory is ample.
+// The same, with the run in which no allocation fails.
 fn push_refused(
     alloc: Global,
     lines: &[u8],
@@ -161,12 +160,11 @@ fn push_refused(
     answer: &mut String,
 ) -> Result<(), AllocError> {
     let ample = run_refused(alloc, 0, lines);
-    push_in_turn(alloc, lines, &ample, bounds, answer)
+    push_one_by_one(alloc, lines, &ample, bounds, answer)
 }
 
-/// Appends the answers to lines, which are divided by `|`, and their fault. Where each request for memory is refused in
-/// turn, a line is not read to its end, or its answer is `memory`: a count of either that lies outside its bounds is
-/// appended.
+/// Appends the answers to lines, which are separated by `|`, and their fault. Then each allocation is failed in turn:
+/// either a line is not read to its end, or an answer is `memory`. A count of either that is out of bounds is appended.
 pub(crate) fn push_lines(
     alloc: Global,
     rest: &[u8],

@@ -1,5 +1,5 @@
-//! `sre_probes FILE` answers the probes of FILE, a line for each: what a case is asked beyond the answer that
-//! `sre_cases` gives it. Each line of a file is a test, which is run and not proved (`docs/GATE.md`, "Probes").
+//! `sre_probes FILE` answers the probes of FILE, one line each: properties of a case beyond its answer from
+//! `sre_cases`. Each line of a file is a test, which is run and not proved (`docs/GATE.md`, "Probes").
 #![tactic(auto)]
 
 mod codes;
@@ -11,8 +11,8 @@ mod lines;
 mod probe;
 mod recipes;
 mod shown;
+mod steps;
 mod tables;
-mod turns;
 
 use probe::{Desk, cut, push_probe};
 use sre_engine::UniTable;
@@ -23,13 +23,13 @@ use std::io::{self, BufWriter, Write};
 use std::test::Fail;
 use std::{env, fs};
 
-// The table and the desk that serve all lines of a file.
+// The Unicode tables and the desk, which are used for all lines of a file.
 struct Bench {
     table: UniTable,
     desk: Desk<Global>,
 }
 
-// By hand, as that of `Desk`.
+// Custom `Drop`, as that of `Desk`.
 impl Drop for Bench {
     fn drop(self) {
         let Bench { table, desk } = self;
@@ -55,7 +55,7 @@ fn push_line(
     }
 }
 
-// Appends the answer to a line, and ends it.
+// Appends the answer to a line, as a line.
 fn push_answer(
     bench: &mut Bench,
     alloc: Global,
@@ -105,7 +105,7 @@ fn answer_lines<W: Write>(
     out.flush()
 }
 
-// Answers all lines of a file, under the table of ASCII until a line sets another one.
+// Answers all lines of a file, with the tables of ASCII until a line sets other ones.
 fn answer_all<W: Write>(alloc: Global, file: &[u8], out: &mut W) -> io::Result<()> {
     let mut bench = Bench {
         table: UniTable::ascii(alloc),
@@ -114,7 +114,7 @@ fn answer_all<W: Write>(alloc: Global, file: &[u8], out: &mut W) -> io::Result<(
     answer_lines(&mut bench, alloc, file, out)
 }
 
-// The argument behind the program's name.
+// The argument after the program's name.
 fn argument(mut args: Args) -> Option<String> {
     let _program = args.next();
     args.next()

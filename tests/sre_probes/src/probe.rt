@@ -1,4 +1,4 @@
-//! A probe: a word that says what is asked, perhaps numbers, and a case as `sre_cases` reads it.
+//! A probe: a word that says what to test, perhaps numbers, and a case as `sre_cases` reads it.
 
 use crate::codes::{push_code, push_cuts, push_enough, push_letter};
 use crate::counts::{push_counts, push_reads};
@@ -7,13 +7,13 @@ use crate::heaps::{push_on_heap, push_refused};
 use crate::lines::push_lines;
 use crate::recipes::{Recipe, push_recipe};
 use crate::shown::{push_list, push_shown, push_told, push_within};
-use crate::turns::push_fewest;
+use crate::steps::push_fewest;
 use sre_engine::{Code, Request, State, StrDrive, UniTable};
 use sre_finder::{Encoding, Haystack};
 use sre_lines::line::{Case, Finding, Operands, Subject, TextForm, Window, read_case, split_once};
 use std::alloc::{AllocError, Allocator, Global};
 
-/// What answers one probe after the other. The state's memory is the heap's.
+/// Buffers and the state, which are reused for all probes. The state allocates on the heap.
 pub(crate) struct Desk<A: Allocator + Copy> {
     pub(crate) alloc: Global,
     pub(crate) heap: A,
@@ -21,7 +21,7 @@ pub(crate) struct Desk<A: Allocator + Copy> {
     pub(crate) state: State<A>,
 }
 
-// By hand, so that whoever lets a desk go calls this.
+// Custom `Drop`, so that callers contain one call instead of the drop of each field.
 impl<A: Allocator + Copy> Drop for Desk<A> {
     fn drop(self) {
         let Desk {
@@ -48,29 +48,29 @@ impl<A: Allocator + Copy> Desk<A> {
     }
 }
 
-/// What is asked of a case's text.
+/// What to test with a case.
 #[derive(Clone, Copy)]
 pub(crate) enum Asked<'a> {
-    /// What the state shows of the match, with the offset of its end; of a walk, of each match.
+    /// What the state shows of the match, with the offset of its end. For an iteration, the same for each match.
     Shown,
-    /// The same, where a list tells from the start on what the places of the words admit.
+    /// The same, with a list of FIRST sets by address from the start on.
     Told,
     /// All matches, as a list.
     Listed,
-    /// What is shown where so many turns are enough.
+    /// The same within a step limit.
     Within(u64),
-    /// The fewest turns that are enough.
+    /// The fewest steps that suffice.
     Fewest,
-    /// Whether the counts lie within these bounds, which a field writes.
+    /// Whether the counts are within the bounds in a field.
     Counted(&'a [u8]),
-    /// What is shown, where a finder tells starts.
+    /// The match or matches, with a prefilter.
     Finder,
-    /// What is shown, where a finder tells spans.
+    /// The match or matches, with DFAs that find spans.
     Spans,
     Recipe(Recipe<'a>),
 }
 
-/// The first of some parts, up to a byte that divides them, and those behind it.
+/// Splits parts at the first divider: the first part, and the rest.
 pub(crate) fn cut(parts: &[u8], divider: u8) -> (&[u8], Option<&[u8]>) {
     match split_once(parts, divider) {
         Some((first, others)) => (first, Some(others)),
@@ -78,18 +78,18 @@ pub(crate) fn cut(parts: &[u8], divider: u8) -> (&[u8], Option<&[u8]>) {
     }
 }
 
-/// The number that a field writes, if it does.
+/// The number that a field denotes, if any.
 pub(crate) fn number_of(field: &[u8]) -> Option<u64> {
     let text = str::from_utf8(field).ok()?;
     text.parse::<u64>().ok()
 }
 
-/// The word that a field writes as a number, if it does.
+/// The code word that a field denotes as a number, if any.
 pub(crate) fn word_of(field: &[u8]) -> Option<u32> {
     u32::try_from(number_of(field)?).ok()
 }
 
-/// What a case asks of its text.
+/// The request of a case.
 pub(crate) fn request<'a, S: StrDrive>(
     text: S,
     subject: Subject,
@@ -105,7 +105,7 @@ pub(crate) fn request<'a, S: StrDrive>(
     request
 }
 
-// A probe that does more than ask one thing of a case, or has none.
+// The kind of a probe that does more than test one thing of a case, or that has no case.
 #[derive(Clone, Copy)]
 enum Kind {
     Refuse,
@@ -129,7 +129,7 @@ static KINDS: [(&[u8], Kind); 8] = [
     (b"letter", Kind::Letter),
 ];
 
-// The kind that a probe's word says, and what stands behind it.
+// The kind of a probe by its word, and the rest of the probe.
 fn kind_of(probe: &[u8]) -> Option<(Kind, &[u8])> {
     let (word, rest) = split_once(probe, b' ')?;
     for &(name, kind) in &KINDS {
@@ -140,7 +140,7 @@ fn kind_of(probe: &[u8]) -> Option<(Kind, &[u8])> {
     None
 }
 
-/// Appends the answer to a probe that may ask for another one, with memory refused or bounded.
+/// Appends the answer to a probe that may contain another one, with failed allocations or a bounded heap.
 pub(crate) fn push_probe(
     desk: &mut Desk<Global>,
     table: &UniTable,
@@ -162,7 +162,7 @@ pub(crate) fn push_probe(
     }
 }
 
-/// Appends the answer to a probe that asks one thing of a case.
+/// Appends the answer to a probe that tests one thing of a case.
 pub(crate) fn push_plain<A: Allocator + Copy>(
     desk: &mut Desk<A>,
     table: &UniTable,
@@ -209,7 +209,7 @@ pub(crate) fn push_plain<A: Allocator + Copy>(
     }
 }
 
-// As what automata read a text.
+// The encoding of a text for DFAs.
 fn seen(text: &str) -> Encoding {
     if text.is_ascii() {
         Encoding::Ascii
@@ -218,7 +218,7 @@ fn seen(text: &str) -> Encoding {
     }
 }
 
-// The words that stand alone before a case.
+// The words that are directly before a case.
 static ALONE: [(&[u8], Asked<'static>); 10] = [
     (b"shown", Asked::Shown),
     (b"told", Asked::Told),
@@ -232,7 +232,7 @@ static ALONE: [(&[u8], Asked<'static>); 10] = [
     (b"groups", Asked::Recipe(Recipe::Groups)),
 ];
 
-// What a word alone asks.
+// What to test by a word alone.
 fn asked_alone(word: &[u8]) -> Option<Asked<'static>> {
     for &(name, asked) in &ALONE {
         if word == name {
@@ -242,7 +242,7 @@ fn asked_alone(word: &[u8]) -> Option<Asked<'static>> {
     None
 }
 
-// What a word asks with a field behind it.
+// What to test by a word and the field after it.
 fn asked_with<'a>(word: &[u8], field: &'a [u8]) -> Option<Asked<'a>> {
     if word == b"within".as_slice() {
         return Some(Asked::Within(number_of(field)?));
@@ -256,7 +256,7 @@ fn asked_with<'a>(word: &[u8], field: &'a [u8]) -> Option<Asked<'a>> {
     None
 }
 
-// What a probe asks, and its case.
+// What a probe tests, and its case.
 fn asked_of(probe: &[u8]) -> Option<(Asked<'_>, &[u8])> {
     let (word, rest) = split_once(probe, b' ')?;
     if let Some(asked) = asked_alone(word) {
@@ -266,7 +266,7 @@ fn asked_of(probe: &[u8]) -> Option<(Asked<'_>, &[u8])> {
     Some((asked_with(word, field)?, case))
 }
 
-// Appends what a text is asked.
+// Appends the answer for a text.
 fn push_found<S: Haystack, A: Allocator + Copy>(
     alloc: Global,
     heap: A,
@@ -281,7 +281,7 @@ fn push_found<S: Haystack, A: Allocator + Copy>(
         Asked::Shown => push_shown(heap, state, finding, req, answer),
         Asked::Told => push_told(heap, state, finding, req, answer),
         Asked::Listed => push_list(state, req, answer),
-        Asked::Within(turns) => push_within(state, finding, req, turns, answer),
+        Asked::Within(steps) => push_within(state, finding, req, steps, answer),
         Asked::Fewest => push_fewest(heap, state, finding, req, answer),
         Asked::Counted(bounds) => push_counts(state, finding, req, bounds, answer),
         Asked::Finder => push_by_finder(alloc, heap, state, finding, encoding, req, answer),

@@ -1,4 +1,4 @@
-//! What the recipes give over a text.
+//! The results of recipes.
 
 use crate::probe::cut;
 use sre_engine::{Request, SreError, State, StringCursor};
@@ -8,14 +8,14 @@ use sre_recipes::{
 };
 use std::alloc::{AllocError, Allocator};
 
-/// Which recipe is asked.
+/// Which recipe to test.
 #[derive(Clone, Copy)]
 pub(crate) enum Recipe<'a> {
     Find,
     Split,
     Tokens,
     Groups,
-    /// By a template, whose pieces are divided by `+`: `$m` is the match, `$N` group N, and all else text.
+    /// With a template, whose pieces are separated by `+`: `$m` is the match, `$N` group N, and all else text.
     Replace(&'a [u8]),
 }
 
@@ -33,7 +33,7 @@ fn group_of(part: &[u8]) -> Option<usize> {
     number.parse::<usize>().ok()
 }
 
-// The piece that a part of a template writes.
+// The piece that a part of a template denotes.
 fn piece_of(part: &[u8]) -> Piece<'_> {
     if part == b"$m".as_slice() {
         return Piece::Match;
@@ -45,7 +45,7 @@ fn piece_of(part: &[u8]) -> Piece<'_> {
     }
 }
 
-// Appends the pieces that a template writes.
+// Appends the pieces that a template denotes.
 fn push_pieces<'a, A: Allocator>(
     template: &'a [u8],
     pieces: &mut Vec<Piece<'a>, A>,
@@ -71,7 +71,7 @@ fn push_replaced_by<A: Allocator + Copy>(
     pieces: &[Piece<'_>],
     answer: &mut String,
 ) -> Result<(), AllocError> {
-    match replace_all(heap, req, pieces) {
+    match replace_all(heap, &req, pieces) {
         Ok(text) => write!(answer, "[{}]", text.as_str()),
         Err(SreError::Memory) => Err(AllocError),
     }
@@ -99,7 +99,7 @@ fn push_each(tokens: &[Token<'_>], answer: &mut String) -> Result<(), AllocError
     Ok(())
 }
 
-// Appends tokens with their kinds, and where they end.
+// Appends tokens with their kinds, and the cursor at their end.
 fn push_lexed(
     tokens: &[Token<'_>],
     end: StringCursor,
@@ -109,19 +109,19 @@ fn push_lexed(
     write!(answer, " to {} offset {}", end.position(), end.offset())
 }
 
-// Appends what a text's tokens are.
+// Appends the tokens of a text.
 fn push_tokens<A: Allocator + Copy>(
     heap: A,
     req: Request<'_, &str>,
     answer: &mut String,
 ) -> Result<(), AllocError> {
-    match tokens_of(heap, req) {
+    match tokens_of(heap, &req) {
         Ok(lexed) => push_lexed(lexed.tokens.as_slice(), lexed.end, answer),
         Err(SreError::Memory) => Err(AllocError),
     }
 }
 
-// Appends the text of a match, and those of its groups.
+// Appends the texts of a match and of its groups.
 fn push_groups<A: Allocator + Copy>(
     state: &mut State<A>,
     finding: Finding,
@@ -131,7 +131,7 @@ fn push_groups<A: Allocator + Copy>(
     let text = req.string();
     let found = match finding {
         Finding::Match => match_text(&req, state),
-        Finding::Search | Finding::Walk => search_text(req, state),
+        Finding::Search | Finding::Walk => search_text(&req, state),
     };
     let Ok(found) = found else {
         return Err(AllocError);
@@ -149,7 +149,7 @@ fn push_groups<A: Allocator + Copy>(
     Ok(())
 }
 
-/// Appends what a recipe gives.
+/// Appends the result of a recipe.
 pub(crate) fn push_recipe<A: Allocator + Copy>(
     heap: A,
     state: &mut State<A>,
@@ -159,8 +159,8 @@ pub(crate) fn push_recipe<A: Allocator + Copy>(
     answer: &mut String,
 ) -> Result<(), AllocError> {
     let texts = match recipe {
-        Recipe::Find => find_all(heap, req),
-        Recipe::Split => split(heap, req),
+        Recipe::Find => find_all(heap, &req),
+        Recipe::Split => split(heap, &req),
         Recipe::Tokens => return push_tokens(heap, req, answer),
         Recipe::Groups => return push_groups(state, finding, req, answer),
         Recipe::Replace(template) => return push_replaced(heap, req, template, answer),

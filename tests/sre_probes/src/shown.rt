@@ -1,4 +1,4 @@
-//! What a state shows of a match, of all matches of a walk, and of a list.
+//! What a state shows of a match, of all matches of an iteration, and of a list.
 
 use sre_engine::{Found, Request, SearchIter, State, StrDrive, admitted_by_place, all_matches};
 use sre_lines::answer::push_match;
@@ -21,12 +21,12 @@ pub(crate) fn push_state<A: Allocator + Copy>(
     write!(answer, " offset {}", end.offset())
 }
 
-/// Whether a state has no marks, as after each call that finds nothing or fails.
+/// Whether a state has no captures, as after each call without a match or with an error.
 pub(crate) fn has_none<A: Allocator + Copy>(state: &State<A>) -> bool {
     state.marks().raw().is_empty() && state.marks().last_index() == -1
 }
 
-/// Appends what a call found.
+/// Appends the result of a call.
 pub(crate) fn push_answer<A: Allocator + Copy, E: Drop>(
     state: &State<A>,
     found: Result<bool, E>,
@@ -40,7 +40,7 @@ pub(crate) fn push_answer<A: Allocator + Copy, E: Drop>(
     }
 }
 
-/// Appends what a call finds, or each match of a walk.
+/// Appends the result of a call, or each match of an iteration.
 pub(crate) fn push_shown<S: StrDrive, A: Allocator + Copy>(
     heap: A,
     state: &mut State<A>,
@@ -56,13 +56,13 @@ pub(crate) fn push_shown<S: StrDrive, A: Allocator + Copy>(
     push_answer(state, found, answer)
 }
 
-// Whether the next request of a walk goes on where a match ended, past an empty one.
+// Whether the next request of an iteration starts at the end of the match, and must advance after an empty one.
 fn goes_on<S: StrDrive, A: Allocator + Copy>(walk: &SearchIter<'_, S, A>) -> bool {
     let (start, end) = (walk.state().start(), walk.state().cursor().position());
     walk.req().start() == end && walk.req().must_advance() == (start == end)
 }
 
-// Whether a walk stays at its end, with no marks.
+// Whether an iteration has ended for good, without captures.
 fn stays_ended<S: StrDrive, A: Allocator + Copy>(walk: &mut SearchIter<'_, S, A>) -> bool {
     for _ in 0..3 {
         if !has_none(walk.state()) || walk.next().is_some() {
@@ -72,7 +72,7 @@ fn stays_ended<S: StrDrive, A: Allocator + Copy>(walk: &mut SearchIter<'_, S, A>
     true
 }
 
-// Appends each match of a walk as its state shows it.
+// Appends each match of an iteration, as its state shows it.
 fn push_walk<S: StrDrive, A: Allocator + Copy>(
     walk: &mut SearchIter<'_, S, A>,
     answer: &mut String,
@@ -92,7 +92,7 @@ fn push_walk<S: StrDrive, A: Allocator + Copy>(
     answer.push_str(if stays_ended(walk) { "end" } else { "goes on" })
 }
 
-/// Appends what a call finds, or each match of a walk, by a list of what the places of the words admit.
+/// Appends the result of a call, or each match of an iteration, with a list of FIRST sets by address.
 pub(crate) fn push_told<S: StrDrive, A: Allocator + Copy>(
     heap: A,
     state: &mut State<A>,
@@ -106,7 +106,7 @@ pub(crate) fn push_told<S: StrDrive, A: Allocator + Copy>(
     push_shown(heap, state, finding, req.with_admitted(&list), answer)
 }
 
-// Appends each of some matches.
+// Appends some matches.
 fn push_all<A: Allocator>(all: &[Found<A>], answer: &mut String) -> Result<(), AllocError> {
     for found in all {
         let marks = found.marks.as_slice();
@@ -132,23 +132,23 @@ pub(crate) fn push_list<S: StrDrive, A: Allocator + Copy>(
     }
 }
 
-/// Appends what a call finds within so many turns.
+/// Appends the result of a call within a step limit.
 pub(crate) fn push_within<S: StrDrive, A: Allocator + Copy>(
     state: &mut State<A>,
     finding: Finding,
     req: Request<'_, S>,
-    turns: u64,
+    steps: u64,
     answer: &mut String,
 ) -> Result<(), AllocError> {
-    let mut left = turns;
+    let mut left = steps;
     let told = match finding {
         Finding::Match => state.match_within(&req, &mut left),
         Finding::Search | Finding::Walk => state.search_within(req, &mut left),
     };
     match told {
         Ok(Some(found)) => push_answer(state, Ok::<bool, AllocError>(found), answer),
-        Ok(None) if left == 0 && has_none(state) => answer.push_str("given up"),
-        Ok(None) => answer.push_str("given up with turns or marks left"),
+        Ok(None) if left == 0 && has_none(state) => answer.push_str("step limit exceeded"),
+        Ok(None) => answer.push_str("step limit exceeded with steps or marks left"),
         Err(_) if has_none(state) => Err(AllocError),
         Err(_) => answer.push_str("marks are left"),
     }

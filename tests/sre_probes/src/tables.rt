@@ -1,17 +1,17 @@
-//! Tables that lines set for the lines behind them.
+//! Unicode tables that a line sets for the lines after it.
 
 use crate::probe::{cut, word_of};
 use sre_engine::{UniError, UniTable};
 use sre_lines::line::split_once;
 use std::alloc::{AllocError, Global};
 
-// The numbers that a pair writes, if it does.
+// The two numbers of a pair, if it has them.
 fn pair_of(pair: &[u8]) -> Option<(u32, u32)> {
     let (low, high) = split_once(pair, b'-')?;
     Some((word_of(low)?, word_of(high)?))
 }
 
-// Appends the pairs that a field writes as `A-B,A-B`, or none, for a `-` alone.
+// Appends the pairs of a field of the form `A-B,A-B`, or none for `-`.
 fn push_pairs(field: &[u8], pairs: &mut Vec<(u32, u32)>) -> Result<(), AllocError> {
     let mut left = Some(field);
     for _ in 0..field.len().saturating_add(1) {
@@ -27,7 +27,7 @@ fn push_pairs(field: &[u8], pairs: &mut Vec<(u32, u32)>) -> Result<(), AllocErro
     Ok(())
 }
 
-// Appends that a table was made, or why it was not.
+// Appends that a table was created, or why it was not.
 fn push_outcome(outcome: Result<(), UniError>, answer: &mut String) -> Result<(), AllocError> {
     match outcome {
         Ok(()) => answer.push_str("ok"),
@@ -35,7 +35,7 @@ fn push_outcome(outcome: Result<(), UniError>, answer: &mut String) -> Result<()
     }
 }
 
-// The lists of a table: those of lower, of upper cases and of letters.
+// The lists of a table: lower case, upper case and alphanumerics.
 #[derive(Drop)]
 struct Lists {
     lower: Vec<(u32, u32)>,
@@ -43,7 +43,7 @@ struct Lists {
     alnum: Vec<(u32, u32)>,
 }
 
-// Appends the pairs of three fields to the lists; a field that is missing has none.
+// Appends the pairs of three fields to the lists. A missing field has none.
 fn push_lists(fields: &[u8], lists: &mut Lists) -> Result<(), AllocError> {
     let Some((lower, rest)) = split_once(fields, b' ') else {
         return push_pairs(fields, &mut lists.lower);
@@ -56,7 +56,7 @@ fn push_lists(fields: &[u8], lists: &mut Lists) -> Result<(), AllocError> {
     push_pairs(alnum, &mut lists.alnum)
 }
 
-// The table that three fields make.
+// The table of three fields.
 fn table_of(alloc: Global, fields: &[u8]) -> Result<UniTable, UniError> {
     let mut lists = Lists {
         lower: Vec::new(alloc),
@@ -74,7 +74,7 @@ fn table_of(alloc: Global, fields: &[u8]) -> Result<UniTable, UniError> {
     }
 }
 
-// The table of ASCII, std's, or the one that three fields make.
+// The table of ASCII, that of std, or that of three fields.
 fn named_table(alloc: Global, name: &[u8]) -> Result<UniTable, UniError> {
     if name == b"ascii".as_slice() {
         return Ok(UniTable::ascii(alloc));
@@ -85,7 +85,7 @@ fn named_table(alloc: Global, name: &[u8]) -> Result<UniTable, UniError> {
     table_of(alloc, name)
 }
 
-/// Sets the table, to that of ASCII, to std's, or to the one of three lists. Where these have a fault, the table stays.
+/// Sets the table to that of ASCII, that of std, or that of three lists. If these have a fault, the table is unchanged.
 pub(crate) fn push_table(
     alloc: Global,
     lists: &[u8],
@@ -101,7 +101,7 @@ pub(crate) fn push_table(
     }
 }
 
-/// Sets the table's digits past ASCII. Where the ranges have a fault, they stay.
+/// Sets the table's digits past ASCII. If the ranges have a fault, they are unchanged.
 pub(crate) fn push_digits(
     alloc: Global,
     ranges: &[u8],

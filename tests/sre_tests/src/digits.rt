@@ -27,7 +27,7 @@ static OF_CPYTHON: [(u32, u32); 64] = [
     (0x1e2f0, 0x1e2f9), (0x1e4f0, 0x1e4f9), (0x1e950, 0x1e959), (0x1fbf0, 0x1fbf9),
 ];
 
-// Those that Unicode has given since its version 15.1, which is that of CPython 3.13.
+// Digits added to Unicode after version 15.1, which is that of CPython 3.13.
 #[rattlefmt::skip]
 static LATER: [(u32, u32); 8] = [
     (0x10d40, 0x10d49), (0x116d0, 0x116e3), (0x11bf0, 0x11bf9), (0x11de0, 0x11de9),
@@ -36,7 +36,7 @@ static LATER: [(u32, u32); 8] = [
 
 const UNI_DIGIT: &[u32] = &[8, 10, 1];
 
-// All scalar values, one after the other.
+// All scalar values in order.
 fn scalar_values(alloc: Global) -> Result<String, Fail> {
     let mut text = String::new(alloc);
     for number in 0..0x110000u32 {
@@ -47,7 +47,7 @@ fn scalar_values(alloc: Global) -> Result<String, Fail> {
     Ok(text)
 }
 
-// Where a scalar value is among all: no surrogate is one.
+// The position of a scalar value among all of them, which include no surrogates.
 fn position_of(number: u32) -> usize {
     if number < 0xd800 {
         number as usize
@@ -56,7 +56,7 @@ fn position_of(number: u32) -> usize {
     }
 }
 
-// Whether a match starts at a place.
+// Whether a match starts at a position.
 fn is_start(all: &[Found<Global>], position: usize) -> bool {
     for found in all {
         if found.start == position {
@@ -66,7 +66,7 @@ fn is_start(all: &[Found<Global>], position: usize) -> bool {
     false
 }
 
-// Whether each number of some ranges is one at whose place among the scalar values a match starts.
+// Whether a match starts at the position of each number in some ranges.
 fn are_found(all: &[Found<Global>], ranges: &[(u32, u32)]) -> bool {
     for &(low, high) in ranges {
         for number in low..=high {
@@ -78,7 +78,7 @@ fn are_found(all: &[Found<Global>], ranges: &[(u32, u32)]) -> bool {
     true
 }
 
-// With the digits of Unicode, `\d` finds among all scalar values those that it finds in CPython's `re`, and no other.
+// With the digits of Unicode, `\d` matches the same scalar values as in CPython's `re`, and those added later.
 #[test]
 fn unicode_digits_are_those_of_cpython(rt: HostRuntime) -> Result<(), Fail> {
     let alloc = rt.alloc();

@@ -1,19 +1,19 @@
-//! A writer for tests, which fails once.
+//! A writer for tests that fails once.
 
 use std::alloc::Global;
 use std::io::{self, ErrorKind, Write};
 
-/// A writer that takes so many bytes, then fails once, and takes everything from then on.
+/// A writer that accepts a number of bytes, then fails once, and accepts everything afterwards.
 #[derive(Drop)]
 pub struct FailsOnce {
-    // What it still takes before it fails, if it hasn't failed yet.
+    // The number of bytes that it still accepts before it fails. `None` after it has failed.
     room: Option<usize>,
     fault: ErrorKind,
     bytes: Vec<u8>,
 }
 
 impl FailsOnce {
-    /// Fails with `fault`, or, at `WriteZero`, by taking nothing.
+    /// Creates a writer that accepts `room` bytes, then fails with `fault`. For `WriteZero` it accepts nothing instead.
     pub fn new(alloc: Global, room: usize, fault: ErrorKind) -> FailsOnce {
         FailsOnce {
             room: Some(room),
@@ -22,7 +22,7 @@ impl FailsOnce {
         }
     }
 
-    /// What it took.
+    /// Returns the accepted bytes.
     pub fn bytes(&self) -> &[u8] {
         self.bytes.as_slice()
     }
@@ -49,7 +49,7 @@ impl Write for FailsOnce {
         Ok(taken.len())
     }
 
-    /// Fails, once, where nothing more would be taken.
+    /// Fails once if no room is left.
     fn flush(&mut self) -> io::Result<()> {
         if self.room == Some(0) {
             self.room = None;

@@ -1,4 +1,4 @@
-//! The names at the engine's root, and those of its modules.
+//! The names at the engine's root and in its modules.
 
 use sre_engine::{
     CODESIZE, Code, CodeError, EmptyRule, Found, Hints, MAXGROUPS, MAXREPEAT, Marks, Request,
@@ -31,7 +31,7 @@ fn end_of<S: StrDrive>(text: S) -> StringCursor {
     text.create_cursor(text.count())
 }
 
-// The cursor behind the match of a search over characters, if there is one.
+// The cursor at the end of the match of a search over characters, if there is one.
 fn searched(
     alloc: Global,
     checked: code::Code<'_>,
@@ -49,7 +49,7 @@ fn searched(
     Ok(Some(state.cursor()))
 }
 
-// Whether a walk over characters has a match, and how many a list has.
+// Whether an iteration over characters has a match, and how many matches a list has.
 fn walked(
     alloc: Global,
     checked: code::Code<'_>,

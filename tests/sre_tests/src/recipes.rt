@@ -1,4 +1,4 @@
-//! The recipes' example, and the texts that a walk shows.
+//! The example of the recipes, and the texts of an iteration.
 
 use sre_engine::{Code, Request, SearchIter, State, UniTable};
 use sre_recipes::{
@@ -36,14 +36,14 @@ fn the_example_at_the_root_runs(rt: HostRuntime) -> Result<(), Fail> {
     let words = [7, 9, 17, 0, 16, 97, 17, 1, 15, 7, 5, 16, 98, 15, 2, 0, 1];
     let code = Code::check(alloc, &words, &uni)?;
     let whole = Request::whole("xaéb", code);
-    assert!(rt; find_all(alloc, whole)?.as_slice() == ["a", "b"].as_slice());
-    assert!(rt; split(alloc, whole)?.as_slice() == ["x", "é", ""].as_slice());
+    assert!(rt; find_all(alloc, &whole)?.as_slice() == ["a", "b"].as_slice());
+    assert!(rt; split(alloc, &whole)?.as_slice() == ["x", "é", ""].as_slice());
     let template = [Piece::Text("<"), Piece::Group(1), Piece::Text(">")];
-    assert!(rt; replace_all(alloc, whole, &template)?.as_str() == "x<a>é<>");
+    assert!(rt; replace_all(alloc, &whole, &template)?.as_str() == "x<a>é<>");
     Ok(())
 }
 
-// The same recipes over bytes, one of which no text of UTF-8 has.
+// The same recipes over bytes, one of which is not valid in UTF-8.
 #[test]
 fn bytes_are_cut_and_written_anew(rt: HostRuntime) -> Result<(), Fail> {
     let alloc = rt.alloc();
@@ -53,32 +53,34 @@ fn bytes_are_cut_and_written_anew(rt: HostRuntime) -> Result<(), Fail> {
     let whole = Request::whole(b"xa\xffb".as_slice(), code);
     let (a, b) = (b"a".as_slice(), b"b".as_slice());
     let (x, other) = (b"x".as_slice(), b"\xff".as_slice());
-    assert!(rt; find_all(alloc, whole)?.as_slice() == [a, b].as_slice());
-    assert!(rt; split(alloc, whole)?.as_slice() == [x, other, &[]].as_slice());
-    let pieces = split_groups(alloc, whole, 1)?;
+    assert!(rt; find_all(alloc, &whole)?.as_slice() == [a, b].as_slice());
+    assert!(rt; split(alloc, &whole)?.as_slice() == [x, other, &[]].as_slice());
+    let pieces = split_groups(alloc, &whole, 1)?;
     assert!(rt; pieces.as_slice() == [Some(x), Some(a), Some(other), None, Some(&[])].as_slice());
     let template = [
         PieceOf::Text(b"<".as_slice()),
         PieceOf::Group(1),
         PieceOf::Text(b">".as_slice()),
     ];
-    assert!(rt; replace_all_bytes(alloc, whole, &template)?.as_slice() == b"x<a>\xff<>".as_slice());
+    assert!(rt;
+        replace_all_bytes(alloc, &whole, &template)?.as_slice() == b"x<a>\xff<>".as_slice()
+    );
     let new = replace_with(
         alloc,
-        whole,
+        &whole,
         |found| found.get(0).unwrap_or_default().to_vec(alloc),
     )?;
     assert!(rt; new.as_slice() == b"xa\xffb".as_slice());
-    for found in &all_captures(alloc, whole)? {
+    for found in &all_captures(alloc, &whole)? {
         assert!(rt;
             found.get(0) == Some(a) && found.get(1) == Some(a)
                 || found.get(0) == Some(b) && found.get(1) == None
         );
     }
-    if let Some(one) = find_bounded(alloc, whole, &mut Bounds::first(1))? {
+    if let Some(one) = find_bounded(alloc, &whole, &mut Bounds::first(1))? {
         assert!(rt; one.as_slice() == [a].as_slice());
     }
-    let lexed = tokens_of(alloc, Request::whole(b"ab\xff".as_slice(), code))?;
+    let lexed = tokens_of(alloc, &Request::whole(b"ab\xff".as_slice(), code))?;
     assert!(rt; lexed.tokens.len() == 2 && lexed.tokens[1].text == b && lexed.end.offset() == 2);
     Ok(())
 }

@@ -1,4 +1,4 @@
-//! Writes that fail: what a writer holds then.
+//! Writes that fail: what the writer then holds.
 
 use crate::fakes::FailsOnce;
 use sre_lines::cases::{CaseFault, run_cases, write_fault};
@@ -10,15 +10,15 @@ const FILE: &[u8] = b"check -\ncheck -\n\ncheck -\nnothing\n";
 
 const ANSWERS: &[u8] = b"refused\nrefused\nrefused\n";
 
-// Whether a run over a writer that fails behind so many bytes ends so, and leaves so many of the answers.
+// Whether a run ends like this, and leaves so many bytes of the answers, if the writer fails after a number of bytes.
 fn leaves(alloc: Global, room: usize, fault: ErrorKind, end: CaseFault, kept: usize) -> bool {
     let mut out = FailsOnce::new(alloc, room, fault);
     let ran = run_cases(alloc, FILE, &mut out);
     ran == Err(end) && Some(out.bytes()) == ANSWERS.get(..kept)
 }
 
-// A writer that fails after any number of bytes, within an answer too, holds these and nothing behind them; an
-// interrupted write is tried again.
+// A writer that fails after any number of bytes, within an answer too, holds these and nothing else. An interrupted
+// write is tried again.
 #[test]
 fn nothing_is_written_after_a_failed_write(rt: HostRuntime) {
     let (failed, stopped) = (CaseFault::OutputFailed, CaseFault::NotACase(5));
@@ -37,7 +37,7 @@ fn nothing_is_written_after_a_failed_write(rt: HostRuntime) {
     }
 }
 
-// Whether the line of a fault, over a writer that fails behind so many bytes, leaves these of it.
+// Whether the line of a fault is cut after a number of bytes if the writer fails there.
 fn is_cut(alloc: Global, line: &[u8], room: usize) -> bool {
     let mut full = FailsOnce::new(alloc, room, ErrorKind::Other);
     let failure = write_fault(&CaseFault::NotACase(u64::MAX), "x", &mut full);

@@ -1,4 +1,4 @@
-//! What no clause says of the board: its memory.
+//! The memory of the board, which no clause covers.
 
 use crate::growths::was_refused;
 use sre_board::{Board, Change, Saved};
@@ -8,7 +8,7 @@ use sre_growth::Refusal;
 use sre_turns::Point;
 use std::alloc::{Allocator, Global};
 
-// Sets two marks at positions.
+// Sets two capture slots to positions.
 fn set_both<A: Allocator>(
     board: &mut Board<A>,
     first: (u32, usize),
@@ -18,7 +18,7 @@ fn set_both<A: Allocator>(
     board.set(second.0, second.1)
 }
 
-// Marks set over two choices, the second mark of each pair before the first, and one of them twice.
+// Captures set over two choices. The second slot of each pair is set before the first, and one slot twice.
 fn set_over_choices<A: Allocator>(board: &mut Board<A>) -> Result<(), Refusal> {
     board.set(1, 7)?;
     board.save(Point::Instruction(4), StringCursor::new(1, 2))?;
@@ -27,7 +27,7 @@ fn set_over_choices<A: Allocator>(board: &mut Board<A>) -> Result<(), Refusal> {
     set_both(board, (3, 8), (5, 2))
 }
 
-// Whether an error comes exactly where a request is refused, and the board, once it is cleared, serves again.
+// Whether there is an error exactly if an allocation failed, and the cleared board can be reused.
 fn is_left(heap: &Refusing<Global>, board: &mut Board<&Refusing<Global>>) -> bool {
     let left = heap.left();
     if set_over_choices(board).is_err() != was_refused(heap, left) {
@@ -38,14 +38,14 @@ fn is_left(heap: &Refusing<Global>, board: &mut Board<&Refusing<Global>>) -> boo
     is_empty && set_over_choices(board).is_ok() && board.marks().last_index() == 3
 }
 
-// The same with the request of a number refused, and whether there was one.
+// The same with the allocation of a number failed, and whether there was one.
 fn is_left_by(alloc: Global, refused: u64) -> (bool, bool) {
     let heap = Refusing::new(alloc, refused);
     let mut board: Board<&Refusing<Global>> = Board::new(&heap);
     (is_left(&heap, &mut board), heap.left() == 0)
 }
 
-// Each request for memory is refused in turn.
+// Each allocation is failed in turn.
 #[test]
 fn a_refused_growth_leaves_a_board(rt: HostRuntime) {
     let mut refusals = 0u64;
@@ -65,7 +65,7 @@ fn what_is_kept_of_a_choice_is_small(rt: HostRuntime) {
     assert!(rt; size_of::<Saved>() == 64);
 }
 
-// Sets marks on a cleared board many times, over choices and where none remembers them.
+// Sets captures on a cleared board many times, over choices and without a choice that saves them.
 fn set_often<A: Allocator>(board: &mut Board<A>) -> Result<(), Refusal> {
     for position in 0..100 {
         board.clear();
@@ -76,7 +76,7 @@ fn set_often<A: Allocator>(board: &mut Board<A>) -> Result<(), Refusal> {
     Ok(())
 }
 
-// Whether a board asks for memory at first, and not where marks are set once more.
+// Whether a board allocates at first, and not when captures are set again.
 fn keeps_memory(heap: &Refusing<Global>, board: &mut Board<&Refusing<Global>>) -> bool {
     let first = heap.left();
     let is_set = set_over_choices(board).is_ok();
@@ -84,7 +84,7 @@ fn keeps_memory(heap: &Refusing<Global>, board: &mut Board<&Refusing<Global>>) -
     is_set && left < first && set_often(board).is_ok() && heap.left() == left
 }
 
-// Neither a new or a cleared board nor marks that no choice remembers ask for memory.
+// A new or a cleared board does not allocate, and neither do captures that no choice saves.
 #[test]
 fn memory_is_kept(rt: HostRuntime) {
     let heap = Refusing::new(rt.alloc(), 1_000_000);

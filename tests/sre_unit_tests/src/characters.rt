@@ -7,7 +7,7 @@ use sre_chars::constants::{
 use sre_chars::string::{StrDrive, StringCursor, UniError, UniTable, category};
 use std::alloc::Global;
 
-// Words and the codes of these numbers, as CPython's `_constants.py` has them.
+// Words and the codes with these numbers, as in CPython's `_constants.py`.
 static CODES: [(
     u32,
     Option<SreOpcode>,
@@ -64,7 +64,7 @@ static CODES: [(
     (4294967295, None, None, None),
 ];
 
-// Whether a word becomes these codes.
+// Whether a word converts to these codes.
 fn becomes(
     word: u32,
     opcode: Option<SreOpcode>,
@@ -101,12 +101,12 @@ fn errors_have_numbers_and_words(rt: HostRuntime) {
     assert!(rt; refusal.number() == 1 && is_shown(rt.alloc(), &refusal, "unknown code 43"));
 }
 
-// Whether two places are one.
+// Whether two cursors are equal.
 fn same(one: StringCursor, other: StringCursor) -> bool {
     one.position() == other.position() && one.offset() == other.offset()
 }
 
-// Whether every call reaches the place of a character.
+// Whether every call reaches the cursor of a character.
 fn is_reached<S: StrDrive>(text: S, i: usize) -> bool {
     let n = text.count();
     if i >= n {
@@ -137,7 +137,7 @@ fn is_read<S: StrDrive>(text: S, i: usize, character: u32) -> bool {
     text.back_advance(&mut cursor) == character && same(cursor, text.create_cursor(i))
 }
 
-// Whether the text is these characters, each read from both sides, and each place reached by every call.
+// Whether a text consists of these characters, each read from both sides, and each cursor reached by every call.
 fn is_text_of<S: StrDrive>(text: S, chars: &[u32]) -> bool {
     for (i, character) in chars.iter().enumerate() {
         if !is_reached(text, i) || !is_read(text, i, *character) {
@@ -158,7 +158,7 @@ static TEXTS: [(&str, &[u32]); 5] = [
     ),
 ];
 
-// Whether a text is these characters, both so many times over.
+// Whether a text consists of these characters, with both repeated so many times.
 fn is_repeated(alloc: Global, text: &str, chars: &[u32], times: usize) -> bool {
     match (text.repeat(alloc, times), chars.repeat(alloc, times)) {
         (Ok(text), Ok(chars)) => is_text_of(text.as_str(), chars.as_slice()),
@@ -166,7 +166,7 @@ fn is_repeated(alloc: Global, text: &str, chars: &[u32], times: usize) -> bool {
     }
 }
 
-// Each `str` is repeated to go past several blocks of bytes, at whose edges characters of each width are cut.
+// Each `str` is repeated to be longer than several blocks of bytes, whose edges then cut characters of each width.
 #[test]
 fn texts_are_their_characters(rt: HostRuntime) {
     let bytes = [0u8, 7, 9, 127, 128, 195, 169, 255];
@@ -177,7 +177,7 @@ fn texts_are_their_characters(rt: HostRuntime) {
     }
 }
 
-// The runs are CPython's; of its Unicode words only those in ASCII, since the table has no others.
+// The ranges are CPython's. Of its Unicode word characters only ASCII is here, since the table has no others.
 static CATEGORIES: [(SreCatCode, SreCatCode, &[(u32, u32)]); 9] = [
     (SreCatCode::DIGIT, SreCatCode::NOT_DIGIT, DIGITS),
     (
@@ -221,7 +221,7 @@ const DIGITS: &[(u32, u32)] = &[(48, 57)];
 
 const WORDS: &[(u32, u32)] = &[(48, 57), (65, 90), (95, 95), (97, 122)];
 
-// Whether a character is in one of some runs.
+// Whether a character is in one of some ranges.
 fn is_in(runs: &[(u32, u32)], ch: u32) -> bool {
     for &(low, high) in runs {
         if low <= ch && ch <= high {

@@ -1,5 +1,5 @@
-//! The ends of bodies: that each is told as long as none is forgotten, in whatever order their pages come; and what no
-//! clause says of them, that a refused growth can be tried again.
+//! Memoized ends of atomic scopes: each stays known until all are forgotten, whatever the order of their pages. A
+//! failed growth, which no clause covers, can be tried again.
 
 use crate::growths::was_refused;
 use sre_board::Ends;
@@ -7,17 +7,17 @@ use sre_chars::string::StringCursor;
 use sre_failing_allocator::Refusing;
 use std::alloc::{Allocator, Global};
 
-// A cursor for each number, another one than for its neighbours.
+// A cursor for each number, different from those of its neighbours.
 fn end_of(number: usize) -> StringCursor {
     StringCursor::new(number / 2, number)
 }
 
-// Keeps the end of a number: whether it is told then.
+// Memoizes the end of a number. Returns whether it is known then.
 fn tells<A: Allocator>(ends: &mut Ends<A>, number: usize) -> bool {
     ends.keep(number, end_of(number)).is_ok() && ends.end(number) == Some(end_of(number))
 }
 
-// How many of the numbers below another have their end told.
+// How many of the numbers below another have a known end.
 fn count_told<A: Allocator>(ends: &Ends<A>, numbers: usize) -> u32 {
     let mut told = 0u32;
     for number in 0..numbers {
@@ -40,10 +40,11 @@ fn an_end_is_told_behind_its_keeping(rt: HostRuntime) {
     assert!(rt; count_told(&ends, 2000) == 0);
 }
 
-// Keeps the end of each number that is so many beyond one, up to a greatest, the greatest first: whether all are told.
+// Memoizes the end of each number in an arithmetic sequence up to a maximum, the greatest first. Returns whether all
+// are known.
 fn keeps_down<A: Allocator>(ends: &mut Ends<A>, first: usize, step: usize) -> bool {
-    for turn in 0..50usize {
-        let number = first.saturating_sub(turn.saturating_mul(step));
+    for round in 0..50usize {
+        let number = first.saturating_sub(round.saturating_mul(step));
         if !tells(ends, number) {
             return false;
         }
@@ -57,14 +58,14 @@ fn pages_come_in_any_order(rt: HostRuntime) {
     for step in 1..200usize {
         assert!(rt; keeps_down(&mut ends, 9999, step), "{step}");
     }
-    // one that was kept, one before all pages, and one behind them
+    // one that was memoized, one before all pages, and one after them
     assert!(rt; ends.end(9998).is_some());
     assert!(rt; ends.end(0).is_none());
     assert!(rt; ends.end(10_000).is_none());
     assert!(rt; count_told(&ends, 10_000) > 2000);
 }
 
-// How many of two numbers have their end told behind the keeping of both, the second twice.
+// How many of two numbers have a known end after both were memoized, the second twice.
 fn count_of_two(alloc: Global, first: usize, second: usize) -> Option<u32> {
     let mut ends = Ends::new(alloc);
     ends.keep(first, end_of(first)).ok()?;
@@ -87,7 +88,7 @@ fn neighbours_have_places_of_their_own(rt: HostRuntime) {
     }
 }
 
-// Whether each end is kept exactly where no request is refused, and else by a further try.
+// Whether each end is memoized exactly if no allocation fails, and otherwise at the next try.
 fn keeps_all(heap: &Refusing<Global>, ends: &mut Ends<&Refusing<Global>>) -> bool {
     for number in 0..100usize {
         let left = heap.left();
@@ -99,7 +100,7 @@ fn keeps_all(heap: &Refusing<Global>, ends: &mut Ends<&Refusing<Global>>) -> boo
     true
 }
 
-// The same with the request of a number refused, and whether there was one.
+// The same with the allocation of a number failed, and whether there was one.
 fn are_kept(alloc: Global, refused: u64) -> (bool, bool) {
     let heap = Refusing::new(alloc, refused);
     let mut ends: Ends<&Refusing<Global>> = Ends::new(&heap);

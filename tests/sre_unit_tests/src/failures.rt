@@ -1,5 +1,5 @@
-//! What no clause says of failures: that a spot which was kept is told again wherever it is alike, and that a row which
-//! is refused or too large breaks nothing.
+//! What no clause says of memoized failures: a failure is found again in each equivalent configuration, and a row that
+//! cannot be allocated or is too large does no harm.
 
 use crate::growths::was_refused;
 use crate::scripts::{Change, SCRIPTS, Step};
@@ -18,7 +18,7 @@ const WORDS: &[u32] = &[
     16, 97, 16, 98, 18, 23, 7, 1, 9000000, 16, 97, 16, 98, 18, 1,
 ];
 
-// where its loops begin
+// the addresses of its loops
 pub(crate) const STAR: usize = 0;
 
 pub(crate) const PLUS: usize = 9;
@@ -27,33 +27,33 @@ pub(crate) const COUNTED: usize = 18;
 
 pub(crate) const FAR: usize = 27;
 
-// the place at which spots are kept, and all that spots are counted at
+// the address of memoized configurations, and all addresses at which they are counted
 const PLACE: usize = 4;
 
 const PLACES: [usize; 4] = [3, 4, 5, 36];
 
-// A loop in progress: where it begins, its bodies so far, and where the last of them began.
+// A loop in progress: its address, its iterations so far, and the start of the last one.
 pub(crate) type Loop = (usize, u32, Option<usize>);
 
-// Loops in progress, outermost first. Those that make no difference at position 12 have the same number.
+// Loops in progress, outermost first. Those that are equivalent at position 12 have the same number.
 static LOOPS: [(u32, &[Loop]); 31] = [
     (0, &[]),
-    // a body more is always possible
+    // one more iteration is always possible
     (1, &[(STAR, 0, None)]),
     (1, &[(STAR, 3, None)]),
     (1, &[(STAR, 7, Some(11))]),
     (1, &[(STAR, NO_LIMIT, Some(0))]),
-    // the last body began here
+    // the last iteration began here
     (2, &[(STAR, 3, Some(12))]),
     (2, &[(STAR, 7, Some(12))]),
-    // a body is owed, or none is
+    // one iteration is still required, or none
     (3, &[(PLUS, 0, None)]),
     (4, &[(PLUS, 1, None)]),
     (4, &[(PLUS, 2, Some(11))]),
     (4, &[(PLUS, NO_LIMIT, Some(3))]),
     (5, &[(PLUS, 1, Some(12))]),
     (5, &[(PLUS, 2, Some(12))]),
-    // each count up to the greatest makes a difference
+    // each count up to the maximum is distinct
     (6, &[(COUNTED, 0, None)]),
     (7, &[(COUNTED, 1, None)]),
     (8, &[(COUNTED, 2, None)]),
@@ -63,7 +63,7 @@ static LOOPS: [(u32, &[Loop]); 31] = [
     (11, &[(COUNTED, 5, None)]),
     (11, &[(COUNTED, 6, Some(1))]),
     (12, &[(COUNTED, 5, Some(12))]),
-    // one inside the other
+    // nested loops
     (13, &[(STAR, 1, None), (COUNTED, 2, None)]),
     (13, &[(STAR, 4, Some(2)), (COUNTED, 2, Some(5))]),
     (14, &[(STAR, 1, None), (COUNTED, 3, None)]),
@@ -87,8 +87,7 @@ fn enter_all<A: Allocator>(board: &mut Board<A>, loops: &[Loop]) -> Result<(), R
     Ok(())
 }
 
-// The calls of failures, each with the words as a parameter: where a contract speaks of a constant, a check computes on
-// all of it.
+// Calls of failures with the bytecode as a parameter. If a contract names a constant, a check computes with all of it.
 fn prepare_in<A: Allocator>(
     failures: &mut Failures<A>,
     words: &[u32],
@@ -120,7 +119,7 @@ fn is_kept_in<A: Allocator>(
     failures.known(words, board, Point::Instruction(place), position) == Known::Failed
 }
 
-// Whether a spot that is kept under some loops is told under others, in a row up to a position.
+// Whether a failure that is memoized under some loops is known under others, with a row up to a position.
 fn tells(
     failures: &mut Failures<Global>,
     board: &mut Board<Global>,
@@ -137,7 +136,7 @@ fn tells(
     Ok(is_kept_in(failures, words, board, PLACE, 12))
 }
 
-// The same of new failures.
+// The same with new failures.
 fn is_told(
     alloc: Global,
     words: &[u32],
@@ -160,8 +159,8 @@ fn a_spot_is_told_under_loops_that_are_alike(rt: HostRuntime) {
     }
 }
 
-// The greatest counts of two loops, whether both are in progress, the row's last position, and whether a spot under the
-// last slot is kept: they have 2 (n + 1) slots each, and 2^24 at most in all. A row of many slots has 2^30 bits.
+// The maxima of two loops, whether both are in progress, the row's last position, and whether the last counter state is
+// memoized. A loop has 2 (n + 1) counter states, and there are 2^24 at most in all. A row for many has 2^30 bits.
 static COUNTS: [(u32, u32, bool, usize, bool); 9] = [
     (2047, 1, false, 20, true),
     (3000, 1, false, 20, true),
@@ -174,7 +173,7 @@ static COUNTS: [(u32, u32, bool, usize, bool); 9] = [
     (4294967294, 4294967294, true, 20, false),
 ];
 
-// Whether the last slot of two loops, or of the first of them alone, has a bit in a row up to a position.
+// Whether the last counter state of two loops, or of the first alone, has a bit in a row up to a position.
 fn has_last_slot(alloc: Global, first: u32, second: u32, both: bool, end: usize) -> Option<bool> {
     let words = [
         23, 7, 0, first, 16, 97, 16, 98, 18, 23, 7, 0, second, 16, 97, 16, 98, 18, 1,
@@ -195,7 +194,7 @@ fn a_row_has_bits_for_as_many_slots_as_it_may(rt: HostRuntime) {
     }
 }
 
-// Keeps a spot, and says whether it is told then.
+// Memoizes a failure. Returns whether it is known then.
 fn keeps<A: Allocator>(
     failures: &mut Failures<A>,
     board: &Board<A>,
@@ -206,7 +205,7 @@ fn keeps<A: Allocator>(
     is_kept_in(failures, WORDS, board, place, position)
 }
 
-// Makes a row for a place: whether it was not refused.
+// Prepares a row for an address. Returns whether the allocation succeeded.
 fn prepares<A: Allocator>(
     failures: &mut Failures<A>,
     board: &Board<A>,
@@ -217,7 +216,7 @@ fn prepares<A: Allocator>(
     prepare_in(failures, WORDS, board, place, first, end).is_ok()
 }
 
-// How many spots of a place are told on a board, at the positions below 40.
+// The number of known failures at an address, at positions below 40.
 fn count_at(failures: &Failures<Global>, board: &Board<Global>, place: usize) -> u32 {
     let mut told = 0u32;
     for position in 0..40 {
@@ -228,7 +227,7 @@ fn count_at(failures: &Failures<Global>, board: &Board<Global>, place: usize) ->
     told
 }
 
-// How many spots of all places are told on a board.
+// The number of known failures at all addresses.
 fn count_on(failures: &Failures<Global>, board: &Board<Global>) -> u32 {
     let mut told = 0u32;
     for place in &PLACES {
@@ -237,7 +236,7 @@ fn count_on(failures: &Failures<Global>, board: &Board<Global>) -> u32 {
     told
 }
 
-// Changes a board: whether it could.
+// Changes a board. Returns whether that succeeded.
 fn change(board: &mut Board<Global>, step: Change) -> bool {
     match step {
         Change::Set(mark) => board.set(mark, 7).is_ok(),
@@ -261,7 +260,7 @@ fn change(board: &mut Board<Global>, step: Change) -> bool {
     }
 }
 
-// Takes a step: whether it went as it says.
+// Takes a step. Returns whether it has the expected result.
 fn takes(failures: &mut Failures<Global>, board: &mut Board<Global>, step: Step) -> bool {
     match step {
         Step::To(change_of_board) => change(board, change_of_board),
@@ -276,7 +275,7 @@ fn takes(failures: &mut Failures<Global>, board: &mut Board<Global>, step: Step)
     }
 }
 
-// How many steps go as they say, up to the first that does not.
+// The number of steps with the expected result, up to the first without.
 fn count_taken(
     failures: &mut Failures<Global>,
     board: &mut Board<Global>,
@@ -292,7 +291,7 @@ fn count_taken(
     taken
 }
 
-// The same of a new board and new failures.
+// The same with a new board and new failures.
 fn taken_by_new(alloc: Global, steps: &[Step]) -> usize {
     let mut failures = Failures::new(alloc);
     let mut board = Board::new(alloc);
@@ -307,7 +306,7 @@ fn spots_are_told_as_the_board_stands(rt: HostRuntime) {
     }
 }
 
-// Whether a row is refused exactly where a request is, and is then made: a spot of it is kept.
+// Whether a row fails exactly if an allocation does and succeeds at the next try, and then memoizes a failure.
 fn makes_room<A: Allocator>(
     heap: &Refusing<Global>,
     failures: &mut Failures<A>,
@@ -322,7 +321,7 @@ fn makes_room<A: Allocator>(
     is_made || prepares(failures, board, place, 10, 20) && keeps(failures, board, place, 12)
 }
 
-// Whether all places up to another tell their spot.
+// Whether the failure is known at all addresses below another.
 fn tell_all<A: Allocator>(failures: &Failures<A>, board: &Board<A>, places: usize) -> bool {
     for place in 0..places {
         if !is_kept_in(failures, WORDS, board, place, 12) {
@@ -332,14 +331,14 @@ fn tell_all<A: Allocator>(failures: &Failures<A>, board: &Board<A>, places: usiz
     true
 }
 
-// Makes a row for each place of the words, with a request for memory refused: whether each is made, and all spots
-// before stay kept.
+// Prepares a row for each address, with one allocation failed. Returns whether each succeeds at last, and all earlier
+// failures stay known.
 fn makes_all<A: Allocator>(
     heap: &Refusing<Global>,
     failures: &mut Failures<A>,
     board: &mut Board<A>,
 ) -> bool {
-    // where the board itself is refused its loop there is nothing to try
+    // if the board cannot enter its loop, nothing is left to test
     if enter_all(board, &[(STAR, 3, None)]).is_err() {
         return heap.left() == 0;
     }
@@ -351,7 +350,7 @@ fn makes_all<A: Allocator>(
     tell_all(failures, board, 37)
 }
 
-// The same with the request of a number refused, and whether there was one.
+// The same with the allocation of a number failed, and whether there was one.
 fn are_made(alloc: Global, refused: u64) -> (bool, bool) {
     let heap = Refusing::new(alloc, refused);
     let mut board: Board<&Refusing<Global>> = Board::new(&heap);
@@ -370,6 +369,6 @@ fn a_row_fails_where_memory_is_refused(rt: HostRuntime) {
             refusals = refusals.saturating_add(1);
         }
     }
-    // the loop of the board, the numbers, the rows, the places of the loops and the bits
+    // the loop of the board, the numbers, the rows, the addresses of the loops and the bits
     assert!(rt; refusals >= 5);
 }

@@ -1,4 +1,4 @@
-//! The flag types by the calls of `Flags`: which bits the constants have, and which are dropped.
+//! The flag types by the calls of `Flags`: the bits of the constants, and which bits are dropped.
 
 use bitflags::Flags;
 use sre_flags::{SreFlag, SreInfo};
@@ -16,7 +16,7 @@ static PATTERN_FLAGS: [(SreFlag, &str, u16); 9] = [
     (SreFlag::ASCII, "ASCII", 256),
 ];
 
-// A word, the bits that are kept of it, and whether PREFIX, LITERAL and CHARSET are among them.
+// A word, the bits that remain of it, and whether PREFIX, LITERAL and CHARSET are among them.
 static CLAIMS: [(u32, u32, (bool, bool, bool)); 8] = [
     (0, 0, (false, false, false)),
     (1, 1, (true, false, false)),
@@ -33,7 +33,7 @@ fn is_named(flag: SreFlag, name: &str) -> bool {
     SreFlag::from_name(name) == Some(flag)
 }
 
-// Whether these bits are kept of a number, and the flag with them or not.
+// Whether these bits remain of a number, and whether the flag is among them.
 fn keeps(number: u16, flag: SreFlag, bits: u16, has_flag: bool) -> bool {
     let set = SreFlag::from_bits_truncate(number);
     set.bits() == bits && set.contains(flag) == has_flag

@@ -1,22 +1,22 @@
-//! Each growth is refused in turn: an error comes exactly where one was, and else all items.
+//! Each growth is failed in turn: there is an error exactly if an allocation failed, and otherwise all items are there.
 
 use sre_failing_allocator::Refusing;
 use sre_growth::{from_slice, push, resize};
 use std::alloc::Global;
 
-// Whether a request was refused since `left` were left up to the refused one.
+// Whether an allocation failed since `left` were left up to the one that fails.
 pub(crate) fn was_refused(heap: &Refusing<Global>, left: u64) -> bool {
     left != 0 && heap.left() == 0
 }
 
-// Whether an item is refused exactly where a request is, and is then taken.
+// Whether a push fails exactly if an allocation does, and then succeeds at the next try.
 fn takes(heap: &Refusing<Global>, list: &mut Vec<u64, &Refusing<Global>>, item: u64) -> bool {
     let left = heap.left();
     let is_refused = push(list, item).is_err();
     is_refused == was_refused(heap, left) && (!is_refused || push(list, item).is_ok())
 }
 
-// Whether these are all numbers below their count.
+// Whether the list has all numbers below its length, in order.
 fn is_counted(list: &[u64]) -> bool {
     for (i, item) in list.iter().enumerate() {
         if *item != i as u64 {
@@ -38,7 +38,7 @@ fn pushes_fail_where_they_are_refused(rt: HostRuntime) {
     }
 }
 
-// Whether a slice is copied, or a request was refused.
+// Whether a slice is copied, or an allocation failed.
 fn copies(heap: &Refusing<Global>, items: &[u32]) -> bool {
     let left = heap.left();
     match from_slice(heap, items) {
@@ -56,7 +56,7 @@ fn copies_fail_where_they_are_refused(rt: HostRuntime) {
     }
 }
 
-// Whether a length is refused exactly where a request is, and is then that of the list.
+// Whether a resize fails exactly if an allocation does, and succeeds at the next try.
 fn lengthens(heap: &Refusing<Global>, list: &mut Vec<u32, &Refusing<Global>>, length: u32) -> bool {
     let left = heap.left();
     let is_refused = resize(list, length as usize, 7).is_err();
@@ -65,7 +65,7 @@ fn lengthens(heap: &Refusing<Global>, list: &mut Vec<u32, &Refusing<Global>>, le
         && list.len() == length as usize
 }
 
-// The same of lengths that grow and shrink, behind which the list has the value alone.
+// The same for lengths that grow and shrink. Then the list has the value alone.
 fn lengthens_often(heap: &Refusing<Global>, list: &mut Vec<u32, &Refusing<Global>>) -> bool {
     for length in &[0, 1, 1000, 10] {
         if !lengthens(heap, list, *length) {

@@ -1,9 +1,9 @@
 //! Tests of the crates below the machine: what neither a clause of a contract nor a line of the program shows.
 //!
-//! That is the numbers of codes and the bits of flags, printed texts, std's table, each request for memory refused in
-//! turn, the memory of a board, what is kept of failures and of ends, worked examples over both types of text, the
-//! words of parts, and how tight patterns are. Answers to words stand in the files of `sre_cases` and `sre_probes`. The
-//! tests are run, and not proved.
+//! They cover the numbers of opcodes and codes, the bits of flags, printed texts, the Unicode tables of std, and each
+//! allocation failed in turn. They also cover the memory of the backtrack stack, memoized failures and ends, worked
+//! examples over both types of text, emitted bytecode, and how tight patterns are. Answers by bytecode and text are in
+//! the files of `sre_cases` and `sre_probes`. The tests are run, not proved.
 #![tactic(auto)]
 
 #[cfg(test)]

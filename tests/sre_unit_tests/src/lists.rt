@@ -1,4 +1,4 @@
-//! Std's table, and lists with refused requests for memory.
+//! The Unicode tables of std, and lists with failed allocations.
 
 use sre_chars::constants::SreCatCode;
 use sre_chars::lists::{Lists, checked_lists, checked_ranges, std_lists};
@@ -12,12 +12,12 @@ fn has_cases(table: &UniTable, ch: u32, lower: u32, upper: u32) -> bool {
     lower_unicode(table, ch) == lower && upper_unicode(table, ch) == upper
 }
 
-// Whether a character has these cases in a table, and is a word or none.
+// Whether a character has these cases in a table, and is or is not a word character.
 fn has_row(table: &UniTable, ch: u32, lower: u32, upper: u32, is_word: bool) -> bool {
     has_cases(table, ch, lower, upper) && category(table, SreCatCode::UNI_WORD, ch) == is_word
 }
 
-// Whether a character is in a table as std has it.
+// Whether a table has std's entries of a character.
 fn is_as_in_std(table: &UniTable, code: u32) -> bool {
     match char::from_u32(code) {
         Some(ch) => {
@@ -29,7 +29,7 @@ fn is_as_in_std(table: &UniTable, code: u32) -> bool {
     }
 }
 
-// Every character is as std has it.
+// The table has std's entries of every character.
 #[test]
 fn stds_table_is_unicodes(rt: HostRuntime) {
     let table = match UniTable::from_std(rt.alloc()) {
@@ -44,14 +44,14 @@ fn stds_table_is_unicodes(rt: HostRuntime) {
 // The three lists of a table.
 type Rows<'a> = (&'a [(u32, u32)], &'a [(u32, u32)], &'a [(u32, u32)]);
 
-// Whether lists are those wanted.
+// Whether lists are the wanted ones.
 fn are<A: Allocator + Copy>(lists: &Lists<A>, (lower, upper, alnum): Rows<'_>) -> bool {
     lists.lower.as_slice() == lower
         && lists.upper.as_slice() == upper
         && lists.alnum.as_slice() == alnum
 }
 
-// Whether memory was refused exactly where the error is, and the lists are those wanted where there is none.
+// Whether there is an error exactly if an allocation failed, and otherwise the wanted lists.
 fn are_as_refused(
     heap: &Refusing<Global>,
     lists: Result<Lists<&Refusing<Global>>, UniError>,
@@ -69,7 +69,7 @@ const UPPER: &[(u32, u32)] = &[(233, 201)];
 
 const ALNUM: &[(u32, u32)] = &[(201, 201), (233, 233)];
 
-// A list is asked for once.
+// Each list is allocated once.
 #[test]
 fn new_fails_where_a_request_is_refused(rt: HostRuntime) {
     for refused in 1..6u64 {
@@ -83,7 +83,7 @@ fn new_fails_where_a_request_is_refused(rt: HostRuntime) {
     }
 }
 
-// Whether ranges are copied, or the request for them was refused.
+// Whether ranges are copied, or their allocation failed.
 fn are_copied(heap: &Refusing<Global>, digits: &[(u32, u32)]) -> bool {
     match checked_ranges(heap, digits) {
         Ok(ranges) => heap.left() == 1 && ranges.as_slice() == digits,
@@ -91,7 +91,7 @@ fn are_copied(heap: &Refusing<Global>, digits: &[(u32, u32)]) -> bool {
     }
 }
 
-// Digits are asked for once.
+// Digits are allocated once.
 #[test]
 fn digits_fail_where_a_request_is_refused(rt: HostRuntime) {
     for refused in 1..3u64 {
@@ -113,15 +113,14 @@ fn faults_ask_for_no_memory(rt: HostRuntime) {
     assert!(rt; fault == Some(AsciiEntry) && heap.left() == 1);
 }
 
-// Whether std's lists are those wanted with the request of a number refused, or there are none.
+// Whether std's lists are the wanted ones with the allocation of a number failed, or that failure is reported.
 fn are_stds(alloc: Global, refused: u64, wanted: Rows<'_>) -> bool {
     let heap = Refusing::new(alloc, refused);
     let lists = std_lists(&heap);
     are_as_refused(&heap, lists, wanted)
 }
 
-// Whether std's lists are the same where memory is refused, or there are none: the first requests, some in the middle,
-// and none.
+// The same for several numbers: the first allocations, some in the middle, and one that is never reached.
 fn fail_where_refused(alloc: Global, ample: &Lists<Global>) -> bool {
     let wanted = (
         ample.lower.as_slice(),

@@ -1,9 +1,9 @@
-//! The numbers of codes, as a cast gives them: a word's code has the word as its number.
+//! The numbers of codes, as a cast returns them: a code has the number of the word from which it was converted.
 
 use sre_chars::constants::{SreAtCode, SreCatCode, SreOpcode};
 use std::convert::TryFrom;
 
-// Whether a word has an opcode exactly where it is below their count, and it has the word as its number.
+// Whether a word has an opcode exactly if it is below their count, and that opcode has the word as its number.
 fn has_opcode(word: u32) -> bool {
     match SreOpcode::try_from(word) {
         Ok(code) => code as u32 == word && word < 43,
@@ -11,7 +11,7 @@ fn has_opcode(word: u32) -> bool {
     }
 }
 
-// The same of the codes of positions.
+// The same for the codes of positions.
 fn has_at_code(word: u32) -> bool {
     match SreAtCode::try_from(word) {
         Ok(code) => code as u32 == word && word < 12,
@@ -19,7 +19,7 @@ fn has_at_code(word: u32) -> bool {
     }
 }
 
-// The same of the codes of categories.
+// The same for the codes of categories.
 fn has_category_code(word: u32) -> bool {
     match SreCatCode::try_from(word) {
         Ok(code) => code as u32 == word && word < 18,

@@ -1,4 +1,4 @@
-//! Patterns that come of codes in use. A clause says that they cover the code; these rows show that they are tight.
+//! Patterns of common codes. A clause says that they cover the code; these rows show that they are tight.
 
 use regex_class::Class;
 use regex_hir::{Hir, Look};
@@ -17,7 +17,7 @@ fn write_class(alloc: Global, class: &Class, text: &mut String) -> Result<(), Al
     text.push(']')
 }
 
-// The assertion's name.
+// The name of an assertion.
 fn named(look: Look) -> &'static str {
     match look {
         Look::Start => "start",
@@ -80,7 +80,7 @@ fn write_parts(
     text.push(')')
 }
 
-// Whether a pattern is written so.
+// Whether a pattern is written like this.
 fn is_written(alloc: Global, hir: Result<Option<Hir>, AllocError>, wanted: &str) -> bool {
     let mut text = String::new(alloc);
     match hir {
@@ -89,7 +89,7 @@ fn is_written(alloc: Global, hir: Result<Option<Hir>, AllocError>, wanted: &str)
     }
 }
 
-// Whether the pattern of some words over a kind of text is the one, and that for starts the other.
+// Whether the pattern of bytecode for an encoding is `whole`, and the pattern for its starts is `starts`.
 fn are(alloc: Global, words: &[u32], encoding: Encoding, whole: &str, starts: &str) -> bool {
     let uni = UniTable::ascii(alloc);
     match Code::check(alloc, words, &uni) {
@@ -101,7 +101,7 @@ fn are(alloc: Global, words: &[u32], encoding: Encoding, whole: &str, starts: &s
     }
 }
 
-// Whether the pattern of some words over a kind of text that keeps the order is the one.
+// Whether the pattern of bytecode that keeps the order of match paths is the wanted one.
 fn orders(alloc: Global, words: &[u32], encoding: Encoding, wanted: &str) -> bool {
     let uni = UniTable::ascii(alloc);
     match Code::check(alloc, words, &uni) {
@@ -110,7 +110,7 @@ fn orders(alloc: Global, words: &[u32], encoding: Encoding, wanted: &str) -> boo
     }
 }
 
-// Whether some words over a kind of text have no pattern that is known to keep the order.
+// Whether no pattern is known that keeps the order of match paths.
 fn has_no_order(alloc: Global, words: &[u32], encoding: Encoding) -> bool {
     let uni = UniTable::ascii(alloc);
     match Code::check(alloc, words, &uni) {
@@ -192,7 +192,7 @@ fn patterns_of_classes_and_positions_are_tight(rt: HostRuntime) {
             "([97-99;128-1114111;]{1,}? x )"
         )
     );
-    // \bfoo(?=x)$, whose boundary is by the table's words
+    // \bfoo(?=x)$, whose boundary depends on the Unicode tables
     let words = [
         6, 10, 16, 102, 16, 111, 16, 111, 4, 5, 0, 16, 120, 1, 6, 5, 1,
     ];
@@ -245,10 +245,10 @@ fn patterns_in_order_are_exact(rt: HostRuntime) {
     // [^ab]
     let words = [13, 6, 21, 22, 97, 98, 0, 1];
     assert!(rt; orders(alloc, &words, Encoding::Utf8, "([0-96;99-1114111;] )"));
-    // (?i:a) by ASCII's case, and by that of a table
+    // (?i:a) by the case of ASCII, and by that of the Unicode tables
     assert!(rt; orders(alloc, &[32, 97, 1], Encoding::Utf8, "([65-65;97-97;] )"));
     assert!(rt; has_no_order(alloc, &[40, 97, 1], Encoding::Utf8));
-    // \Aa\Z, whose positions are looks
+    // \Aa\Z, whose positions are assertions
     assert!(rt;
         orders(
             alloc,
@@ -265,16 +265,16 @@ fn patterns_in_order_are_exact(rt: HostRuntime) {
             "(boundary [97-97;] line end )"
         )
     );
-    // \ba by the table's words
+    // \ba by the Unicode tables
     let words = [6, 10, 16, 97, 1];
     assert!(rt; orders(alloc, &words, Encoding::Ascii, "(boundary [97-97;] )"));
     assert!(rt; has_no_order(alloc, &words, Encoding::Bytes));
     assert!(rt; has_no_order(alloc, &words, Encoding::Utf8));
-    // a$, which holds before a last line break as well, and \B
+    // a$, which also holds before a final line break, and \B
     assert!(rt; has_no_order(alloc, &[16, 97, 6, 5, 1], Encoding::Bytes));
     assert!(rt; has_no_order(alloc, &[6, 4, 16, 97, 1], Encoding::Bytes));
     assert!(rt; has_no_order(alloc, &[6, 11, 16, 97, 1], Encoding::Ascii));
-    // (?:a*)*, whose body may read nothing
+    // (?:a*)*, whose body can be empty
     let words = [
         23, 10, 0, 4294967295, 24, 6, 0, 4294967295, 16, 97, 1, 18, 1,
     ];

@@ -1,15 +1,15 @@
-//! The allocator that refuses one request.
+//! The allocator that fails one allocation.
 
 use sre_failing_allocator::Refusing;
 use std::alloc::Global;
 
-// Whether a list is served its memory.
+// Whether an allocation for a list succeeds.
 fn is_served(heap: &Refusing<Global>) -> bool {
     let mut list: Vec<u64, &Refusing<Global>> = Vec::new(heap);
     list.push(7).is_ok()
 }
 
-// Whether a list is served exactly where its request is not the refused one, up to which so many are left.
+// Whether an allocation succeeds exactly if it is not the one to fail, and `left` counts down to that one.
 fn is_served_but(heap: &Refusing<Global>, request: u64, refused: u64) -> bool {
     is_served(heap) == (request != refused) && heap.left() == refused.saturating_sub(request)
 }

@@ -1,4 +1,4 @@
-//! The check with each request for memory refused in turn.
+//! The check with each allocation failed in turn.
 
 use crate::samples::SAMPLES;
 use crate::shown::is_shown;
@@ -9,11 +9,11 @@ use sre_failing_allocator::Refusing;
 use std::alloc::{AllocError, Global};
 use std::convert::TryFrom;
 
-// A part round items: its opcode, what its length word counts beside the items, what stands behind that word, and what
-// stands behind the items.
+// A part with items: its opcode, what its skip counts in addition to the items, the words after the skip, and the words
+// after the items.
 type Around = (u32, u32, &'static [u32], &'static [u32]);
 
-// A branch, a look, a loop and an atomic group.
+// A branch, a lookaround, a loop and an atomic group.
 static PARTS: [Around; 4] = [
     (7, 3, &[], &[15, 2, 0]),
     (4, 3, &[0], &[1]),
@@ -39,7 +39,7 @@ fn put_inside(alloc: Global, part: &Around, items: &mut Vec<u32>) -> Result<(), 
     Ok(())
 }
 
-// Puts an opcode with an operand inside 40 parts of the four kinds, and words behind them.
+// Puts an opcode with an operand inside 40 parts of the four kinds, and words after them.
 fn put_nested(
     alloc: Global,
     opcode: u32,
@@ -55,8 +55,8 @@ fn put_nested(
     words.extend_from_slice(behind)
 }
 
-// Whether the request of a number is refused while words are checked. Where it is not the check says what is wrong with
-// them, and nothing is told where it says anything else.
+// Whether the allocation of a number fails during a check. If it is not reached, the check must report the given error;
+// `None` for any other result.
 fn is_refused(
     alloc: Global,
     words: &[u32],
@@ -79,9 +79,9 @@ fn is_refused(
     }
 }
 
-// Refuses each request for memory of a check in turn, until it asks for fewer: whether the stack grew so often at
-// least, and the check then says what is wrong with the words.
-fn fails_in_turn(
+// Fails each allocation of a check in turn, until it makes fewer. Returns whether there were at least so many, and
+// whether the check then reports the given error.
+fn fails_each_time(
     alloc: Global,
     words: &[u32],
     uni: &UniTable,
@@ -98,7 +98,7 @@ fn fails_in_turn(
     false
 }
 
-// The same of nested parts.
+// The same for nested parts.
 fn fails_nested(
     alloc: Global,
     uni: &UniTable,
@@ -108,10 +108,10 @@ fn fails_nested(
 ) -> bool {
     let mut words = Vec::new(alloc);
     put_nested(alloc, opcode, behind, &mut words).is_ok()
-        && fails_in_turn(alloc, words.as_slice(), uni, fault, 4)
+        && fails_each_time(alloc, words.as_slice(), uni, fault, 4)
 }
 
-// An opcode inside 40 parts, which have 170 words beside it, the words behind them, and what is wrong with that.
+// An opcode inside 40 parts, which have 170 words beside it, the words after them, and the error.
 static NESTED: [(u32, &[u32], Option<CodeError>); 3] = [
     (16, &[1], None),
     (16, &[1, 1], Some(CodeError::TrailingWords(173))),
@@ -128,7 +128,7 @@ fn a_check_fails_where_memory_is_refused(rt: HostRuntime) {
         );
     }
     assert!(rt;
-        fails_in_turn(
+        fails_each_time(
             rt.alloc(),
             &[43],
             &uni,
@@ -138,7 +138,7 @@ fn a_check_fails_where_memory_is_refused(rt: HostRuntime) {
     );
     for words in &SAMPLES {
         assert!(rt;
-            fails_in_turn(rt.alloc(), words, &uni, None, 1),
+            fails_each_time(rt.alloc(), words, &uni, None, 1),
             "{words:?}"
         );
     }

@@ -1,4 +1,4 @@
-//! Codes with items of most families, in few words, some with a block.
+//! Short bytecode with items of most families, some with an INFO block.
 
 const NO_LIMIT: u32 = u32::MAX;
 
@@ -64,7 +64,7 @@ pub static SAMPLES: [&[u32]; 36] = [
     &[23, 10, 0, NO_LIMIT, 24, 6, 0, NO_LIMIT, 16, 97, 1, 18, 1],
     // (?:){3}
     &[23, 3, 3, 3, 18, 1],
-    // the mark 0 alone
+    // capture slot 0 alone
     &[17, 0, 1],
     // a$ and ^a
     &[16, 97, 6, 5, 1],

@@ -1,8 +1,8 @@
-//! What is done to failures and a board, step by step, and what has to be told behind that.
+//! Steps over memoized failures and a board, and which failures are known after each.
 
 use crate::failures::{COUNTED, FAR, Loop, PLUS, STAR};
 
-/// What is done to a board.
+/// A change of a board.
 #[derive(Clone, Copy)]
 pub enum Change {
     Set(u32),
@@ -15,19 +15,19 @@ pub enum Change {
     Clear,
 }
 
-/// What is done, or asked, with the words of `failures`.
+/// A change or a test, with the bytecode of `failures`.
 #[derive(Clone, Copy)]
 pub enum Step {
     To(Change),
-    /// A row is made for a place, from a position to another.
+    /// Prepares a row for an address, from one position to another.
     Row(usize, usize, usize),
-    /// A spot at a place and a position is kept, and is told behind that or not.
+    /// Memoizes a failure at an address and a position, and tests whether it is known then.
     Keep(usize, usize, bool),
-    /// Whether the spot at place 4 and position 12 is told.
+    /// Tests whether the failure at address 4 and position 12 is known.
     Told(bool),
-    /// How many spots are told on the board, at places 3, 4, 5 and 36 and positions below 40.
+    /// Tests how many failures are known on the board, at addresses 3, 4, 5 and 36 and positions below 40.
     Count(u32),
-    /// All spots are forgotten.
+    /// Forgets all failures.
     Forget,
 }
 
@@ -41,7 +41,7 @@ pub static SCRIPTS: [&[Step]; 18] = [
         Step::Keep(4, 20, true),
         Step::Count(2),
     ],
-    // others
+    // positions outside a row
     &[
         Step::Row(4, 10, 20),
         Step::Keep(4, 9, false),
@@ -61,7 +61,7 @@ pub static SCRIPTS: [&[Step]; 18] = [
         Step::Keep(4, usize::MAX, true),
         Step::Count(0),
     ],
-    // no position, and more than a row is made for
+    // no position, and more positions than a row can have
     &[
         Step::Row(4, 20, 10),
         Step::Keep(4, 15, false),
@@ -77,7 +77,7 @@ pub static SCRIPTS: [&[Step]; 18] = [
         Step::Keep(4, 0, false),
         Step::Count(0),
     ],
-    // outside a region, and inside one
+    // outside an atomic scope, and inside one
     &[
         Step::Row(3, 10, 20),
         Step::Row(4, 10, 20),
@@ -103,7 +103,7 @@ pub static SCRIPTS: [&[Step]; 18] = [
         Step::To(Change::Back),
         Step::Count(0),
     ],
-    // under loops, outside a region and inside one
+    // under loops, outside an atomic scope and inside one
     &[
         Step::To(Change::Enter(&[(STAR, 3, None)])),
         Step::Row(3, 10, 20),
@@ -133,8 +133,8 @@ pub static SCRIPTS: [&[Step]; 18] = [
         Step::To(Change::Enter(&[(STAR, 1, None), (COUNTED, 2, None)])),
         Step::Count(0),
     ],
-    // loops that count too far, and loops whose counts are not among the words: they keep nothing, while places before
-    // and behind them do
+    // loops with too many counter states, and loops whose counts are not in the bytecode: nothing is memoized under
+    // them, but failures at addresses before and after them are
     &[
         Step::Row(4, 10, 20),
         Step::Keep(4, 12, true),
@@ -191,8 +191,8 @@ pub static SCRIPTS: [&[Step]; 18] = [
         Step::To(Change::Begin),
         Step::Count(0),
     ],
-    // marks make no difference; a region puts the loops aside, and is another one with the same loops; behind it come a
-    // later body of the same loop, and another loop
+    // captures make no difference; an atomic scope sets the loops aside, and the same loops inside it are other ones;
+    // later come another iteration of the same loop, and another loop
     &[
         Step::To(Change::Enter(&[(STAR, 3, None)])),
         Step::Row(4, 10, 20),
@@ -230,8 +230,8 @@ pub static SCRIPTS: [&[Step]; 18] = [
         Step::To(Change::Enter(&[(PLUS, 3, None)])),
         Step::Told(false),
     ],
-    // a place keeps nothing before it has a row, and is told alone behind that, in whatever order rows are made; it
-    // gets no second row; what is forgotten can be kept again
+    // an address memoizes nothing before it has a row; then only its failure is known, whatever the order of rows; it
+    // gets no second row; a forgotten failure can be memoized again
     &[
         Step::Keep(4, 12, false),
         Step::Row(5, 10, 20),
@@ -289,7 +289,7 @@ pub static SCRIPTS: [&[Step]; 18] = [
         Step::Forget,
         Step::Count(0),
     ],
-    // places behind the words have no row
+    // addresses after the bytecode have no row
     &[
         Step::Row(37, 10, 20),
         Step::Keep(37, 12, false),

@@ -1,4 +1,4 @@
-//! How a value is printed.
+//! Printed values.
 
 use std::alloc::Global;
 use std::fmt::Display;

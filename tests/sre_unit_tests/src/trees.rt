@@ -1,5 +1,5 @@
-//! Words from trees: worked rows with each request for memory refused in turn, the deepest part, and printed causes.
-//! Which words a tree has is a clause of `emit`, and rows of it stand beside its definitions.
+//! Bytecode from trees: worked rows with each allocation failed in turn, the deepest part, and printed causes. That a
+//! tree has this bytecode is a clause of `emit`, and rows of it are beside its definitions.
 
 use crate::shown::is_shown;
 use sre_emit::{EmitError, Fold, Item, OneChar, Part, RunKind, emit_in};
@@ -8,7 +8,7 @@ use std::alloc::{AllocError, Global};
 
 const NO_LIMIT: u32 = u32::MAX;
 
-// An item of a part that is told in numbers: a literal, or a mark.
+// An item of a part by a number: a literal, or a capture slot.
 #[derive(Clone, Copy)]
 enum Step {
     Letter(u32),
@@ -26,7 +26,7 @@ fn item(step: Step) -> Item {
     }
 }
 
-// Literals and marks, whether a block is wanted, the words, and how many requests for memory these take at least.
+// Literals and capture slots, whether to write an INFO block, the bytecode, and the least number of allocations.
 type Row = (&'static [Step], bool, &'static [u32], u64);
 
 static ROWS: [Row; 9] = [
@@ -113,8 +113,8 @@ fn push_items(steps: &[Step], items: &mut Vec<Item>) -> bool {
     true
 }
 
-// Whether the request of a number is refused while a part is emitted; nothing where it gives other words, or an error
-// without a refusal.
+// Whether the allocation of a number fails while a part is emitted. `None` for other bytecode, or for an error without
+// a failed allocation.
 fn is_refused(
     alloc: Global,
     part: &Part,
@@ -134,7 +134,7 @@ fn is_refused(
     }
 }
 
-// Refuses each request for memory in turn: whether there are so many at least, and the words are right behind them.
+// Fails each allocation in turn. Returns whether there are at least so many, and whether the bytecode is then right.
 fn is_emitted(alloc: Global, part: &Part, with_block: bool, wanted: &[u32], least: u64) -> bool {
     for refused in 1..40u64 {
         match is_refused(alloc, part, with_block, wanted, refused) {
@@ -146,7 +146,7 @@ fn is_emitted(alloc: Global, part: &Part, with_block: bool, wanted: &[u32], leas
     false
 }
 
-// The same of a row's part.
+// The same for a row's part.
 fn has_words(alloc: Global, row: &Row) -> bool {
     let (steps, with_block, wanted, least) = *row;
     let mut part = Part {
@@ -180,7 +180,7 @@ fn nested(alloc: Global, depth: u32) -> Result<Part, AllocError> {
     Ok(inner)
 }
 
-// Whether a part has so many words or ends with that error, and with each request for memory refused in turn before.
+// Whether a part has so many words or this error, after each allocation was failed in turn.
 fn is_answered(alloc: Global, part: &Part, wanted: Result<usize, EmitError>) -> bool {
     let with_block = false;
     for refused in 1..40u64 {
@@ -199,7 +199,7 @@ fn is_answered(alloc: Global, part: &Part, wanted: Result<usize, EmitError>) -> 
     false
 }
 
-// The same of the letter inside so many groups.
+// The same for the letter inside so many groups.
 fn is_nested(alloc: Global, depth: u32, wanted: Result<usize, EmitError>) -> bool {
     match nested(alloc, depth) {
         Ok(part) => is_answered(alloc, &part, wanted),
@@ -213,7 +213,7 @@ fn parts_lie_inside_a_thousand_items(rt: HostRuntime) {
     assert!(rt; is_nested(rt.alloc(), 1001, Err(EmitError::TooDeep)));
 }
 
-// Whether a part of one item is refused as bad.
+// Whether a part of one item is rejected as bad.
 fn is_bad(alloc: Global, item: Item) -> bool {
     match single(alloc, item) {
         Ok(part) => is_answered(alloc, &part, Err(EmitError::BadPart)),
@@ -233,7 +233,7 @@ fn bad_parts_have_no_words(rt: HostRuntime) {
     assert!(rt; is_bad(rt.alloc(), Item::Branch(Vec::new(rt.alloc()))));
 }
 
-// A branch of nothing and the letter a: whether a block is wanted, and the words.
+// A branch of nothing and the letter a: whether there is an INFO block, and the bytecode.
 static BRANCHES: [(bool, &[u32]); 2] = [
     (false, &[7, 3, 15, 7, 5, 16, 97, 15, 2, 0, 1]),
     (
@@ -255,7 +255,7 @@ fn nothing_or_letter(alloc: Global) -> Result<Part, AllocError> {
     single(alloc, Item::Branch(alternatives))
 }
 
-// Whether it has the words, with each request for memory refused in turn before.
+// Whether it has this bytecode, after each allocation was failed in turn.
 fn has_branch_words(alloc: Global, with_block: bool, wanted: &[u32]) -> bool {
     match nothing_or_letter(alloc) {
         Ok(part) => is_emitted(alloc, &part, with_block, wanted, 1),

@@ -1,0 +1,262 @@
+#!/usr/bin/env python3
+"""The step bound of patterns, computed from docs/MEMOIZATION.md and not from the engine.
+
+    bounds.py PATTERN..            the bound at 100 and 10,000 characters, or why there is none
+    bounds.py --of FILE            the same as a table, of the patterns of a file as examples/patterns.txt
+    bounds.py --parts PATTERN      what each instruction that may branch costs at a position of 100 characters
+    bounds.py --hold N SEED PATH   holds N random codes to the program `sre_probes` at PATH: its bound is the one
+                                   computed here, and each search is answered within it
+"""
+import random
+import re
+import sys
+
+import grammar
+import repository
+from grammar import NUMBER, UNLIMITED
+
+REPEATS = ("REPEAT_ONE", "MIN_REPEAT_ONE", "POSSESSIVE_REPEAT_ONE")
+LOOKAROUNDS = ("ASSERT", "ASSERT_NOT")
+SCOPES = (*LOOKAROUNDS, "ATOMIC_GROUP", "POSSESSIVE_REPEAT")
+BRANCHING = (*REPEATS, "BRANCH", "REPEAT", "POSSESSIVE_REPEAT")
+MOST_STATES, FEW_STATES, MOST_NESTED = 2 ** 24, 4096, 100
+
+
+class Unbounded(Exception):
+    """Why a pattern has no bound, and the address where that is seen."""
+
+
+def counted_to(low, high):
+    return low if high == UNLIMITED else max(low, high)
+
+
+def states(low, high):
+    """The counter states of a loop."""
+    return 2 * (counted_to(low, high) + 1)
+
+
+def bodies(item):
+    return [] if item.name in REPEATS or item.name.startswith("IN") else item.parts
+
+
+def within(item):
+    """An item, and all items inside it."""
+    yield item
+    for body in bodies(item):
+        for it in body:
+            yield from within(it)
+
+
+class Bound:
+    """The bound of a code for a text of so many characters, and the parts of which it is the sum.
+
+    Items are gone over from the last to the first, since the steps up to an item that may branch count with those of
+    the items before it.
+    """
+
+    def __init__(self, code, characters):
+        self.items, self.end, self.parts = grammar.Reader(code).tree, characters, []
+        block = code[1] + 1 if code[0] == NUMBER["INFO"] else 0
+        self.places, every = len(code) - block, [it for item in self.items for it in within(item)]
+        for item in every:
+            if item.name.startswith("GROUPREF"):
+                raise Unbounded(f"a back-reference or conditional at {item.place}")
+        scopes = [it for it in every if it.name in SCOPES]
+        inner = {it: [inside for inside in within(it) if inside is not it] for it in scopes}
+        forks = [it for it in scopes if it.name == "POSSESSIVE_REPEAT" or any(x.name in BRANCHING for x in inner[it])]
+        marked = [x for it in scopes for x in inner[it] if x.name == "MARK"]
+        if forks and marked:
+            place = marked[0].place
+            raise Unbounded(f"a capture at {place} in an atomic scope, and the one at {forks[0].place} branches")
+        self.sides = 2 if forks else 1
+        self.counts = max([0, *(counted_to(*it.words[1:3]) for it in every if it.name in REPEATS),
+                           *(it.words[1] for it in every if it.name in LOOKAROUNDS)])
+        self.roomy(max([1, *map(self.most_states, self.items)]))
+        if max([0, *map(self.depth, self.items)]) > MOST_NESTED:
+            raise Unbounded(f"items nested more than {MOST_NESTED} deep")
+
+    def most_states(self, item):
+        """The counter states of loops within each other, at most."""
+        inside = max([1, *(self.most_states(it) for body in bodies(item) for it in body)])
+        if item.name == "REPEAT":
+            return inside * states(*item.words[1:3])
+        return max(inside, states(*item.words[1:3])) if item.name == "POSSESSIVE_REPEAT" else inside
+
+    def depth(self, item):
+        inside = max([0, *(self.depth(it) for body in bodies(item) for it in body)])
+        return inside + (item.name in (*SCOPES, "BRANCH", "REPEAT"))
+
+    def roomy(self, most):
+        """There is room for the failures at all addresses."""
+        rows = most * 2 * (self.end + 1) // 64 + 1
+        if most > MOST_STATES or most > FEW_STATES and rows > 2 ** 24 or self.places * rows > 2 ** 30:
+            raise Unbounded(f"{most} counter states, for which there is no room")
+
+    def pay(self, item, loops, cost):
+        self.parts.append((item.place, item.name, loops * self.sides, cost))
+
+    def steps(self, items, follow, loops):
+        """The steps up to the first item that may branch, where so many follow, under loops of so many states."""
+        for item in reversed(items):
+            follow = self.of(item, follow, loops)
+        return follow
+
+    def of(self, item, follow, loops):
+        if item.name == "FAILURE":
+            return 1
+        if item.name in REPEATS:
+            low, high = item.words[1:3]
+            ends = 0 if high == UNLIMITED or item.name == REPEATS[2] else max(0, min(high, self.end) - low)
+            self.pay(item, loops, (1 + ends) * (follow + 2))
+            return 1
+        if item.name == "BRANCH":
+            self.pay(item, loops, sum(self.steps(it, follow + 1, loops) + 2 for it in item.parts) + 1)
+            return 1
+        if item.name == "REPEAT":
+            inside = loops * states(*item.words[1:3])
+            body = self.steps(item.parts[0], 1, inside)
+            self.pay(item, loops, body + follow + 2)
+            self.pay(item, inside, body + follow + 1)
+            return 1
+        if item.name == "POSSESSIVE_REPEAT":
+            body = self.steps(item.parts[0], 2, 1)
+            self.pay(item, loops, 1)
+            self.pay(item, loops * states(*item.words[1:3]), body + follow + 1)
+            return 1
+        if item.name in SCOPES:
+            return 2 + self.steps(item.parts[0], 2, 1) + follow
+        return 1 + follow
+
+    def number(self):
+        follow = most = 2
+        for item in reversed(self.items):
+            follow = self.of(item, follow, 1)
+            most = max(most, follow)
+        cost = sum(loops * cost for _, _, loops, cost in self.parts)
+        each = 1 + min(self.counts, self.end) // 8
+        number = (self.end + 1) * (32 + (1 + most + cost) * each) + 1
+        if number >= 2 ** 64:
+            raise Unbounded("more than 64 bits")
+        return number
+
+
+def bound(code, characters):
+    """The bound and no reason, or none and the reason."""
+    try:
+        return Bound(code, characters).number(), None
+    except Unbounded as reason:
+        return None, str(reason)
+
+
+def line(name, code):
+    numbers = [bound(code, it) for it in (100, 10_000)]
+    shown = [f"{number:,}" if number else f"none: {reason}" for number, reason in numbers]
+    return f"| `{name}` | {' | '.join(shown if numbers[0][0] else shown[:1])} |"
+
+
+def compiled(source, flags=0):
+    """The code of a pattern, by CPython's own compiler; only the calls above need it."""
+    import words
+
+    return words.compiled(source, flags).words
+
+
+def patterns_in(path):
+    """The name and the code of each pattern of a file of patterns."""
+    import words
+
+    for block in re.split(r"\n\s*\n", repository.read(path)):
+        keys = re.findall(r"^(name|flags|pattern|bytes): ?(.*)$", block, re.M)
+        values, source = dict(keys), "\n".join(value for key, value in keys if key == "pattern")
+        if source:
+            flags = words.flags_of(values.get("flags", ""))
+            yield values["name"], compiled(source.encode("latin-1") if "bytes" in values else source, flags)
+
+
+def region(opcode, operands, body, closing, own):
+    """An item with a body: its opcode, a skip, operands, the body, and what ends it."""
+    return [NUMBER[opcode], len(operands) + len(body) + own, *operands, *body, NUMBER[closing]]
+
+
+def branch(parts):
+    lengths = [len(it) + 3 for it in parts]
+    code = [NUMBER["BRANCH"]]
+    for part, length in zip(parts, lengths):
+        code += [length, *part, NUMBER["JUMP"]]
+        code.append(2 + sum(lengths) - len(code))
+    return [*code, 0]
+
+
+def random_items(draw, depth=0):
+    """Nested loops, greedy, lazy and possessive, branches, scopes and counts, over few letters."""
+    code = []
+    for _ in range(draw.randint(1, 3)):
+        low = draw.choice([0, 0, 1, 1, 2])
+        counts = [low, draw.choice([UNLIMITED, UNLIMITED, max(low, 1), low + 2])]
+        test, kind = [NUMBER["LITERAL"], ord(draw.choice("aaab"))], draw.random()
+        body = random_items(draw, depth + 1) if depth < 3 and kind < .45 else None
+        if kind < .1 and body:
+            code += branch([body, random_items(draw, depth + 1)])
+        elif kind < .3 and body:
+            code += region("REPEAT", counts, body, draw.choice(["MAX_UNTIL", "MIN_UNTIL"]), 1)
+        elif kind < .35 and body:
+            code += region("POSSESSIVE_REPEAT", counts, body, "SUCCESS", 1)
+        elif kind < .4 and body:
+            code += region("ATOMIC_GROUP", [], body, "SUCCESS", 2)
+        elif body:
+            code += region(draw.choice(LOOKAROUNDS), [0], body, "SUCCESS", 2)
+        else:
+            code += region(draw.choice(REPEATS), counts, test, "SUCCESS", 2) if kind < .8 else test
+    return code
+
+
+def held(program, count, seed, tell):
+    """Whether the engine has the bound of each of so many random codes, and answers a search within it."""
+    draw, asked = random.Random(seed), []
+    for _ in range(count):
+        end = [NUMBER["LITERAL"], ord("c")] if draw.random() < .7 else []
+        code, text = [*random_items(draw), *end, NUMBER["SUCCESS"]], draw.choices(b"aaaab", k=draw.randint(0, 40))
+        asked.append((",".join(map(str, code)), bytes(text), bound(code, len(text))[0]))
+    probes = [f"within {number or 0} search {code} b:{text.hex()} all -" for code, text, number in asked]
+    answers = repository.answers(program, probes + [f"enough {len(text)} check {code}" for code, text, _ in asked])
+    if len(answers) != 2 * count:
+        tell(f"{program} has no answer to each of {2 * count} lines")
+        return False
+    failed = 0
+    for (code, text, number), found, ours in zip(asked, answers, answers[count:]):
+        if ours != str(number or "none") or number and found == "step limit exceeded":
+            tell(f"{code} over {text}: {number} computed, {ours} by the engine, whose search within it is: {found}")
+            failed += 1
+    return not failed
+
+
+def shown(given):
+    """What is printed of the patterns that are given, or of those of a file."""
+    if given[0] == "--parts":
+        priced = Bound(compiled(given[1]), 100)
+        yield f"{priced.number():,} steps suffice for 100 characters"
+        for place, name, loops, cost in sorted(priced.parts):
+            yield f"{place:5} {name:22} {cost:6} in each of {loops} states"
+        return
+    yield "| Pattern | 100 characters | 10,000 characters |\n|---|---|---|"
+    for name, code in patterns_in(given[1]) if given[0] == "--of" else ((it, compiled(it)) for it in given):
+        yield line(name, code)
+
+
+def main(given):
+    if len(given) == 4 and given[0] == "--hold" and given[1].isdigit() and given[2].isdigit():
+        return 0 if held(given[3], int(given[1]), int(given[2]), print) else 1
+    if not given or given[0] in ("--hold", "--help") or given[0] in ("--of", "--parts") and len(given) != 2:
+        print(__doc__.strip())
+        return 2
+    import words
+
+    try:
+        return words.status_of(lambda: [print(it) for it in shown(given)] and 0)
+    except Unbounded as reason:
+        print(f"no bound: {reason}")
+        return 1
+
+
+if __name__ == "__main__":
+    sys.exit(main(sys.argv[1:]))

@@ -1,0 +1,149 @@
+#!/usr/bin/env python3
+"""Draws docs/redos.svg: processor time against length of text, by `re` and gaffsilver, for published ReDoS patterns.
+
+    PYTHONPATH=SITE redos.py FILE     SITE has the package (`python/build.py package SITE`); FILE is the picture
+
+Each pattern and engine has a process of its own, which ends once a search takes over two seconds. Of each length the
+best of three searches counts.
+"""
+import html
+import math
+import re
+import subprocess
+import sys
+import time
+
+from ending import ended
+
+# Where a pattern was published, the pattern, its flags, and a text of so many characters.
+CASES = {
+    "OWASP, Java class name": (r"^(([a-z])+.)+[A-Z]([a-z])+$", 0, lambda n: "a" * n),
+    "CVE-2020-8492, urllib": (
+        r"""(?:.*,)*[ \t]*([^ \t]+)[ \t]+realm=(["']?)([^"']*)\2""", re.I, lambda n: "," * n),
+    "Stack Overflow, 2016": (r"^[\s\u200c]+|[\s\u200c]+$", 0, lambda n: "-" + " " * (n - 2) + "-"),
+    "Cloudflare, 2019": (
+        r"""(?:(?:"|'|\]|\}|\\|\d|(?:nan|infinity|true|false|null|undefined|symbol|math)|`|-|\+)+[)]*;?"""
+        r"""((?:\s|-|~|!|{}|\|\||\+)*.*(?:.*=.*)))""", re.I, lambda n: '"' + "x" * (n - 1)),
+}
+ENGINES = {"re": "#b3261e", "gaffsilver": "#3b6ea5"}
+# Where a curve's name is, beside its end.
+LABELS = {
+    ("re", "OWASP, Java class name"): (6, 18, "start"),
+    ("re", "CVE-2020-8492, urllib"): (6, -1, "start"),
+    ("re", "Stack Overflow, 2016"): (-8, 4, "end"),
+    ("re", "Cloudflare, 2019"): (6, 4, "start"),
+    ("gaffsilver", "OWASP, Java class name"): (6, 14, "start"),
+    ("gaffsilver", "CVE-2020-8492, urllib"): (6, 2, "start"),
+    ("gaffsilver", "Stack Overflow, 2016"): (6, 14, "start"),
+    ("gaffsilver", "Cloudflare, 2019"): (6, 0, "start"),
+}
+LENGTHS = (10, 12, 14, 16, 18, 20, 22, 24, 26, 28, 30, 35, 40, 50, 100, 200, 500, 1000, 2000, 5000, 10000, 20000, 50000,
+           100000)
+MOST_SECONDS, TRIES = 2, 3
+
+PAPER, INK, EDGE = "#fcfcfa", "#1f2933", "#c9d1d9"
+LEFT, TOP, WIDTH, HEIGHT = 76, 84, 560, 336
+X, Y = (1, 5), (-6, 1)  # powers of ten: characters, seconds
+
+
+def searched(pattern, text):
+    """The least processor time of a few searches."""
+    found = []
+    for _ in range(TRIES):
+        began = time.process_time()
+        pattern.search(text)
+        found.append(time.process_time() - began)
+        if found[-1] > MOST_SECONDS / TRIES:
+            break
+    return min(found)
+
+
+def measure(engine, name):
+    """Prints the lengths and times of a pattern."""
+    source, flags, text = CASES[name]
+    pattern = __import__(engine).compile(source, flags)
+    for length in LENGTHS:
+        seconds = searched(pattern, text(length))
+        print(length, seconds, flush=True)
+        if seconds > MOST_SECONDS:
+            break
+
+
+def measured(engine, name):
+    """The same, from a process that is ended where one search takes too long."""
+    child = subprocess.Popen([sys.executable, __file__, engine, name], stdout=subprocess.PIPE, text=True)
+    try:
+        said = child.communicate(timeout=60)[0]
+    except subprocess.TimeoutExpired:
+        child.kill()
+        said = child.communicate()[0]
+    return [(int(length), float(seconds)) for length, seconds in (it.split() for it in said.splitlines())]
+
+
+def element(kind, inside="", **values):
+    shown = " ".join(f'{key.replace("_", "-")}="{value}"' for key, value in values.items())
+    return f"<{kind} {shown}>{html.escape(inside)}</{kind}>"
+
+
+def text(x, y, inside, **more):
+    return element("text", inside, x=f"{x:.0f}", y=f"{y:.0f}", **{"fill": INK, **more})
+
+
+def place(length, seconds):
+    """Where a measurement is in the picture."""
+    x, y = math.log10(length), max(math.log10(seconds), Y[0])
+    return LEFT + WIDTH * (x - X[0]) / (X[1] - X[0]), TOP + HEIGHT * (Y[1] - y) / (Y[1] - Y[0])
+
+
+def axes():
+    names = {-6: "1 µs", -3: "1 ms", 0: "1 s"}
+    for power in range(X[0], X[1] + 1):
+        x, y = place(10 ** power, 10 ** Y[0])
+        yield element("path", d=f"M {x:.0f} {TOP} V {y:.0f}", stroke=EDGE)
+        yield text(x, y + 20, f"{10 ** power:,}", text_anchor="middle", font_size=12)
+    for power in range(Y[0], Y[1] + 1):
+        x, y = place(10, 10 ** power)
+        yield element("path", d=f"M {x:.0f} {y:.0f} H {LEFT + WIDTH}", stroke=EDGE)
+        if power in names:
+            yield text(x - 8, y + 4, names[power], text_anchor="end", font_size=12)
+    yield text(LEFT + WIDTH / 2, TOP + HEIGHT + 42, "characters", text_anchor="middle", font_size=12)
+
+
+def picture(rows):
+    """The picture of rows: engine, name, measurements."""
+    version = ".".join(map(str, sys.version_info[:3]))
+    lines = [element("rect", x=0, y=0, width=800, height=476, rx=4, fill=PAPER, stroke=EDGE), *axes()]
+    lines.append(text(24, 30, f"Time of a search that finds nothing, by CPython {version} and by this engine"))
+    for x, (engine, color) in zip((24, 110), ENGINES.items()):
+        lines.append(element("path", d=f"M {x} 52 h 24", stroke=color, stroke_width=3))
+        lines.append(text(x + 30, 56, engine, font_size=12))
+    for engine, name, found in rows:
+        points = " L ".join(f"{x:.1f} {y:.1f}" for x, y in (place(*it) for it in found))
+        lines.append(element("path", d=f"M {points}", fill="none", stroke=ENGINES[engine], stroke_width=2))
+        (x, y), (right, down, anchor) = place(*found[-1]), LABELS[engine, name]
+        lines.append(text(x + right, y + down, name, font_size=12, fill=ENGINES[engine], text_anchor=anchor))
+    head = element("svg", xmlns="http://www.w3.org/2000/svg", role="img", width=800, height=476, viewBox="0 0 800 476",
+                   font_family="sans-serif", font_size=14).removesuffix("</svg>")
+    return "\n".join([head, element("title", "Time against length of text"), *lines, "</svg>", ""])
+
+
+def main(words):
+    if len(words) == 2 and words[0] in ENGINES and words[1] in CASES:
+        measure(*words)
+        return 0
+    if len(words) != 1 or words[0].startswith("-"):
+        print(__doc__.strip())
+        return 2
+    rows = [(engine, name, measured(engine, name)) for name in CASES for engine in ENGINES]
+    for engine, name, found in rows:
+        print(f"{engine}, {name}: {', '.join(f'{length} {seconds:.7f}' for length, seconds in found)}")
+    if not all(found for _, _, found in rows):
+        print("redos.py: an engine has no times; PYTHONPATH has to name the package", file=sys.stderr)
+        return 1
+    with open(words[0], "w", encoding="utf-8") as file:
+        file.write(picture(rows))
+    return 0
+
+
+if __name__ == "__main__":
+    sys.exit(ended(main, sys.argv[1:]))
