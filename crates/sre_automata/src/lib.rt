@@ -1,8 +1,8 @@
-//! The automata of a pattern of bytes: from where on its next match can begin, and which match that is.
+//! The lazy DFAs of a byte pattern: where its next match can begin, and which match that is.
 //!
-//! They are the kit's: a forward automaton tells where the leftmost match ends, and a backward one the least place at
-//! which a match begins that ends there. Both are built as they read, within a bound on their memory; where that does
-//! not do, or memory is refused, nothing is told.
+//! They are the kit's. A forward DFA finds the end of the leftmost match, and a reverse DFA the least start of a match
+//! with that end. Both are built while they read, with bounded memory. If that does not suffice or an allocation fails,
+//! the answer is that nothing is known.
 #![tactic(auto)]
 
 ghost use Rattle.std.specs.Prelude.{◌≡◌, ◌≤◌, IfSome, length};
@@ -23,27 +23,27 @@ mod seeker;
 pub use needle::Needle;
 pub use seeker::Seeker;
 
-/// From where on the next match of a pattern can begin, as far as its automata know.
+/// Where the next match of a pattern can begin, as far as its DFAs know. Offsets count bytes.
 #[derive(Clone, Copy, PartialEq, Eq, Debug)]
 pub enum Told {
     /// No match is left.
     Nothing,
-    /// None begins below this place.
+    /// No match begins before this offset.
     From(usize),
 }
 
-/// The first match of a pattern, as far as its automata know.
+/// The first match of a pattern, as far as its DFAs know. Offsets count bytes.
 #[derive(Clone, Copy, PartialEq, Eq, Debug)]
 pub enum FirstMatch {
     /// There is none.
     Nothing,
-    /// From one place up to another.
+    /// It goes from the first offset to the second.
     Between(usize, usize),
-    /// They do not know.
+    /// The DFAs do not know.
     Unknown,
 }
 
-/// The automata of a pattern, and what they have built so far.
+/// The lazy DFAs of a pattern, with the states that are built so far.
 pub struct Automata {
     dfa: Dfa,
     forward: Forward,
@@ -51,7 +51,7 @@ pub struct Automata {
     read: usize,
 }
 
-// By hand, so that whoever lets automata go calls this. A derived one goes through each of their tables there.
+// Custom `Drop`, so that callers contain one call. A derived one would drop each table in each caller.
 impl Drop for Automata {
     fn drop(self) {
         let Automata {
@@ -80,8 +80,8 @@ impl Automata {
     ghost use Rattle.regex_nfa.specs.Paths.{Accepts};
     ghost use Rattle.regex_dfa.specs.Search.{IsEnd, IsLeast, end_from};
 
-    /// The automata of a pattern, whose tables take at most so many bytes; none where they would take more, or where
-    /// memory was refused.
+    /// Compiles a pattern to an NFA and prepares its DFAs. Returns `None` if the NFA takes more than `size_limit`
+    /// bytes, or if an allocation failed.
     pub fn new(alloc: Global, hir: &Hir, size_limit: usize) -> Option<Automata>
         ensures paths { IfSome result (λ automata. HasPaths automata (meaning hir.now)) }
         ensures matches { IfSome result (λ automata. Implements automata (meaning hir.now)) }
@@ -109,12 +109,12 @@ impl Automata {
         })
     }
 
-    /// How many bytes were read.
+    /// Returns the number of bytes read, in all searches together.
     pub fn read(&self) -> usize {
         self.read
     }
 
-    /// Where the leftmost match ends that begins at a place or behind it.
+    /// The end of the leftmost match that begins at or after an offset.
     fn leftmost_end(&mut self, hay: &[u8], start: usize) -> End
         requires { start ≤ length hay.now }
         ensures end { IsEnd self.old hay.now start (length hay.now) false false
@@ -131,7 +131,7 @@ impl Automata {
         end
     }
 
-    /// The least place from one on at which a match begins that ends at another one.
+    /// The least start, from `start` on, of a match that ends at `end`.
     fn least_start(&mut self, hay: &[u8], start: usize, end: usize) -> Start
         requires ordered { start ≤ end }
         requires within { end ≤ length hay.now }
@@ -143,7 +143,7 @@ impl Automata {
         found
     }
 
-    /// From where on the next match can begin that begins at a place or behind it.
+    /// Returns where the next match can begin, at the offset `start` or after it.
     pub fn next_from(&mut self, hay: &[u8], start: usize) -> Told
         requires { start ≤ length hay.now }
         ensures told { (re : Re) → HasPaths self.old re → Tells hay.now re start result }
@@ -159,8 +159,8 @@ impl Automata {
         }
     }
 
-    /// The first match of those that begin at a place or behind it, which is the leftmost one: of a pattern that the
-    /// automata implement, and not one of whose matches they merely have.
+    /// Returns the leftmost match that begins at the offset `start` or after it. The DFAs must implement the pattern;
+    /// it does not suffice that they find all its matches.
     pub fn first_match(&mut self, hay: &[u8], start: usize) -> FirstMatch
         requires { start ≤ length hay.now }
         ensures finds { (re : Re) → Implements self.old re → FindsFirst hay.now re start result }

@@ -1,4 +1,4 @@
-//! Bytes that each match of a pattern contains: where they don't come any more, no match is left.
+//! Required literals: bytes that each match of a pattern contains. If they do not occur, no match is left.
 
 ghost use Rattle.std.specs.Prelude.{◌≡◌, ◌≤◌, IfSome, length, map, true};
 ghost use Rattle.regex_hir.specs.Re.{Re};
@@ -11,14 +11,14 @@ use regex_hir::Hir;
 use std::alloc::Global;
 use std::marker::Model;
 
-/// Bytes that come so soon behind a place are too common to be looked for.
+/// A literal found within this number of bytes is too common to be searched again in this text.
 const NEAR: usize = 256;
 
 /// Bytes that each match of a pattern contains.
 #[derive(Drop)]
 pub struct Needle {
     bytes: Vec<u8>,
-    // where they were found last, in this text; up to there they are not looked for again
+    // the offset of the last occurrence found in this text; up to there no search is needed
     found: Option<usize>,
     is_common: bool,
 }
@@ -31,7 +31,8 @@ impl Model for Needle {
     ghost view = { λ needle. needle.bytes.items };
 }
 
-// The longest literal of a sequence, and of several the last: one at its front is found by whoever seeks its starts.
+// The longest literal of a sequence, and the last of several. The search for starts finds a literal at the front
+// anyway.
 fn longest_literal(parts: &[Hir]) -> Option<&[u8]>
     ensures { IfSome result (λ bytes. Contains (cat_all (map meaning parts.now)) bytes.now) }
 {
@@ -49,8 +50,8 @@ fn longest_literal(parts: &[Hir]) -> Option<&[u8]>
 }
 
 impl Needle {
-    /// The longest literal of the sequence that a pattern is, and of several the last: each match contains it. None
-    /// where the pattern is no literal and has none, or where memory was refused.
+    /// Returns the longest literal in the sequence that a pattern is, and the last of several: each match contains it.
+    /// `None` if the pattern is no literal and has none in sequence, or if an allocation failed.
     pub fn of(alloc: Global, hir: &Hir) -> Option<Needle>
         ensures { IfSome result (λ needle. Contains (meaning hir.now) needle) }
     {
@@ -69,7 +70,7 @@ impl Needle {
         })
     }
 
-    /// Forgets the text of before.
+    /// Forgets the last text.
     pub fn reset(&mut self)
         ensures { self.new ≡ self.old }
     {
@@ -77,8 +78,8 @@ impl Needle {
         self.is_common = false;
     }
 
-    /// Whether they don't come at a place or behind it, so that no match begins there. Where they are common they are
-    /// not looked for.
+    /// Returns whether the bytes do not occur at `start` or after it, so that no match begins there. If they are common
+    /// in this text, it returns `false` without a search.
     #[inline(always)]
     pub fn is_lacking(&mut self, hay: &[u8], start: usize) -> bool
         requires { start ≤ length hay.now }
@@ -96,7 +97,7 @@ impl Needle {
         self.is_absent(hay, start)
     }
 
-    // Looks for them from a place on.
+    // Searches for the bytes from an offset on.
     #[inline(never)]
     fn is_absent(&mut self, hay: &[u8], start: usize) -> bool
         requires { start ≤ length hay.now }

@@ -1,5 +1,4 @@
-//! A pattern that is sought: the bytes that each match contains are looked for first, and its automata are made once
-//! they are asked.
+//! The search for a pattern: first for a required literal, then by DFAs, which are built on first use.
 
 ghost use Rattle.std.specs.Prelude.{◌≡◌, ◌≤◌, length, true};
 ghost use Rattle.regex_hir.specs.Meaning.{meaning};
@@ -11,7 +10,7 @@ use regex_hir::Hir;
 use std::alloc::Global;
 use std::marker::Model;
 
-/// A pattern that is sought in texts, with what was made to seek it.
+/// A pattern to search for, with its required literal and its DFAs.
 pub struct Seeker {
     alloc: Global,
     hir: Hir,
@@ -21,7 +20,7 @@ pub struct Seeker {
     automata: Option<Automata>,
 }
 
-// By hand, so that whoever lets a seeker go calls this. A derived one goes through each table of the automata there.
+// Custom `Drop`, so that callers contain one call. A derived one would drop each table in each caller.
 impl Drop for Seeker {
     fn drop(self) {
         let Seeker {
@@ -53,7 +52,8 @@ impl Model for Seeker {
 }
 
 impl Seeker {
-    /// One that seeks a pattern. The tables of its automata take at most so many bytes.
+    /// Prepares the search for a pattern. No DFA is built yet. The NFA from which they are built later takes at most
+    /// `size_limit` bytes.
     pub fn new(alloc: Global, hir: Hir, size_limit: usize) -> Seeker
         ensures { result ≡ hir }
     {
@@ -68,8 +68,8 @@ impl Seeker {
         }
     }
 
-    /// Makes its automata, where that was not tried before: there are none where their tables would be too large, or
-    /// where memory was refused.
+    /// Builds the DFAs if that was not tried before. There are none if the NFA would be too large, or if an allocation
+    /// failed.
     #[inline(always)]
     pub fn make(&mut self)
         ensures { self.new ≡ self.old }
@@ -79,7 +79,7 @@ impl Seeker {
         }
     }
 
-    // Its frame is large, and cleared at each call.
+    // Not inlined: its frame is large, and cleared at each call.
     #[inline(never)]
     fn make_now(&mut self)
         ensures { self.new ≡ self.old }
@@ -88,19 +88,19 @@ impl Seeker {
         self.automata = Automata::new(self.alloc, &self.hir, self.size_limit);
     }
 
-    /// Whether it has automata.
+    /// Returns whether the DFAs are built.
     #[inline(always)]
     pub fn has_automata(&self) -> bool {
         self.automata.is_some()
     }
 
-    /// Whether it could make no automata.
+    /// Returns whether building the DFAs was tried and failed.
     #[inline(always)]
     pub fn lacks_automata(&self) -> bool {
         self.is_made && self.automata.is_none()
     }
 
-    /// How many bytes its automata have read.
+    /// Returns the number of bytes that the DFAs have read, in all searches together.
     #[inline(always)]
     pub fn read(&self) -> usize {
         match &self.automata {
@@ -109,7 +109,7 @@ impl Seeker {
         }
     }
 
-    /// Forgets the text of before.
+    /// Forgets the last text.
     pub fn reset(&mut self)
         ensures { self.new ≡ self.old }
     {
@@ -118,7 +118,8 @@ impl Seeker {
         }
     }
 
-    /// Whether no match begins at a place or behind it, as far as the bytes tell that each match contains.
+    /// Returns `true` if no match begins at the offset `start` or after it, because the required literal does not
+    /// occur. `false` says nothing.
     #[inline(always)]
     pub fn has_none_left(&mut self, hay: &[u8], start: usize) -> bool
         requires { start ≤ length hay.now }
@@ -131,7 +132,7 @@ impl Seeker {
         }
     }
 
-    /// From where on the next match can begin that begins at a place or behind it, as its automata tell.
+    /// Returns where the next match can begin, at the offset `start` or after it. Without DFAs that is `start`.
     #[inline(always)]
     pub fn next_from(&mut self, hay: &[u8], start: usize) -> Told
         requires { start ≤ length hay.now }
@@ -144,8 +145,8 @@ impl Seeker {
         }
     }
 
-    /// The first match of those that begin at a place or behind it, which is the leftmost one, as far as its bytes and
-    /// its automata tell.
+    /// Returns the leftmost match that begins at the offset `start` or after it, if the literal and the DFAs determine
+    /// it.
     #[inline(always)]
     pub fn first_match(&mut self, hay: &[u8], start: usize) -> FirstMatch
         requires { start ≤ length hay.now }

@@ -1,8 +1,8 @@
 -- How the account of the bits goes on: an instruction is tried, it has failed, the body ends in which some were tried,
 -- and the memory grows. And how many bits there are at most.
 use Rattle.std.proofs.Common.{◌≡◌, ℕ, ◌+◌, ◌*◌, ◌<◌, ◌≤◌, ◌⊎◌, inl, inr, Bool, true}
-use Rattle.std.proofs.Common.{List, [], ◌∷◌, ◌++◌, length, Some, slice_get, slice_index}
-use Rattle.std.proofs.Common.{refl, sym, ap, ◌∙◌, subst, arith, length-append, append_assoc}
+use Rattle.std.proofs.Common.{List, [], ◌∷◌, ◌++◌, Some, slice_get, slice_index}
+use Rattle.std.proofs.Common.{refl, sym, ap, ◌∙◌, subst, arith, append_assoc}
 use Rattle.std.specs.Int.{bit_at}
 use Rattle.std.specs.List.{AllByRecursion}
 use Rattle.sre_chars.specs.declared.string.StringCursor.{StringCursor}
@@ -14,14 +14,14 @@ use Rattle.sre_turns.specs.Moves.{Spot}
 use Rattle.sre_turns.specs.Nested.{Lies}
 use Rattle.sre_turns.specs.Settled.{Counted}
 use Rattle.sre_board.specs.Accounts.{BitOf, IsSet, IsEnded, StaysEnded, BitsOf, IsOwned, RowLies, IsRoomy, Account}
-use Rattle.sre_board.specs.Accounts.{most_bits}
+use Rattle.sre_board.specs.Accounts.{most_paid, toll_at, charge}
 use Rattle.sre_board.specs.Apart.{IsIn, Apart}
 use Rattle.sre_board.specs.Ends.{EndsTable, HoldsEnd}
 use Rattle.sre_board.specs.Failures.{BitsKept, Kept, kept_of, Entry, IsOpen, Sets, BitsStay, RowsStay, Laid}
 use Rattle.sre_board.specs.declared.failures.Row.{Row}
 use Rattle.sre_board.proofs.KeptSpots.{one_bit}
 use Rattle.sre_board.proofs.OneEntry.{one_entry}
-use Rattle.sre_board.proofs.OwnedBits.{owned_bit, owned_still, few_owned}
+use Rattle.sre_board.proofs.OwnedBits.{owned_bit, owned_toll, owned_still, charge_still, few_charged}
 
 -- no row is new
 abbrev pub NoNewRow : Kept → Kept → Type 0
@@ -59,9 +59,6 @@ apart_moved b (o ∷ os) ds h = (
   ],
   apart_moved b os ds (λ there. h.0 (inr there), h.1.1),
 )
-
-long_moved : (b : ℕ) (os ds : List ℕ) → length (os ++ b ∷ ds) ≡ length (b ∷ (os ++ ds))
-long_moved b os ds = omega (arith, length-append os (b ∷ ds), length-append os ds)
 
 all_moved : (P : ℕ → Type 0) (b : ℕ) (os ds : List ℕ) → AllByRecursion P (b ∷ (os ++ ds))
     → AllByRecursion P (os ++ b ∷ ds)
@@ -101,7 +98,7 @@ same_number at bit other_at other_bit small other_small e =
 small_bit : (k : Kept) (ws : List ℕ) (inside : Bool) (x : Spot) (at bit : ℕ) → Entry k ws inside x at bit → bit < 64
 small_bit k ws inside x at bit e = omega (arith, e.bit_is)
 
--- two spots with one number are alike
+-- two configurations with one number are alike
 alike_by_number : (k : Kept) (ws : List ℕ) (x y : Attempt) (b c : ℕ) → Laid k → BitOf k ws x b → BitOf k ws y c
     → b ≡ c → Alike ws x.spot y.spot
 alike_by_number k ws x y b c laid g h e =
@@ -202,7 +199,7 @@ module _ (r : Run) (pl : Counted r) (first : ℕ) where
       → ((c : StringCursor) → HoldsEnd es (clear.at * 64 + clear.bit) c → ⊥)
       → (x.inside ≡ true → has_forked_region pl.tree ≡ true) → Lies r.words pl.tree pl.whole x.spot
       → AllByRecursion (λ (y : Attempt). Alike r.words y.spot x.spot → ⊥) xs
-      → Account r pl first k es xs n → Account r pl first k es (x ∷ xs) (n + 1)
+      → Account r pl first k es xs n → Account r pl first k es (x ∷ xs) (n + toll_at r x.spot)
   account_opens k es x xs n clear no_end forked lies others a =
       let b : ℕ = clear.at * 64 + clear.bit in
       let small : clear.bit < 64 = small_bit k r.words x.inside x.spot clear.at clear.bit clear.entry in
@@ -225,13 +222,13 @@ module _ (r : Run) (pl : Counted r) (first : ℕ) where
           ],
           a.apart,
         );
-        count = omega (arith, a.count);
+        count = omega (arith, a.count, owned_toll r pl first k x b forked lies a.rows own);
         rows = a.rows;
         roomy = a.roomy;
         laid = a.laid;
       }
 
-  -- the memory is another one, with the same bits of the same spots: each of its rows is told
+  -- the memory is another one, with the same bits of the same configurations: each of its rows is told
   pub account_grows : (old new : Kept) (es : EndsTable) (xs : List Attempt) (n : ℕ) → BitsStay old new
       → BitsKept old new → RowsStay old new
       → ((i : ℕ) (row : Row) → slice_get new.rows i ≡ Some row → RowLies r pl first new row)
@@ -245,7 +242,7 @@ module _ (r : Run) (pl : Counted r) (first : ℕ) where
     ends = a.ends;
     owned = owned_still r pl first old new still (a.trying ++ (a.failed ++ a.ended)) a.owned;
     apart = a.apart;
-    count = a.count;
+    count = charge_still r pl first old new still (a.trying ++ (a.failed ++ a.ended)) a.owned ∙ a.count;
     rows = rows;
     roomy = roomy;
     laid = laid;
@@ -276,18 +273,27 @@ module _ (r : Run) (pl : Counted r) (first : ℕ) where
     laid = a.laid;
   }
 
-  -- some bits are those of places, none is there twice, and they are so many
+  -- some bits are those of addresses, none is there twice, and they are so many
   record TakenIn (k : Kept) (n : ℕ) (bs : List ℕ) : Type 0 where
     owned : AllByRecursion (λ (b : ℕ). IsOwned r pl first k b) bs
     apart : Apart bs
-    count : length bs ≡ n
+    count : charge r pl first k bs owned ≡ n
+
+  -- what is moved pays for the same
+  charge_moved : (k : Kept) (b : ℕ) (os ds : List ℕ)
+      (all : AllByRecursion (λ (c : ℕ). IsOwned r pl first k c) (b ∷ (os ++ ds)))
+      → charge r pl first k (os ++ b ∷ ds) (all_moved (λ (c : ℕ). IsOwned r pl first k c) b os ds all)
+      ≡ charge r pl first k (b ∷ (os ++ ds)) all
+  unfolding all_moved
+  charge_moved k b [] ds all = refl
+  charge_moved k b (o ∷ os) ds all = omega (arith, charge_moved k b os ds (all.0, all.1.1))
 
   -- so are they with the first behind others
   moved : (k : Kept) (n b : ℕ) (os ds : List ℕ) → TakenIn k n (b ∷ (os ++ ds)) → TakenIn k n (os ++ b ∷ ds)
   moved k n b os ds c = record {
     owned = all_moved (λ (c : ℕ). IsOwned r pl first k c) b os ds c.owned;
     apart = apart_moved b os ds c.apart;
-    count = long_moved b os ds ∙ c.count;
+    count = charge_moved k b os ds c.owned ∙ c.count;
   }
 
   moved_further : (k : Kept) (n b : ℕ) (os fs ds : List ℕ) → TakenIn k n (b ∷ (os ++ (fs ++ ds)))
@@ -331,7 +337,7 @@ module _ (r : Run) (pl : Counted r) (first : ℕ) where
           parted c.trying c.failed c.ended c.bits c.set c.ends
           (record { owned = c.owned; apart = c.apart; count = c.count }) c.rows
 
-  -- the body of a region ends for what is tried inside: an end is kept for the number of each of these bits
+  -- the body of an atomic scope ends for what is tried inside: an end is kept for the number of each of these bits
   pub account_ends : (k : Kept) (es es' : EndsTable) (opened rest : List Attempt) (n : ℕ)
       → AllByRecursion (λ (x : Attempt). (b : ℕ) → BitOf k r.words x b → IsEnded es' b) opened → StaysEnded es es'
       → Account r pl first k es (opened ++ rest) n → Account r pl first k es' rest n
@@ -361,12 +367,12 @@ module _ (r : Run) (pl : Counted r) (first : ℕ) where
       parted (x ∷ opened) (b ∷ bs) ds each bits ends all =
           parted opened bs (b ∷ ds) each.1 bits.1 (each.0 b bits.0, ends) (moved_further k n b bs a.failed ds all)
 
-  -- no more bits are taken in than there is room for
+  -- they pay for no more than the tree's instructions cost
   pub account_few : (k : Kept) (es : EndsTable) (xs : List Attempt) (n : ℕ) → Account r pl first k es xs n
-      → n ≤ most_bits r pl first
+      → n ≤ most_paid r pl first
   account_few k es xs n a =
       let all : List ℕ = a.trying ++ (a.failed ++ a.ended) in
-      omega (arith, a.count, few_owned r pl first k all (length r.words) a.owned a.apart a.roomy.rows)
+      omega (arith, a.count, few_charged r pl first k a.laid all a.owned a.apart)
 
   -- at first nothing is taken in
   pub account_none : (k : Kept) (es : EndsTable) → k ≡ kept_of [] [] [] → Account r pl first k es [] 0

@@ -1,83 +1,43 @@
--- Numbers that are apart and below a bound are no more than the bound.
-use Rattle.std.proofs.Common.{◌≡◌, ℕ, zero, suc, ◌+◌, ◌<◌, ◌≤◌, inl, inr, List, [], ◌∷◌, length, Some}
-use Rattle.std.proofs.Common.{slice_get, refl, subst, arith}
-use Rattle.std.proofs.lemmas.Bool.{cases_eq}
-use Rattle.sre_board.specs.Apart.{IsIn, Apart}
-
--- the numbers of a list without one of them
-record Without (n : ℕ) (xs : List ℕ) : Type 0 where
-  rest : List ℕ
-  apart : Apart rest
-  below : (x : ℕ) → IsIn x rest → x < n
-  among : (x : ℕ) → IsIn x rest → IsIn x xs
-  long : length xs ≤ length rest + 1
-
--- without the greatest, the others are below it
-without : (n : ℕ) (xs : List ℕ) → Apart xs → ((x : ℕ) → IsIn x xs → x < n + 1) → Without n xs
-without n [] apart below = record {
-  rest = [];
-  apart = tt;
-  below = λ x h. absurd h;
-  among = λ x h. h;
-  long = omega arith;
-}
-without n (y ∷ xs) apart below = elim (cases_eq y n) [
-  | inl e ↦ record {
-    rest = xs;
-    apart = apart.1;
-    below = λ x h.
-        elim (cases_eq x n) [
-          | inl same ↦ absurd (apart.0 (subst (λ z. IsIn z xs) (same_number x y n same e) h))
-          | inr other ↦ omega (arith, below x (inr h))
-        ];
-    among = λ x h. inr h;
-    long = omega arith;
-  }
-  | inr other ↦
-      let w : Without n xs = without n xs apart.1 (λ x h. below x (inr h)) in
-      record {
-        rest = y ∷ w.rest;
-        apart = (λ h. apart.0 (w.among y h), w.apart);
-        below = λ x h. elim h [
-          | inl e ↦ omega (arith, below y (inl refl))
-          | inr h ↦ w.below x h
-        ];
-        among = λ x h. elim h [ inl e ↦ inl e | inr h ↦ inr (w.among x h) ];
-        long = omega (arith, w.long);
-      }
-]
-  where
-    same_number : (x y n : ℕ) → x ≡ n → y ≡ n → x ≡ y
-    same_number x y n a b = cc
-
--- the pigeonhole law
-pub few_apart : (n : ℕ) (xs : List ℕ) → Apart xs → ((x : ℕ) → IsIn x xs → x < n) → length xs ≤ n
-few_apart n [] apart below = omega arith
-few_apart zero (x ∷ xs) apart below = absurd (omega (arith, below x (inl refl)))
-few_apart (suc n) (x ∷ xs) apart below =
-    let w : Without n (x ∷ xs) = without n (x ∷ xs) apart (λ y h. omega (arith, below y h)) in
-    omega (arith, few_apart n w.rest w.apart w.below, w.long)
+-- Numbers of which each stands at one place, and which are below a bound, are no more than the bound.
+use Rattle.std.proofs.Common.{◌≡◌, ℕ, suc, ◌<◌, ◌≤◌, ◌||◌, Bool, true, false, List, [], ◌∷◌, length, Some}
+use Rattle.std.proofs.Common.{slice_get, refl, arith}
+use Rattle.std.specs.List.{AllByRecursion, IsDistinct, list_any}
+use Rattle.std.proofs.Math.Dec.{eqb}
+use Rattle.std.proofs.lemmas.Bool.{eqb-true}
+use Rattle.std.proofs.lemmas.Map.Steps.{length-le_from_distinct_below}
 
 -- where one that is in a list stands
-found : (v : ℕ) (xs : List ℕ) → IsIn v xs → (n : ℕ) × (slice_get xs n ≡ Some v)
-found v [] h = absurd h
-found v (x ∷ xs) h = elim h [
-  | inl e ↦ (0, cc)
-  | inr there ↦ let f = found v xs there in (suc f.0, f.1)
-]
+found : (v : ℕ) (xs : List ℕ) → list_any (eqb v) xs ≡ true → (n : ℕ) × (slice_get xs n ≡ Some v)
+found v [] h = absurd (cc)
+found v (x ∷ xs) h = go (eqb v x) refl h (found v xs)
+  where
+    go : (b : Bool) → eqb v x ≡ b → (b || list_any (eqb v) xs) ≡ true
+        → (list_any (eqb v) xs ≡ true → (n : ℕ) × (slice_get xs n ≡ Some v))
+        → (n : ℕ) × (slice_get (x ∷ xs) n ≡ Some v)
+    go true e h more = let same : v ≡ x = eqb-true v x e in (0, cc)
+    go false e h more = let f = more h in (suc f.0, f.1)
 
--- numbers of which each stands at one place are apart
-pub apart_by_place : (xs : List ℕ)
-    → ((m n v : ℕ) → slice_get xs m ≡ Some v → slice_get xs n ≡ Some v → m ≡ n) → Apart xs
-apart_by_place [] one = tt
-apart_by_place (x ∷ xs) one = (
-  λ h. let f = found x xs h in absurd (omega (arith, one 0 (suc f.0) x refl f.1)),
-  apart_by_place xs (λ m n v e g. omega (arith, one (suc m) (suc n) v e g)),
+-- one that is not in a list differs from each
+others : (x : ℕ) (xs : List ℕ) → (list_any (eqb x) xs ≡ true → ⊥) → AllByRecursion (λ y. eqb x y ≡ false) xs
+others x [] none = tt
+others x (y ∷ ys) none = go (eqb x y) refl none (others x ys)
+  where
+    go : (b : Bool) → eqb x y ≡ b → ((b || list_any (eqb x) ys) ≡ true → ⊥)
+        → ((list_any (eqb x) ys ≡ true → ⊥) → AllByRecursion (λ z. eqb x z ≡ false) ys)
+        → (eqb x y ≡ false) × AllByRecursion (λ z. eqb x z ≡ false) ys
+    go true e none more = absurd (none refl)
+    go false e none more = (e, more none)
+
+apart : (xs : List ℕ) → ((i j v : ℕ) → slice_get xs i ≡ Some v → slice_get xs j ≡ Some v → i ≡ j) → IsDistinct eqb xs
+unfolding IsDistinct
+apart [] one = tt
+apart (x ∷ xs) one = (
+  others x xs (λ h. let f = found x xs h in absurd (omega (arith, one 0 (suc f.0) x refl f.1))),
+  apart xs (λ i j v e g. omega (arith, one (suc i) (suc j) v e g)),
 )
 
--- so they are no more than a bound that they are below
 pub few_by_place : (n : ℕ) (xs : List ℕ)
     → ((i j v : ℕ) → slice_get xs i ≡ Some v → slice_get xs j ≡ Some v → i ≡ j)
     → ((i v : ℕ) → slice_get xs i ≡ Some v → v < n) → length xs ≤ n
 few_by_place n xs one below =
-    few_apart n xs (apart_by_place xs one) (λ v h. let f = found v xs h in below f.0 v f.1)
+    length-le_from_distinct_below xs n (apart xs one) (λ v h. let f = found v xs h in below f.0 v f.1)

@@ -1,7 +1,7 @@
-//! The board: what a run of the machine holds beside its place and position.
+//! The backtrack stack: what a run of the machine holds beside its address and position.
 //!
-//! Its value has frames, marks and choices as if each choice held its own. In memory all choices share one trail and
-//! one table of chains, and a chain is forgotten as soon as no choice can come back to it.
+//! Its value has frames, captures and choices as if each choice held its own copy. In memory all choices share one
+//! trail and one table of chains. A chain is dropped as soon as no choice can return to it.
 
 ghost use Rattle.std.specs.Prelude.{◌≡◌, ℕ, ◌<◌, ◌≤◌, List, [], ◌∷◌, drop, length, reverse, IfOk, MatchOption};
 ghost use Rattle.std.specs.Prelude.{true, false, slice_index_or, IfSome, OnErr, ◌+◌, ◌^◌};
@@ -24,10 +24,10 @@ use sre_turns::{Frame, Point, Region};
 use std::alloc::Allocator;
 use std::marker::Model;
 
-/// How many characters a look for one goes over in the time that a run takes for one: about so many, or more.
+/// How many characters a search for one character scans, at least, in the time that a repeat takes for one.
 pub const LOOK_SPEED: usize = 32;
 
-/// A choice: where to go on, with which loops, and how many changes and chains there were when it was made.
+/// A choice: where to continue, the loops in progress, and how many changes and chains there were when it was saved.
 #[derive(Clone, Copy)]
 pub struct Saved {
     pub point: Point,
@@ -37,7 +37,7 @@ pub struct Saved {
     pub changes: usize,
 }
 
-/// The loops in progress, the marks, and what is still to be tried. It counts the regions among the choices.
+/// The loops in progress, the captures and the choices. It counts the atomic scopes among the choices.
 #[derive(Drop)]
 pub struct Board<A: Allocator> {
     trail: Trail<A>,
@@ -45,11 +45,11 @@ pub struct Board<A: Allocator> {
     frame: usize,
     choices: Vec<Saved, A>,
     regions: usize,
-    // how many characters were passed in long stretches since this was last asked
+    // characters scanned in long stretches since `take_passed`
     passed: usize,
-    // how many loops and bodies of loops began since this was last asked
+    // loops and loop bodies that began since `take_entered`
     entered: usize,
-    // how many shorter counts the last run had of which nothing came
+    // how many shorter counts the last repeat had that failed with all of them
     vain: usize,
 }
 
@@ -91,7 +91,7 @@ fn needed(saved: &[Saved]) -> usize
     saved[saved.len() - 1].changes
 }
 
-// How many regions a choice is.
+// The number of atomic scopes that a choice is, 0 or 1.
 #[inline(always)]
 fn regions_of(point: Point) -> usize
     ensures { result ≡ regions_of point }
@@ -102,7 +102,7 @@ fn regions_of(point: Point) -> usize
     }
 }
 
-// The choice that marks that a point is tried.
+// The marker on the stack that a point is tried.
 #[inline(always)]
 fn mark_of(point: Point) -> Point
     requires { MayBeTried point }
@@ -120,7 +120,7 @@ fn mark_of(point: Point) -> Point
     }
 }
 
-/// What a choice marks as tried, if it is a mark.
+/// The point that a choice marks as tried, if it is a marker.
 #[inline(always)]
 pub(crate) fn tried_of(point: Point) -> Option<Point>
     ensures { MatchOption result (is_tried point ≡ false)
@@ -138,8 +138,8 @@ pub(crate) fn tried_of(point: Point) -> Option<Point>
     }
 }
 
-// Whether a choice is to go on at an instruction and a cursor, with the loops of a chain, and after so many changes
-// where marks matter.
+// Whether a choice continues at an instruction and a cursor, with the loops of a chain, and, if captures matter, after
+// so many changes.
 #[inline(always)]
 fn goes_on_at(
     saved: Saved,
@@ -158,7 +158,7 @@ fn goes_on_at(
         && (!marks_matter || saved.changes == changes)
 }
 
-// Takes choices down to the newest region, and that too.
+// Pops the choices down to the innermost atomic scope, and that too.
 #[inline(always)]
 fn innermost<A: Allocator>(choices: &mut Vec<Saved, A>) -> Option<(Region, Saved)>
     ensures { MatchOption result
@@ -175,7 +175,7 @@ fn innermost<A: Allocator>(choices: &mut Vec<Saved, A>) -> Option<(Region, Saved
 }
 
 impl<A: Allocator + Copy> Board<A> {
-    /// No marks and no choices. It takes no memory.
+    /// An empty stack without captures. It allocates nothing.
     #[inline(always)]
     pub fn new(alloc: A) -> Board<A>
         ensures { result ≡ bare no_marks }
@@ -192,7 +192,7 @@ impl<A: Allocator + Copy> Board<A> {
         }
     }
 
-    /// The allocator that the board was made with.
+    /// The stack's allocator.
     #[inline(always)]
     pub fn allocator(&self) -> A {
         *self.choices.allocator()
@@ -200,7 +200,7 @@ impl<A: Allocator + Copy> Board<A> {
 }
 
 impl<A: Allocator> Board<A> {
-    /// The marks.
+    /// The captures.
     #[inline(always)]
     pub fn marks(&self) -> &Marks<A>
         ensures { result.now ≡ self.now.marks }
@@ -208,7 +208,7 @@ impl<A: Allocator> Board<A> {
         self.trail.marks()
     }
 
-    /// The start and the end of group `g`, counted from 0, where both are set and in order. Positions count characters.
+    /// Start and end of group `g`, counted from 0, if both are set and in order. Positions count characters.
     #[inline(always)]
     pub fn group(&self, g: u32) -> Option<(usize, usize)>
         ensures { result ≡ group self.now.marks g }
@@ -219,7 +219,7 @@ impl<A: Allocator> Board<A> {
         }
     }
 
-    /// Whether the board is inside a region.
+    /// Whether an atomic scope is open.
     #[inline(always)]
     pub fn is_inside(&self) -> bool
         ensures { result ≡ is_inside self.now.choices }
@@ -227,7 +227,7 @@ impl<A: Allocator> Board<A> {
         self.regions != 0
     }
 
-    /// The chains, and the number of the one that is the loops in progress.
+    /// The chains, and the number of the chain of the loops in progress.
     #[inline(always)]
     pub(crate) fn loops(&self) -> (&Chains<A>, usize)
         ensures there { result.1 < length result.0.now }
@@ -236,8 +236,7 @@ impl<A: Allocator> Board<A> {
         (&self.chains, self.frame)
     }
 
-    /// What was saved with the choice that stands so many below the newest one, and the chains, of which its own is
-    /// one.
+    /// The choice at a depth below the newest one, and the chains, of which its own is one.
     #[inline(always)]
     pub(crate) fn saved(&self, depth: usize) -> Option<(&Chains<A>, Saved)>
         ensures room { IfSome result (λ _. depth + 1 < 2 ^ 64) }
@@ -251,8 +250,8 @@ impl<A: Allocator> Board<A> {
         Some((&self.chains, self.choices[self.choices.len() - 1 - depth]))
     }
 
-    /// Takes all away but what was counted, which is of a whole search, and the last run in vain, which is noted from
-    /// one search to the next; the memory is kept.
+    /// Drops captures, choices and loops, and keeps the memory. The counts stay, since they belong to a whole search,
+    /// and so does the last failed repeat, which is noted from one search to the next.
     #[inline(always)]
     pub fn clear(&mut self)
         ensures { self.new ≡ bare no_marks }
@@ -264,7 +263,7 @@ impl<A: Allocator> Board<A> {
         self.regions = 0;
     }
 
-    /// Sets mark `n` to `position`. After an error the board is good for `clear` alone.
+    /// Sets capture slot `n` to `position`. After an error only `clear` may follow.
     #[inline(always)]
     pub fn set(&mut self, n: u32, position: usize) -> Result<(), Refusal>
         ensures { IfOk result (λ _. self.new ≡ record self.old { marks = set_mark self.old.marks n position }) }
@@ -276,7 +275,7 @@ impl<A: Allocator> Board<A> {
         self.trail.set_behind(n, position, needed)
     }
 
-    /// Adds a choice: to go on at a point and a cursor, with the marks as they are now.
+    /// Pushes a choice: to continue at a point and a cursor, with the present captures.
     #[inline(always)]
     pub fn save(&mut self, point: Point, cursor: StringCursor) -> Result<(), Refusal>
         ensures { IfOk result (λ _. self.new ≡ record self.old {
@@ -286,8 +285,8 @@ impl<A: Allocator> Board<A> {
         self.add(point, cursor)
     }
 
-    // The same. Where memory is refused the board is as it was. Most lists of choices have room for one more, so that
-    // is looked at first, and the choice is written at once.
+    // Pushes a choice. If an allocation fails the stack is unchanged. Most lists have room for one more, so that is
+    // tested first, and the choice is written at once.
     #[inline(always)]
     fn add(&mut self, point: Point, cursor: StringCursor) -> Result<(), Refusal>
         ensures saved { IfOk result (λ _. self.new ≡ record self.old {
@@ -310,7 +309,7 @@ impl<A: Allocator> Board<A> {
         self.add_grown(point, cursor)
     }
 
-    // The same, where the list of choices has to grow.
+    // Pushes a choice if the list has to grow.
     #[inline(never)]
     fn add_grown(&mut self, point: Point, cursor: StringCursor) -> Result<(), Refusal>
         ensures saved { IfOk result (λ _. self.new ≡ record self.old {
@@ -331,8 +330,8 @@ impl<A: Allocator> Board<A> {
         Ok(())
     }
 
-    /// Marks that an instruction or a possessive loop is tried: what comes of it waits above the mark. Whether the mark
-    /// was made; where its memory is refused the board is as it was.
+    /// Pushes a marker that an instruction or a possessive loop is tried; its choices will be above the marker. Returns
+    /// whether that succeeded. If an allocation fails the stack is unchanged.
     #[inline(always)]
     pub fn begin_trying(&mut self, point: Point, cursor: StringCursor) -> bool
         requires { MayBeTried point }
@@ -348,7 +347,7 @@ impl<A: Allocator> Board<A> {
         }
     }
 
-    /// Begins a region: what comes of it waits among the choices, and the loops in progress are put aside so long.
+    /// Opens an atomic scope: pushes it, and sets the loops in progress aside until it ends.
     #[inline(always)]
     pub fn begin_region(&mut self, region: Region, cursor: StringCursor) -> Result<(), Refusal>
         ensures { IfOk result (λ _. self.new ≡ record self.old {
@@ -361,7 +360,8 @@ impl<A: Allocator> Board<A> {
         Ok(())
     }
 
-    /// Ends the innermost region, if there is one: the choices inside it go, and the marks stay. It takes no memory.
+    /// Ends the innermost atomic scope, if there is one: drops the choices inside it, and keeps the captures. It
+    /// allocates nothing.
     #[inline(always)]
     pub fn cut(&mut self) -> Option<(Region, StringCursor)>
         ensures { MatchOption result
@@ -378,7 +378,7 @@ impl<A: Allocator> Board<A> {
         Some((region, saved.cursor))
     }
 
-    /// Takes the newest choice, with the marks that it was made with. It takes no memory.
+    /// Pops the newest choice, and restores its captures. It allocates nothing.
     #[inline(always)]
     pub fn back(&mut self) -> Option<(Point, StringCursor)>
         ensures { MatchOption result
@@ -393,8 +393,8 @@ impl<A: Allocator> Board<A> {
         Some((saved.point, saved.cursor))
     }
 
-    /// Takes the newest choice away if it is to go on right here: at an instruction and a cursor, with the loops as
-    /// they are now, and with the marks as they are now where these matter. It takes no memory.
+    /// Pops the newest choice if it continues right here: at this instruction and cursor, with the present loops, and,
+    /// if they matter, the present captures. It allocates nothing.
     #[inline(always)]
     pub fn drop_same(&mut self, place: usize, cursor: StringCursor, marks_matter: bool)
         ensures { Dropped place cursor marks_matter self.old self.new }
@@ -409,8 +409,8 @@ impl<A: Allocator> Board<A> {
         }
     }
 
-    /// Notes that so many characters were passed in a turn. Stretches of less than 64 characters are not noted: what
-    /// they take is that of a few turns.
+    /// Notes that a step scanned so many characters. It ignores stretches of less than 64 characters, which take the
+    /// time of a few steps.
     #[inline(always)]
     pub fn pass(&mut self, characters: usize)
         ensures { self.new ≡ self.old }
@@ -420,7 +420,7 @@ impl<A: Allocator> Board<A> {
         }
     }
 
-    /// How many passed characters were noted since this was last asked.
+    /// How many scanned characters were noted since the last call.
     #[inline(always)]
     pub fn take_passed(&mut self) -> usize
         ensures { self.new ≡ self.old }
@@ -430,7 +430,7 @@ impl<A: Allocator> Board<A> {
         passed
     }
 
-    /// Notes that so many bodies of loops began that were not entered one by one.
+    /// Notes that so many loop bodies began as one batch.
     #[inline(always)]
     pub fn note_bodies(&mut self, bodies: usize)
         ensures { self.new ≡ self.old }
@@ -438,7 +438,7 @@ impl<A: Allocator> Board<A> {
         self.entered = self.entered.wrapping_add(bodies);
     }
 
-    /// How many loops and bodies of loops began since this was last asked.
+    /// How many loops and loop bodies began since the last call.
     #[inline(always)]
     pub fn take_entered(&mut self) -> usize
         ensures { self.new ≡ self.old }
@@ -448,7 +448,7 @@ impl<A: Allocator> Board<A> {
         entered
     }
 
-    /// Notes that a run had so many shorter counts, and that nothing came of any of them.
+    /// Notes that a repeat had so many shorter counts, and that all of them failed.
     #[inline(always)]
     pub fn note_vain(&mut self, counts: usize)
         ensures { self.new ≡ self.old }
@@ -456,14 +456,14 @@ impl<A: Allocator> Board<A> {
         self.vain = counts;
     }
 
-    /// Whether the last run in vain was long.
+    /// Whether the last failed repeat had 64 or more shorter counts.
     #[inline(always)]
     pub fn ran_long_in_vain(&self) -> bool {
         self.vain >= 64
     }
 
-    /// Whether the last run in vain was so long that it is worth to look, in so many characters, for what has to come
-    /// behind the next one: by `LOOK_SPEED` that takes less time than the run did.
+    /// Whether it pays to search so many characters for what the next repeat needs after it. By `LOOK_SPEED` that takes
+    /// less time than the last failed repeat did.
     #[inline(always)]
     pub fn is_look_worth(&self, characters: usize) -> bool {
         self.vain > characters / LOOK_SPEED
@@ -478,7 +478,7 @@ impl<A: Allocator> Board<A> {
         frame_of(self.chains.node(self.frame))
     }
 
-    /// Leaves the innermost loop, if there is one. Its chain is forgotten where no choice needs it.
+    /// Leaves the innermost loop, if there is one. Its chain is dropped if no choice needs it.
     #[inline(always)]
     pub fn leave(&mut self)
         ensures { self.new ≡ record self.old { frames = drop 1 self.old.frames } }

@@ -1,6 +1,6 @@
 //! The loops in progress, as chains of frames that share their ends.
 //!
-//! A chain has a number, so a choice that remembers its loops remembers a number alone.
+//! A chain has a number, so a choice stores its loops as one number.
 
 ghost use Rattle.std.specs.Prelude.{true, false, ◌≡◌, ◌+◌, ◌<◌, ◌≤◌, ◌++◌, ◌∷◌, [], length, take, IfOk, slice_index_or};
 ghost use Rattle.sre_board.specs.Chains.{frame_of};
@@ -60,7 +60,7 @@ pub(crate) fn frame_of(node: Node) -> Frame
     }
 }
 
-/// The chains: the empty one, whose number is 0, and those that were made.
+/// The chains: the empty one, with number 0, and those that were pushed.
 #[derive(Drop)]
 pub(crate) struct Chains<A: Allocator> {
     nodes: Vec<Node, A>,
@@ -79,7 +79,7 @@ impl<A: Allocator> Model for Chains<A> {
 }
 
 impl<A: Allocator + Copy> Chains<A> {
-    /// The empty chain alone. It takes no memory.
+    /// The empty chain alone. It allocates nothing.
     #[inline(always)]
     pub(crate) fn new(alloc: A) -> Chains<A>
         ensures { result ≡ [] ∷ [] }
@@ -91,7 +91,7 @@ impl<A: Allocator + Copy> Chains<A> {
 }
 
 impl<A: Allocator> Chains<A> {
-    /// How many chains there are beside the empty one.
+    /// The number of chains beside the empty one.
     #[inline(always)]
     pub(crate) fn count(&self) -> usize
         ensures { length self.now ≡ result + 1 }
@@ -133,7 +133,7 @@ impl<A: Allocator> Chains<A> {
         self.nodes[id - 1]
     }
 
-    /// A new chain, and its number.
+    /// Adds a chain, and returns its number.
     #[inline(always)]
     pub(crate) fn push(&mut self, frame: Frame, parent: usize) -> Result<usize, Refusal>
         requires { parent < length self.old }
@@ -145,7 +145,7 @@ impl<A: Allocator> Chains<A> {
         Ok(self.nodes.len())
     }
 
-    /// Forgets the later chains.
+    /// Drops the later chains.
     #[inline(always)]
     pub(crate) fn cut(&mut self, keep: usize)
         requires { keep < length self.old }
@@ -154,7 +154,7 @@ impl<A: Allocator> Chains<A> {
         self.nodes.truncate(keep);
     }
 
-    /// Forgets all but the empty one; the memory is kept.
+    /// Drops all chains but the empty one, and keeps the memory.
     #[inline(always)]
     pub(crate) fn clear(&mut self)
         ensures { self.new ≡ [] ∷ [] }

@@ -1,10 +1,7 @@
-//! Where the bodies of regions end, by the number of a spot inside.
+//! Memoized ends of the bodies of atomic scopes, by the number of the bit of a configuration inside.
 //!
-//! The numbers stand in pages of 64, one for each word of bits. A page has a place for each of its numbers. It is added
-//! the first time that an end of it is kept. Nothing is moved, and nothing is forgotten until all is. So an end is
-//! found by two reads.
-//!
-//! The machine keeps here where the body of a region ended, for each spot that was tried inside.
+//! The numbers are in pages of 64, one for each word of bits. A page is added when its first end is stored, and has an
+//! entry for each of its numbers. Nothing moves, and no single end is dropped. So a lookup takes two reads.
 
 ghost use Rattle.std.specs.Prelude.{◌≡◌, ◌+◌, ◌/◌, ◌^◌, ◌<◌, ◌≤◌, [], ℕ, length, slice_index_or, IfOk, IfErr};
 ghost use Rattle.sre_board.specs.Ends.{HoldsEnd, HoldsNoEnd, HoldsOneEndMore, HoldsOpenMore, HoldsSpotMore};
@@ -22,12 +19,12 @@ use sre_turns::Point;
 use std::alloc::Allocator;
 use std::marker::Model;
 
-/// Ends of bodies by numbers.
+/// Ends of scopes, by number.
 #[derive(Drop)]
 pub struct Ends<A: Allocator> {
-    // by word of bits: one more than where the word's places begin, or 0 where it has none
+    // by word of bits: one more than the index of the page's first entry, or 0 if it has no page
     pages: Vec<usize, A>,
-    // the places of all pages
+    // the entries of all pages
     ends: Vec<Option<StringCursor>, A>,
 }
 
@@ -42,10 +39,10 @@ impl<A: Allocator> Model for Ends<A> {
     ghost invariant = { λ e. IsPaged e.pages.items (length e.ends.items) };
 }
 
-// A page has so many places, one for each bit of a word.
+// The entries of a page, one for each bit of a word.
 const PLACES: usize = 64;
 
-// Lengthens a list to so many items, one by one: an item may be larger than those that `resize` takes.
+// Lengthens a list to so many items, one by one, since an item may be larger than `resize` allows.
 #[inline(always)]
 fn lengthen<T: Copy, A: Allocator>(
     list: &mut Vec<T, A>,
@@ -63,7 +60,7 @@ fn lengthen<T: Copy, A: Allocator>(
 }
 
 impl<A: Allocator + Copy> Ends<A> {
-    /// No ends. It takes no memory.
+    /// No ends. It allocates nothing.
     #[inline(always)]
     pub fn new(alloc: A) -> Ends<A>
         ensures none { HoldsNoEnd result }
@@ -76,7 +73,7 @@ impl<A: Allocator + Copy> Ends<A> {
 }
 
 impl<A: Allocator> Ends<A> {
-    /// Takes all ends away; the memory is kept.
+    /// Drops all ends, and keeps the memory.
     #[inline(always)]
     pub fn forget(&mut self)
         ensures none { HoldsNoEnd self.new }
@@ -85,12 +82,12 @@ impl<A: Allocator> Ends<A> {
         self.ends.clear();
     }
 
-    /// The end that is kept for a number, if one is.
+    /// The end that is stored for a number, if there is one.
     #[inline(always)]
     pub fn end(&self, number: usize) -> Option<StringCursor>
         ensures { result ≡ end_at self.now number }
     {
-        let _places = self.ends.len(); // within which the pages are
+        let _places = self.ends.len(); // within which the pages lie
         let word = number / PLACES;
         if word >= self.pages.len() {
             return None;
@@ -102,11 +99,11 @@ impl<A: Allocator> Ends<A> {
         self.ends[page - 1 + number % PLACES]
     }
 
-    /// Keeps an end for a number, in place of one that is kept for it.
+    /// Stores an end for a number, instead of the one stored before.
     ///
     /// # Errors
     ///
-    /// [`Refusal`], where memory was refused. This end is not kept then, and each other is kept still.
+    /// [`Refusal`] if an allocation fails. This end is not stored then, and all others stay.
     #[inline(always)]
     pub fn keep(&mut self, number: usize, end: StringCursor) -> Result<(), Refusal>
         ensures more { HoldsOneEndMore number end self.old self.new }
@@ -119,11 +116,12 @@ impl<A: Allocator> Ends<A> {
         Ok(())
     }
 
-    /// Keeps one end for each spot that is tried in the innermost region of a board, if it has a number there.
+    /// Stores one end for each configuration that is being tried in the innermost atomic scope of a stack, if it has a
+    /// number.
     ///
     /// # Errors
     ///
-    /// [`Refusal`], where memory was refused. The end is kept for some of the spots then.
+    /// [`Refusal`] if an allocation fails. The end is then stored for some of the configurations.
     #[inline(never)]
     pub fn keep_open(
         &mut self,
@@ -149,7 +147,7 @@ impl<A: Allocator> Ends<A> {
         Ok(())
     }
 
-    // Keeps an end for the spot of a point that is tried inside a region, by what was saved with it.
+    // Stores an end for a configuration that is being tried inside a scope, by the choice that marks it.
     #[inline(always)]
     fn keep_spot(
         &mut self,
@@ -177,7 +175,7 @@ impl<A: Allocator> Ends<A> {
         }
     }
 
-    // The page of a word, which is added where there is none.
+    // The page of a word, which is added if there is none.
     #[inline(always)]
     fn page(&mut self, word: usize) -> Result<usize, Refusal>
         requires { word + 1 < 2 ^ 64 }
@@ -192,7 +190,7 @@ impl<A: Allocator> Ends<A> {
         self.add_page(word)
     }
 
-    // Adds the page of a word, which has none.
+    // Adds the page of a word that has none.
     #[inline(never)]
     fn add_page(&mut self, word: usize) -> Result<usize, Refusal>
         requires there { word < length self.old.pages }
@@ -206,7 +204,7 @@ impl<A: Allocator> Ends<A> {
         Ok(page)
     }
 
-    // Keeps an end at the place of its number in its page.
+    // Writes an end into the entry of its number.
     #[inline(always)]
     fn put(&mut self, page: usize, number: usize, end: StringCursor)
         requires some { 0 < page }

@@ -1,12 +1,12 @@
-//! The spots of which nothing came, kept so that the machine leaves one that is alike at once.
+//! Memoized failures: configurations that failed, so that the machine backtracks at once from an equivalent one.
 //!
-//! A place that is prepared has a row of bits, one for each spot that tells a difference there: for each position,
-//! inside a region and outside, and for each slot, which is the loops in progress as one number. Of a loop a slot tells
-//! the count, held where a further body makes no difference any more, and whether the last body began at that position.
+//! An address that is prepared has a row of bits. It has one for each position, inside and outside of atomic scopes,
+//! and each slot. A slot is a counter state of the loops in progress, as one number. For each loop it has the count, up
+//! to where a further body makes no difference, and whether the last body began at that position.
 //!
-//! A row is for the loops that were in progress when it was made, so a spot under others has no bit. Where the slots
-//! are many it may be a part of one, and a spot behind its end has no bit. Nothing is expected of the words: where one
-//! is missing there is no bit either.
+//! A row is for the loops that were in progress when it was made. A configuration under other loops has no bit. With
+//! many slots a row may be a part, and a configuration past its end has no bit. Nothing is assumed of the bytecode: if
+//! a word is missing, there is no bit either.
 
 ghost use Rattle.std.specs.Prelude.{◌≡◌, ◌≢◌, ℕ, ◌+◌, ◌-◌, ◌*◌, ◌^◌, ◌<◌, ◌≤◌, true, false, [], ◌∷◌, ◌++◌, length};
 ghost use Rattle.std.specs.Prelude.{if◌then◌else◌, is_ok, MatchOption, Some, IfOk, slice_get, slice_index_or};
@@ -28,8 +28,8 @@ use sre_turns::Point;
 use std::alloc::Allocator;
 use std::marker::Model;
 
-/// The bits of a place, at which an instruction is or, with `again`, a possessive loop's first operand: for so many
-/// positions from the first one on, in so many words from a base on. The places of the loops stand among the shapes
+/// The bits of an address, either of an instruction or, with `again`, of a possessive loop's first operand. The row has
+/// `positions` positions from `first` on, in `length` words from `base` on. The addresses of its loops are the shapes
 /// from `shape` to `end`, innermost first.
 #[derive(Clone, Copy)]
 pub(crate) struct Row {
@@ -43,7 +43,7 @@ pub(crate) struct Row {
     pub again: bool,
 }
 
-/// What is known of a spot: that nothing came of it, that it has a bit which is not set yet, or that it has none.
+/// What is known of a configuration: it failed, its bit is not set yet, or it has no bit.
 #[derive(Clone, Copy, Debug, PartialEq, Eq)]
 pub enum Known {
     Failed,
@@ -51,10 +51,10 @@ pub enum Known {
     NoBit,
 }
 
-/// The spots of which nothing came.
+/// The memoized failures.
 #[derive(Drop)]
 pub struct Failures<A: Allocator> {
-    // by place: the number of the place's row, or any number where it has none
+    // by address: the number of its row, or any number if it has none
     numbers: Vec<u32, A>,
     rows: Vec<Row, A>,
     shapes: Vec<usize, A>,
@@ -72,7 +72,7 @@ impl<A: Allocator> Model for Failures<A> {
         Laid (kept_of f.rows.items f.shapes.items f.bits.items) × Numbered f.rows.items f.numbers.items };
 }
 
-// Where a bit stands: the word, and its number within the word.
+// A bit: the index of its word, and its number in that word.
 #[derive(Clone, Copy)]
 struct Bit {
     word: usize,
@@ -82,19 +82,19 @@ struct Bit {
 // A row has fewer positions, so that their bits can be counted.
 const MOST_POSITIONS: usize = 34359738368;
 
-// A row with more slots has bits for some of them, if all take more words than a part may: those of the least counts.
+// A row with more slots is a part, if all would take more words than a part may have. It has the slots of least counts.
 const FEW_SLOTS: usize = 4096;
 
-// How many words a part of a row has.
+// The number of words of such a part.
 const MOST_WORDS_IN_PART: usize = 16777216;
 
-// A row has at most so many words, which are 2^36 bits.
+// The most words of a row: 2^36 bits.
 const MOST_WORDS_IN_ROW: usize = 1073741824;
 
-// All rows have at most so many words, as many as a list can be filled up to.
+// The most words of all rows, as many as `resize` allows.
 const MOST_WORDS: usize = 4294967296;
 
-// Sets the number of a place's row, in a list for so many places.
+// Sets the number of an address's row, in a list for so many addresses.
 #[inline(always)]
 fn set_number<A: Allocator>(
     numbers: &mut Vec<u32, A>,
@@ -114,7 +114,7 @@ fn set_number<A: Allocator>(
     Ok(())
 }
 
-// How many words a row gets that would have so many: where its slots are many it has a part of them.
+// The words of a row that would have `length` of them: with many slots it is a part.
 #[inline(always)]
 fn in_part(slots: usize, length: usize) -> usize
     ensures few { result ≤ length }
@@ -126,8 +126,8 @@ fn in_part(slots: usize, length: usize) -> usize
     length
 }
 
-// How many positions there are from `first` to `end`, and how many words their bits take behind those that are taken:
-// none where they are too many.
+// The number of positions from `first` to `end`, and of the words that their bits take after those taken; 0 if they are
+// too many.
 #[inline(always)]
 fn room(slots: usize, first: usize, end: usize, taken: usize) -> (usize, usize)
     requires { (slots ≤ 2 ^ 24) × (taken ≤ 2 ^ 32) }
@@ -149,7 +149,7 @@ fn room(slots: usize, first: usize, end: usize, taken: usize) -> (usize, usize)
 }
 
 impl<A: Allocator + Copy> Failures<A> {
-    /// No spots. It takes no memory.
+    /// No failures. It allocates nothing.
     #[inline(always)]
     pub fn new(alloc: A) -> Failures<A>
         ensures none { HoldsNone result }
@@ -165,7 +165,7 @@ impl<A: Allocator + Copy> Failures<A> {
 }
 
 impl<A: Allocator> Failures<A> {
-    /// How many words of bits there are.
+    /// The number of words of bits.
     #[inline(always)]
     pub fn words(&self) -> usize
         ensures { result ≡ length self.now.bits }
@@ -173,7 +173,7 @@ impl<A: Allocator> Failures<A> {
         self.bits.len()
     }
 
-    /// Takes all spots away; the memory is kept.
+    /// Drops all failures, and keeps the memory.
     #[inline(always)]
     pub fn forget(&mut self)
         ensures none { HoldsNone self.new }
@@ -184,12 +184,12 @@ impl<A: Allocator> Failures<A> {
         self.bits.clear();
     }
 
-    /// Makes a row for the place of a point under the loops of a board, for the positions from `first` to `end`, if it
-    /// has none. One that would be too large keeps nothing.
+    /// Makes a row for the address of a point, under the loops of a stack and for the positions from `first` to `end`,
+    /// unless it has one. A row that would be too large is left out.
     ///
     /// # Errors
     ///
-    /// [`Refusal`], where memory was refused. The spots that are kept stay so.
+    /// [`Refusal`] if an allocation fails. All failures stay memoized.
     #[inline(always)]
     pub fn prepare(
         &mut self,
@@ -211,7 +211,7 @@ impl<A: Allocator> Failures<A> {
         ensures there { IfOk result (λ _. (n : ℕ) → place_under point (repeats board.now.frames) ≡ Some n
             → Capacity words.now first end n (repeats board.now.frames) self.old → HasRow self.new n) }
     {
-        let _rows = self.rows.len(); // which are laid
+        let _rows = self.rows.len(); // which are laid out
         let (chains, innermost) = board.loops();
         let Some(place) = place_under(words, point, chains, innermost) else {
             return Ok(());
@@ -222,7 +222,7 @@ impl<A: Allocator> Failures<A> {
         self.add_row(words, board, point, place, first, end)
     }
 
-    // Makes a row for a point's place that has none.
+    // Makes a row for the address of a point that has none.
     #[inline(never)]
     fn add_row(
         &mut self,
@@ -269,7 +269,7 @@ impl<A: Allocator> Failures<A> {
         self.push_row(row, words.len())
     }
 
-    // Appends the row of a place that has none, one of so many places, with bits of its own.
+    // Appends the row of an address that has none, among `places` addresses, with its own bits.
     #[inline(always)]
     fn push_row(&mut self, row: Row, places: usize) -> Result<(), Refusal>
         requires base { row.base ≡ length self.old.bits }
@@ -293,7 +293,7 @@ impl<A: Allocator> Failures<A> {
         Ok(())
     }
 
-    // The row of a place, if it has one.
+    // The row of an address, if it has one.
     #[inline(always)]
     fn row(&self, place: usize) -> Option<Row>
         ensures laid { Laid self.now }
@@ -314,7 +314,7 @@ impl<A: Allocator> Failures<A> {
         Some(row)
     }
 
-    // Where the bit of a spot stands, if there is one for it: under the loops of a chain, inside a region or not.
+    // The bit of a configuration, if it has one, under the loops of a chain, inside or outside of an atomic scope.
     #[inline(always)]
     fn bit_under(
         &self,
@@ -354,7 +354,7 @@ impl<A: Allocator> Failures<A> {
         })
     }
 
-    // The same under the loops of a board, inside a region or not as it is.
+    // The bit of a configuration under the loops and the scopes of a stack.
     #[inline(always)]
     fn bit(&self, words: &[u32], board: &Board<A>, point: Point, position: usize) -> Option<Bit>
         ensures { let spot = spot_at point board.now.frames position board.now.marks in
@@ -366,7 +366,7 @@ impl<A: Allocator> Failures<A> {
         self.bit_under(words, chains, innermost, board.is_inside(), point, position)
     }
 
-    // The number of the bit of a spot inside a region, under the loops of a chain; none where it has no bit.
+    // The number of the bit of a configuration inside an atomic scope, under the loops of a chain, if it has one.
     #[inline(always)]
     pub(crate) fn number_under(
         &self,
@@ -383,13 +383,13 @@ impl<A: Allocator> Failures<A> {
             (λ n. NumberOf self.now words.now true spot n) }
         ensures laid { Laid self.now }
     {
-        let _words = self.bits.len(); // in which the rows are laid
+        let _words = self.bits.len(); // in which the rows lie
         let bit = self.bit_under(words, chains, innermost, true, point, position)?;
         Some(bit.word * 64 + bit.number as usize)
     }
 
-    /// The number of the bit of the spot at a point and a position, among the bits of all spots, under the loops of a
-    /// board and inside a region or not as it is; none where the spot has no bit.
+    /// The number, among all bits, of the bit of the configuration at a point and a position, under the loops and the
+    /// scopes of a stack. `None` if it has no bit.
     #[inline(never)]
     pub fn number(
         &self,
@@ -403,13 +403,12 @@ impl<A: Allocator> Failures<A> {
             (λ n. NumberOf self.now words.now (is_inside board.now.choices) spot n) }
         ensures laid { Laid self.now }
     {
-        let _words = self.bits.len(); // in which the rows are laid
+        let _words = self.bits.len(); // in which the rows lie
         let bit = self.bit(words, board, point, position)?;
         Some(bit.word * 64 + bit.number as usize)
     }
 
-    /// What is known of the spot at a point and a position, under the loops of a board and inside a region or not as it
-    /// is.
+    /// What is known of the configuration at a point and a position, under the loops and the scopes of a stack.
     #[inline(always)]
     pub fn known(&self, words: &[u32], board: &Board<A>, point: Point, position: usize) -> Known
         ensures told { Tells result self.now words.now (is_inside board.now.choices)
@@ -428,7 +427,7 @@ impl<A: Allocator> Failures<A> {
         }
     }
 
-    /// Keeps a spot, if there is a bit for it, and says whether there is one.
+    /// Memoizes that a configuration failed, if it has a bit. Returns whether it has one.
     #[inline(always)]
     pub fn keep(&mut self, words: &[u32], board: &Board<A>, point: Point, position: usize) -> bool
         ensures more { HoldsOneMore words.now (is_inside board.now.choices)

@@ -1,11 +1,10 @@
-//! What a run of the machine holds beside its place and position: the loops in progress, the marks,
-//! and what is still to be tried.
+//! The backtrack stack of a run: the loops in progress, the captures, and the choices that are still to be tried.
 //!
-//! All choices share one list of marks with a trail of its changes, and one table of loops. So a choice is a record of
-//! one size, and to go back takes no memory.
+//! All choices share one list of captures with an undo trail, and one table of loop frames. So a choice is a record of
+//! fixed size, and backtracking allocates nothing.
 //!
-//! Beside a board stand the spots of which nothing came, so that one that is alike is left at once. There is a table of
-//! where the bodies of regions end, too, so that the machine goes there at once.
+//! Beside the stack are two tables of a search: memoized failures, so that the machine tries no equivalent
+//! configuration twice, and memoized ends of atomic scopes.
 #![tactic(auto)]
 
 mod board;

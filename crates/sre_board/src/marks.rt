@@ -1,4 +1,4 @@
-//! Marks: the positions that a match has set.
+//! [`Marks`]: the captures of a match.
 
 ghost use Rattle.std.specs.Prelude.{◌≡◌, ℕ, ◌+◌, ◌*◌, ◌^◌, ◌<◌, ◌≤◌, length, Option, None, Some, IfOk, true};
 ghost use Rattle.std.specs.Prelude.{slice_index_or, slice_set};
@@ -9,17 +9,17 @@ use sre_growth::Refusal;
 use std::alloc::Allocator;
 use std::marker::Model;
 
-/// The positions of the marks that a match has set, and the index of the group that was closed last.
+/// The positions of the capture slots that a match has set, and the group that was closed last.
 ///
-/// Marks `2 * g` and `2 * g + 1` are the start and the end of group `g`, counted from 0. Positions count characters.
+/// Slots `2 * g` and `2 * g + 1` are the start and the end of group `g`, counted from 0. Positions count characters.
 #[derive(Drop)]
 pub struct Marks<A: Allocator> {
     raw: Vec<Option<usize>, A>,
-    // 0 where no group was closed
+    // 0 if no group was closed
     last: u32,
 }
 
-/// What stood at a mark before it was set.
+/// What a capture slot held before it was set.
 #[derive(Clone, Copy)]
 pub enum Former {
     /// Nothing: the list ended before it, and had this length.
@@ -30,7 +30,7 @@ pub enum Former {
     At(usize),
 }
 
-/// What takes the setting of a mark back: what stood there, and the last index, 0 where there was none.
+/// The undo record of a slot's setting: what the slot held, and the last index, or 0 if there was none.
 #[derive(Clone, Copy)]
 pub struct Change {
     pub former: Former,
@@ -46,7 +46,7 @@ impl<A: Allocator> Model for Marks<A> {
     ghost view = { λ m. record { raw = m.raw.items; last = index_of m.last } };
 }
 
-// What stands at an entry.
+// What an entry holds.
 #[inline(always)]
 fn former_at(raw: &[Option<usize>], entry: usize) -> Former
     ensures { (value : Option ℕ) → restored result entry (slice_set (lengthened entry raw.now) entry value) ≡ raw.now }
@@ -60,7 +60,7 @@ fn former_at(raw: &[Option<usize>], entry: usize) -> Former
     }
 }
 
-// Puts back what stood at an entry.
+// Restores what an entry held.
 #[inline(always)]
 fn restore<A: Allocator>(raw: &mut Vec<Option<usize>, A>, entry: usize, former: Former)
     ensures { raw.new.items ≡ restored former entry raw.old.items }
@@ -82,8 +82,8 @@ fn put<A: Allocator>(raw: &mut Vec<Option<usize>, A>, entry: usize, value: Optio
     }
 }
 
-// Sets an entry of a list that is lengthened with absent ones where it is shorter; on an error it is as it was. Most
-// marks are set in turn, so that an entry is the next one.
+// Sets an entry, and pads a shorter list with absent ones. On an error the list is unchanged. Most slots are set in
+// order, so the entry is mostly the next one.
 #[inline(always)]
 fn set_entry<A: Allocator>(
     raw: &mut Vec<Option<usize>, A>,
@@ -105,7 +105,7 @@ fn set_entry<A: Allocator>(
 }
 
 impl<A: Allocator> Marks<A> {
-    /// No marks: an empty list, and the last index -1. It takes no memory.
+    /// No captures: an empty list, and the last index -1. It allocates nothing.
     pub fn new(alloc: A) -> Marks<A>
         ensures { result ≡ no_marks }
     {
@@ -115,14 +115,14 @@ impl<A: Allocator> Marks<A> {
         }
     }
 
-    /// The position of each mark up to the greatest one that is set; one in between that is not set is `None`.
+    /// The position of each capture slot up to the last one that is set; `None` for a slot before it that is not set.
     pub fn raw(&self) -> &[Option<usize>]
         ensures { result.now ≡ self.now.raw }
     {
         self.raw.as_slice()
     }
 
-    /// The index of the group that was closed last, counted from 1; -1 where there is none.
+    /// The number of the group that was closed last, counted from 1; -1 if there is none.
     pub fn last_index(&self) -> isize
         ensures { result ≡ self.now.last }
     {
@@ -133,7 +133,7 @@ impl<A: Allocator> Marks<A> {
         }
     }
 
-    /// The start and the end of group `group`: two `None` where its end lies past the list.
+    /// Start and end of group `group`: two `None` if its end is past the list.
     ///
     /// **Groups count from 0 here**: number 0 is the pattern's first group, which Python and `last_index` number 1.
     pub fn get(&self, group: usize) -> (Option<usize>, Option<usize>)
@@ -150,7 +150,7 @@ impl<A: Allocator> Marks<A> {
         }
     }
 
-    // Whether mark `n` is set to `position`.
+    // Whether slot `n` is set to `position`.
     #[inline(always)]
     pub(crate) fn stands_at(&self, n: u32, position: usize) -> bool
         ensures { result ≡ true → mark_at self.now n ≡ Some position }
@@ -159,7 +159,7 @@ impl<A: Allocator> Marks<A> {
         entry < self.raw.len() && self.raw[entry] == Some(position)
     }
 
-    // Takes all marks away; the memory is kept.
+    // Drops all captures, and keeps the memory.
     #[inline(always)]
     pub(crate) fn clear(&mut self)
         ensures { self.new ≡ no_marks }
@@ -168,7 +168,7 @@ impl<A: Allocator> Marks<A> {
         self.last = 0;
     }
 
-    // Sets mark `n` to `position`; on an error the marks are as they were.
+    // Sets slot `n` to `position`. On an error the captures are unchanged.
     #[inline(always)]
     pub(crate) fn set(&mut self, n: u32, position: usize) -> Result<(), Refusal>
         ensures { IfOk result (λ _. self.new ≡ set_mark self.old n position) }
@@ -180,7 +180,7 @@ impl<A: Allocator> Marks<A> {
         Ok(())
     }
 
-    // What takes the setting of mark `n` back.
+    // The undo record for setting slot `n`.
     #[inline(always)]
     pub(crate) fn change(&self, n: u32) -> Change
         ensures { (position : ℕ) → undo result (set_mark self.now n position) ≡ self.now }
@@ -192,7 +192,7 @@ impl<A: Allocator> Marks<A> {
         }
     }
 
-    // Takes a change back.
+    // Undoes a change.
     #[inline(always)]
     pub(crate) fn undo(&mut self, change: Change)
         ensures { self.new ≡ undo change self.old }

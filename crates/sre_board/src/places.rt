@@ -1,6 +1,6 @@
-//! The place of what may be tried: an instruction has its own, and a possessive loop, before a body or its end, that of
-//! its first operand, where no instruction is. So a place of the words has one row at most. And what a list says of the
-//! places where the loops in progress have their bodies.
+//! The address under which a point is memoized, so that each address has at most one row. An instruction has its own. A
+//! possessive loop, before a body or its end, has that of its first operand, where no instruction is. Also what a list
+//! says of the addresses at which the bodies of the loops in progress begin.
 
 ghost use Rattle.std.specs.Prelude.{◌≡◌, ℕ, ◌+◌, ◌<◌, [], length, MatchOption, Some, true, slice_get, slice_index_or};
 ghost use Rattle.sre_turns.specs.Nested.{repeats, place_under, is_again};
@@ -30,7 +30,7 @@ pub(crate) fn is_again(point: Point) -> bool
     }
 }
 
-// The place of the innermost loop's first operand; none where no loop is in progress, or where its words are not there.
+// The address of the innermost loop's first operand, if a loop is in progress and its words exist.
 #[inline(always)]
 fn loop_place<A: Allocator>(words: &[u32], chains: &Chains<A>, innermost: usize) -> Option<usize>
     requires { innermost < length chains.now }
@@ -38,14 +38,14 @@ fn loop_place<A: Allocator>(words: &[u32], chains: &Chains<A>, innermost: usize)
         ((n : ℕ) → place_under Again (repeats frames) ≡ Some n → AreRead words.now frames → ⊥)
         (λ n. place_under Again (repeats frames) ≡ Some n) }
 {
-    let _words = words.len(); // within which the loops' words are
+    let _words = words.len(); // within which the loops' words lie
     if chains.is_empty(innermost) {
         return None;
     }
     chains.node(innermost).repeat.checked_add(1)
 }
 
-/// The place of a point under the loops of a chain, if it has one whose words are there.
+/// The address of a point under the loops of a chain, if it has one and its words exist.
 #[inline(always)]
 pub(crate) fn place_under<A: Allocator>(
     words: &[u32],
@@ -70,7 +70,7 @@ pub(crate) fn place_under<A: Allocator>(
     }
 }
 
-// Whether a list says yes of the place where a body of a loop begins.
+// Whether a list has `true` for the address at which a body of a loop begins.
 #[inline(always)]
 fn says_of_body(list: &[bool], repeat: usize) -> bool
     ensures { result ≡ true → slice_get list.now (repeat + 4) ≡ Some true }
@@ -84,7 +84,7 @@ fn says_of_body(list: &[bool], repeat: usize) -> bool
     }
 }
 
-// The same of each loop of a chain.
+// Whether it has that for each loop of a chain.
 #[inline(always)]
 fn says_of_bodies<A: Allocator>(list: &[bool], chains: &Chains<A>, innermost: usize) -> bool
     requires { innermost < length chains.now }
@@ -102,7 +102,7 @@ fn says_of_bodies<A: Allocator>(list: &[bool], chains: &Chains<A>, innermost: us
 }
 
 impl<A: Allocator> Board<A> {
-    /// Whether a list says yes of the place where a body of each loop in progress begins.
+    /// Whether a list has `true` for the address at which the body of each loop in progress begins.
     #[inline(always)]
     pub fn are_bodies_in(&self, list: &[bool]) -> bool
         ensures { result ≡ true → SaysOfBodies list.now self.now.frames }

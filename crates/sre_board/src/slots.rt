@@ -1,6 +1,8 @@
-//! The loops in progress as one number, their slot: of each the count and whether its last body began here.
+//! A slot: the counter states of the loops in progress as one number. Of each loop it has the count, and whether the
+//! last body began at this position.
 //!
-//! Of each list of loops' places, innermost first, a row has as many slots as there are such numbers, or it has none.
+//! A row belongs to a list of loop addresses, innermost first. It has as many slots as these loops have such states, or
+//! the list has no row.
 
 ghost use Rattle.std.specs.Prelude.{◌≡◌, ℕ, ◌+◌, ◌*◌, ◌^◌, ◌<◌, ◌≤◌, List, [], ◌++◌, length};
 ghost use Rattle.std.specs.Prelude.{MatchOption, IfOk, slice_index_or};
@@ -14,10 +16,10 @@ use sre_growth::Refusal;
 use sre_turns::Frame;
 use std::alloc::Allocator;
 
-// A row has at most so many slots.
+// The most slots of a row.
 const MOST_SLOTS: usize = 16777216;
 
-// Up to which number the bodies of the loop at a place are counted, if its words are there.
+// The number up to which the bodies of a loop are counted, if its words exist.
 #[inline(always)]
 fn counted_at(words: &[u32], repeat: usize) -> Option<usize>
     ensures { MatchOption result (length words.now ≤ repeat + 3)
@@ -34,7 +36,7 @@ fn counted_at(words: &[u32], repeat: usize) -> Option<usize>
     Some(low.max(high) as usize)
 }
 
-// Whether a loop's last body began at a position; none where it began behind it.
+// Whether a loop's last body began at a position. `None` if it began after it.
 #[inline(always)]
 fn is_here(last: Option<usize>, position: usize) -> Option<bool>
     ensures { MatchOption result (IsPassed last position → ⊥)
@@ -47,7 +49,7 @@ fn is_here(last: Option<usize>, position: usize) -> Option<bool>
     }
 }
 
-// The slot of the inner loops with one loop more, if there is one.
+// The slot with one more loop, from that of the loops inside it, if there is one.
 #[inline(always)]
 fn with_loop(words: &[u32], frame: Frame, position: usize, slot: usize) -> Option<usize>
     requires { slot < 2 ^ 24 }
@@ -103,7 +105,7 @@ pub(crate) fn slot_of<A: Allocator>(
     Some(slot)
 }
 
-// How many slots there are with one loop more: none where they are too many, or its words are not there.
+// The number of slots with one more loop; 0 if they are too many, or the loop's words do not exist.
 #[inline(always)]
 fn more_slots(words: &[u32], repeat: usize, slots: usize) -> usize
     ensures few { result ≤ 2 ^ 24 }
@@ -117,8 +119,8 @@ fn more_slots(words: &[u32], repeat: usize, slots: usize) -> usize
     if all > MOST_SLOTS { 0 } else { all }
 }
 
-// Appends the places of the loops in progress, innermost first, and says how many slots they have. Where these are too
-// many it says none, and none of the places stays: else those of loops in loops would take the square of their depth.
+// Appends the addresses of the loops in progress, innermost first, and returns their number of slots. If these are too
+// many it returns 0 and appends nothing. Otherwise the addresses of nested loops would take the square of their depth.
 #[inline(always)]
 pub(crate) fn add_shape<A: Allocator>(
     shapes: &mut Vec<usize, A>,

@@ -1,7 +1,7 @@
-//! The trail: marks whose changes can be taken back.
+//! The trail: captures whose changes can be undone.
 //!
-//! What the marks are now is held once, and each change says what stood there before. So a choice that remembers the
-//! marks remembers a length of the trail alone.
+//! The present captures are stored once, and each change says what its slot held before. So a choice stores its
+//! captures as a length of the trail.
 
 ghost use Rattle.std.specs.Prelude.{◌≡◌, ◌+◌, ◌<◌, ◌≤◌, [], length, take, IfOk};
 ghost use Rattle.sre_model.specs.Marks.{no_marks, set_mark};
@@ -12,7 +12,7 @@ use sre_growth::Refusal;
 use std::alloc::Allocator;
 use std::marker::Model;
 
-/// Marks, and the changes that can be taken back, oldest first.
+/// Captures, and the changes that can be undone, oldest first.
 #[derive(Drop)]
 pub(crate) struct Trail<A: Allocator> {
     marks: Marks<A>,
@@ -28,7 +28,7 @@ impl<A: Allocator> Model for Trail<A> {
 }
 
 impl<A: Allocator + Copy> Trail<A> {
-    /// No marks. It takes no memory.
+    /// No captures. It allocates nothing.
     #[inline(always)]
     pub(crate) fn new(alloc: A) -> Trail<A>
         ensures { result ≡ record { past = []; now = no_marks } }
@@ -41,7 +41,7 @@ impl<A: Allocator + Copy> Trail<A> {
 }
 
 impl<A: Allocator> Trail<A> {
-    /// The marks now.
+    /// The present captures.
     #[inline(always)]
     pub(crate) fn marks(&self) -> &Marks<A>
         ensures { result.now ≡ self.now.now }
@@ -49,7 +49,7 @@ impl<A: Allocator> Trail<A> {
         &self.marks
     }
 
-    /// How many changes can be taken back.
+    /// The number of changes that can be undone.
     #[inline(always)]
     pub(crate) fn length(&self) -> usize
         ensures { result ≡ length self.now.past }
@@ -57,7 +57,7 @@ impl<A: Allocator> Trail<A> {
         self.changes.len()
     }
 
-    /// Takes all marks away, for good; the memory is kept.
+    /// Drops all captures for good, and keeps the memory.
     #[inline(always)]
     pub(crate) fn clear(&mut self)
         ensures { self.new ≡ record { past = []; now = no_marks } }
@@ -66,7 +66,7 @@ impl<A: Allocator> Trail<A> {
         self.changes.clear();
     }
 
-    // Sets mark `n` to `position`.
+    // Sets slot `n` to `position`.
     #[inline(always)]
     fn set(&mut self, n: u32, position: usize) -> Result<(), Refusal>
         ensures set { IfOk result
@@ -77,9 +77,9 @@ impl<A: Allocator> Trail<A> {
         self.marks.set(n, position)
     }
 
-    /// Sets mark `n` to `position`, where the marks before the first `needed` changes and behind them are needed still.
-    /// Where it stands there already no change is added, but for one of the last index behind what is needed: so a
-    /// group that is matched again and again at one place takes no memory.
+    /// Sets slot `n` to `position`. All states up to the first `needed` changes stay restorable. A slot that already
+    /// holds the position adds no change, unless it is an end and no later change can restore the last index. So a
+    /// group that matches repeatedly at one position takes no memory.
     #[inline(always)]
     pub(crate) fn set_behind(
         &mut self,
@@ -102,7 +102,7 @@ impl<A: Allocator> Trail<A> {
         self.set(n, position)
     }
 
-    /// Sets mark `n` to `position`, for good, with all changes before.
+    /// Sets slot `n` to `position` for good, and drops all changes.
     #[inline(always)]
     pub(crate) fn set_for_good(&mut self, n: u32, position: usize) -> Result<(), Refusal>
         ensures { IfOk result (λ _. self.new ≡ record { past = []; now = set_mark self.old.now n position }) }
@@ -111,7 +111,7 @@ impl<A: Allocator> Trail<A> {
         self.marks.set(n, position)
     }
 
-    // Takes the newest change back.
+    // Undoes the newest change.
     #[inline(always)]
     fn undo(&mut self)
         requires { 0 < length self.old.past }
@@ -122,7 +122,7 @@ impl<A: Allocator> Trail<A> {
         }
     }
 
-    /// Takes changes back, newest first, until `keep` are left. It takes no memory.
+    /// Undoes changes, newest first, until `keep` are left. It allocates nothing.
     #[inline(always)]
     pub(crate) fn back(&mut self, keep: usize)
         requires { keep ≤ length self.old.past }

@@ -3,4 +3,4 @@ pub mod Rows
 pub mod Walks
 pub mod Knowing
 pub mod SpanRows
-pub mod Turns
+pub mod OtherLimits

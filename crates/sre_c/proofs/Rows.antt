@@ -58,7 +58,7 @@ match_given it next (Some true) said is = said
 match_given it next (Some false) said is = absurd (cc)
 match_given it next None said is = absurd (cc)
 
--- a step of a walk that is written so far gives one match more
+-- of a walk that is written so far one match more is found
 module _ {S A : Type 0} {text : Ghosts S} (first : Request S text) (it next : SearchIter S A text) (width : ℕ)
     (w u : SreWalked) (old new : List ℕ) (before : IsSoFar first (request_of it) width w old) (gives : Gives it next)
     (start : u.start ≡ start_of (request_of next)) (advance : u.must_advance ≡ must_advance_of (request_of next)) where

@@ -18,7 +18,7 @@ use Rattle.sre_c.specs.Walked.{IsRow, IsWritten}
 use Rattle.sre_c.specs.Rows.{IsSoFar}
 use Rattle.sre_c.proofs.Rows.{one_written}
 
--- a step of a walk that is written so far gives one match more, which is then shown, or not
+-- of a walk that is written so far one match more is found, which is then shown, or not
 module _ {S A : Type 0} {text : Ghosts S} (first : Request S text) (it next shown : SpanIter S A text) (span : Span)
     (width : ℕ) (w u : SreWalked) (old new : List ℕ) (before : IsSoFar first (request_of it) width w old)
     (gives : GivesSpan it span next) (req : request_of shown ≡ request_of next)

@@ -7,7 +7,7 @@ use Rattle.sre_code.specs.Codes.{words_of}
 use Rattle.sre_request.specs.declared.request.Request.{Request}
 use Rattle.sre_engine.specs.Requests.{code_of, asked_of}
 use Rattle.sre_c.specs.declared.status.Status.{Status}
-use Rattle.sre_c.specs.declared.status.Status.TheVariants.{No, Yes, UsedUp, Memory, NoCode, NoRoom}
+use Rattle.sre_c.specs.declared.status.Status.TheVariants.{No, Yes, StepLimit, Memory, NoCode, NoRoom}
 use Rattle.sre_c.specs.declared.status.Status.TheVariants.{NotUtf8, FaultyTable}
 use Rattle.sre_c.specs.declared.code.SreCode.{SreCode}
 use Rattle.sre_c.specs.declared.types.SreAsked.{SreAsked}
@@ -38,7 +38,7 @@ module _ {S : Type 0} {text : Ghosts S} (first next : Request S text) (c : SreCo
       (so_far.written t (subst (λ ws. Whole ws t) (sym words) whole)))
 
   -- what the status says
-  pub walks_of : (status : Status) → WritesRows status first next a.turns width w rows
+  pub walks_of : (status : Status) → WritesRows status first next a.steps width w rows
       → Walks status c chars a width w rows
   walks_of No said = (
     code,
@@ -46,13 +46,13 @@ module _ {S : Type 0} {text : Ghosts S} (first next : Request S text) (c : SreCo
         (said t (subst (λ ws. Whole ws t) (sym words) whole)),
   )
   walks_of NoRoom said = (code, up_to said.0, said.1)
-  walks_of UsedUp said = (
+  walks_of StepLimit said = (
     code,
     up_to said.0,
     said.1,
-    λ enough. said.2 (enough_of (code_of next) (asked_of next) w.step_turns
-        (subst (λ ws. IsEnough ws (asked_of next) w.step_turns) (sym (ap words_of said.0.code ∙ words))
-        (subst (λ b. IsEnough c.words.now b w.step_turns) (sym (next_is said.0)) enough))),
+    λ enough. said.2 (enough_of (code_of next) (asked_of next) w.steps_before
+        (subst (λ ws. IsEnough ws (asked_of next) w.steps_before) (sym (ap words_of said.0.code ∙ words))
+        (subst (λ b. IsEnough c.words.now b w.steps_before) (sym (next_is said.0)) enough))),
     said.3,
   )
   walks_of Memory said = (said.0, up_to said.1)

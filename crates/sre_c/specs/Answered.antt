@@ -7,7 +7,7 @@ use Rattle.sre_model.specs.Marks.{mark_at}
 use Rattle.sre_model.specs.Found.{Match}
 use Rattle.sre_growth.specs.Refusal.{Refused}
 use Rattle.sre_c.specs.declared.status.Status.{Status}
-use Rattle.sre_c.specs.declared.status.Status.TheVariants.{No, Yes, UsedUp, Memory, NoCode, NoRoom}
+use Rattle.sre_c.specs.declared.status.Status.TheVariants.{No, Yes, StepLimit, Memory, NoCode, NoRoom}
 use Rattle.sre_c.specs.declared.status.Status.TheVariants.{NotUtf8, FaultyTable}
 use Rattle.sre_c.specs.declared.code.SreCode.{SreCode}
 use Rattle.sre_c.specs.declared.types.SreAsked.{SreAsked}
@@ -39,8 +39,8 @@ pub record HasMatch (o : Option Match) (says : Match → Type 0) : Type 0 where
   pub there : o ≡ Some match
   pub said : says match
 
--- the answer for the characters of a text, with room for so many marks; used up are the turns only where they are gone,
--- and not where they are enough, unless memory was refused
+-- the answer for the characters of a text, with room for so many marks; the step limit is exceeded only if no step is
+-- left, and not within a sufficient budget, unless an allocation failed
 abbrev pub Answers : Status → SreCode → List ℕ → SreAsked → ℕ → SreFound → List ℕ → Type 0
 Answers No c text a room f marks = IsCode c.words.now × OfTree c a text (λ asked t. model_of a asked t ≡ None)
 Answers Yes c text a room f marks =
@@ -48,9 +48,9 @@ Answers Yes c text a room f marks =
 Answers NoRoom c text a room f marks =
     IsCode c.words.now × OfTree c a text (λ asked t. HasMatch (model_of a asked t) (λ m. IsFound m f))
     × (room < f.marks)
-Answers UsedUp c text a room f marks =
-    IsCode c.words.now × (f.turns ≡ 0)
-    × (IsEnough c.words.now (asked_in a (table_in c.table.now) text) a.turns → Refused)
+Answers StepLimit c text a room f marks =
+    IsCode c.words.now × (f.steps ≡ 0)
+    × (IsEnough c.words.now (asked_in a (table_in c.table.now) text) a.steps → Refused)
 Answers Memory c text a room f marks = Refused
 Answers NoCode c text a room f marks = (t : Tree) → (Whole c.words.now t → ⊥)
 Answers FaultyTable c text a room f marks = IsFaulty c.table.now

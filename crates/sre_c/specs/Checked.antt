@@ -11,7 +11,7 @@ use Rattle.sre_code.specs.Refusals.{refusal_number, place_of}
 use Rattle.sre_code.specs.declared.code.error.CodeError.{CodeError}
 use Rattle.sre_code.specs.declared.code.error.CodeError.TheVariants as code_error
 use Rattle.sre_c.specs.declared.status.Status.{Status}
-use Rattle.sre_c.specs.declared.status.Status.TheVariants.{No, Yes, UsedUp, Memory, NoCode, NoRoom}
+use Rattle.sre_c.specs.declared.status.Status.TheVariants.{No, Yes, StepLimit, Memory, NoCode, NoRoom}
 use Rattle.sre_c.specs.declared.status.Status.TheVariants.{NotUtf8, FaultyTable}
 use Rattle.sre_c.specs.declared.types.SreTable.{SreTable}
 use Rattle.sre_c.specs.declared.code.SreCode.{SreCode}
@@ -29,7 +29,7 @@ TableChecked FaultyTable t =
     × (t.checked ≡ false)
 TableChecked Memory t = ⊥
 TableChecked No t = ⊥
-TableChecked UsedUp t = ⊥
+TableChecked StepLimit t = ⊥
 TableChecked NoCode t = ⊥
 TableChecked NoRoom t = ⊥
 TableChecked NotUtf8 t = ⊥
@@ -51,6 +51,6 @@ CodeChecked NoCode c = ((t : Tree) → (Whole c.words.now t → ⊥)) × IsRefus
 CodeChecked Memory c = Refused
 CodeChecked FaultyTable c = IsFaulty c.table.now
 CodeChecked No c = ⊥
-CodeChecked UsedUp c = ⊥
+CodeChecked StepLimit c = ⊥
 CodeChecked NoRoom c = ⊥
 CodeChecked NotUtf8 c = ⊥

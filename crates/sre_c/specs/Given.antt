@@ -7,7 +7,7 @@ use Rattle.sre_chars.specs.Tables.{Table}
 use Rattle.sre_model.specs.Tree.{Tree}
 use Rattle.sre_model.specs.Grammar.{Whole, behind_block}
 use Rattle.sre_model.specs.Found.{Asked, Match, matched, found}
-use Rattle.sre_model.specs.Remembered.{IsRemembered, enough_turns}
+use Rattle.sre_model.specs.Remembered.{IsRemembered, step_bound}
 use Rattle.sre_c.specs.declared.status.Status.{Status}
 use Rattle.sre_c.specs.declared.status.Status.TheVariants.{NotUtf8}
 use Rattle.sre_c.specs.declared.code.SreCode.{SreCode}
@@ -34,12 +34,12 @@ model_of a asked t = cond a.search (found asked t) (matched asked t)
 abbrev pub OfTree : SreCode → SreAsked → List ℕ → (Asked → Tree → Type 0) → Type 0
 OfTree c a text says = (t : Tree) → Whole c.words.now t → says (asked_in a (table_in c.table.now) text) t
 
--- so many turns are enough to know an answer, unless memory is refused
-pub record IsEnough (words : List ℕ) (a : Asked) (turns : ℕ) : Type 0 where
+-- so many steps suffice for an answer, unless an allocation fails
+pub record IsEnough (words : List ℕ) (a : Asked) (steps : ℕ) : Type 0 where
   pub tree : Tree
   pub whole : Whole words tree
   pub remembered : IsRemembered (length (behind_block words)) tree a
-  pub more : enough_turns (length (behind_block words)) tree a < turns
+  pub more : step_bound tree a < steps
 
 -- a fact of the characters of bytes that are UTF-8, or the status of bytes that are not
 abbrev pub InUtf8 : Status → List ℕ → (List ℕ → Type 0) → Type 0

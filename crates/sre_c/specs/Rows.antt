@@ -11,7 +11,7 @@ use Rattle.sre_engine.specs.Requests.{end_of, code_of, asked_of}
 use Rattle.sre_engine.specs.Counts.{AreEnough}
 use Rattle.sre_request.specs.declared.request.Request.{Request}
 use Rattle.sre_c.specs.declared.status.Status.{Status}
-use Rattle.sre_c.specs.declared.status.Status.TheVariants.{No, Yes, UsedUp, Memory, NoCode, NoRoom}
+use Rattle.sre_c.specs.declared.status.Status.TheVariants.{No, Yes, StepLimit, Memory, NoCode, NoRoom}
 use Rattle.sre_c.specs.declared.status.Status.TheVariants.{NotUtf8, FaultyTable}
 use Rattle.sre_c.specs.declared.types.SreWalked.{SreWalked}
 use Rattle.sre_c.specs.Walked.{IsWritten}
@@ -28,20 +28,20 @@ pub record IsSoFar {S : Type 0} {text : Ghosts S} (first next : Request S text) 
 -- what a status says of rows that are written
 abbrev pub WritesRows : {S : Type 0} {text : Ghosts S}
     → Status → Request S text → Request S text → ℕ → ℕ → SreWalked → List ℕ → Type 0
-WritesRows No first next turns width w rows =
+WritesRows No first next steps width w rows =
     (t : Tree) → Whole (words_of (code_of first)) t → IsWritten (walk (asked_of first) t) [] width w rows
-WritesRows NoRoom first next turns width w rows =
+WritesRows NoRoom first next steps width w rows =
     IsSoFar first next width w rows × ((width ≡ 0) ⊎ (length rows < w.count * width + width))
-WritesRows UsedUp first next turns width w rows =
-    IsSoFar first next width w rows × (w.turns ≡ 0)
-    × (AreEnough (asked_of next) (code_of next) w.step_turns → Refused) × (w.count ≡ 0 → w.step_turns ≡ turns)
-WritesRows Memory first next turns width w rows = Refused × IsSoFar first next width w rows
-WritesRows Yes first next turns width w rows = ⊥
-WritesRows NoCode first next turns width w rows = ⊥
-WritesRows NotUtf8 first next turns width w rows = ⊥
-WritesRows FaultyTable first next turns width w rows = ⊥
+WritesRows StepLimit first next steps width w rows =
+    IsSoFar first next width w rows × (w.steps ≡ 0)
+    × (AreEnough (asked_of next) (code_of next) w.steps_before → Refused) × (w.count ≡ 0 → w.steps_before ≡ steps)
+WritesRows Memory first next steps width w rows = Refused × IsSoFar first next width w rows
+WritesRows Yes first next steps width w rows = ⊥
+WritesRows NoCode first next steps width w rows = ⊥
+WritesRows NotUtf8 first next steps width w rows = ⊥
+WritesRows FaultyTable first next steps width w rows = ⊥
 
 -- the same of rows after which some request is next
 abbrev pub Writes : {S : Type 0} {text : Ghosts S} → Status → Request S text → ℕ → ℕ → SreWalked → List ℕ → Type 0
-Writes {S = S} {text = text} status first turns width w rows =
-    (next : Request S text) × WritesRows status first next turns width w rows
+Writes {S = S} {text = text} status first steps width w rows =
+    (next : Request S text) × WritesRows status first next steps width w rows

@@ -2,14 +2,14 @@
 -- Public clauses rest on it.
 use Rattle.std.specs.Prelude.{ℕ, ◌≡◌}
 use Rattle.sre_c.specs.declared.status.Status.{Status}
-use Rattle.sre_c.specs.declared.status.Status.TheVariants.{No, Yes, UsedUp, Memory, NoCode, NoRoom}
+use Rattle.sre_c.specs.declared.status.Status.TheVariants.{No, Yes, StepLimit, Memory, NoCode, NoRoom}
 use Rattle.sre_c.specs.declared.status.Status.TheVariants.{NotUtf8, FaultyTable}
 
 -- the number of a status
 abbrev pub status_number : Status → ℕ
 status_number No = 0
 status_number Yes = 1
-status_number UsedUp = 2
+status_number StepLimit = 2
 status_number Memory = 3
 status_number NoCode = 4
 status_number NoRoom = 5

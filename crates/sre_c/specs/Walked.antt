@@ -8,7 +8,7 @@ use Rattle.sre_model.specs.Marks.{mark_at}
 use Rattle.sre_model.specs.Found.{Match, walk}
 use Rattle.sre_growth.specs.Refusal.{Refused}
 use Rattle.sre_c.specs.declared.status.Status.{Status}
-use Rattle.sre_c.specs.declared.status.Status.TheVariants.{No, Yes, UsedUp, Memory, NoCode, NoRoom}
+use Rattle.sre_c.specs.declared.status.Status.TheVariants.{No, Yes, StepLimit, Memory, NoCode, NoRoom}
 use Rattle.sre_c.specs.declared.status.Status.TheVariants.{NotUtf8, FaultyTable}
 use Rattle.sre_c.specs.declared.code.SreCode.{SreCode}
 use Rattle.sre_c.specs.declared.types.SreAsked.{SreAsked}
@@ -61,23 +61,23 @@ abbrev pub begun_of : SreAsked → SreWalked
 begun_of a = record {
   count = 0;
   start = a.start;
-  turns = a.turns;
-  step_turns = a.turns;
+  steps = a.steps;
+  steps_before = a.steps;
   must_advance = a.must_advance;
 }
 
--- the walk over the characters of a text, in rows of so many numbers; used up are the turns only where they are gone,
--- and not where those of the last step were enough for it, unless memory was refused
+-- the walk over the characters of a text, in rows of so many numbers; the step limit is exceeded only if no step is
+-- left, and not if those left before the last match sufficed for it, unless an allocation failed
 abbrev pub Walks : Status → SreCode → List ℕ → SreAsked → ℕ → SreWalked → List ℕ → Type 0
 Walks No c text a width w rows =
     IsCode c.words.now × OfTree c a text (λ asked t. IsWritten (walk asked t) [] width w rows)
 Walks NoRoom c text a width w rows =
     IsCode c.words.now × IsUpTo c text a width w rows
     × ((width ≡ 0) ⊎ (length rows < w.count * width + width))
-Walks UsedUp c text a width w rows =
-    IsCode c.words.now × IsUpTo c text a width w rows × (w.turns ≡ 0)
-    × (IsEnough c.words.now (asked_in (asked_next a w) (table_in c.table.now) text) w.step_turns → Refused)
-    × (w.count ≡ 0 → w.step_turns ≡ a.turns)
+Walks StepLimit c text a width w rows =
+    IsCode c.words.now × IsUpTo c text a width w rows × (w.steps ≡ 0)
+    × (IsEnough c.words.now (asked_in (asked_next a w) (table_in c.table.now) text) w.steps_before → Refused)
+    × (w.count ≡ 0 → w.steps_before ≡ a.steps)
 Walks Memory c text a width w rows = Refused × IsUpTo c text a width w rows
 Walks NoCode c text a width w rows = ((t : Tree) → (Whole c.words.now t → ⊥)) × (w.count ≡ 0)
 Walks FaultyTable c text a width w rows = IsFaulty c.table.now × (w.count ≡ 0)

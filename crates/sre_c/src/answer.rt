@@ -1,4 +1,4 @@
-//! The answer for a code, what is asked, and a text of any type.
+//! The answer for a code, a request and a text of any type.
 
 ghost use Rattle.std.specs.Prelude.{◌≡◌, ◌<◌, ◌≤◌, ℕ, length, slice_index, slice_index_or, None, true, false, cond};
 ghost use Rattle.std.specs.Prelude.{IfOk, IfSome, OnErr};
@@ -13,7 +13,7 @@ ghost use Rattle.sre_c.specs.Known.{table_in};
 ghost use Rattle.sre_c.specs.Given.{asked_in, IsEnough};
 ghost use Rattle.sre_c.specs.Answered.{mark_number, IsFound, IsTold, Answers};
 
-use crate::asks::Asks;
+use crate::asks::{Asks, NO_LIMIT, answered};
 use crate::check;
 use crate::code::SreCode;
 use crate::status::Status;
@@ -22,7 +22,7 @@ use crate::types::{SreAsked, SreFound};
 use sre_engine::{Code, CodeError, EmptyRule, LentTable, Request, SreError, State, StrDrive};
 use std::alloc::Global;
 
-/// The request for a code in a text.
+/// The request for a code over a text.
 pub fn request<'a, S: StrDrive>(text: S, asked: &SreAsked, code: Code<'a>) -> Request<'a, S>
     ensures asked { asked_of result ≡ asked_in asked.now (uni_of code.entry) (S.text text) }
     ensures code { code_of result ≡ code.entry }
@@ -35,7 +35,7 @@ pub fn request<'a, S: StrDrive>(text: S, asked: &SreAsked, code: Code<'a>) -> Re
     request
 }
 
-/// A mark as a number.
+/// A capture slot as a number; an unset one is the greatest number.
 #[inline(always)]
 pub fn mark_number(mark: Option<usize>) -> usize
     ensures { result ≡ mark_number mark }
@@ -46,7 +46,7 @@ pub fn mark_number(mark: Option<usize>) -> usize
     }
 }
 
-// Copies marks: whether they fit.
+// Copies capture slots, and returns whether they fit.
 fn copy_marks(from: &[Option<usize>], marks: &mut [usize]) -> bool
     ensures room { result ≡ false → length marks.old < length from.now }
     ensures copied { result ≡ true → (q : ℕ) → q < length from.now
@@ -61,7 +61,7 @@ fn copy_marks(from: &[Option<usize>], marks: &mut [usize]) -> bool
     true
 }
 
-// Asks a state: whether there is a match at the window's start, or at the least start where `search` says so.
+// Whether there is a match at the start of the range, or with `search` at any start in it.
 #[tactic(auto, using(crate::proofs::Telling::enough_of))]
 fn ask<S: StrDrive, H: Asks<S>>(
     alloc: Global,
@@ -69,30 +69,32 @@ fn ask<S: StrDrive, H: Asks<S>>(
     state: &mut State<Global>,
     request: Request<'_, S>,
     search: bool,
-    turns: &mut u64,
+    steps: &mut u64,
 ) -> Result<Option<bool>, SreError>
     ensures answer { (t : Tree) → Whole (words_of (code_of request.entry)) t → IfOk result (λ told. IfSome told
         (λ b. answer_of b state.new
         ≡ cond search (found (asked_of request.entry) t) (matched (asked_of request.entry) t))) }
-    ensures used { IfOk result (λ told. told ≡ None → turns.new ≡ 0) }
-    ensures fewer { turns.new ≤ turns.old }
-    ensures enough { IsEnough (words_of (code_of request.entry)) (asked_of request.entry) turns.old
+    ensures used { IfOk result (λ told. told ≡ None → steps.new ≡ 0) }
+    ensures fewer { steps.new ≤ steps.old }
+    ensures enough { IsEnough (words_of (code_of request.entry)) (asked_of request.entry) steps.old
         → IfOk result (λ told. told ≡ None → Refused) }
     ensures memory { OnErr result Refused }
 {
     if search {
-        how.search(alloc, state, &request, turns)
+        how.search(alloc, state, &request, steps)
+    } else if *steps == NO_LIMIT {
+        answered(state.pymatch(&request))
     } else {
-        state.match_within(&request, turns)
+        state.match_within(&request, steps)
     }
 }
 
-// Copies the match that a state shows: whether its marks fit.
+// Copies the match that a state shows, and returns whether its captures fit.
 fn show(state: &State<Global>, found: &mut SreFound, marks: &mut [usize]) -> bool
     ensures found { IsFound (match_shown state.now) found.new }
     ensures told { result ≡ true → IsTold (match_shown state.now) found.new marks.new }
     ensures room { result ≡ false → length marks.old < found.new.marks }
-    ensures turns { found.new.turns ≡ found.old.turns }
+    ensures steps { found.new.steps ≡ found.old.steps }
 {
     found.start = state.start();
     found.end = state.cursor().position();
@@ -101,7 +103,7 @@ fn show(state: &State<Global>, found: &mut SreFound, marks: &mut [usize]) -> boo
     copy_marks(state.marks().raw(), marks)
 }
 
-// The match of a code that is read by a table, as `answer` tells it.
+// The match of a code whose table is at hand, as `answer` returns it.
 fn answer_by<'a, S: StrDrive, H: Asks<S>>(
     alloc: Global,
     how: &H,
@@ -113,9 +115,9 @@ fn answer_by<'a, S: StrDrive, H: Asks<S>>(
     marks: &mut [usize],
 ) -> Status
     requires table { uni.now ≡ table_in code.now.table.now }
-    requires turns { found.old.turns ≡ asked.now.turns }
+    requires steps { found.old.steps ≡ asked.now.steps }
     ensures answers { Answers result code.now (S.text text) asked.now (length marks.old) found.new marks.new }
-    ensures turns { found.new.turns ≤ asked.now.turns }
+    ensures steps { found.new.steps ≤ asked.now.steps }
 {
     let code = match check::code(alloc, code, uni) {
         Ok(code) => code,
@@ -124,9 +126,9 @@ fn answer_by<'a, S: StrDrive, H: Asks<S>>(
     };
     let mut state = State::new(alloc);
     let request = request(text, asked, code);
-    let mut turns = asked.turns;
-    let told = ask(alloc, how, &mut state, request, asked.search, &mut turns);
-    found.turns = turns;
+    let mut steps = asked.steps;
+    let told = ask(alloc, how, &mut state, request, asked.search, &mut steps);
+    found.steps = steps;
     match told {
         Ok(Some(true)) => {
             if show(&state, found, marks) {
@@ -136,12 +138,12 @@ fn answer_by<'a, S: StrDrive, H: Asks<S>>(
             }
         }
         Ok(Some(false)) => Status::No,
-        Ok(None) => Status::UsedUp,
+        Ok(None) => Status::StepLimit,
         Err(SreError::Memory) => Status::Memory,
     }
 }
 
-/// The match, its marks where there is room for them, and what is left of the turns.
+/// Writes the match, its captures if there is room for them, and the steps that are left.
 pub fn answer<'c, S: StrDrive, H: Asks<S>>(
     alloc: Global,
     how: &H,
@@ -152,9 +154,9 @@ pub fn answer<'c, S: StrDrive, H: Asks<S>>(
     marks: &mut [usize],
 ) -> Status
     ensures answers { Answers result code.now (S.text text) asked.now (length marks.old) found.new marks.new }
-    ensures turns { found.new.turns ≤ asked.now.turns }
+    ensures steps { found.new.steps ≤ asked.now.steps }
 {
-    found.turns = asked.turns;
+    found.steps = asked.steps;
     match table(alloc, code.table) {
         Some(uni) => answer_by(alloc, how, code, &uni, text, asked, found, marks),
         None => Status::FaultyTable,

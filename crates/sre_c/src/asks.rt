@@ -1,6 +1,6 @@
-//! How a text is asked: by the machine within turns, and by automata where turns are not limited.
+//! How a text is searched: by the machine within a step limit, and with DFAs if there is none.
 
-ghost use Rattle.std.specs.Prelude.{◌≡◌, ◌≢◌, ◌≤◌, IfOk, IfSome, OnErr, None};
+ghost use Rattle.std.specs.Prelude.{◌≡◌, ◌≢◌, ◌≤◌, IfOk, IfErr, IfSome, OnErr, Ok, Err, Some, None};
 ghost use Rattle.sre_model.specs.Tree.{Tree};
 ghost use Rattle.sre_model.specs.Grammar.{Whole};
 ghost use Rattle.sre_model.specs.Found.{found};
@@ -11,35 +11,49 @@ ghost use Rattle.sre_engine.specs.Answers.{answer_of};
 ghost use Rattle.sre_c.specs.Given.{IsEnough};
 ghost use Rattle.sre_c.specs.Rows.{Writes};
 
+use crate::next_match::{ByMachine, ByStarts, NextMatch};
 use crate::reading::{Sought, is_long, reading_bytes, reading_text};
 use crate::spans::write_spans;
 use crate::status::Status;
-use crate::steps::{ByMachine, Steps, Told};
 use crate::types::SreWalked;
 use crate::walk::write_rows;
 use sre_engine::{Request, SearchIter, SreError, State, StrDrive};
 use sre_finder::{Encoding, Finder, Haystack, SpanFinder};
 use std::alloc::Global;
 
-/// Who answers for texts of a type.
+/// The budget of a call without a step limit.
+pub const NO_LIMIT: u64 = u64::MAX;
+
+/// The result of a call without a step limit, which cannot exceed it.
+pub fn answered(found: Result<bool, SreError>) -> Result<Option<bool>, SreError>
+    ensures known { IfOk found (λ f. result ≡ Ok (Some f)) }
+    ensures failed { IfErr found (λ e. result ≡ Err e) }
+{
+    match found {
+        Ok(found) => Ok(Some(found)),
+        Err(error) => Err(error),
+    }
+}
+
+/// What searches texts of one type.
 pub trait Asks<S: StrDrive> {
-    /// Searches a window: whether there is a match, within turns.
+    /// Searches a range, and returns whether there is a match, within a budget of steps.
     fn search(
         &self,
         alloc: Global,
         state: &mut State<Global>,
         request: &Request<'_, S>,
-        turns: &mut u64,
+        steps: &mut u64,
     ) -> Result<Option<bool>, SreError>
         ensures answer { (t : Tree) → Whole (words_of (code_of request.now)) t → IfOk result
             (λ told. IfSome told (λ b. answer_of b state.new ≡ found (asked_of request.now) t)) }
-        ensures used { IfOk result (λ told. told ≡ None → turns.new ≡ 0) }
-        ensures fewer { turns.new ≤ turns.old }
-        ensures enough { IsEnough (words_of (code_of request.now)) (asked_of request.now) turns.old
+        ensures used { IfOk result (λ told. told ≡ None → steps.new ≡ 0) }
+        ensures fewer { steps.new ≤ steps.old }
+        ensures enough { IsEnough (words_of (code_of request.now)) (asked_of request.now) steps.old
             → IfOk result (λ told. told ≡ None → Refused) }
         ensures memory { OnErr result Refused };
 
-    /// Writes the matches of a window, row by row, until there is no room for one more, or no match.
+    /// Writes the matches of a range, row by row, until there is no room for one more row, or no match.
     fn write(
         &self,
         alloc: Global,
@@ -49,19 +63,19 @@ pub trait Asks<S: StrDrive> {
         walked: &mut SreWalked,
     ) -> Status
         requires none { walked.old.count ≡ 0 }
-        ensures rows { Writes result request.now walked.old.turns width walked.new rows.new }
-        ensures turns { walked.new.turns ≤ walked.old.turns };
+        ensures rows { Writes result request.now walked.old.steps width walked.new rows.new }
+        ensures steps { walked.new.steps ≤ walked.old.steps };
 }
 
 /// The machine alone, for texts of any type.
 #[derive(Clone, Copy)]
 pub struct Machine;
 
-/// Automata where they may gain something in bytes, and else the machine.
+/// DFAs if they may save time in bytes, else the machine.
 #[derive(Clone, Copy)]
 pub struct InBytes;
 
-/// Automata where they may gain something in UTF-8, and else the machine.
+/// DFAs if they may save time in UTF-8, else the machine.
 #[derive(Clone, Copy)]
 pub struct InText;
 
@@ -72,12 +86,15 @@ impl<S: StrDrive> Asks<S> for Machine {
         _alloc: Global,
         state: &mut State<Global>,
         request: &Request<'_, S>,
-        turns: &mut u64,
+        steps: &mut u64,
     ) -> Result<Option<bool>, SreError> {
         let Ok(request) = request.clone() else {
             unreachable!(); // it takes no memory
         };
-        state.search_within(request, turns)
+        if *steps == NO_LIMIT {
+            return answered(state.search(request));
+        }
+        state.search_within(request, steps)
     }
 
     fn write(
@@ -98,11 +115,11 @@ impl<'t> Asks<&'t [u8]> for InBytes {
         alloc: Global,
         state: &mut State<Global>,
         request: &Request<'_, &'t [u8]>,
-        turns: &mut u64,
+        steps: &mut u64,
     ) -> Result<Option<bool>, SreError> {
-        match reading_bytes(Sought::First, *turns, request) {
+        match reading_bytes(Sought::First, *steps, request) {
             Some(encoding) => search_told(alloc, state, request, encoding),
-            None => Machine.search(alloc, state, request, turns),
+            None => Machine.search(alloc, state, request, steps),
         }
     }
 
@@ -114,7 +131,7 @@ impl<'t> Asks<&'t [u8]> for InBytes {
         rows: &mut [usize],
         walked: &mut SreWalked,
     ) -> Status {
-        match reading_bytes(Sought::All, walked.turns, request) {
+        match reading_bytes(Sought::All, walked.steps, request) {
             Some(encoding) => write_told(alloc, request, encoding, width, rows, walked),
             None => Machine.write(alloc, request, width, rows, walked),
         }
@@ -127,11 +144,11 @@ impl<'t> Asks<&'t str> for InText {
         alloc: Global,
         state: &mut State<Global>,
         request: &Request<'_, &'t str>,
-        turns: &mut u64,
+        steps: &mut u64,
     ) -> Result<Option<bool>, SreError> {
-        match reading_text(Sought::First, *turns, request) {
+        match reading_text(Sought::First, *steps, request) {
             Some(encoding) => search_told(alloc, state, request, encoding),
-            None => Machine.search(alloc, state, request, turns),
+            None => Machine.search(alloc, state, request, steps),
         }
     }
 
@@ -143,18 +160,18 @@ impl<'t> Asks<&'t str> for InText {
         rows: &mut [usize],
         walked: &mut SreWalked,
     ) -> Status {
-        match reading_text(Sought::All, walked.turns, request) {
+        match reading_text(Sought::All, walked.steps, request) {
             Some(encoding) => write_told(alloc, request, encoding, width, rows, walked),
             None => Machine.write(alloc, request, width, rows, walked),
         }
     }
 }
 
-// How many turns the machine has before automata are made, which takes about as long: some hundred thousands of
-// instructions, of some 190 a turn, as was measured.
-const FIRST_TURNS: u64 = 1 << 11;
+// How many steps the machine takes before DFAs are built, which costs about as much: some hundred thousand
+// instructions, at about 190 a step, as was measured.
+const FIRST_STEPS: u64 = 1 << 11;
 
-// Searches without a limit: by the machine for some turns, and then by a finder.
+// Searches without a step limit: by the machine for its first steps, then by a finder.
 fn search_told<S: Haystack>(
     alloc: Global,
     state: &mut State<Global>,
@@ -166,16 +183,16 @@ fn search_told<S: Haystack>(
     ensures known { IfOk result (λ told. told ≢ None) }
     ensures memory { OnErr result Refused }
 {
-    let mut turns = FIRST_TURNS;
-    let told = Machine.search(alloc, state, request, &mut turns);
+    let mut steps = FIRST_STEPS;
+    let told = Machine.search(alloc, state, request, &mut steps);
     if let Ok(None) = told {
         return search_by_finder(alloc, state, request, encoding);
     }
     told
 }
 
-// Searches by a finder, whose automata tell where a match can begin. Where they tell nothing, or memory for them is
-// refused, the machine tries all starts.
+// Searches by a finder, whose DFAs find where a match can begin. If they find nothing, or their allocation failed, the
+// machine tries all starts.
 fn search_by_finder<S: Haystack>(
     alloc: Global,
     state: &mut State<Global>,
@@ -191,17 +208,14 @@ fn search_by_finder<S: Haystack>(
     let Ok(request) = request.clone() else {
         unreachable!(); // it takes no memory
     };
-    match finder.search(request, state) {
-        Ok(found) => Ok(Some(found)),
-        Err(error) => Err(error),
-    }
+    answered(finder.search(request, state))
 }
 
-// For how many rows automata are asked at once: to make them costs as much as some hundreds of steps of the machine.
+// For how many rows DFAs are built at once: that costs as much as some hundreds of steps of the machine.
 const MANY_ROWS: usize = 1 << 8;
 
-// Writes the matches of a window, whose turns are not limited: by automata at once where there is room for many rows of
-// a long window, and else by the machine for some turns, and only behind these by automata.
+// Writes the matches of a range without a step limit. With room for many rows and a long range it builds DFAs at once.
+// Otherwise the machine takes its first steps before DFAs are built.
 fn write_told<S: Haystack>(
     alloc: Global,
     request: &Request<'_, S>,
@@ -211,25 +225,25 @@ fn write_told<S: Haystack>(
     walked: &mut SreWalked,
 ) -> Status
     requires none { walked.old.count ≡ 0 }
-    ensures rows { Writes result request.now walked.old.turns width walked.new rows.new }
-    ensures turns { walked.new.turns ≤ walked.old.turns }
+    ensures rows { Writes result request.now walked.old.steps width walked.new rows.new }
+    ensures steps { walked.new.steps ≤ walked.old.steps }
 {
     if width > 0 && rows.len() / width >= MANY_ROWS && is_long(request) {
         return write_by_automata(alloc, request, encoding, width, rows, walked);
     }
-    let turns = walked.turns;
-    walked.turns = FIRST_TURNS;
+    let steps = walked.steps;
+    walked.steps = FIRST_STEPS;
     let status = Machine.write(alloc, request, width, rows, walked);
-    walked.turns = turns;
-    walked.step_turns = turns;
-    if let Status::UsedUp = status {
+    walked.steps = steps;
+    walked.steps_before = steps;
+    if let Status::StepLimit = status {
         walked.count = 0;
         return write_by_automata(alloc, request, encoding, width, rows, walked);
     }
     status
 }
 
-// Writes them by automata that tell spans, where such are known, and else by the machine and a finder.
+// Writes the matches by DFAs that find spans, if there are any, else by the machine and a finder.
 fn write_by_automata<S: Haystack>(
     alloc: Global,
     request: &Request<'_, S>,
@@ -239,20 +253,20 @@ fn write_by_automata<S: Haystack>(
     walked: &mut SreWalked,
 ) -> Status
     requires none { walked.old.count ≡ 0 }
-    ensures rows { Writes result request.now walked.old.turns width walked.new rows.new }
-    ensures turns { walked.new.turns ≤ walked.old.turns }
+    ensures rows { Writes result request.now walked.old.steps width walked.new rows.new }
+    ensures steps { walked.new.steps ≤ walked.old.steps }
 {
     let finder = SpanFinder::new(alloc, request.pattern_codes(), encoding);
     if finder.tells_spans() {
         return write_by_spans(alloc, request, finder, width, rows, walked);
     }
-    let mut how = Told {
+    let mut how = ByStarts {
         starts: Finder::on_demand(alloc, request.pattern_codes(), encoding),
     };
     write_by(alloc, request, &mut how, width, rows, walked)
 }
 
-// Writes them by automata that tell spans.
+// Writes the matches by DFAs that find spans.
 fn write_by_spans<S: Haystack>(
     alloc: Global,
     request: &Request<'_, S>,
@@ -263,8 +277,8 @@ fn write_by_spans<S: Haystack>(
 ) -> Status
     requires own { finder.code ≡ code_of request.now }
     requires none { walked.old.count ≡ 0 }
-    ensures rows { Writes result request.now walked.old.turns width walked.new rows.new }
-    ensures turns { walked.new.turns ≤ walked.old.turns }
+    ensures rows { Writes result request.now walked.old.steps width walked.new rows.new }
+    ensures steps { walked.new.steps ≤ walked.old.steps }
 {
     let Ok(request) = request.clone() else {
         unreachable!(); // it takes no memory
@@ -273,8 +287,8 @@ fn write_by_spans<S: Haystack>(
     write_spans(&mut walk, width, rows, walked)
 }
 
-// Writes the matches of a window, whose steps another takes.
-fn write_by<S: StrDrive, H: Steps<S>>(
+// Writes the matches of a range, each found by `how`.
+fn write_by<S: StrDrive, H: NextMatch<S>>(
     alloc: Global,
     request: &Request<'_, S>,
     how: &mut H,
@@ -284,8 +298,8 @@ fn write_by<S: StrDrive, H: Steps<S>>(
 ) -> Status
     requires suits { H.suits how.old (string_of request.now) (code_of request.now) }
     requires none { walked.old.count ≡ 0 }
-    ensures rows { Writes result request.now walked.old.turns width walked.new rows.new }
-    ensures turns { walked.new.turns ≤ walked.old.turns }
+    ensures rows { Writes result request.now walked.old.steps width walked.new rows.new }
+    ensures steps { walked.new.steps ≤ walked.old.steps }
 {
     let Ok(request) = request.clone() else {
         unreachable!(); // it takes no memory

@@ -1,4 +1,4 @@
-//! The check of a caller's words.
+//! The check of a caller's bytecode.
 
 ghost use Rattle.std.specs.Prelude.{◌≡◌, ◌≢◌, IfOk, IfErr, OnOk};
 ghost use Rattle.sre_model.specs.Tree.{Tree};
@@ -36,7 +36,7 @@ fn hints(code: &Code<'_>) -> SreHints
     }
 }
 
-// Where the fault of a refusal was seen.
+// The address at which an error was seen.
 fn place(error: CodeError) -> usize
     ensures { result ≡ place_of error }
 {
@@ -55,7 +55,7 @@ fn place(error: CodeError) -> usize
     }
 }
 
-// The hints of a code, from those that cross to C.
+// The hints of a code, from those of C.
 #[inline]
 fn hints_told(hints: SreHints) -> Hints
     ensures { result ≡ hints_told hints }
@@ -76,11 +76,11 @@ fn hints_told(hints: SreHints) -> Hints
     }
 }
 
-/// The code of a caller's words, which are read only where they were not checked before.
+/// The code of a caller's bytecode, which is read only if it is not `checked`.
 ///
 /// # Errors
 ///
-/// As [`Code::check_lent`] has them, and only where the words were not checked before.
+/// Those of [`Code::check_lent`], and only if the bytecode is not `checked`.
 #[inline]
 pub fn code<'a>(
     alloc: Global,
@@ -108,7 +108,7 @@ pub fn code<'a>(
     Code::check_lent(alloc, given.words, uni)
 }
 
-/// Checks words, with the hints of a code.
+/// Checks bytecode, and fills in hints and `checked`, or `error` and `place`.
 pub fn check_code(alloc: Global, code: &mut SreCode<'_>) -> Status
     ensures checked { CodeChecked result code.new }
     ensures words { code.new.words.now ≡ code.old.words.now }

@@ -1,8 +1,8 @@
-//! The engine for callers in C: each export answers for words, a table and a text that the caller keeps.
+//! The engine for callers in C. Bytecode, tables and texts belong to the caller.
 //!
-//! `include/sre.h` declares what is exported here, and says what a caller owes. No export has a `requires`: whatever
-//! numbers a caller hands over, the answer is one of the statuses, and says what its clause says. Answers and walks
-//! check the words and lists that no check has passed before; what one has passed carries that as a fact.
+//! `include/sre.h` declares the exports, and says what a caller owes. No export has a `requires`: for all numbers the
+//! result is that of a status, and the clause says what that status implies. `sre_answer_*` and `sre_walk_*` check
+//! bytecode and lists whose `checked` is not set; if it is set, the struct carries the result as a fact.
 #![tactic(auto)]
 
 ghost use Rattle.std.specs.Prelude.{◌≡◌, ◌≤◌, length};
@@ -17,11 +17,11 @@ mod answer;
 mod asks;
 mod check;
 mod code;
+mod next_match;
 mod numbers;
 mod reading;
 mod spans;
 mod status;
-mod steps;
 mod table;
 mod types;
 mod walk;
@@ -37,7 +37,7 @@ use table::check_table;
 use types::{SreAsked, SreFound, SreTable, SreWalked};
 use walk::{begun, walk};
 
-/// Checks the lists of a table.
+/// Checks the lists of a table, and sets `checked` and `error`.
 #[unsafe(no_mangle)]
 pub extern "C" fn sre_check_table(alloc: Global, table: &mut SreTable<'_>) -> u32
     ensures checked { Tells result (λ status. TableChecked status table.new) }
@@ -46,7 +46,7 @@ pub extern "C" fn sre_check_table(alloc: Global, table: &mut SreTable<'_>) -> u3
     check_table(alloc, table).number()
 }
 
-/// Checks words, with the hints of a code.
+/// Checks bytecode, and fills in hints and `checked`, or `error` and `place`.
 #[unsafe(no_mangle)]
 pub extern "C" fn sre_check_code(alloc: Global, code: &mut SreCode<'_>) -> u32
     ensures checked { Tells result (λ status. CodeChecked status code.new) }
@@ -56,7 +56,7 @@ pub extern "C" fn sre_check_code(alloc: Global, code: &mut SreCode<'_>) -> u32
     check_code(alloc, code).number()
 }
 
-/// The match in bytes, each of which is a character.
+/// The match in bytes, each of which is a character. Positions are byte offsets.
 #[unsafe(no_mangle)]
 pub extern "C" fn sre_answer_bytes(
     alloc: Global,
@@ -68,12 +68,12 @@ pub extern "C" fn sre_answer_bytes(
 ) -> u32
     ensures answers { Tells result (λ status.
         Answers status code.now text.now asked.now (length marks.old) found.new marks.new) }
-    ensures turns { found.new.turns ≤ asked.now.turns }
+    ensures steps { found.new.steps ≤ asked.now.steps }
 {
     answer(alloc, &InBytes, code, text, asked, found, marks).number()
 }
 
-/// The match in UTF-8, each code point of which is a character.
+/// The match in UTF-8, whose code points are the characters.
 #[unsafe(no_mangle)]
 pub extern "C" fn sre_answer_utf8(
     alloc: Global,
@@ -86,19 +86,19 @@ pub extern "C" fn sre_answer_utf8(
     ensures answers { Tells result (λ status.
         InUtf8 status text.now (λ chars.
         Answers status code.now chars asked.now (length marks.old) found.new marks.new)) }
-    ensures turns { found.new.turns ≤ asked.now.turns }
+    ensures steps { found.new.steps ≤ asked.now.steps }
 {
     let status = match str::from_utf8(text) {
         Ok(text) => answer(alloc, &InText, code, text, asked, found, marks),
         Err(_) => {
-            found.turns = asked.turns;
+            found.steps = asked.steps;
             Status::NotUtf8
         }
     };
     status.number()
 }
 
-/// The match in code points, surrogates among them.
+/// The match in code points of 32 bits, surrogates included.
 #[unsafe(no_mangle)]
 pub extern "C" fn sre_answer_points(
     alloc: Global,
@@ -110,7 +110,7 @@ pub extern "C" fn sre_answer_points(
 ) -> u32
     ensures answers { Tells result (λ status.
         Answers status code.now text.now asked.now (length marks.old) found.new marks.new) }
-    ensures turns { found.new.turns ≤ asked.now.turns }
+    ensures steps { found.new.steps ≤ asked.now.steps }
 {
     answer(
         alloc,
@@ -124,7 +124,7 @@ pub extern "C" fn sre_answer_points(
     .number()
 }
 
-/// The match in numbers of 16 bits, each of which is a character.
+/// The match in code units of 16 bits, each of which is a character.
 #[unsafe(no_mangle)]
 pub extern "C" fn sre_answer_units(
     alloc: Global,
@@ -136,7 +136,7 @@ pub extern "C" fn sre_answer_units(
 ) -> u32
     ensures answers { Tells result (λ status.
         Answers status code.now text.now asked.now (length marks.old) found.new marks.new) }
-    ensures turns { found.new.turns ≤ asked.now.turns }
+    ensures steps { found.new.steps ≤ asked.now.steps }
 {
     answer(
         alloc,
@@ -150,7 +150,7 @@ pub extern "C" fn sre_answer_units(
     .number()
 }
 
-/// The matches in bytes, each of which is a character, row by row.
+/// All matches in bytes, each of which is a character, in rows. Positions are byte offsets.
 #[unsafe(no_mangle)]
 pub extern "C" fn sre_walk_bytes(
     alloc: Global,
@@ -163,12 +163,12 @@ pub extern "C" fn sre_walk_bytes(
 ) -> u32
     ensures walks { Tells result (λ status.
         Walks status code.now text.now asked.now width walked.new rows.new) }
-    ensures turns { walked.new.turns ≤ asked.now.turns }
+    ensures steps { walked.new.steps ≤ asked.now.steps }
 {
     walk(alloc, &InBytes, code, text, asked, width, rows, walked).number()
 }
 
-/// The matches in UTF-8, each code point of which is a character, row by row.
+/// All matches in UTF-8, whose code points are the characters, in rows.
 #[unsafe(no_mangle)]
 pub extern "C" fn sre_walk_utf8(
     alloc: Global,
@@ -181,7 +181,7 @@ pub extern "C" fn sre_walk_utf8(
 ) -> u32
     ensures walks { Tells result (λ status.
         InUtf8 status text.now (λ chars. Walks status code.now chars asked.now width walked.new rows.new)) }
-    ensures turns { walked.new.turns ≤ asked.now.turns }
+    ensures steps { walked.new.steps ≤ asked.now.steps }
 {
     let status = match str::from_utf8(text) {
         Ok(text) => walk(alloc, &InText, code, text, asked, width, rows, walked),
@@ -193,7 +193,7 @@ pub extern "C" fn sre_walk_utf8(
     status.number()
 }
 
-/// The matches in code points, surrogates among them, row by row.
+/// All matches in code points of 32 bits, surrogates included, in rows.
 #[unsafe(no_mangle)]
 pub extern "C" fn sre_walk_points(
     alloc: Global,
@@ -206,7 +206,7 @@ pub extern "C" fn sre_walk_points(
 ) -> u32
     ensures walks { Tells result (λ status.
         Walks status code.now text.now asked.now width walked.new rows.new) }
-    ensures turns { walked.new.turns ≤ asked.now.turns }
+    ensures steps { walked.new.steps ≤ asked.now.steps }
 {
     walk(
         alloc,
@@ -221,7 +221,7 @@ pub extern "C" fn sre_walk_points(
     .number()
 }
 
-/// The matches in numbers of 16 bits, each of which is a character, row by row.
+/// All matches in code units of 16 bits, each of which is a character, in rows.
 #[unsafe(no_mangle)]
 pub extern "C" fn sre_walk_units(
     alloc: Global,
@@ -234,7 +234,7 @@ pub extern "C" fn sre_walk_units(
 ) -> u32
     ensures walks { Tells result (λ status.
         Walks status code.now text.now asked.now width walked.new rows.new) }
-    ensures turns { walked.new.turns ≤ asked.now.turns }
+    ensures steps { walked.new.steps ≤ asked.now.steps }
 {
     walk(
         alloc,

@@ -1,4 +1,4 @@
-//! Lists of numbers as texts: each number is a character, surrogates too, and the offset of a cursor is its position.
+//! Lists of numbers as texts: each number is a character, also a surrogate, and a cursor's offset is its position.
 
 ghost use Rattle.std.specs.Prelude.{◌≡◌};
 ghost use Rattle.std.proofs.Props.{props};
@@ -6,13 +6,13 @@ ghost use Rattle.sre_chars.specs.Texts.{StandsInBytes};
 
 use sre_engine::{StrDrive, StringCursor};
 
-/// Numbers of 32 bits.
+/// Code points of 32 bits.
 #[derive(Clone, Copy)]
 pub struct Points<'a> {
     pub points: &'a [u32],
 }
 
-/// Numbers of 16 bits.
+/// Code units of 16 bits.
 #[derive(Clone, Copy)]
 pub struct Units<'a> {
     pub units: &'a [u16],

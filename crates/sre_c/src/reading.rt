@@ -1,31 +1,32 @@
-//! As what automata read a text, where they may gain something.
+//! The encoding in which DFAs read a text, if they may save time.
 
+use crate::asks::NO_LIMIT;
 use sre_engine::{Request, StrDrive};
 use sre_finder::Encoding;
 
-// From how many characters on a window is long enough for automata behind the first turns of the machine.
+// The least number of characters of a range for DFAs after the machine's first steps.
 const ENOUGH: usize = 1 << 12;
 
-// From how many on it is so for automata that are made at once: that takes some hundred thousands of instructions, as
-// was measured, and more over UTF-8.
+// The least number of characters of a range for DFAs at once. To build them takes some hundred thousand instructions,
+// as was measured, and more over UTF-8.
 const LONG: usize = 1 << 15;
 
-/// Whether a window is long enough for automata that are made at once.
+/// Whether a range is long enough to build DFAs at once.
 pub fn is_long<S: StrDrive>(request: &Request<'_, S>) -> bool {
     request.end() - request.start() >= LONG
 }
 
-/// What is sought in a window.
+/// Which matches of a range are sought.
 #[derive(Clone, Copy)]
 pub enum Sought {
     First,
     All,
 }
 
-// Whether automata may gain something: where turns are not limited, and what is sought in the window is not found
-// along the places of a confirmed prefix, which is as fast; a search along those of one character is not.
-fn may_gain<S: StrDrive>(sought: Sought, turns: u64, request: &Request<'_, S>) -> bool {
-    if turns < u64::MAX || request.end() - request.start() < ENOUGH {
+// Whether DFAs may save time: if there is no step limit, and the call would not scan for the occurrences of a confirmed
+// prefix, which is as fast. A search for a prefix of one character is not.
+fn may_gain<S: StrDrive>(sought: Sought, steps: u64, request: &Request<'_, S>) -> bool {
+    if steps < NO_LIMIT || request.end() - request.start() < ENOUGH {
         return false;
     }
     let hints = request.pattern_codes().hints();
@@ -36,18 +37,18 @@ fn may_gain<S: StrDrive>(sought: Sought, turns: u64, request: &Request<'_, S>) -
     }
 }
 
-/// As what automata read a text of bytes, where they may gain something.
-pub fn reading_bytes(sought: Sought, turns: u64, request: &Request<'_, &[u8]>) -> Option<Encoding> {
-    if may_gain(sought, turns, request) {
+/// The encoding in which DFAs read a text of bytes, if they may save time.
+pub fn reading_bytes(sought: Sought, steps: u64, request: &Request<'_, &[u8]>) -> Option<Encoding> {
+    if may_gain(sought, steps, request) {
         Some(Encoding::Bytes)
     } else {
         None
     }
 }
 
-/// As what automata read UTF-8, where they may gain something. A text that has as many characters as bytes is ASCII.
-pub fn reading_text(sought: Sought, turns: u64, request: &Request<'_, &str>) -> Option<Encoding> {
-    if !may_gain(sought, turns, request) {
+/// The encoding in which DFAs read UTF-8, if they may save time. A text with as many characters as bytes is ASCII.
+pub fn reading_text(sought: Sought, steps: u64, request: &Request<'_, &str>) -> Option<Encoding> {
+    if !may_gain(sought, steps, request) {
         return None;
     }
     let text: &str = request.string();

@@ -1,4 +1,4 @@
-//! The walk over spans, whose matches are written in rows: marks are shown where there is room for them.
+//! The iteration over spans, which writes them in rows, with captures if the rows have room for them.
 
 ghost use Rattle.std.specs.Prelude.{◌≡◌, ◌<◌, ◌≤◌, ◌+◌, ℕ, length, slice_index, false, OnOk, OnErr};
 ghost use Rattle.sre_growth.specs.Refusal.{Refused};
@@ -20,10 +20,10 @@ use sre_engine::SreError;
 use sre_finder::{Haystack, Span, SpanIter};
 use std::alloc::Global;
 
-/// How many numbers a row has at most that has no room for a last index and marks.
+/// The greatest width of a row without room for the last group and captures.
 const NARROW: usize = 2;
 
-// The number at a place of the row of a span.
+// One number of the row of a span.
 fn entry(span: Span, place: usize) -> usize
     requires { place < 2 }
     ensures { (marks : Marks) → result ≡ entry_of (match_with span.start span.end marks) place }
@@ -43,7 +43,7 @@ fn write_span(span: Span, rows: &mut [usize], at: usize, width: usize)
     }
 }
 
-// Notes where and how a walk goes on.
+// Notes where and how the iteration continues.
 fn note_next<S: Haystack>(walk: &SpanIter<'_, '_, S, Global>, walked: &mut SreWalked)
     ensures next { walked.new ≡ record walked.old {
       start = start_of (request_of walk.now);
@@ -55,7 +55,7 @@ fn note_next<S: Haystack>(walk: &SpanIter<'_, '_, S, Global>, walked: &mut SreWa
     walked.must_advance = walk.req().must_advance();
 }
 
-// Writes the row of the match that came last: where it has room for marks, as the state shows it.
+// Writes the row of the last match; if it has room for captures, as the state shows it.
 fn write_last<S: Haystack>(
     walk: &mut SpanIter<'_, '_, S, Global>,
     span: Span,
@@ -86,7 +86,7 @@ fn write_last<S: Haystack>(
     }
 }
 
-/// Writes the matches of a walk over spans, row by row, until there is no room for one more, or no match.
+/// Writes the remaining matches, row by row, until there is no room for one more row, or no match.
 pub fn write_spans<S: Haystack>(
     walk: &mut SpanIter<'_, '_, S, Global>,
     width: usize,
@@ -95,13 +95,13 @@ pub fn write_spans<S: Haystack>(
 ) -> Status
     requires open { has_ended walk.old ≡ false }
     requires none { walked.old.count ≡ 0 }
-    ensures rows { Writes result (request_of walk.old) walked.old.turns width walked.new rows.new }
-    ensures turns { walked.new.turns ≤ walked.old.turns }
+    ensures rows { Writes result (request_of walk.old) walked.old.steps width walked.new rows.new }
+    ensures steps { walked.new.steps ≤ walked.old.steps }
 {
     let mut at = 0;
     note_next(walk, walked);
     'matches: while width > 0 && width <= rows.len() - at {
-        walked.step_turns = walked.turns;
+        walked.steps_before = walked.steps;
         let Some(item) = walk.next() else {
             return Status::No;
         };

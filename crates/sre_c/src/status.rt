@@ -1,21 +1,21 @@
-//! What a call answers by a number.
+//! The results of calls, as numbers.
 
-/// The answers of calls, whose numbers `include/sre.h` names.
+/// The statuses, whose numbers `include/sre.h` names.
 #[derive(Clone, Copy)]
 pub enum Status {
-    /// There is no match; a walk has come to its end.
+    /// There is no match, or an iteration has ended.
     No,
-    /// There is a match; words are a code; lists have no fault.
+    /// There is a match, or a check accepted bytecode or lists.
     Yes,
-    /// The turns were used up before the answer was known.
-    UsedUp,
-    /// Memory was refused.
+    /// The step limit was exceeded.
+    StepLimit,
+    /// An allocation failed.
     Memory,
-    /// The words are no code.
+    /// The bytecode has no tree.
     NoCode,
-    /// There is no room for a match.
+    /// There is no room for the captures of a match, or for one more row.
     NoRoom,
-    /// The text is no UTF-8.
+    /// The text is not valid UTF-8.
     NotUtf8,
     /// A list of the table has a fault.
     FaultyTable,
@@ -32,7 +32,7 @@ impl Status {
         match self {
             Status::No => 0,
             Status::Yes => 1,
-            Status::UsedUp => 2,
+            Status::StepLimit => 2,
             Status::Memory => 3,
             Status::NoCode => 4,
             Status::NoRoom => 5,

@@ -9,8 +9,7 @@ use crate::types::SreTable;
 use sre_engine::LentTable;
 use std::alloc::Global;
 
-/// The table of a caller's lists, which are read only where they were not checked before; or nothing, where one of them
-/// has a fault.
+/// The table of a caller's lists, or `None` if one has a fault. The lists are read only if they are not `checked`.
 #[inline]
 pub fn table<'a>(alloc: Global, lists: &SreTable<'a>) -> Option<LentTable<'a>>
     ensures table { IfSome result (λ table. table ≡ table_in lists.now) }
@@ -28,7 +27,7 @@ pub fn table<'a>(alloc: Global, lists: &SreTable<'a>) -> Option<LentTable<'a>>
     LentTable::lent(alloc, lists.lower, lists.upper, lists.alnum, lists.digits).ok()
 }
 
-/// Checks the lists of a table.
+/// Checks the lists of a table, and sets `error` and `checked`.
 pub fn check_table(alloc: Global, lists: &mut SreTable<'_>) -> Status
     ensures checked { TableChecked result lists.new }
     ensures table { table_in lists.new ≡ table_in lists.old }

@@ -1,14 +1,14 @@
-//! The structs that cross to C, field by field as `include/sre.h` writes them.
+//! The structs that cross to C, field by field as in `include/sre.h`.
 //!
-//! What a check has passed says so in its `checked`, and carries the fact. A caller in C hands it back with the struct,
-//! and so owes that the fact still holds.
+//! The field `checked` says that a check accepted the struct, and carries that as a fact. A caller in C passes the
+//! struct back, and so guarantees that the fact still holds.
 
 ghost use Rattle.std.specs.Prelude.{◌≡◌, true, None};
 ghost use Rattle.sre_chars.specs.Lists.{lent_table, lists_fault};
 
 use sre_engine::UniPair;
 
-/// The lists of a table of cases, alphanumerics and digits past ASCII. Where all are empty, it is that of ASCII.
+/// The lists of a table of cases, alphanumerics and digits past ASCII. If all are empty, it is that of ASCII.
 #[repr(C)]
 #[derive(Clone, Copy)]
 pub struct SreTable<'a> {
@@ -16,56 +16,56 @@ pub struct SreTable<'a> {
     pub upper: &'a [UniPair],
     pub alnum: &'a [UniPair],
     pub digits: &'a [UniPair],
-    /// The number of the first fault, where the check saw one; 0 where it passed the lists.
+    /// The number of the first fault that the check found, or 0.
     pub error: u32,
-    /// Whether the check has passed the lists.
+    /// Whether the check accepted the lists.
     pub checked: bool,
     ghost lawful: { checked ≡ true
         → lists_fault (lent_table lower.now upper.now alnum.now digits.now) ≡ None },
 }
 
-/// What the words claim and their tree confirms, and three numbers of the tree.
+/// The confirmed search hints of the INFO block, and three numbers of the tree.
 #[repr(C)]
 #[derive(Clone, Copy)]
 pub struct SreHints {
-    /// No match is shorter than this number of characters, where `has_width`.
+    /// The least width of a match in characters, if `has_width`.
     pub width: u32,
-    /// Each match begins with this number of literal characters, where `has_prefix`.
+    /// The length of the literal prefix of each match in characters, if `has_prefix`.
     pub prefix: u32,
-    /// So many of them need not be matched again.
+    /// How many of these characters a match need not test again.
     pub prefix_skip: u32,
-    /// Up to which number the characters of a run make a difference, where nothing refers.
+    /// The greatest number up to which the length of a single-character repeat or lookbehind matters, unless `refers`.
     pub most_counts: u32,
-    /// From which group on groups are asked for, counted from 0: 0 where a condition is among the items, and 4294967295
-    /// where nothing refers.
+    /// The least group that a back-reference refers to, counted from 0. It is 0 with a conditional, and 4294967295 with
+    /// neither.
     pub asked_from: u32,
     pub has_width: bool,
     pub has_prefix: bool,
-    /// The prefix is all that a match has.
+    /// Whether the whole code is the prefix.
     pub literal: bool,
-    /// Each match begins with a character of the set that the words begin with.
+    /// Whether each match begins with a character of the set in the INFO block.
     pub first_set: bool,
-    /// Whether a reference or a condition is among the items.
+    /// Whether the code has a back-reference or a conditional.
     pub refers: bool,
 }
 
-/// What is asked: a window of characters, how many turns the answer may take, and flags.
+/// A request: a range of characters, the step limit, and flags.
 #[repr(C)]
 #[derive(Clone, Copy)]
 pub struct SreAsked {
     pub start: usize,
     pub end: usize,
-    pub turns: u64,
-    /// Whether the least start of the window is looked for, or its start alone.
+    pub steps: u64,
+    /// Whether to search for the least start with a match, or to match only at the start of the range.
     pub search: bool,
     pub match_all: bool,
     pub must_advance: bool,
-    /// Whether a non-boundary is on nothing.
+    /// Whether a non-boundary matches in an empty text.
     pub non_boundary: bool,
 }
 
-/// A match: where it starts and ends, the group that was closed last, and how many marks there are; and the turns that
-/// are left.
+/// A match: start and end, the group that was closed last, and the number of its capture slots; and the steps that are
+/// left.
 #[repr(C)]
 #[derive(Clone, Copy)]
 pub struct SreFound {
@@ -73,17 +73,17 @@ pub struct SreFound {
     pub end: usize,
     pub last_index: isize,
     pub marks: usize,
-    pub turns: u64,
+    pub steps: u64,
 }
 
-/// How far a walk came: how many matches are written, the turns that are left and those that the last step had, and
-/// where and how it goes on.
+/// The state of an iteration: the number of rows, the steps that are left and those that were left before the last
+/// match was searched, and where and how to continue.
 #[repr(C)]
 #[derive(Clone, Copy)]
 pub struct SreWalked {
     pub count: usize,
     pub start: usize,
-    pub turns: u64,
-    pub step_turns: u64,
+    pub steps: u64,
+    pub steps_before: u64,
     pub must_advance: bool,
 }

@@ -1,4 +1,4 @@
-//! The walk from match to match, whose matches are written in rows.
+//! The iteration over matches, which writes them in rows.
 
 ghost use Rattle.std.specs.Prelude.{◌≡◌, ◌<◌, ◌≤◌, ◌+◌, ℕ, length, slice_index, false};
 ghost use Rattle.sre_engine.specs.Requests.{string_of, start_of, end_of, code_of, must_advance_of};
@@ -12,21 +12,21 @@ use crate::answer::{mark_number, request};
 use crate::asks::Asks;
 use crate::check;
 use crate::code::SreCode;
+use crate::next_match::NextMatch;
 use crate::status::Status;
-use crate::steps::Steps;
 use crate::table::table;
 use crate::types::{SreAsked, SreWalked};
 use sre_engine::{CodeError, LentTable, SearchIter, SreError, State, StrDrive};
 use std::alloc::Global;
 
-// A last index as a number.
+// The last group as a number.
 fn index_number(last: isize) -> usize
     ensures { result ≡ index_number last }
 {
     if last < 0 { usize::MAX } else { last as usize }
 }
 
-// The number at a place of the row of the match that a state shows.
+// One number of the row of the match that a state shows.
 fn entry(state: &State<Global>, place: usize) -> usize
     ensures { result ≡ entry_of (match_shown state.now) place }
 {
@@ -56,7 +56,7 @@ pub fn write_row(state: &State<Global>, rows: &mut [usize], at: usize, width: us
     }
 }
 
-// Notes where and how a walk goes on.
+// Notes where and how the iteration continues.
 fn note_next<S: StrDrive>(walk: &SearchIter<'_, S, Global>, walked: &mut SreWalked)
     ensures next { walked.new ≡ record walked.old {
       start = start_of (request_of walk.now);
@@ -68,8 +68,8 @@ fn note_next<S: StrDrive>(walk: &SearchIter<'_, S, Global>, walked: &mut SreWalk
     walked.must_advance = walk.req().must_advance();
 }
 
-/// Writes the matches of a walk, row by row, until there is no room for one more, or no match.
-pub fn write_rows<S: StrDrive, H: Steps<S>>(
+/// Writes the remaining matches, row by row, until there is no room for one more row, or no match.
+pub fn write_rows<S: StrDrive, H: NextMatch<S>>(
     walk: &mut SearchIter<'_, S, Global>,
     how: &mut H,
     width: usize,
@@ -79,18 +79,18 @@ pub fn write_rows<S: StrDrive, H: Steps<S>>(
     requires suits { H.suits how.old (string_of (request_of walk.old)) (code_of (request_of walk.old)) }
     requires open { has_ended walk.old ≡ false }
     requires none { walked.old.count ≡ 0 }
-    ensures rows { WritesRows result (request_of walk.old) (request_of walk.new) walked.old.turns width walked.new
+    ensures rows { WritesRows result (request_of walk.old) (request_of walk.new) walked.old.steps width walked.new
         rows.new }
-    ensures turns { walked.new.turns ≤ walked.old.turns }
+    ensures steps { walked.new.steps ≤ walked.old.steps }
 {
     let mut at = 0;
     note_next(walk, walked);
     'matches: while width > 0 && width <= rows.len() - at {
-        walked.step_turns = walked.turns;
-        match how.step(walk, &mut walked.turns) {
+        walked.steps_before = walked.steps;
+        match how.next_match(walk, &mut walked.steps) {
             Ok(Some(true)) => {}
             Ok(Some(false)) => return Status::No,
-            Ok(None) => return Status::UsedUp,
+            Ok(None) => return Status::StepLimit,
             Err(SreError::Memory) => return Status::Memory,
         }
         write_row(walk.state(), rows, at, width);
@@ -101,7 +101,7 @@ pub fn write_rows<S: StrDrive, H: Steps<S>>(
     Status::NoRoom
 }
 
-// Writes the matches of a walk over a code that is read by a table.
+// Writes the matches of a code whose table is at hand.
 fn walk_by<'a, S: StrDrive, H: Asks<S>>(
     alloc: Global,
     how: &H,
@@ -116,7 +116,7 @@ fn walk_by<'a, S: StrDrive, H: Asks<S>>(
     requires table { uni.now ≡ table_in code.now.table.now }
     requires begun { walked.old ≡ begun_of asked.now }
     ensures walks { Walks result code.now (S.text text) asked.now width walked.new rows.new }
-    ensures turns { walked.new.turns ≤ asked.now.turns }
+    ensures steps { walked.new.steps ≤ asked.now.steps }
 {
     let code = match check::code(alloc, code, uni) {
         Ok(code) => code,
@@ -127,7 +127,7 @@ fn walk_by<'a, S: StrDrive, H: Asks<S>>(
     how.write(alloc, &request, width, rows, walked)
 }
 
-/// Writes the matches of a walk, each in `width` numbers, and how it goes on.
+/// Writes the matches, each in `width` numbers, and how to continue.
 pub fn walk<'c, S: StrDrive, H: Asks<S>>(
     alloc: Global,
     how: &H,
@@ -139,7 +139,7 @@ pub fn walk<'c, S: StrDrive, H: Asks<S>>(
     walked: &mut SreWalked,
 ) -> Status
     ensures walks { Walks result code.now (S.text text) asked.now width walked.new rows.new }
-    ensures turns { walked.new.turns ≤ asked.now.turns }
+    ensures steps { walked.new.steps ≤ asked.now.steps }
 {
     *walked = begun(asked);
     match table(alloc, code.table) {
@@ -148,15 +148,15 @@ pub fn walk<'c, S: StrDrive, H: Asks<S>>(
     }
 }
 
-/// A walk of which nothing is written.
+/// The state of an iteration without rows.
 pub fn begun(asked: &SreAsked) -> SreWalked
     ensures { result ≡ begun_of asked.now }
 {
     SreWalked {
         count: 0,
         start: asked.start,
-        turns: asked.turns,
-        step_turns: asked.turns,
+        steps: asked.steps,
+        steps_before: asked.steps,
         must_advance: asked.must_advance,
     }
 }

@@ -1,4 +1,4 @@
-//! `sre_cases FILE` answers the cases of FILE, a line for each.
+//! `sre_cases FILE` answers the cases of FILE, one line each.
 #![tactic(auto)]
 
 use sre_lines::cases::CaseFault;

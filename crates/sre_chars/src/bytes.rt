@@ -1,4 +1,4 @@
-//! Bytes as a text: each byte is a character, so the offset of a cursor is its position.
+//! Bytes as a text: each byte is a character, so a cursor's offset is its position.
 
 ghost use Rattle.std.specs.Prelude.{◌≡◌, ◌<◌, length, slice_index, MatchOption};
 ghost use Rattle.std.proofs.Props.{props};
@@ -7,7 +7,7 @@ ghost use Rattle.sre_chars.specs.Texts.{StandsInBytes, NoneIs};
 use crate::string::{StrDrive, StringCursor};
 use memchr::memchr;
 
-// Where a character first stands, each byte being one.
+// The offset of the first such byte.
 #[inline(always)]
 pub(crate) fn first_byte(bytes: &[u8], character: u32) -> Option<usize>
     ensures { MatchOption result (NoneIs bytes.now character 0 (length bytes.now)) (λ first. (first < length bytes.now)

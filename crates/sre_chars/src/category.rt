@@ -1,7 +1,7 @@
 //! The categories of characters.
 //!
-//! The plain and the locale forms know ASCII alone. The Unicode forms have fixed lists of blanks and
-//! of line ends, and ask the table for letters and digits past ASCII.
+//! The plain forms and the locale forms know only ASCII. The Unicode forms have fixed lists of whitespace and of line
+//! breaks, and use the tables for letters and digits past ASCII.
 
 ghost use Rattle.std.specs.Prelude.{◌≡◌};
 ghost use Rattle.sre_chars.specs.Numbers.{category_number};
@@ -14,8 +14,8 @@ use crate::table::{LentTable, is_ascii_alphanumeric};
 
 /// Whether a character is in a category.
 ///
-/// A `NOT` form has the characters that its plain form lacks. The lists are those of CPython's
-/// `_sre`, with the table's alphanumerics and digits in place of its database.
+/// A `NOT` form has exactly the characters that its plain form lacks. The lists are those of CPython's `_sre`, with the
+/// alphanumerics and digits of `table` instead of its database.
 #[inline(always)]
 pub fn category(table: &LentTable, code: SreCatCode, ch: u32) -> bool
     ensures { result ≡ category table.now (category_number code) ch }

@@ -1,7 +1,7 @@
-//! The numbers that compiled patterns are made of.
+//! The numbers in the bytecode of a pattern.
 //!
-//! A pattern is a list of 32-bit words. Its opcodes have the numbers that CPython's `_sre` and the crate
-//! `rustpython-sre_engine` give them, and `TryFrom<u32>` is the one way from a word to a code. Flags are sets of bits.
+//! Bytecode is a list of 32-bit words. Opcodes, position codes and category codes have the numbers of CPython's `_sre`
+//! and of the crate `rustpython-sre_engine`. `TryFrom<u32>` converts a word to a code.
 
 ghost use Rattle.std.specs.Prelude.{◌≡◌, ◌==◌};
 ghost use Rattle.std.specs.Cmp.Rules.{comparing};
@@ -13,26 +13,26 @@ pub use sre_flags::{SreFlag, SreInfo};
 use std::convert::TryFrom;
 use thiserror::Error;
 
-/// The magic number of the words that this engine runs, as CPython's `_sre` and `rustpython-sre_engine` have it:
-/// it changes with the numbers and layouts. Nothing here asks for it, and no word holds it.
+/// The magic number of the bytecode that this engine runs, as in CPython's `_sre` and in `rustpython-sre_engine`.
+/// CPython changes it with the numbers and layouts. No code here reads it, and no word holds it.
 pub const SRE_MAGIC: usize = 20221023;
 
-/// The number of bytes of a word.
+/// The number of bytes of a code word.
 pub const CODESIZE: usize = 4;
 
-/// The count of a repeat that has no limit.
+/// The greatest count of a repeat that has no limit.
 pub const MAXREPEAT: usize = 4294967295;
 
-/// The greatest number of groups of a pattern, as `rustpython-sre_engine` has it; nothing here asks for it.
+/// The greatest number of groups of a pattern in `rustpython-sre_engine`. No code here reads it.
 pub const MAXGROUPS: usize = 2147483647;
 
-/// The refusal of a word that is the number of no code.
+/// The error of a word that is no code's number. It holds the word.
 #[derive(Clone, Copy, PartialEq, Eq, Debug, Error)]
 #[error("unknown code {0}")]
 pub struct UnknownCode(pub u32);
 
 impl UnknownCode {
-    /// The number of this error among those of its kind.
+    /// The number of this error, always 1.
     pub fn number(&self) -> u32
         ensures { result ≡ 1 }
     {
@@ -42,14 +42,14 @@ impl UnknownCode {
     }
 }
 
-/// Whether a non-boundary is on nothing, that is at position 0 of a window that ends at 0. A boundary never is.
+/// Whether a non-boundary (`\B`) matches at position 0 of a range that ends at 0. A boundary never does.
 ///
-/// Two rules are equal exactly where their numbers are.
+/// Two rules are equal exactly if their numbers are.
 #[derive(Clone, Copy, Eq, Debug)]
 pub enum EmptyRule {
-    /// None is, as in CPython 3.11 to 3.13 and in `rustpython-sre_engine`.
+    /// It does not, as in CPython 3.11 to 3.13 and in `rustpython-sre_engine`.
     Never = 0,
-    /// One is, as CPython's documentation says of 3.14.
+    /// It does, as CPython's documentation says of 3.14.
     NonBoundary = 1,
 }
 
@@ -63,10 +63,10 @@ impl PartialEq for EmptyRule {
     }
 }
 
-/// What an item of a pattern does.
+/// What an instruction or a set item does.
 ///
-/// `SreOpcode::try_from(word)` gives the opcode of that number, from 0 to 42, and refuses a greater
-/// word. Two opcodes are equal exactly where their numbers are.
+/// `SreOpcode::try_from(word)` returns the opcode with that number, from 0 to 42, and `Err` for a greater word. Two
+/// opcodes are equal exactly if their numbers are.
 #[derive(Clone, Copy, Eq, Debug)]
 pub enum SreOpcode {
     FAILURE = 0,
@@ -179,11 +179,10 @@ impl TryFrom<u32> for SreOpcode {
     }
 }
 
-/// What an item that takes no character asks of a position.
+/// What AT, which consumes no character, tests of a position.
 ///
-/// `SreAtCode::try_from(word)` gives the code of that number, from 0 to 11, and refuses a greater
-/// word. Two codes are equal exactly where their numbers are. The `LOC` and `UNI` forms differ in
-/// what they take for a word character.
+/// `SreAtCode::try_from(word)` returns the code with that number, from 0 to 11, and `Err` for a greater word. Two codes
+/// are equal exactly if their numbers are. The `LOC` and `UNI` forms have their own word characters.
 #[derive(Clone, Copy, Eq, Debug)]
 pub enum SreAtCode {
     BEGINNING = 0,
@@ -234,10 +233,10 @@ impl TryFrom<u32> for SreAtCode {
     }
 }
 
-/// A category of characters; `category` says which characters are in it.
+/// A category of characters; `category` tests whether a character is in it.
 ///
-/// `SreCatCode::try_from(word)` gives the code of that number, from 0 to 17, and refuses a greater
-/// word. Two codes are equal exactly where their numbers are.
+/// `SreCatCode::try_from(word)` returns the code with that number, from 0 to 17, and `Err` for a greater word. Two
+/// codes are equal exactly if their numbers are.
 #[derive(Clone, Copy, Eq, Debug)]
 pub enum SreCatCode {
     DIGIT = 0,

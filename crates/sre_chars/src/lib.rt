@@ -1,4 +1,4 @@
-//! Numbers, texts, categories and character tables of the SRE engine.
+//! Opcode numbers, texts and cursors, categories and Unicode tables of the SRE engine.
 #![tactic(auto)]
 
 mod bytes;

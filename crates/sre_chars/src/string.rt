@@ -1,8 +1,7 @@
-//! Texts and the cursors that stand in them.
+//! Texts, and cursors in them.
 //!
-//! The engine asks a text only for its characters around a cursor. Whatever type keeps the laws of
-//! `StrDrive` can be matched; `&[u8]` and `&str` are two of them. A position counts characters,
-//! an offset bytes.
+//! The engine reads a text only around a cursor. Any type with the laws of `StrDrive` can be matched, such as `&[u8]`
+//! and `&str`. A position counts characters, and an offset counts bytes.
 
 ghost use Rattle.std.specs.Prelude.{◌≡◌, ◌≢◌, ◌+◌, ◌-◌, ◌^◌, ◌<◌, ◌≤◌, ℕ, List, length, slice_index, true, false};
 ghost use Rattle.sre_chars.specs.declared.string.StringCursor.{StringCursor};
@@ -15,9 +14,9 @@ pub use crate::table::{
 pub use crate::text::cursor_at;
 use std::marker::Model;
 
-/// A place in a text: how many characters are before it, and how many bytes.
+/// A position in a text: the number of characters before it, and the number of bytes.
 ///
-/// A cursor belongs to no text by itself: `StrDrive` says in which texts it stands, and where.
+/// A cursor does not know its text. `StrDrive` says at which position of which text it is.
 #[derive(Clone, Copy, PartialEq, Eq, Debug)]
 pub struct StringCursor {
     position: usize,
@@ -37,7 +36,7 @@ impl Model for StringCursor {
 impl Default for StringCursor {
     ghost is_default = { λ cursor. (cursor.position ≡ 0) × (cursor.offset ≡ 0) };
 
-    /// The cursor of no characters and no bytes.
+    /// The cursor at position 0 and offset 0.
     fn default() -> StringCursor {
         StringCursor {
             position: 0,
@@ -47,7 +46,7 @@ impl Default for StringCursor {
 }
 
 impl StringCursor {
-    /// The cursor behind `position` characters, which take `offset` bytes.
+    /// The cursor after `position` characters, which take `offset` bytes. It is not compared with any text.
     #[inline(always)]
     pub fn new(position: usize, offset: usize) -> StringCursor
         ensures position { result.position ≡ position }
@@ -56,7 +55,7 @@ impl StringCursor {
         StringCursor { position, offset }
     }
 
-    /// How many characters are before it.
+    /// The number of characters before the cursor.
     #[inline(always)]
     pub fn position(&self) -> usize
         ensures { result ≡ self.now.position }
@@ -64,7 +63,7 @@ impl StringCursor {
         self.position
     }
 
-    /// How many bytes are before it.
+    /// The number of bytes before the cursor.
     #[inline(always)]
     pub fn offset(&self) -> usize
         ensures { result ≡ self.now.offset }
@@ -73,62 +72,61 @@ impl StringCursor {
     }
 }
 
-/// A text: a list of 32-bit characters, and the cursors that stand at its positions.
+/// A text: a list of 32-bit characters, and the cursors at its positions.
 ///
-/// The steps read and move a cursor that stands in this very text; they are cheap, and the engine
-/// takes one for each character. `create_cursor` and `adjust_cursor` may look through the text.
+/// A step reads or moves a cursor of this text. The engine takes a step for each character, so steps should be cheap.
+/// `create_cursor` and `adjust_cursor` may scan the text.
 pub trait StrDrive: Copy {
     // The characters.
     ghost text: { Self → List ℕ };
 
-    // Whether a cursor stands at a position.
+    // Whether a cursor is at a position.
     ghost stands: { Self → StringCursor → ℕ → Type 0 };
 
-    /// How many characters there are, below 2^63.
+    /// The number of characters, below 2^63.
     fn count(&self) -> usize
         ensures value { result ≡ length (text self.now) }
         ensures bound { result < 2 ^ 63 };
 
-    /// A cursor that stands at `n`.
+    /// A cursor at position `n`, which is at most the number of characters.
     fn create_cursor(&self, n: usize) -> StringCursor
         requires { n ≤ length (text self.now) }
         ensures { stands self.now result n };
 
-    /// Has the cursor stand at `n`, wherever it stood, also in another text.
+    /// Moves the cursor to position `n`, from any position of any text.
     fn adjust_cursor(&self, cursor: &mut StringCursor, n: usize)
         requires { n ≤ length (text self.now) }
         ensures { stands self.now cursor.new n };
 
-    /// Steps past the next character, and returns it.
+    /// Moves past the next character, and returns it.
     fn advance(&self, cursor: &mut StringCursor) -> u32
         requires at { stands self.now cursor.old cursor.old.position }
         requires before_end { cursor.old.position < length (text self.now) }
         ensures value { result ≡ slice_index (text self.now) cursor.old.position }
         ensures after { stands self.now cursor.new (cursor.old.position + 1) };
 
-    /// The next character.
+    /// The next character. The cursor must not be at the end.
     fn peek(&self, cursor: &StringCursor) -> u32
         requires at { stands self.now cursor.now cursor.now.position }
         requires before_end { cursor.now.position < length (text self.now) }
         ensures { result ≡ slice_index (text self.now) cursor.now.position };
 
-    /// Steps past `n` characters.
+    /// Moves past `n` characters.
     fn skip(&self, cursor: &mut StringCursor, n: usize)
         requires at { stands self.now cursor.old cursor.old.position }
         requires within { cursor.old.position + n ≤ length (text self.now) }
         ensures { stands self.now cursor.new (cursor.old.position + n) };
 
-    /// Steps back over the character before, and returns it.
+    /// Moves back over the character before the cursor, and returns it.
     fn back_advance(&self, cursor: &mut StringCursor) -> u32
         requires at { stands self.now cursor.old cursor.old.position }
         requires after_start { 0 < cursor.old.position }
         ensures value { result ≡ slice_index (text self.now) (cursor.old.position - 1) }
         ensures after { stands self.now cursor.new (cursor.old.position - 1) };
 
-    /// Steps back over the character before, and says whether it is `character`.
+    /// Moves back over the character before the cursor, and returns whether it is `character`.
     ///
-    /// No text has to write this. One that can tell two characters apart before it has read the one can, as `&str`
-    /// does.
+    /// A text need not implement it. `&str` does, since it can exclude a character before it has decoded it.
     fn back_over(&self, cursor: &mut StringCursor, character: u32) -> bool
         requires at { stands self.now cursor.old cursor.old.position }
         requires after_start { 0 < cursor.old.position }
@@ -139,22 +137,22 @@ pub trait StrDrive: Copy {
         self.back_advance(cursor) == character
     }
 
-    /// The character before.
+    /// The character before the cursor, which must not be at the start.
     fn back_peek(&self, cursor: &StringCursor) -> u32
         requires at { stands self.now cursor.now cursor.now.position }
         requires after_start { 0 < cursor.now.position }
         ensures { result ≡ slice_index (text self.now) (cursor.now.position - 1) };
 
-    /// Steps back over `n` characters.
+    /// Moves back over `n` characters.
     fn back_skip(&self, cursor: &mut StringCursor, n: usize)
         requires at { stands self.now cursor.old cursor.old.position }
         requires within { n ≤ cursor.old.position }
         ensures { stands self.now cursor.new (cursor.old.position - n) };
 
-    /// Steps behind the next `character` that stands before the position `end`, or to `end` where none does: whether
-    /// one does.
+    /// Moves past the next `character` before the position `end` and returns `true`, or moves to `end` and returns
+    /// `false` if there is none.
     ///
-    /// No text has to write this. One that finds a character faster than step by step can, as `&[u8]` and `&str` do.
+    /// A text need not implement it. `&[u8]` and `&str` do, since they find a character faster than step by step.
     fn seek(&self, cursor: &mut StringCursor, character: u32, end: usize) -> bool
         requires at { stands self.now cursor.old cursor.old.position }
         requires before { cursor.old.position ≤ end }
@@ -170,18 +168,18 @@ pub trait StrDrive: Copy {
         false
     }
 
-    /// How many characters are better looked at one by one before the rest is sought: to seek over fewer costs more.
-    /// That bears on time alone.
+    /// The number of characters, at least 1, to test one by one before `seek` is called for the rest. A `seek` over
+    /// fewer costs more. It affects only the time.
     fn few(&self) -> usize
         ensures { 0 < result }
     {
         16
     }
 
-    // A cursor that stands at a place has it as its position, and it is one of the text's.
+    // A cursor at a position has it as its `position`, and the text is at least that long.
     ghost stands_at: { (s : Self) (c : StringCursor) (p : ℕ) → stands s c p
         → (c.position ≡ p) × (p ≤ length (text s)) };
 
-    // That a cursor stands at a place is a fact with one proof at most, so a type may keep it in a ghost field.
+    // This fact has at most one proof, so a type may store it in a ghost field.
     ghost stands_once: { (s : Self) (c : StringCursor) (p : ℕ) → IsProp (stands s c p) };
 }

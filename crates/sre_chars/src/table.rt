@@ -1,7 +1,7 @@
-//! Tables of case, of alphanumerics and of digits.
+//! Unicode tables: case maps, alphanumerics and decimal digits.
 //!
-//! ASCII is fixed in the code. Past it a table holds four rising lists, two of (from, to) and two
-//! of (low, high), and a character is looked up by halving.
+//! ASCII is fixed in the code. For the other characters a table has four sorted lists, two of pairs (from, to) and two
+//! of ranges (low, high), with binary search.
 
 ghost use Rattle.std.specs.Prelude.{◌≡◌, [], None, Some, IfOk, OnOk, IfErr, IsOkUnless, OnErr};
 ghost use Rattle.std.specs.Option.{option_or};
@@ -22,20 +22,20 @@ use std::alloc::{AllocError, AllocFailed, Global};
 use std::marker::Model;
 use thiserror::Error;
 
-/// Why the lists of a table were refused.
+/// Why the lists of a table were rejected.
 #[derive(Clone, Copy, PartialEq, Eq, Debug, Error)]
 pub enum UniError {
-    /// A growth was refused.
+    /// An allocation failed.
     #[error("out of memory")]
     Memory,
-    /// A map's entry is not above the former one, a range does not begin above the end of the
-    /// former one, or a range holds no number, as its high end is below its low end.
+    /// A map's entry is not above the previous one, a range does not begin above the end of the previous one, or the
+    /// high end of a range is below its low end.
     #[error("Unsorted")]
     Unsorted,
-    /// A map's entry is for a character below 128, or a range's low end is: ASCII is fixed.
+    /// A map's entry is for a character below 128, or the low end of a range is below 128: ASCII is fixed.
     #[error("AsciiEntry")]
     AsciiEntry,
-    /// An entry has a number that is no Unicode scalar value, or a range runs over surrogates.
+    /// A number in an entry is no Unicode scalar value, or a range includes surrogates.
     #[error("NotScalar")]
     NotScalar,
 }
@@ -43,7 +43,7 @@ pub enum UniError {
 impl UniError {
     ghost use Rattle.sre_chars.specs.Errors.{uni_error_number};
 
-    /// The number of this error among those of its kind.
+    /// The number of this error, from 1 (`Memory`) to 4 (`NotScalar`).
     pub fn number(&self) -> u32
         ensures { result ≡ uni_error_number self.now }
     {
@@ -90,20 +90,20 @@ impl<T: Drop> From<AllocFailed<T>> for UniError {
     }
 }
 
-// What the pairs of a list are: (from, to) of a map, or (low, high) of ranges.
+// The kind of a list: pairs (from, to) of a map, or ranges (low, high).
 #[derive(Clone, Copy)]
 enum Listing {
     Map,
     Ranges,
 }
 
-/// A lower map, an upper map, a set of alphanumerics and one of decimal digits, over 32-bit characters.
+/// Unicode tables: a lower-case map, an upper-case map, the alphanumerics and the decimal digits.
 ///
-/// ASCII is fixed: A to Z and a to z are each other's cases, letters and digits are alphanumeric, and 0 to 9
-/// are digits. Past ASCII a character without an entry is its own lower and upper case, one that lies in
-/// no range of the alphanumerics is not alphanumeric, and one in no range of the digits is no digit.
+/// ASCII is fixed: A to Z and a to z are each other's cases, letters and digits are alphanumeric, and 0 to 9 are
+/// digits. Past ASCII a character without an entry is its own lower and upper case. One in no range of the
+/// alphanumerics is not alphanumeric, and one in no range of the digits is no digit.
 ///
-/// It keeps its lists itself, as [`UniTable`] always does, or a caller lends them for as long as `'t`.
+/// The table owns its lists, as [`UniTable`] always does, or a caller lends them for `'t`.
 pub struct LentTable<'t> {
     lower: Entries<'t>,
     upper: Entries<'t>,
@@ -112,7 +112,7 @@ pub struct LentTable<'t> {
     alloc: Global,
 }
 
-// By hand, so that whoever lets a table go calls this. A derived one goes through each list there.
+// A custom `Drop`, so that whoever drops a table calls this. A derived one would be inlined there, list by list.
 impl<'t> Drop for LentTable<'t> {
     fn drop(self) {
         let LentTable {
@@ -126,7 +126,7 @@ impl<'t> Drop for LentTable<'t> {
     }
 }
 
-/// A table that keeps its lists itself, and so lives as long as its owner wants.
+/// A table without a borrow: it owns its lists, or they are static.
 pub type UniTable = LentTable<'static>;
 
 impl<'t> Model for LentTable<'t> {
@@ -147,7 +147,7 @@ impl<'t> Model for LentTable<'t> {
 }
 
 impl<'t> LentTable<'t> {
-    /// The table that knows ASCII alone. It takes no memory.
+    /// The table that knows only ASCII. It takes no memory.
     pub fn ascii(alloc: Global) -> LentTable<'t>
         ensures { result ≡ ascii_table }
     {
@@ -160,12 +160,11 @@ impl<'t> LentTable<'t> {
         }
     }
 
-    /// The table of three lists, which it copies, without digits past ASCII.
+    /// The table of three lists, which it copies. It has no digits past ASCII.
     ///
-    /// `lower` and `upper` hold pairs (from, to), each `from` above the former one. `alnum` holds
-    /// pairs (low, high), low up to high, each low above the former high; both ends belong to the
-    /// range. All numbers are Unicode scalar values, those between two ends too, and no `from` or
-    /// low is below 128. A `to` may be.
+    /// `lower` and `upper` are pairs (from, to), each `from` above the previous one. `alnum` has ranges (low, high),
+    /// both ends included, each `low` at most its `high` and above the previous `high`. All numbers are Unicode scalar
+    /// values, also those inside a range. No `from` or `low` is below 128; a `to` may be.
     ///
     /// ```
     /// // é and É are each other's cases, and both are letters.
@@ -174,11 +173,9 @@ impl<'t> LentTable<'t> {
     ///
     /// # Errors
     ///
-    /// The lists are checked in the order of the parameters, entry by entry, and the first fault
-    /// is answered. Of the faults of one entry it is [`UniError::NotScalar`] before
-    /// [`UniError::AsciiEntry`] before [`UniError::Unsorted`]. Only then memory is asked for, at most once
-    /// a list: [`UniError::Memory`] says that the lists have no fault, and that a request was
-    /// refused.
+    /// The first fault, in the order of the parameters, entry by entry. For one entry [`UniError::NotScalar`] comes
+    /// before [`UniError::AsciiEntry`], and that before [`UniError::Unsorted`]. [`UniError::Memory`], if the lists have
+    /// no fault and an allocation failed. It allocates at most once a list, after the check.
     pub fn new(
         alloc: Global,
         lower: &[(u32, u32)],
@@ -207,17 +204,16 @@ impl<'t> LentTable<'t> {
 
     /// The table of Unicode as std knows it.
     ///
-    /// A character that std changes goes to the first character of `char::to_lowercase` and
-    /// `char::to_uppercase`; the alphanumerics are those of `char::is_alphanumeric`. Surrogates
-    /// and numbers above 0x10FFFF stay, and are not alphanumeric. There are no digits past ASCII, since
-    /// std has no list of them: `set_digits` takes one. It goes over all scalar values three times, so a
-    /// program makes it once.
+    /// A character maps to the first character of its `char::to_lowercase` or `char::to_uppercase`. The alphanumerics
+    /// are those of `char::is_alphanumeric`. Surrogates and numbers above 0x10FFFF map to themselves, and are not
+    /// alphanumeric. There are no digits past ASCII, since std has no list of them: `set_digits` takes one. It scans
+    /// all scalar values three times, so a program should make it once.
     ///
-    /// It is not the table of a Python, whose `\w` takes no combining marks: `tools/unicode.py` writes that one.
+    /// It is not the table of any Python, whose `\w` has no combining marks: `tools/unicode.py` writes that one.
     ///
     /// # Errors
     ///
-    /// Only [`UniError::Memory`], where a growth of a list was refused.
+    /// [`UniError::Memory`], if an allocation failed.
     pub fn from_std(alloc: Global) -> Result<LentTable<'t>, UniError>
         ensures digits { IfOk result (λ table. table.digits ≡ []) }
         ensures refused { IsOkUnless result UniError.Memory }
@@ -239,13 +235,12 @@ impl<'t> LentTable<'t> {
 
     /// The table of four lists that a caller lends. It takes no memory.
     ///
-    /// The lists are as those of [`LentTable::new`] and [`LentTable::set_digits`]. They are read once from end to end,
-    /// so a caller who keeps them keeps the table, or knows that they have no fault and calls
-    /// [`LentTable::lent_faultless`].
+    /// The lists are as in [`LentTable::new`] and [`LentTable::set_digits`]. They are checked in linear time. To avoid
+    /// that, store the table, or call [`LentTable::lent_faultless`] with lists that are known to have no fault.
     ///
     /// # Errors
     ///
-    /// The first fault of the lists, in the order of the parameters, as [`LentTable::new`] has them. Never
+    /// The first fault of the lists, in the order of the parameters, as in [`LentTable::new`]. Never
     /// [`UniError::Memory`].
     pub fn lent(
         alloc: Global,
@@ -263,8 +258,8 @@ impl<'t> LentTable<'t> {
         Ok(LentTable::lent_faultless(alloc, lower, upper, alnum, digits))
     }
 
-    /// The table of four lists that a caller lends, and that are known to have no fault. It takes no memory, and the
-    /// time does not grow with the lists.
+    /// The table of four lists that a caller lends, and that are known to have no fault. It takes no memory and
+    /// constant time.
     #[inline(always)]
     pub fn lent_faultless(
         alloc: Global,
@@ -285,16 +280,16 @@ impl<'t> LentTable<'t> {
         }
     }
 
-    /// Replaces the decimal digits past ASCII by those of some ranges, which it copies. 0 to 9 are always digits.
+    /// Replaces the decimal digits past ASCII by the given ranges, which it copies. 0 to 9 are always digits.
     ///
-    /// `digits` holds pairs (low, high) as the alphanumerics of [`LentTable::new`] do. The other lists stay: a
-    /// digit is alphanumeric only where they say so. With the ranges of Unicode's general category Nd a UNI_DIGIT
-    /// is what `\d` is in Python's `re`. The memory comes from the allocator that the table was made with.
+    /// `digits` has ranges (low, high), as the alphanumerics of [`LentTable::new`]. The other lists do not change: a
+    /// digit is alphanumeric only if they have it. With the ranges of Unicode's general category Nd, UNI_DIGIT is `\d`
+    /// of Python's `re`. The memory comes from the allocator that the table was made with.
     ///
     /// # Errors
     ///
-    /// The first fault of the ranges, as [`LentTable::new`] has them, and only then [`UniError::Memory`], where a
-    /// request was refused. After an error the table is as it was.
+    /// The first fault of the ranges, as in [`LentTable::new`]; else [`UniError::Memory`], if an allocation failed.
+    /// After an error the table is unchanged.
     pub fn set_digits(&mut self, digits: &[(u32, u32)]) -> Result<(), UniError>
         ensures table { OnOk result (self.new ≡ record self.old { digits = digits.now }) }
         ensures lawful { OnOk result (list_fault Listing.Ranges 0 digits.now ≡ None) }
@@ -307,7 +302,7 @@ impl<'t> LentTable<'t> {
         Ok(())
     }
 
-    // Whether a character is in a range of the digits past ASCII.
+    // Whether a character is a digit past ASCII.
     pub(crate) fn has_digit(&self, ch: u32) -> bool
         ensures { result ≡ is_in_ranges self.now.digits ch }
     {
@@ -326,7 +321,7 @@ impl<'t> LentTable<'t> {
     }
 }
 
-/// An ASCII capital in lower case: 65 to 90 become 97 to 122, and others stay.
+/// The lower case of an ASCII capital: 65 to 90 become 97 to 122, and other characters stay the same.
 #[inline]
 pub fn lower_ascii(ch: u32) -> u32
     ensures { result ≡ lower_ascii ch }
@@ -334,7 +329,7 @@ pub fn lower_ascii(ch: u32) -> u32
     if 65 <= ch && ch <= 90 { ch + 32 } else { ch }
 }
 
-/// An ASCII small letter in upper case: 97 to 122 become 65 to 90, and others stay.
+/// The upper case of an ASCII small letter: 97 to 122 become 65 to 90, and other characters stay the same.
 #[inline]
 pub fn upper_ascii(ch: u32) -> u32
     ensures { result ≡ upper_ascii ch }
@@ -342,7 +337,7 @@ pub fn upper_ascii(ch: u32) -> u32
     if 97 <= ch && ch <= 122 { ch - 32 } else { ch }
 }
 
-/// A character in lower case, by the table past ASCII.
+/// The lower case of a character: that of ASCII below 128, else by the table.
 #[inline]
 pub fn lower_unicode(table: &LentTable, ch: u32) -> u32
     ensures { result ≡ lower_of table.now ch }
@@ -354,7 +349,7 @@ pub fn lower_unicode(table: &LentTable, ch: u32) -> u32
     }
 }
 
-/// A character in upper case, by the table past ASCII.
+/// The upper case of a character: that of ASCII below 128, else by the table.
 #[inline]
 pub fn upper_unicode(table: &LentTable, ch: u32) -> u32
     ensures { result ≡ upper_of table.now ch }
@@ -374,7 +369,7 @@ pub(crate) fn is_ascii_alphanumeric(ch: u32) -> bool
     matches!(ch, 48..=57 | 65..=90 | 97..=122)
 }
 
-// What a map takes a character to.
+// The character to which a map takes a character.
 fn mapped(entries: &Entries<'_>, ch: u32) -> u32
     requires { list_fault Listing.Map 0 (entries_in entries.now) ≡ None }
     ensures { result ≡ mapped (entries_in entries.now) ch }
@@ -385,7 +380,7 @@ fn mapped(entries: &Entries<'_>, ch: u32) -> u32
     }
 }
 
-// Whether a character lies in one of the ranges.
+// Whether a character is in one of the ranges.
 fn is_in_ranges(entries: &Entries<'_>, ch: u32) -> bool
     requires { list_fault Listing.Ranges 0 (entries_in entries.now) ≡ None }
     ensures { result ≡ is_in_ranges (entries_in entries.now) ch }

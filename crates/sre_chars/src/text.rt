@@ -1,7 +1,7 @@
 //! UTF-8 as a text: each Unicode scalar value is a character of one to four bytes (RFC 3629).
 //!
-//! A `str` is always well-formed, so a step finds a whole character at the offset of a cursor and never
-//! searches for its edge.
+//! A `str` is always well-formed, and a cursor's offset is always between characters. So a step never searches for the
+//! edge of a character.
 
 ghost use Rattle.std.specs.Prelude.{◌≡◌, ◌+◌, ◌-◌, ◌^◌, ◌<◌, ◌≤◌, length, slice_index, count_by};
 ghost use Rattle.std.specs.Prelude.{IfSome, None};
@@ -12,7 +12,7 @@ ghost use Rattle.sre_chars.specs.Texts.{StandsInText, offset_of, begins_char, be
 use crate::bytes::first_byte;
 use crate::string::{StrDrive, StringCursor};
 
-// The character after a cursor, and the offset at which it ends.
+// The character after a cursor, and the offset of its end.
 #[inline(always)]
 fn char_after(s: &str, cursor: &StringCursor) -> (char, usize)
     requires at { StandsInText s.now cursor.now cursor.now.position }
@@ -33,7 +33,7 @@ fn char_after(s: &str, cursor: &StringCursor) -> (char, usize)
     }
 }
 
-// The character before a cursor, and the offset at which it begins.
+// The character before a cursor, and the offset of its beginning.
 #[inline(always)]
 fn char_before(s: &str, cursor: &StringCursor) -> (char, usize)
     requires at { StandsInText s.now cursor.now cursor.now.position }
@@ -54,12 +54,13 @@ fn char_before(s: &str, cursor: &StringCursor) -> (char, usize)
     }
 }
 
-// How many bytes a long block has, and a short one: what is counted goes over long ones first, and at last over bytes.
+// The bytes of a long block, and of a short one. Characters are counted in long blocks, then in short ones, then by
+// bytes.
 const LONG: usize = 64;
 
 const SHORT: usize = 16;
 
-// Whether a character begins at the byte: all others are `10xxxxxx` (RFC 3629, section 3).
+// Whether a character begins with the byte: all others are `10xxxxxx` (RFC 3629, section 3).
 #[inline(always)]
 fn is_beginning(byte: u8) -> bool
     ensures { result ≡ begins_char byte }
@@ -67,7 +68,7 @@ fn is_beginning(byte: u8) -> bool
     byte < 0x80 || 0xc0 <= byte
 }
 
-// How many characters begin in a block. The sum of so few fits a byte, so each lane of a vector can hold one.
+// The number of characters that begin in a block. It fits a byte, so each lane of a vector can hold a sum.
 #[inline(always)]
 fn beginnings_in_block<const N: usize>(block: &[u8; N]) -> usize
     requires { N ≤ 64 }
@@ -81,7 +82,7 @@ fn beginnings_in_block<const N: usize>(block: &[u8; N]) -> usize
     usize::from(count)
 }
 
-// How many characters begin in the whole blocks in front, of so many bytes each, and the bytes behind them.
+// The number of characters that begin in the whole blocks at the front, and the bytes after these blocks.
 #[inline(always)]
 fn beginnings_in_blocks<const N: usize>(bytes: &[u8]) -> (usize, &[u8])
     requires some { 0 < N }
@@ -97,7 +98,7 @@ fn beginnings_in_blocks<const N: usize>(bytes: &[u8]) -> (usize, &[u8])
     (count, left)
 }
 
-// How many characters begin in the bytes.
+// The number of characters that begin in the bytes.
 fn beginnings(bytes: &[u8]) -> usize
     ensures { result ≡ count_by begins_char bytes.now }
 {
@@ -110,8 +111,8 @@ fn beginnings(bytes: &[u8]) -> usize
     count
 }
 
-// Passes whole blocks, of N bytes each, in which no more than `n` characters begin: the offset behind them, and how
-// many are left.
+// Skips blocks of N bytes while at most `n` characters can begin in one. Returns the offset after them, and how many
+// characters are left to skip.
 fn pass_blocks<const N: usize>(bytes: &[u8], mut offset: usize, mut n: usize) -> (usize, usize)
     requires some { 0 < N }
     requires few { N ≤ 64 }
@@ -129,7 +130,7 @@ fn pass_blocks<const N: usize>(bytes: &[u8], mut offset: usize, mut n: usize) ->
     (offset, n)
 }
 
-// Where the character begins before which `n` more begin than before `offset`, or the end.
+// The offset of the character before which `n` more characters begin than before `offset`, or that of the end.
 fn pass_bytes(bytes: &[u8], mut offset: usize, mut n: usize) -> usize
     requires in_bounds { offset ≤ length bytes.now }
     requires within { begun bytes.now offset + n ≤ count_by begins_char bytes.now }
@@ -148,7 +149,7 @@ fn pass_bytes(bytes: &[u8], mut offset: usize, mut n: usize) -> usize
     offset
 }
 
-// Passes whole blocks backwards, of N bytes each, in which fewer than `n` characters begin.
+// Skips blocks of N bytes backwards while fewer than `n` characters can begin in one.
 fn pass_blocks_back<const N: usize>(bytes: &[u8], mut offset: usize, mut n: usize) -> (usize, usize)
     requires some { 0 < N }
     requires few { N ≤ 64 }
@@ -167,7 +168,7 @@ fn pass_blocks_back<const N: usize>(bytes: &[u8], mut offset: usize, mut n: usiz
     (offset, n)
 }
 
-// Where the character begins that is the `n`th before `offset`.
+// The offset of the `n`th character before `offset`.
 #[inline(always)]
 fn pass_bytes_back(bytes: &[u8], mut offset: usize, mut n: usize) -> usize
     requires in_bounds { offset ≤ length bytes.now }
@@ -185,8 +186,8 @@ fn pass_bytes_back(bytes: &[u8], mut offset: usize, mut n: usize) -> usize
     offset
 }
 
-/// The cursor at an offset no less than another cursor's, where a character begins or the text ends there. It counts
-/// the characters between the two.
+/// The cursor at a byte offset that is not before `from`, or `None` if the offset is inside a character. It scans the
+/// text between the two.
 pub fn cursor_at(text: &str, from: StringCursor, offset: usize) -> Option<StringCursor>
     requires at { StandsInText text.now from from.position }
     requires behind { from.offset ≤ offset }
@@ -202,8 +203,8 @@ pub fn cursor_at(text: &str, from: StringCursor, offset: usize) -> Option<String
     Some(StringCursor::new(from.position() + between, offset))
 }
 
-// The cursor behind the characters that begin in the next `n` bytes. The last one is read from its first byte on, so
-// that no byte behind it is.
+// The cursor after the characters that begin in the next `n` bytes. It decodes the last one from its first byte, so it
+// reads no byte after it.
 fn behind_begun(s: &str, cursor: &StringCursor, n: usize) -> StringCursor
     requires at { StandsInText s.now cursor.now cursor.now.position }
     requires some { 0 < n }
@@ -219,9 +220,9 @@ fn behind_begun(s: &str, cursor: &StringCursor, n: usize) -> StringCursor
     StringCursor::new(position, offset)
 }
 
-// Seeks an ASCII character, which is a byte that no other character has (RFC 3629, section 3). As many bytes as there
-// are characters before `end` do not reach behind `end`. Where it is not among these it is sought behind the
-// characters that begin there.
+// Seeks an ASCII character, whose byte is in no other character (RFC 3629, section 3). A round searches as many bytes
+// as there are characters before `end`, so it never reaches past `end`. The next round begins after the characters that
+// begin in these bytes.
 #[inline(always)]
 fn seek_ascii(s: &str, cursor: &mut StringCursor, character: u32, end: usize) -> bool
     requires ascii { character < 128 }
@@ -247,7 +248,7 @@ fn seek_ascii(s: &str, cursor: &mut StringCursor, character: u32, end: usize) ->
     false
 }
 
-// Seeks any other character, one after the other.
+// Seeks any other character, step by step.
 fn seek_other(s: &str, cursor: &mut StringCursor, character: u32, end: usize) -> bool
     requires at { StandsInText s.now cursor.old cursor.old.position }
     requires before { cursor.old.position ≤ end }
@@ -319,7 +320,7 @@ impl<'a> StrDrive for &'a str {
         u32::from(passed)
     }
 
-    // One that is not ASCII is passed by its bytes, and read only where it may be the one that is asked for.
+    // Passes a non-ASCII character by its bytes, and decodes it only if it may be the given one.
     #[inline(always)]
     fn back_over(&self, cursor: &mut StringCursor, character: u32) -> bool {
         let bytes = self.as_bytes();
@@ -347,7 +348,7 @@ impl<'a> StrDrive for &'a str {
         *cursor = StringCursor::new(cursor.position() - n, start);
     }
 
-    // Where a character was found those before it have to be counted, too.
+    // After a hit the characters before it have to be counted, too.
     #[inline(always)]
     fn few(&self) -> usize {
         64

@@ -6,7 +6,6 @@ use Rattle.sre_model.specs.Tree.{Tree, Item, PossessiveLoop, Atomic, Look}
 use Rattle.sre_model.specs.References.{refers}
 use Rattle.sre_model.specs.Regions.{forks, by_forked_regions, has_forked_region}
 use Rattle.sre_model.specs.Slots.{most_slots}
-use Rattle.sre_model.specs.Alternatives.{most_alternatives}
 use Rattle.sre_model.proofs.Foldings.{tree_same, tree_never}
 use Rattle.sre_code.specs.PlainItems.{by_barred_regions, has_barred_region}
 use Rattle.sre_code.specs.declared.code.slots.Regions.{Regions}
@@ -42,7 +41,7 @@ either_none a b c x y = rw (x, y, and-false b) refl
 
 -- nor does an atomic group or a look whose body neither forks nor refers
 pub bare_region : (q : Regions) (stops : Bool) (body : Tree) → (forks body || refers body) ≡ false
-    → IsBare ((stops && forks body) || has_barred_region q body) (most_slots body) (most_alternatives body)
+    → IsBare ((stops && forks body) || has_barred_region q body) (most_slots body)
 bare_region q stops body x =
     let bare = bare_tree body x in
     record {
@@ -50,5 +49,4 @@ bare_region q stops body x =
           either_none (forks body) stops (has_barred_region q body) (or_parts (forks body) (refers body) x).0
           (none_barred q body bare.unforked);
       one = bare.one;
-      none = bare.none;
     }

@@ -1,5 +1,5 @@
 -- The slots that are told of a code are those of its tree.
-use Rattle.std.proofs.Common.{ℕ, ◌-◌, ◌^◌, ◌≡◌, ◌≤◌, ◌*◌, Bool, true, false, List, length, cond}
+use Rattle.std.proofs.Common.{ℕ, ◌-◌, ◌^◌, ◌≡◌, ◌≤◌, Bool, true, false, List, length, cond}
 use Rattle.std.proofs.Common.{Option, Some, None, IfSome, refl, sym, ap, ◌∙◌, subst}
 use Rattle.std.proofs.lemmas.Bool.{true≢false}
 use Rattle.sre_model.specs.Tree.{Tree}
@@ -9,7 +9,7 @@ use Rattle.sre_model.specs.Regions.{has_forked_region}
 use Rattle.sre_model.specs.Slots.{most_slots}
 use Rattle.sre_code.specs.PlainItems.{AreTold}
 use Rattle.sre_code.specs.MostSlots.{AreMostSlots, HasTooManySlots, SlotsTold}
-use Rattle.sre_code.specs.TurnsTold.{CountedTold}
+use Rattle.sre_code.specs.Bounds.{CountedTold}
 use Rattle.sre_code.specs.declared.code.slots.Passed.{Passed}
 use Rattle.sre_code.specs.declared.code.slots.Regions.TheVariants as regions
 use Rattle.sre_code.proofs.BarredRegions.{barred_forked, never_barred}
@@ -25,7 +25,7 @@ module _ (ws : List ℕ) (e : ℕ) (at : e ≡ length ws - 1) (t : Tree) (w : Wh
 
   -- what is counted of a tree none of whose regions forks
   pub straight_counted : (p : Passed) → AreTold regions.Straight (2 ^ 24) ws 0 e (Some p)
-      → CountedTold t (Some (record { slots = p.slots; spots = p.slots; alternatives = p.alternatives }))
+      → CountedTold t (Some (record { slots = p.slots; sides = 1 }))
   straight_counted p told =
       let are = told.each t reads in
       let none : has_forked_region t ≡ false = sym (barred_forked t) ∙ are.0.unbarred in (
@@ -35,8 +35,7 @@ module _ (ws : List ℕ) (e : ℕ) (at : e ≡ length ws - 1) (t : Tree) (w : Wh
           few = are.0.few;
         },
         are.2,
-        are.2 ∙ ap (λ b. cond b (most_slots t * 2) (most_slots t)) (sym none),
-        are.3,
+        ap (λ b. cond b 2 1) (sym none),
       )
 
   -- where the first scan tells none of a tree that is counted, a region forks

@@ -25,8 +25,11 @@ pub mod UnmarkedRegions
 pub mod BarredRegions
 pub mod ScanningLoops
 pub mod PassedParts
-pub mod CappedTurns
-pub mod CodeTurns
+pub mod Saturating
+pub mod Prices
+pub mod PricedItems
+pub mod PriceScans
+pub mod CodeBounds
 pub mod CodeSlots
 pub mod AsciiMembers
 pub mod Bits

@@ -1,5 +1,5 @@
 -- A scan from one instruction to the next tells whether a body has what is sought, or refers; one that neither forks
--- nor refers has no slots of loops, and no alternatives.
+-- nor refers has no slots of loops.
 use Rattle.std.proofs.Common.{ℕ, ◌+◌, ◌≡◌, ◌<◌, ◌≤◌, ◌⊎◌, inl, inr, Bool, true, false, ◌||◌, List, Option}
 use Rattle.std.proofs.Common.{Some, None, max, refl, sym, ap, ◌∙◌, subst, arith}
 use Rattle.std.proofs.lemmas.Bool.{true≢false, or_right}
@@ -11,7 +11,6 @@ use Rattle.sre_model.specs.Folding.{Folding, of_tree, of_item, of_branch}
 use Rattle.sre_model.proofs.Foldings.{paired, tree_paired}
 use Rattle.sre_model.specs.Regions.{forks, by_forks, has_forked_region, by_forked_regions}
 use Rattle.sre_model.specs.Slots.{most_slots, by_slots}
-use Rattle.sre_model.specs.Alternatives.{most_alternatives, by_alternatives}
 use Rattle.sre_model.specs.Roles.{Role, ToTest, TestKind, role}
 use Rattle.sre_model.specs.Grammar.{Opcode, Reads, test_opcode}
 use Rattle.sre_model.proofs.Families.{HasRole, test_role, test_kind}
@@ -249,10 +248,9 @@ module _ (q : Sought) (ws : List ℕ) (start end : ℕ) where
   scan_ends i o le = record { each = λ t w. said t false w (o.to false (ends_at (scanner q ws end) i 0 le)) }
 
 -- what has neither: no loops and no branches, and regions are without them too
-pub record IsBare (region : Bool) (slots alternatives : ℕ) : Type 0 where
+pub record IsBare (region : Bool) (slots : ℕ) : Type 0 where
   pub unforked : region ≡ false
   pub one : slots ≡ 1
-  pub none : alternatives ≡ 0
 
 none_first : (a b c d : Bool) → ((a || c) || (b || d)) ≡ false → (a || b) ≡ false
 none_first a b c d x = by (a || b) refl
@@ -280,40 +278,37 @@ none_right true b x = absurd (true≢false x)
 pub none_of : (a b c : Bool) → (a || c) ≡ false → b ≡ false → (a || b) ≡ false
 none_of a b c x y = rw (none_left a c x, y) refl
 
-both_bare : (a b : Bool) (m n c d : ℕ) → IsBare a m c → IsBare b n d → IsBare (a || b) (max m n) (max c d)
-both_bare a b m n c d x y = record {
+both_bare : (a b : Bool) (m n : ℕ) → IsBare a m → IsBare b n → IsBare (a || b) (max m n)
+both_bare a b m n x y = record {
   unforked = rw (x.unforked, y.unforked) refl;
   one = omega (arith, x.one, y.one);
-  none = omega (arith, x.none, y.none);
 }
 
 -- an atomic group or a look is bare where its body is
-region_bare : (fork reference region : Bool) (m n : ℕ) → (fork || reference) ≡ false → IsBare region m n
-    → IsBare (fork || region) m n
-region_bare fork reference region m n x is = record {
+region_bare : (fork reference region : Bool) (m : ℕ) → (fork || reference) ≡ false → IsBare region m
+    → IsBare (fork || region) m
+region_bare fork reference region m x is = record {
   unforked = rw (none_left fork reference x, is.unforked) refl;
   one = is.one;
-  none = is.none;
 }
 
 mutual
   pub bare_tree : (t : Tree) → (forks t || refers t) ≡ false
-      → IsBare (has_forked_region t) (most_slots t) (most_alternatives t)
-  bare_tree Empty x = record { unforked = refl; one = refl; none = refl }
+      → IsBare (has_forked_region t) (most_slots t)
+  bare_tree Empty x = record { unforked = refl; one = refl }
   bare_tree (Then y t) x =
       both_bare (of_item by_forked_regions y) (has_forked_region t) (of_item by_slots y) (most_slots t)
-      (of_item by_alternatives y) (most_alternatives t)
       (bare_item y (none_first (of_item by_forks y) (of_item by_references y) (forks t) (refers t) x))
       (bare_tree t (none_second (of_item by_forks y) (of_item by_references y) (forks t) (refers t) x))
 
   bare_item : (y : Item) → (of_item by_forks y || of_item by_references y) ≡ false
-      → IsBare (of_item by_forked_regions y) (of_item by_slots y) (of_item by_alternatives y)
-  bare_item Fail x = record { unforked = refl; one = refl; none = refl }
-  bare_item (One t) x = record { unforked = refl; one = refl; none = refl }
-  bare_item (At a) x = record { unforked = refl; one = refl; none = refl }
-  bare_item (Mark n) x = record { unforked = refl; one = refl; none = refl }
-  bare_item (Atomic body) x = region_bare (forks body) (refers body) _ _ _ x (bare_tree body x)
-  bare_item (Look sign back body) x = region_bare (forks body) (refers body) _ _ _ x (bare_tree body x)
+      → IsBare (of_item by_forked_regions y) (of_item by_slots y)
+  bare_item Fail x = record { unforked = refl; one = refl }
+  bare_item (One t) x = record { unforked = refl; one = refl }
+  bare_item (At a) x = record { unforked = refl; one = refl }
+  bare_item (Mark n) x = record { unforked = refl; one = refl }
+  bare_item (Atomic body) x = region_bare (forks body) (refers body) _ _ x (bare_tree body x)
+  bare_item (Look sign back body) x = region_bare (forks body) (refers body) _ _ x (bare_tree body x)
   bare_item (Branch ts) x = absurd (true≢false x)
   bare_item (Loop o low high body) x = absurd (true≢false x)
   bare_item (Run kind low high t) x = absurd (true≢false x)

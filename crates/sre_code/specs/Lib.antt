@@ -12,8 +12,10 @@ pub mod Sought
 pub mod UnmarkedRegions
 pub mod PlainItems
 pub mod RegionWords
-pub mod EnoughTurns
-pub mod TurnsTold
+pub mod StepBounds
+pub mod Saturating
+pub mod Prices
+pub mod Bounds
 pub mod MostSlots
 pub mod Steps
 pub mod Descent

@@ -4,14 +4,13 @@
 use Rattle.std.specs.Prelude.{ℕ, ◌+◌, ◌-◌, ◌≡◌, ◌<◌, ◌≤◌, ◌⊎◌, Bool, true, false, ◌||◌, ◌&&◌, cond}
 use Rattle.std.specs.Prelude.{List, Option, Some, None}
 use Rattle.sre_chars.specs.declared.constants.SreOpcode.{SreOpcode}
-use Rattle.sre_model.specs.Tree.{Tree, Item, Loop, PossessiveLoop, Atomic, Look, Trees, Order}
-use Rattle.sre_model.specs.Grammar.{Word, skip, Opcode, Operands, Reads, ReadsBranch}
-use Rattle.sre_model.specs.Roles.{Role, ToBranch, ToRepeat, ToRepeatPossessively, ToGroupAtomically, ToLook, role}
+use Rattle.sre_model.specs.Tree.{Tree, Item, Loop, PossessiveLoop, Atomic, Look, Order}
+use Rattle.sre_model.specs.Grammar.{Word, skip, Opcode, Operands, Reads}
+use Rattle.sre_model.specs.Roles.{Role, ToRepeat, ToRepeatPossessively, ToGroupAtomically, ToLook, role}
 use Rattle.sre_model.specs.References.{refers, by_references}
 use Rattle.sre_model.specs.Folding.{Folding, of_tree, of_item}
 use Rattle.sre_model.specs.Regions.{forks}
 use Rattle.sre_model.specs.Slots.{loop_slots, most_slots, by_slots}
-use Rattle.sre_model.specs.Alternatives.{alternatives_of, most_alternatives, by_alternatives}
 use Rattle.sre_code.specs.Instructions.{Behind, NoneBehind}
 use Rattle.sre_code.specs.declared.code.slots.Regions.{Regions}
 use Rattle.sre_code.specs.declared.code.slots.Regions.TheVariants as regions
@@ -51,29 +50,24 @@ abbrev pub IsPlainItem : Regions → ℕ → Item → Type 0
 IsPlainItem q most x =
     ArePlain most (of_item (by_barred_regions q) x) (of_item by_references x) (of_item by_slots x)
 
--- what is told of items that end at j: their slots and alternatives, or that they are not plain
+-- what is told of items that end at j: their slots, or that they are not plain
 abbrev pub TreeTold : Regions → ℕ → ℕ → Tree → Option Passed → Type 0
 TreeTold q most j t (Some p) =
-    IsPlain q most t × (p.behind ≡ j) × (p.slots ≡ most_slots t) × (p.alternatives ≡ most_alternatives t)
+    IsPlain q most t × (p.behind ≡ j) × (p.slots ≡ most_slots t)
 TreeTold q most j t None = IsPlain q most t → ⊥
 
 abbrev pub ItemTold : Regions → ℕ → ℕ → Item → Option Passed → Type 0
 ItemTold q most j x (Some p) =
     IsPlainItem q most x × (p.behind ≡ j) × (p.slots ≡ of_item by_slots x)
-    × (p.alternatives ≡ of_item by_alternatives x)
 ItemTold q most j x None = IsPlainItem q most x → ⊥
 
--- an instruction that has no loop, and so many alternatives; what is behind it stands at k
-abbrev pub flat : ℕ → ℕ → Passed
-flat k alternatives = record { behind = k; slots = 1; alternatives = alternatives }
+-- an instruction that has no loop; what is behind it stands at k
+abbrev pub flat : ℕ → Passed
+flat k = record { behind = k; slots = 1 }
 
 -- what is told of the words from i up to e, whatever tree they have
 pub record AreTold (q : Regions) (most : ℕ) (ws : List ℕ) (i e : ℕ) (r : Option Passed) : Type 0 where
   pub each : (t : Tree) → Reads ws i e t → TreeTold q most e t r
-
--- a branch, whose alternatives begin at q, has so many
-pub record AreCounted (ws : List ℕ) (q n : ℕ) : Type 0 where
-  pub each : (ts : Trees) (j : ℕ) → ReadsBranch ws q j ts → n ≡ alternatives_of ts
 
 -- what is told of a loop at i
 pub record LoopTold (q : Regions) (most : ℕ) (ws : List ℕ) (i : ℕ) (r : Option Passed) : Type 0 where
@@ -81,17 +75,13 @@ pub record LoopTold (q : Regions) (most : ℕ) (ws : List ℕ) (i : ℕ) (r : Op
       (o : Order) (low high : ℕ) (body : Tree) (j : ℕ) → Operands ws i j (Loop o low high body)
       → ItemTold q most j (Loop o low high body) r
 
--- what is told of a branch at i, whose first alternative is next
-pub record BranchTold (ws : List ℕ) (i : ℕ) (r : Option Passed) : Type 0 where
-  pub each : (ts : Trees) (j : ℕ) → ReadsBranch ws (i + 1) j ts → r ≡ Some (flat (i + 2) (alternatives_of ts))
-
 -- an atomic group or a look that ends at j, or none where its body forks or refers
 abbrev pub flat_unless : Bool → ℕ → Option Passed
-flat_unless forked j = cond forked None (Some (flat j 0))
+flat_unless forked j = cond forked None (Some (flat j))
 
 -- or the words before its body, which begins at b, where a fork in it does not end the scan
 abbrev pub region_passed : Bool → Bool → ℕ → ℕ → Option Passed
-region_passed stops forked b j = cond stops (flat_unless forked j) (Some (flat b 0))
+region_passed stops forked b j = cond stops (flat_unless forked j) (Some (flat b))
 
 -- what is told of an atomic group or a look at i, whose body begins at b, by whether a fork in it ends the scan
 pub record RegionTold (stops : Bool) (ws : List ℕ) (i b : ℕ) (r : Option Passed) : Type 0 where
@@ -103,7 +93,7 @@ pub record RegionTold (stops : Bool) (ws : List ℕ) (i b : ℕ) (r : Option Pas
 -- slots, or the words before the body are passed
 abbrev pub OwnTold : Bool → ℕ → ℕ → ℕ → Option Passed → Type 0
 OwnTold stops most slots b (Some p) =
-    (stops ≡ false) × (slots ≤ most) × (p ≡ record { behind = b; slots = slots; alternatives = 0 })
+    (stops ≡ false) × (slots ≤ most) × (p ≡ record { behind = b; slots = slots })
 OwnTold stops most slots b None = (stops ≡ true) ⊎ (most < slots)
 
 -- the same by the words at i
@@ -114,12 +104,11 @@ pub record PossessiveTold (stops : Bool) (most : ℕ) (ws : List ℕ) (i : ℕ) 
 
 -- what is told of any other instruction
 pub record OtherTold (ws : List ℕ) (i : ℕ) (r : Option Passed) : Type 0 where
-  pub some : (k c : ℕ) → Behind ws i k c → r ≡ Some (flat k 0)
+  pub some : (k c : ℕ) → Behind ws i k c → r ≡ Some (flat k)
   pub none : NoneBehind ws i → r ≡ None
 
 abbrev pub kind_of : Role → Kind
 kind_of ToRepeat = kind.Loop
-kind_of ToBranch = kind.Branch
 kind_of ToRepeatPossessively = kind.PossessiveLoop
 kind_of ToGroupAtomically = kind.AtomicGroup
 kind_of (ToLook sign) = kind.Look
@@ -127,7 +116,6 @@ kind_of _ = kind.Other
 
 abbrev pub ToldBy : Kind → Regions → ℕ → List ℕ → ℕ → Option Passed → Type 0
 ToldBy kind.Loop q most ws i r = LoopTold q most ws i r
-ToldBy kind.Branch q most ws i r = BranchTold ws i r
 ToldBy kind.AtomicGroup q most ws i r = RegionTold (stops_at_forks q) ws i (i + 2) r
 ToldBy kind.Look q most ws i r = RegionTold (stops_at_forks q) ws i (i + 3) r
 ToldBy kind.PossessiveLoop q most ws i r = PossessiveTold (stops_at_forks q) most ws i r

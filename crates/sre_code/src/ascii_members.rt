@@ -1,6 +1,6 @@
-//! Sets whose ASCII characters are at hand.
+//! The ASCII characters of a set, as an [`AsciiSet`].
 //!
-//! Most characters are ASCII, and of these a bit tells what a walk over a set's items would.
+//! Most characters are ASCII. For these a test of one bit replaces a loop over the set's items.
 
 ghost use Rattle.std.specs.Prelude.{◌≡◌, ℕ, ◌+◌, ◌<◌, ◌≤◌, ◌&&◌, ◌||◌, List, length, slice_range, IfSome};
 ghost use Rattle.sre_code.specs.AsciiSet.{contains};
@@ -16,21 +16,21 @@ use crate::members::opcode;
 use crate::operands::{category_code, operand};
 use sre_chars::constants::SreOpcode;
 
-// The ASCII characters for which an item of a set holds, and where the next item begins.
+// The ASCII characters for which an item of a set holds, and the address of the next item.
 #[derive(Clone, Copy)]
 struct AsciiItem {
     members: AsciiSet,
     next: usize,
 }
 
-// The ASCII characters whose bits are set in the words behind a CHARSET.
+// The ASCII characters whose bits are set in the words after a CHARSET.
 #[inline(always)]
 fn ascii_bits(words: &[u32], place: usize) -> AsciiSet
     requires { place + 9 ≤ length words.now }
     ensures { (table : Table) (c : ℕ) → c < 128
         → contains result c ≡ item_holds table (Charset (slice_range words.now (place + 1) (place + 9))) c }
 {
-    let _length = words.len(); // a slice has few items, so no place overflows
+    let _length = words.len(); // bounds the length of the slice, so no address overflows
     AsciiSet::of_bits([
         words[place + 1],
         words[place + 2],
@@ -39,7 +39,7 @@ fn ascii_bits(words: &[u32], place: usize) -> AsciiSet
     ])
 }
 
-// The ASCII characters for which the item at a place holds, if it is a LITERAL, a RANGE, a CATEGORY or a CHARSET.
+// The ASCII characters for which the item at `place` holds. `None` for RANGE_UNI_IGNORE and BIGCHARSET.
 #[inline(always)]
 fn ascii_item(words: &[u32], place: usize, opcode: SreOpcode) -> Option<AsciiItem>
     requires opcode { Opcode words.now place opcode }
@@ -67,7 +67,7 @@ fn ascii_item(words: &[u32], place: usize, opcode: SreOpcode) -> Option<AsciiIte
     }
 }
 
-// The characters of a set, and those of another one where they are wanted.
+// The members of a set, and those of another one if they are wanted.
 #[inline(always)]
 fn union_if(members: AsciiSet, others: AsciiSet, wanted: bool) -> AsciiSet
     ensures { (c : ℕ) → contains result c ≡ contains members c || (wanted && contains others c) }
@@ -79,8 +79,8 @@ fn union_if(members: AsciiSet, others: AsciiSet, wanted: bool) -> AsciiSet
     }
 }
 
-/// The ASCII characters that the set whose items begin at `start` takes, if each item is a LITERAL, a RANGE, a
-/// CATEGORY, a CHARSET or a NEGATE.
+/// The ASCII characters of the set whose items begin at `start`, or `None` if it has a RANGE_UNI_IGNORE or a BIGCHARSET
+/// item before its FAILURE.
 #[inline(never)]
 pub fn ascii_members(words: &[u32], start: usize) -> Option<AsciiSet>
     requires { HasSet words.now start }
@@ -90,7 +90,7 @@ pub fn ascii_members(words: &[u32], start: usize) -> Option<AsciiSet>
     let mut place = start;
     let mut taken = true;
     let mut members = AsciiSet::new();
-    // The characters that no item has decided.
+    // The characters for which no item holds so far.
     let mut left = AsciiSet::new().complement();
     'item: loop {
         match opcode(words, place) {

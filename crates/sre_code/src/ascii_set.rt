@@ -1,8 +1,7 @@
 //! Sets of ASCII characters, as two words of 64 bits.
 //!
-//! Whether such a set has a character is a shift and a mask, where to ask what it is made of takes a walk.
-//! `contains` in `specs/` says which characters a set has; each function here says that of its result, for every
-//! character. Characters past ASCII are in no set.
+//! A membership test is a shift and a mask, instead of a loop over a set's items. The definition `contains` in `specs/`
+//! says which characters a set has, and each contract uses it. No set has a character past ASCII.
 
 ghost use Rattle.std.specs.Prelude.{◌≡◌, ◌<◌, ◌/◌, ◌%◌, ◌^◌, ◌&&◌, ◌||◌, ℕ, false, not, nat_eq, nat_lt};
 ghost use Rattle.std.specs.Prelude.{slice_index, if◌then◌else◌};
@@ -17,9 +16,9 @@ use sre_chars::constants::SreCatCode;
 /// A set of ASCII characters.
 #[derive(Clone, Copy, PartialEq, Eq, Debug)]
 pub struct AsciiSet {
-    // Bit `c` stands for the character `c`.
+    // Bit `c` is for the character `c`.
     low: u64,
-    // Bit `c - 64` stands for the character `c`.
+    // Bit `c - 64` is for the character `c`.
     high: u64,
 }
 
@@ -48,7 +47,7 @@ impl AsciiSet {
         high: 0,
     };
 
-    // The blanks, and the four information separators.
+    // The ASCII whitespace, and the four information separators.
     const UNICODE_SPACES: AsciiSet = AsciiSet {
         low: 0x0000_0001_f000_3e00,
         high: 0,
@@ -60,7 +59,7 @@ impl AsciiSet {
         high: 0,
     };
 
-    /// The set of no character.
+    /// The empty set.
     #[inline(always)]
     pub fn new() -> AsciiSet
         ensures { (c : ℕ) → contains result c ≡ false }
@@ -68,7 +67,7 @@ impl AsciiSet {
         AsciiSet { low: 0, high: 0 }
     }
 
-    /// The set of one character; a character past ASCII gives the set of none.
+    /// The set of one character. It is empty for a character past ASCII.
     #[inline(always)]
     pub fn of_character(ch: u32) -> AsciiSet
         ensures { (c : ℕ) → contains result c ≡ nat_lt c 128 && nat_eq c ch }
@@ -111,7 +110,7 @@ impl AsciiSet {
         }
     }
 
-    /// The set of the ASCII characters from `low` to `high`.
+    /// The set of the ASCII characters from `low` to `high`, both included. It is empty if `low` is above `high`.
     #[inline(always)]
     pub fn of_range(low: u32, high: u32) -> AsciiSet
         ensures { (c : ℕ) → contains result c ≡ nat_lt c 128 && is_between low high c }
@@ -120,7 +119,7 @@ impl AsciiSet {
         AsciiSet::below(end).difference(AsciiSet::below(low))
     }
 
-    /// The set of the ASCII characters in a category, which are the same for every table.
+    /// The set of the ASCII characters in a category. It is the same for every Unicode table.
     #[inline(always)]
     pub fn of_category(code: SreCatCode) -> AsciiSet
         ensures { (t : Table) (c : ℕ) → contains result c ≡ nat_lt c 128 && category t (category_number code) c }
@@ -143,8 +142,8 @@ impl AsciiSet {
         }
     }
 
-    /// The set of the characters whose bits are set in four words, the lowest bit of the first word being that of
-    /// the character 0.
+    /// The set of the characters whose bits are set in four words. The lowest bit of the first word is for the
+    /// character 0.
     #[inline(always)]
     pub fn of_bits(words: [u32; 4]) -> AsciiSet
         ensures { (c : ℕ) → contains result c
@@ -178,7 +177,7 @@ impl AsciiSet {
         }
     }
 
-    /// The set of the ASCII characters that are not in the set.
+    /// The set of all ASCII characters that are not in this set.
     #[inline(always)]
     pub fn complement(self) -> AsciiSet
         ensures { (c : ℕ) → contains result c ≡ nat_lt c 128 && not (contains self c) }
@@ -189,7 +188,7 @@ impl AsciiSet {
         }
     }
 
-    /// Whether the set has a character. It has none past ASCII.
+    /// Whether the set has a character. It is `false` for every character past ASCII.
     #[inline(always)]
     pub fn contains(&self, ch: u32) -> bool
         ensures { result ≡ contains self.now ch }
@@ -203,7 +202,7 @@ impl AsciiSet {
     }
 }
 
-// The word of two: the first has the lower 32 bits.
+// The 64-bit word of two: `low` has the lower 32 bits.
 #[inline(always)]
 fn join(low: u32, high: u32) -> u64
     ensures { (k : ℕ) → k < 64 → bit_at result k ≡ bit_at (if nat_lt k 32 then low else high) (k % 32) }

@@ -1,12 +1,11 @@
-//! Checked words as a view: [`Code`].
+//! Checked bytecode as a view: [`Code`].
 //!
-//! A [`Code`] is a view of words that the grammar (`specs/Grammar.antt`) relates to a tree, of which there is then
-//! exactly one, together with a table of characters. An information block at the front is passed over: the grammar asks
-//! nothing of it but its skip. [`Code::check`] reads the words behind it once from left to right, with a stack of its
-//! own for the parts that are open, and on the way adds up the least number of characters that a match passes. Scans
-//! of words that are a code then tell, with no stack, whether they ask for groups, and from which one on, and how far
-//! the characters of their runs count; and what the block claims is compared with the first items, which confirm it or
-//! not.
+//! A [`Code`] is a view of bytecode to which the grammar (`Grammar` of sre_model) relates a tree, and of Unicode
+//! tables. The grammar relates at most one tree to it, and demands only a valid skip of an INFO block.
+//!
+//! [`Code::check`] reads the items once from left to right, with an explicit stack of open parts. On the way it adds up
+//! the least width of a match. Two scans without a stack then compute [`Code::refers`], [`Code::asked_from`] and
+//! [`Code::most_counts`]. At last the claims of the INFO block are compared with the first items.
 
 ghost use Rattle.std.specs.Prelude.{◌≡◌, ◌≢◌, ◌≤◌, ◌-◌, ◌^◌, false, length, IfOk, IfErr, OnOk, IfSome, None, min};
 ghost use Rattle.sre_model.specs.Tree.{Tree};
@@ -18,13 +17,14 @@ ghost use Rattle.sre_model.specs.MarksSet.{marks_in_regions};
 ghost use Rattle.sre_code.specs.Hinted.{Confirmed};
 ghost use Rattle.sre_model.specs.Grammar.{AreItems, IsCode, HasOneTree, behind_block};
 ghost use Rattle.sre_code.specs.Refusals.{place_of};
-ghost use Rattle.sre_code.specs.EnoughTurns.{AreEnoughFor, HasNoNumber};
+ghost use Rattle.sre_code.specs.StepBounds.{IsStepBound, HasNoStepBound};
 ghost use Rattle.sre_code.specs.MostSlots.{AreMostSlots, HasTooManySlots};
 ghost use Rattle.sre_growth.specs.Refusal.{Refused};
 
 mod asked;
 mod block;
 pub(crate) mod borders;
+mod bounds;
 mod branch;
 mod character;
 pub(crate) mod check;
@@ -38,6 +38,7 @@ mod looks_behind;
 mod marked_regions;
 mod part;
 mod prefix;
+mod prices;
 mod region;
 mod repeat;
 mod run_counts;
@@ -45,7 +46,6 @@ mod set;
 mod slots;
 mod sought;
 mod step;
-mod turns;
 mod words;
 
 use check::check_in;
@@ -53,20 +53,20 @@ pub use error::CodeError;
 use sre_chars::string::{LentTable, UniTable};
 use std::alloc::Global;
 
-/// What the information block claims and the tree confirms; each is there exactly where it is confirmed.
+/// Search hints: what the INFO block claims and the tree confirms. A hint is present exactly if it is confirmed.
 #[derive(Clone, Copy, PartialEq, Eq, Debug)]
 pub struct Hints {
-    /// No match is shorter than this number of characters.
+    /// The least width that the block claims: no match has fewer characters.
     pub width: Option<u32>,
-    /// Each match begins with this number of characters, of which the second number need not be matched again.
+    /// The length of the literal prefix of each match, and how many of its characters a match need not test again.
     pub prefix: Option<(u32, u32)>,
-    /// The prefix is all that a match has.
+    /// Whether the whole code is that prefix.
     pub literal: bool,
-    /// Each match begins with a character of the set that the words begin with.
+    /// Whether each match begins with a character of the set in the INFO block.
     pub first_set: bool,
 }
 
-/// A view of checked words and a table of characters, with confirmed hints.
+/// A view of checked bytecode and Unicode tables, with confirmed hints.
 #[derive(Clone, Copy)]
 pub struct Code<'a> {
     words: &'a [u32],
@@ -87,13 +87,13 @@ pub struct Code<'a> {
 impl<'a> Code<'a> {
     ghost use Rattle.sre_code.specs.Codes.{words_of, items_of, uni_of, hints_of};
 
-    /// Checks words against the grammar.
+    /// Checks bytecode against the grammar.
     ///
-    /// The words are refused exactly where the grammar relates no tree to them, or where memory was refused:
-    /// then a growth of the check's stack was.
+    /// It returns `Ok` only if the grammar relates a tree to `words`, and an error other than [`CodeError::Memory`]
+    /// only if it relates none.
     ///
     /// ```
-    /// // The words of `a`: its letter, and success.
+    /// // The bytecode of `a`: a literal, and SUCCESS.
     /// let uni = UniTable::ascii(alloc);
     /// let code = Code::check(alloc, &[16, 97, 1], &uni)?;
     /// assert!(code.items().len() == 3 && !code.refers());
@@ -102,8 +102,8 @@ impl<'a> Code<'a> {
     ///
     /// # Errors
     ///
-    /// [`CodeError`] has a cause for each kind of fault, with the place of the word at which it was seen: which one is
-    /// named where several stand is open. [`CodeError::Memory`] comes where a growth of the check's stack was refused.
+    /// [`CodeError`] names a fault and the address of the word at which it was seen; if there are several, any of them.
+    /// [`CodeError::Memory`], if an allocation for the check's stack failed.
     pub fn check(alloc: Global, words: &'a [u32], uni: &'a UniTable) -> Result<Code<'a>, CodeError>
         ensures words { IfOk result (λ code. words_of code ≡ words.now) }
         ensures uni { IfOk result (λ code. uni_of code ≡ uni.now) }
@@ -115,7 +115,7 @@ impl<'a> Code<'a> {
         Code::check_lent(alloc, words, uni)
     }
 
-    /// Checks words against the grammar, as [`Code::check`] does, with a table whose lists a caller lends.
+    /// Checks bytecode as [`Code::check`] does, with Unicode tables whose lists the caller lends.
     ///
     /// # Errors
     ///
@@ -135,12 +135,11 @@ impl<'a> Code<'a> {
         check_in(alloc, words, uni)
     }
 
-    /// The view of words that a check passed before, from what was told of them then. Nothing is checked anew, and the
-    /// time does not grow with the words.
+    /// A view of bytecode that a check accepted before, built from the results of that check. It checks nothing, in
+    /// constant time.
     ///
     /// `hints`, `refers`, `asked_from` and `most_counts` are what [`Code::hints`], [`Code::refers`],
-    /// [`Code::asked_from`] and [`Code::most_counts`] told of a code of the same words and a table of the same
-    /// characters.
+    /// [`Code::asked_from`] and [`Code::most_counts`] returned for a code of the same bytecode and an equal table.
     #[inline]
     pub fn from_checked(
         words: &'a [u32],
@@ -174,7 +173,7 @@ impl<'a> Code<'a> {
         }
     }
 
-    /// The words, to which the grammar relates exactly one tree.
+    /// The bytecode, to which the grammar relates exactly one tree.
     #[inline(always)]
     pub fn words(&self) -> &'a [u32]
         ensures same { result.now ≡ words_of self.now }
@@ -185,8 +184,7 @@ impl<'a> Code<'a> {
         self.words
     }
 
-    /// The words behind the information block, where there is one, else all of them: by themselves they are a code of
-    /// the same tree.
+    /// The bytecode after the INFO block, or all of it if there is no block. By itself it is a code of the same tree.
     #[inline(always)]
     pub fn items(&self) -> &'a [u32]
         ensures same { result.now ≡ items_of self.now }
@@ -195,7 +193,7 @@ impl<'a> Code<'a> {
         self.items
     }
 
-    /// The table.
+    /// The Unicode tables.
     #[inline(always)]
     pub fn uni(&self) -> &'a LentTable<'a>
         ensures { result.now ≡ uni_of self.now }
@@ -203,7 +201,7 @@ impl<'a> Code<'a> {
         self.uni
     }
 
-    /// The hints, each of which the code's tree confirms.
+    /// The search hints, exactly those that the tree confirms.
     #[inline(always)]
     pub fn hints(&self) -> Hints
         ensures same { result ≡ hints_of self.now }
@@ -213,8 +211,8 @@ impl<'a> Code<'a> {
         self.hints
     }
 
-    /// Whether a reference or a condition is in the code: where none is, the marks that stand at a position change
-    /// nothing of what the items there pass.
+    /// Whether the code has a back-reference or a conditional. If it has none, the captures at a position do not change
+    /// what the items match from there.
     #[inline(always)]
     pub fn refers(&self) -> bool
         ensures { (tree : Tree) → Whole (words_of self.now) tree → result ≡ references.refers tree }
@@ -222,9 +220,9 @@ impl<'a> Code<'a> {
         self.refers
     }
 
-    /// From which group on the code asks for groups, counted from 0: no reference in it is to one before. It is 0 where
-    /// a condition is in the code, and 4294967295 where it has neither. So marks that end before those of this group,
-    /// the first of which is twice its number, change nothing of what the items pass.
+    /// The least group that a back-reference of the code refers to, counted from 0. It is 0 if the code has a
+    /// conditional, and 4294967295 if it has neither. Captures of lesser groups, which are the slots below twice this
+    /// number, do not change what the items match.
     #[inline(always)]
     pub fn asked_from(&self) -> u32
         ensures { (tree : Tree) → Whole (words_of self.now) tree → result ≡ references.asked_from tree }
@@ -232,14 +230,14 @@ impl<'a> Code<'a> {
         self.asked_from
     }
 
-    /// Up to which group the code asks for groups, counted from 0: no reference in it is to one behind. It is
-    /// 4294967295 where a condition is in the code, and 0 where it has neither.
+    /// The greatest group that a back-reference of the code refers to, counted from 0. It is 4294967295 if the code has
+    /// a conditional, and 0 if it has neither.
     ///
-    /// Each call goes over the words anew, so its time grows with them. The machine asks this once a search, where it
-    /// first keeps failures while marks are set that are asked for.
+    /// Each call scans the bytecode, in linear time. The machine calls it at most once a search, when it first memoizes
+    /// failures under live captures.
     ///
     /// ```
-    /// // The words of `(a)(b)\1`, which refers to the first of its two groups.
+    /// // The bytecode of `(a)(b)\1`, which refers to the first of its two groups.
     /// let words = [17, 0, 16, 97, 17, 1, 17, 2, 16, 98, 17, 3, 11, 0, 1];
     /// let code = Code::check(alloc, &words, &uni)?;
     /// assert!(code.asked_from() == 0 && code.asked_to() == 0);
@@ -251,9 +249,9 @@ impl<'a> Code<'a> {
         asked::asked(self.items()).to
     }
 
-    /// Up to which number the characters that one instruction goes over make a difference: the greatest count of the
-    /// code's runs of one test, or the least one of a run without a greatest; and how far a look goes back, if that is
-    /// more. It tells nothing where the code refers to groups.
+    /// The greatest number up to which the length of a single-character repeat or lookbehind matters. That is the
+    /// maximum of the greatest counts of single-character repeats (the least count if there is no limit), and of the
+    /// distances, in characters, that lookbehinds go back. It means nothing if the code refers to groups.
     #[inline(always)]
     pub fn most_counts(&self) -> u32
         ensures { (tree : Tree) → Whole (words_of self.now) tree → references.refers tree ≡ false
@@ -262,15 +260,15 @@ impl<'a> Code<'a> {
         self.most_counts
     }
 
-    /// Whether a mark is set inside a region, which is an atomic group, a look or a possessive loop. It is `false` only
-    /// where no region of the code sets one, and `true` only where one does, or where the code refers to groups: there
-    /// operands that look like a region, or like a mark, may be taken for one.
+    /// Whether a capture is set inside an atomic scope: an atomic group, a lookaround or a possessive loop. `false` is
+    /// always right. `true` may be wrong only if the code has a back-reference or a conditional: then an operand may be
+    /// taken for an atomic scope or for a MARK.
     ///
-    /// Each call goes over the words anew, so its time grows with them. The machine asks this once a search, before it
-    /// keeps where the bodies of regions end.
+    /// Each call scans the bytecode, in linear time. The machine calls it at most once a search, before it memoizes the
+    /// ends of atomic scopes.
     ///
     /// ```
-    /// // The words of `(?>(a))`, where a group is inside an atomic one, and of `((?>a))`, where it is around one.
+    /// // The bytecode of `(?>(a))`, with a group inside an atomic one, and of `((?>a))`, with a group around one.
     /// let inside = Code::check(alloc, &[27, 8, 17, 0, 16, 97, 17, 1, 1, 1], &uni)?;
     /// let around = Code::check(alloc, &[17, 0, 27, 4, 16, 97, 1, 17, 1, 1], &uni)?;
     /// assert!(inside.regions_set_marks() && !around.regions_set_marks());
@@ -283,14 +281,14 @@ impl<'a> Code<'a> {
         marked_regions::regions_set_marks(self.items())
     }
 
-    /// How many characters the looks of the code go back together: from where it stands it looks no further back. Of a
-    /// code that refers to groups nothing is told.
+    /// The sum of the distances, in characters, that the lookbehinds of the code go back, at most 2^64 - 1. From no
+    /// position does the code read further back. The sum means nothing if the code refers to groups.
     ///
-    /// Each call goes over the words anew, so its time grows with them. The machine asks this once a search, before it
-    /// keeps what failed.
+    /// Each call scans the bytecode, in linear time. The machine calls it at most once a search, before it memoizes
+    /// failures.
     ///
     /// ```
-    /// // The words of `(?<=ab)(?<!c)`.
+    /// // The bytecode of `(?<=ab)(?<!c)`.
     /// let words = [4, 7, 2, 16, 97, 16, 98, 1, 5, 5, 1, 16, 99, 1, 1];
     /// assert_eq!(Code::check(alloc, &words, &uni)?.looks_back(), 3);
     /// ```
@@ -301,22 +299,22 @@ impl<'a> Code<'a> {
         looks_behind::backs(self.items())
     }
 
-    /// How many states of the loops in progress make a difference at a place of the code, at most: those of each loop
-    /// times those of the loops inside it. A loop has two for each count of bodies that makes a difference, as far as
-    /// its greatest count, or its least where it has no greatest. What failed is kept for up to 16,777,216 of them.
+    /// The greatest number of counter states at an address: the product of the states of the loops around it. Those of
+    /// a possessive loop are not multiplied with those of loops inside it, since its body is matched apart. A loop has
+    /// two states for each count from 0 to its greatest count, or to its least count if there is no limit. Failures are
+    /// memoized for up to 16,777,216 counter states.
     ///
-    /// `None` where there are more, and where the code has a reference or a condition; and where the code has a
-    /// possessive loop, or the body of an atomic group or of a look has a branch, a run or a loop, and a mark is set
-    /// inside a region (`regions_set_marks`). Of such codes it is not told. Each call goes over the words anew, so its
-    /// time grows with them.
+    /// Returns `None` if there are more, or if the code has a back-reference or a conditional. Also if it has a
+    /// possessive loop, or an atomic group or lookaround with a branch, a single-character repeat or a loop inside, and
+    /// an atomic scope sets a capture (`regions_set_marks`). Each call scans the bytecode.
     ///
     /// ```
-    /// // The words of `(?:(?:ab)+c){1,5}`, whose loops have 4 and 12 slots.
+    /// // The bytecode of `(?:(?:ab)+c){1,5}`, whose loops have 4 and 12 counter states.
     /// assert_eq!(code.most_slots(), Some(48));
-    /// // The words of `(?:(?=a).)+`: the look has no branch, run or loop, and the loop has 4 slots.
+    /// // The bytecode of `(?:(?=a).)+`: the lookahead has no branch, repeat or loop, and the loop has 4 states.
     /// let words = [23, 10, 1, 4294967295, 4, 5, 0, 16, 97, 1, 2, 18, 1];
     /// assert_eq!(Code::check(alloc, &words, &uni)?.most_slots(), Some(4));
-    /// // The words of `(?>(?:ab)+)`, and of `(?>(a)b+)`, where a mark is inside.
+    /// // The bytecode of `(?>(?:ab)+)`, and of `(?>(a)b+)`, which sets a capture inside.
     /// let words = [27, 11, 23, 7, 1, 4294967295, 16, 97, 16, 98, 18, 1, 1];
     /// assert_eq!(Code::check(alloc, &words, &uni)?.most_slots(), Some(4));
     /// let words = [27, 15, 17, 0, 16, 97, 17, 1, 24, 6, 1, 4294967295, 16, 98, 1, 1, 1];
@@ -326,24 +324,33 @@ impl<'a> Code<'a> {
         ensures some { IfSome result (λ n. (tree : Tree) → Whole (words_of self.now) tree → AreMostSlots n tree) }
         ensures none { result ≡ None → (tree : Tree) → Whole (words_of self.now) tree → HasTooManySlots tree }
     {
-        turns::most_slots(self.items())
+        bounds::most_slots(self.items())
     }
 
-    /// A number of turns within which a match, a search or a step of a walk is answered unless memory is refused, in
-    /// any window of a text of at most so many characters: one more than `enough_turns` of the whole text. It grows
-    /// with the text, and is told without one, in a time that grows with the words alone.
+    /// A step budget that suffices for a match, a search or a step of an iteration over any range of a text of at most
+    /// `characters` characters, unless an allocation fails. It is one more than `step_bound` of the whole text. It is
+    /// computed from the code alone, without memory, in a time that grows with the code.
     ///
-    /// `None` where no such number is known: where the code has a reference or a condition; where the code has a
-    /// possessive loop, or the body of an atomic group or of a look has a branch, a run or a loop, and a mark is set
-    /// inside a region (`regions_set_marks`); where not all that failed may be kept, since its loops have more than
-    /// 16,777,216 slots within each other (`most_slots`), or there is no room for so many characters, which with more
-    /// than 4,096 slots is less; and where the number takes more than 64 bits.
-    pub fn enough_turns(&self, characters: usize) -> Option<u64>
-        ensures enough { IfSome result (λ turns. (tree : Tree) → Whole (words_of self.now) tree
-            → AreEnoughFor (length (items_of self.now)) tree characters turns) }
+    /// Returns `None` if no such number is known:
+    ///
+    /// - the code has a back-reference or a conditional;
+    /// - it has a possessive loop, or an atomic group or lookaround that may branch, and a capture is set inside an
+    ///   atomic scope (`regions_set_marks`);
+    /// - not all failures may be memoized: the loops have more than 16,777,216 counter states within each other
+    ///   (`most_slots`), or there is no room for so many characters, which with more than 4,096 states is less;
+    /// - items are nested more than 100 deep;
+    /// - the number takes more than 64 bits.
+    ///
+    /// ```
+    /// // The bytecode of `(?:x+x+)+y`, which takes exponential time in an engine that does not memoize.
+    /// assert_eq!(code.step_bound(100), Some(8687));
+    /// ```
+    pub fn step_bound(&self, characters: usize) -> Option<u64>
+        ensures enough { IfSome result (λ steps. (tree : Tree) → Whole (words_of self.now) tree
+            → IsStepBound (length (items_of self.now)) tree characters steps) }
         ensures none { result ≡ None → (tree : Tree) → Whole (words_of self.now) tree
-            → HasNoNumber (length (items_of self.now)) tree characters }
+            → HasNoStepBound (length (items_of self.now)) tree characters }
     {
-        turns::enough(self.items(), self.most_counts(), characters)
+        bounds::step_bound(self.items(), self.most_counts(), characters)
     }
 }

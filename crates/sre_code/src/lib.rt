@@ -1,4 +1,4 @@
-//! Checked words: the grammar's check, and what is known of a code.
+//! Checked bytecode: the check against the grammar, and what is computed from a code.
 #![tactic(auto)]
 
 pub mod ascii_members;

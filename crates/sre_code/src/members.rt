@@ -1,7 +1,7 @@
-//! Sets: which characters the items at a place of the words take.
+//! Sets: whether the set at an address has a character.
 //!
-//! A set is items, then FAILURE. The first item that holds for a character decides, and each NEGATE before it turns
-//! the verdict over. Each item's function says what the item decides, and where the next one begins.
+//! A set is items, then FAILURE. The first item that holds for a character decides, and each NEGATE before it inverts
+//! the result. For each kind of item a function returns whether it holds, and the address of the next one.
 
 ghost use Rattle.std.specs.Prelude.{◌≡◌, ℕ, ◌+◌, ◌*◌, ◌/◌, ◌%◌, ◌^◌, ◌<◌, ◌≤◌, ◌≢◌, List, length, nat_eq, slice_index};
 ghost use Rattle.std.specs.Prelude.{slice_range};
@@ -19,7 +19,7 @@ use sre_chars::constants::{SreCatCode, SreOpcode};
 use sre_chars::string::{LentTable, category, upper_unicode};
 use std::convert::TryFrom;
 
-// An item of a set: whether it holds for the character, and where the next one begins.
+// An item of a set: whether it holds for the character, and the address of the next one.
 #[derive(Clone, Copy)]
 struct Item {
     holds: bool,
@@ -38,7 +38,7 @@ pub fn opcode(words: &[u32], place: usize) -> SreOpcode
     }
 }
 
-// Whether a character is one of those from low to high.
+// Whether a character is from `low` to `high`, both included.
 #[inline(always)]
 pub fn is_between(low: u32, high: u32, character: u32) -> bool
     ensures { result ≡ is_between low high character }
@@ -84,8 +84,8 @@ fn range(words: &[u32], uni: &LentTable, place: usize, character: u32) -> Item
     }
 }
 
-// Whether a character or its upper case is one of those from low to high. It is out of line, since it would take
-// registers from the loop over the items.
+// Whether a character or its upper case is from `low` to `high`. It is not inlined, since it would take registers from
+// the loop over the items.
 #[inline(never)]
 fn is_between_ignoring_case(uni: &LentTable, low: u32, high: u32, character: u32) -> bool
     ensures { result ≡ item_holds uni.now (RangeUniIgnore low high) character }
@@ -93,7 +93,7 @@ fn is_between_ignoring_case(uni: &LentTable, low: u32, high: u32, character: u32
     is_between(low, high, character) || is_between(low, high, upper_unicode(uni, character))
 }
 
-/// `RANGE_UNI_IGNORE low high`: holds where the character or its upper case is from low to high.
+/// `RANGE_UNI_IGNORE low high`: holds if the character or its upper case is from low to high.
 #[inline(always)]
 fn range_ignoring_case(words: &[u32], uni: &LentTable, place: usize, character: u32) -> Item
     requires opcode { Opcode words.now place SreOpcode.RANGE_UNI_IGNORE }
@@ -108,7 +108,7 @@ fn range_ignoring_case(words: &[u32], uni: &LentTable, place: usize, character: 
     }
 }
 
-/// Whether a character is in a category. It is out of line for the same reason.
+/// Whether a character is in a category. It is not inlined, for the same reason.
 #[inline(never)]
 pub fn is_in_category(uni: &LentTable, code: SreCatCode, character: u32) -> bool
     ensures { result ≡ category uni.now (category_number code) character }
@@ -116,7 +116,7 @@ pub fn is_in_category(uni: &LentTable, code: SreCatCode, character: u32) -> bool
     category(uni, code, character)
 }
 
-/// `CATEGORY code`: holds in the category.
+/// `CATEGORY code`: holds for the characters of the category.
 #[inline(always)]
 fn in_category(words: &[u32], uni: &LentTable, place: usize, character: u32) -> Item
     requires opcode { Opcode words.now place SreOpcode.CATEGORY }
@@ -130,7 +130,7 @@ fn in_category(words: &[u32], uni: &LentTable, place: usize, character: u32) -> 
     }
 }
 
-// Whether a character's bit is set in the eight words behind a CHARSET.
+// Whether a character's bit is set in the eight words after a CHARSET.
 #[inline(always)]
 pub fn has_bit(words: &[u32], place: usize, character: u32) -> bool
     requires { place + 9 ≤ length words.now }
@@ -144,7 +144,7 @@ pub fn has_bit(words: &[u32], place: usize, character: u32) -> bool
     bit(word, character % 32)
 }
 
-/// `CHARSET`, then eight words: holds below 256 where the character's bit is set.
+/// `CHARSET`, then eight words: holds below 256 if the character's bit is set.
 #[inline(always)]
 fn charset(words: &[u32], uni: &LentTable, place: usize, character: u32) -> Item
     requires opcode { Opcode words.now place SreOpcode.CHARSET }
@@ -157,7 +157,7 @@ fn charset(words: &[u32], uni: &LentTable, place: usize, character: u32) -> Item
     }
 }
 
-// The number of a character's block. Four are in a word, the least significant byte being the first.
+// The block number of a character. Each word has four, the least significant byte first.
 #[inline(always)]
 fn block(words: &[u32], place: usize, character: u32) -> usize
     requires below { character < 65536 }
@@ -172,7 +172,7 @@ fn block(words: &[u32], place: usize, character: u32) -> usize
     ((numbers >> (8 * (k % 4))) % 256) as usize
 }
 
-// Whether a character's bit is set in its block of a BIGCHARSET. It is out of line for the same reason.
+// Whether a character's bit is set in its block of a BIGCHARSET. It is not inlined, for the same reason.
 #[inline(never)]
 fn has_bit_in_block(words: &[u32], place: usize, character: u32) -> bool
     requires room { place + 66 + word words.now (place + 1) * 8 ≤ length words.now }
@@ -184,14 +184,14 @@ fn has_bit_in_block(words: &[u32], place: usize, character: u32) -> bool
     if character >= 65536 {
         return false;
     }
-    let _length = words.len(); // a slice has few items, so no place overflows
+    let _length = words.len(); // bounds the length of the slice, so no address overflows
     let start = place + 66 + 8 * block(words, place, character);
     let word = words[start + (character % 256 / 32) as usize];
     bit(word, character % 32)
 }
 
-/// `BIGCHARSET count`, 64 words of block numbers, then eight words a block: holds below 65536 where the character's bit
-/// is set in its block.
+/// `BIGCHARSET count`, 64 words of block numbers, then eight words a block: holds below 65536 if the character's bit is
+/// set in its block.
 #[inline(always)]
 fn big_charset(words: &[u32], uni: &LentTable, place: usize, character: u32) -> Item
     requires opcode { Opcode words.now place SreOpcode.BIGCHARSET }
@@ -205,7 +205,7 @@ fn big_charset(words: &[u32], uni: &LentTable, place: usize, character: u32) -> 
     }
 }
 
-// An item that may hold.
+// An item other than NEGATE.
 #[inline(always)]
 fn one_item(words: &[u32], uni: &LentTable, place: usize, opcode: SreOpcode, character: u32) -> Item
     requires opcode { Opcode words.now place opcode }
@@ -225,14 +225,14 @@ fn one_item(words: &[u32], uni: &LentTable, place: usize, opcode: SreOpcode, cha
     }
 }
 
-/// Whether the set whose items begin at `start` takes a character. It is out of line, since many tests call it.
+/// Whether the set whose items begin at `start` has a character. It is not inlined, since many tests call it.
 #[inline(never)]
 pub fn is_member(words: &[u32], uni: &LentTable, start: usize, character: u32) -> bool
     requires { HasSet words.now start }
     ensures { (j : ℕ) (set : List SetItem) → SetStands words.now start j set
         → result ≡ is_member uni.now set character }
 {
-    let _length = words.len(); // a slice has few items, so no place overflows
+    let _length = words.len(); // bounds the length of the slice, so no address overflows
     let mut place = start;
     let mut taken = true;
     'item: loop {

@@ -1,4 +1,4 @@
-//! A code that keeps its words and its table, and from which a [`Code`] is lent.
+//! A code that owns its bytecode and tables, and lends a [`Code`].
 
 ghost use Rattle.std.specs.Prelude.{◌≡◌, ◌≢◌, ◌≤◌, false, length, IfOk, IfErr, OnOk};
 ghost use Rattle.sre_model.specs.Tree.{Tree};
@@ -13,11 +13,10 @@ use crate::code::{Code, CodeError, Hints};
 use sre_chars::string::UniTable;
 use std::alloc::Global;
 
-/// Checked words and a table that are kept, with what the check told of them: what a cache of patterns or a service
-/// holds. Requests take the [`Code`] that it lends, and nothing is checked anew.
+/// Owned bytecode and Unicode tables, with the results of their check: for a cache of patterns or a service. Requests
+/// take the [`Code`] that it lends, and nothing is checked again.
 ///
-/// Its table is its own. One that is made by [`UniTable::ascii`], or by `UniTable::lent` of lists that live as long as
-/// the program, takes no memory.
+/// It owns its tables. Those from [`UniTable::ascii`], or from `UniTable::lent` with static lists, take no memory.
 #[derive(Drop)]
 pub struct OwnedCode {
     words: Vec<u32>,
@@ -33,7 +32,7 @@ pub struct OwnedCode {
         → most_counts ≡ run_counts.most_counts tree },
 }
 
-// A copy of words.
+// A copy of the bytecode.
 fn copied(alloc: Global, words: &[u32]) -> Result<Vec<u32>, CodeError>
     ensures items { IfOk result (λ list. list.items ≡ words.now) }
     ensures memory { IfErr result (λ e. e ≡ CodeError.Memory) }
@@ -45,7 +44,7 @@ fn copied(alloc: Global, words: &[u32]) -> Result<Vec<u32>, CodeError>
     }
 }
 
-// A copy of words, and what their check told of them.
+// A copy of the bytecode, and the results of its check.
 #[derive(Drop)]
 struct CheckedCopy {
     words: Vec<u32>,
@@ -59,7 +58,7 @@ struct CheckedCopy {
         → most_counts ≡ run_counts.most_counts tree },
 }
 
-// Checks words, and copies them.
+// Checks the bytecode, and copies it.
 fn checked_copy(alloc: Global, words: &[u32], uni: &UniTable) -> Result<CheckedCopy, CodeError>
     ensures words { IfOk result (λ copy. copy.words.items ≡ words.now) }
     ensures checked { IfOk result
@@ -84,17 +83,17 @@ impl OwnedCode {
     ghost use Rattle.sre_code.specs.Codes.{words_of, uni_of};
     ghost use Rattle.sre_code.specs.Owned.{words_kept, uni_kept};
 
-    /// Checks words as [`Code::check`] does, and keeps a copy of them.
+    /// Checks bytecode as [`Code::check`] does, and stores a copy of it.
     ///
     /// ```
-    /// // The words of `a`.
+    /// // The bytecode of `a`.
     /// let kept = OwnedCode::new(alloc, &[16, 97, 1], UniTable::ascii(alloc))?;
     /// assert!(State::new(alloc).search(Request::whole("ba", kept.code()))?);
     /// ```
     ///
     /// # Errors
     ///
-    /// Those of [`Code::check`]; [`CodeError::Memory`] comes also where the memory of the copy was refused.
+    /// Those of [`Code::check`]. [`CodeError::Memory`] also if the allocation of the copy failed.
     pub fn new(alloc: Global, words: &[u32], uni: UniTable) -> Result<OwnedCode, CodeError>
         ensures words { IfOk result (λ code. words_kept code ≡ words.now) }
         ensures uni { IfOk result (λ code. uni_kept code ≡ uni.entry) }
@@ -125,7 +124,7 @@ impl OwnedCode {
         }
     }
 
-    /// The code: the words that are kept, with the table. The time does not grow with the words.
+    /// The code: a view of the owned bytecode and tables, in constant time.
     pub fn code(&self) -> Code<'_>
         ensures words { words_of result ≡ words_kept self.now }
         ensures uni { uni_of result ≡ uni_kept self.now }

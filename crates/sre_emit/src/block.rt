@@ -1,5 +1,4 @@
-//! The information block before the words of a tree: the least width, and the prefix where the tree begins with plain
-//! literals.
+//! The INFO block before the bytecode of a tree: the least width, and a prefix if the tree begins with plain literals.
 
 ghost use Rattle.std.specs.Prelude.{◌≡◌, ◌+◌, ◌<◌, ◌≤◌, ◌∷◌, ◌++◌, IfOk, length, map, nat_eq, cond};
 ghost use Rattle.sre_emit.specs.Parts.{test_of, item_of, in_order, tree_of};
@@ -15,10 +14,10 @@ use sre_chars::constants::{MAXREPEAT, SreOpcode};
 use sre_growth::Refusal;
 use std::alloc::Allocator;
 
-// A block of a longer prefix would have a skip that is no word.
+// The longest prefix. The skip of a block with a longer one would not fit a word.
 const LONGEST: usize = 2147483644;
 
-// A block names no greatest width.
+// The greatest width in a block: none.
 const NO_LIMIT: u32 = MAXREPEAT as u32;
 
 // The character of a plain literal.
@@ -48,7 +47,7 @@ fn plain_value(test: &OneChar) -> Option<u32>
     }
 }
 
-// The character of an item that is a plain literal.
+// The character of an item, if it is a plain literal.
 fn plain(item: &Item) -> Option<u32>
     ensures { result ≡ plain (item_of item.now) }
 {
@@ -68,7 +67,7 @@ fn plain(item: &Item) -> Option<u32>
     }
 }
 
-// Whether an item is a mark.
+// Whether an item is a MARK.
 fn is_mark(item: &Item) -> bool
     ensures { result ≡ is_mark (item_of item.now) }
 {
@@ -88,7 +87,7 @@ fn is_mark(item: &Item) -> bool
     }
 }
 
-// How many plain literals items begin with.
+// The number of plain literals at the front.
 #[tactic(auto, using(crate::proofs::Fronts::leading_laws))]
 fn leading(items: &[Item]) -> usize
     ensures count { result ≡ leading (in_order (map item_of items.now)) }
@@ -104,7 +103,7 @@ fn leading(items: &[Item]) -> usize
     at
 }
 
-// The plain literals at the front of items, marks between them passed over.
+// The plain literals at the front, with MARK items between them skipped.
 #[tactic(auto, using(crate::proofs::Fronts::spread_laws))]
 fn spread<A: Allocator>(alloc: A, items: &[Item]) -> Result<Vec<u32, A>, Refusal>
     ensures { IfOk result (λ words. words.items ≡ spread (in_order (map item_of items.now))) }
@@ -125,7 +124,7 @@ fn spread<A: Allocator>(alloc: A, items: &[Item]) -> Result<Vec<u32, A>, Refusal
     Ok(words)
 }
 
-// PREFIX, and LITERAL where the prefix is all.
+// PREFIX, and LITERAL if the prefix is the whole part.
 fn prefix_flags(all: bool) -> u32
     ensures { result ≡ cond all 3 1 }
 {
@@ -133,7 +132,8 @@ fn prefix_flags(all: bool) -> u32
 }
 
 impl<A: Allocator> Writer<A> {
-    // Writes a block with a prefix: its words, of which some stand one directly after the other, and the overlap words.
+    // Writes a block with a prefix: its words, the first `adjacent` of which follow each other directly, and the
+    // overlap table.
     fn put_prefix(
         &mut self,
         flags: u32,
@@ -158,7 +158,7 @@ impl<A: Allocator> Writer<A> {
 }
 
 impl<A: Allocator + Copy> Writer<A> {
-    /// Writes the block of a part. What it claims is true of the part's tree, and it claims no set.
+    /// Writes the INFO block of a part. All that it claims is true of the part's tree, and it claims no set.
     pub fn put_block(&mut self, alloc: A, part: &Part)
         ensures { Wrote self.old self.new (block_words (tree_of part.now)) }
     {

@@ -9,7 +9,7 @@ ghost use Rattle.sre_emit.specs.Checked.{Checks, HaveTrees};
 use crate::error::EmitError;
 use crate::part::{Item, OneChar, Part, SetItem};
 
-/// Whether least and greatest count are in order.
+/// Checks that the least count is at most the greatest one.
 fn check_counts(min: u32, max: u32) -> Result<(), EmitError>
     ensures { Checks 0 (min ≤ max) result }
 {
@@ -19,7 +19,7 @@ fn check_counts(min: u32, max: u32) -> Result<(), EmitError>
     Ok(())
 }
 
-/// Whether each number is below the count.
+/// Whether each block number is below the count.
 fn numbers_below(numbers: &[u8], count: usize) -> bool
     ensures { IsTrue result ↔ NumbersBelow count numbers.now }
 {
@@ -31,14 +31,14 @@ fn numbers_below(numbers: &[u8], count: usize) -> bool
     true
 }
 
-/// A charset has 8 words.
+/// States that a bitmap has 8 words.
 fn has_eight(bits: &[u32; 8])
     ensures { length bits.now ≡ 8 }
 {
     let _words = bits.len();
 }
 
-/// Whether a set's tables are whole.
+/// Checks that the tables of a set item are complete.
 fn check_set_item(item: &SetItem) -> Result<(), EmitError>
     ensures { Checks 0 (LawfulSetItem (set_item_of item.now)) result }
 {
@@ -64,7 +64,7 @@ fn check_set_item(item: &SetItem) -> Result<(), EmitError>
     }
 }
 
-/// Whether the tables of each item of a set are whole.
+/// Checks that the tables of all items of a set are complete.
 fn check_set(set: &[SetItem]) -> Result<(), EmitError>
     ensures { Checks 0 (All (λ x. LawfulSetItem (set_item_of x)) set.now) result }
 {
@@ -74,7 +74,7 @@ fn check_set(set: &[SetItem]) -> Result<(), EmitError>
     Ok(())
 }
 
-/// Whether a test's set is whole.
+/// Checks the set of a test, if it has one.
 fn check_test(test: &OneChar) -> Result<(), EmitError>
     ensures { Checks 0 (LawfulTest (test_of test.now)) result }
 {
@@ -87,7 +87,7 @@ fn check_test(test: &OneChar) -> Result<(), EmitError>
     }
 }
 
-/// Whether each item has a tree, and lies inside no more items than it may; these items lie inside so many.
+/// Checks that each item has a tree, and that parts are not nested too deep. The items are inside `inside` items.
 #[cycle(check)]
 fn check_items(items: &[Item], inside: u32) -> Result<(), EmitError>
     requires { inside ≤ 1000 }
@@ -99,7 +99,7 @@ fn check_items(items: &[Item], inside: u32) -> Result<(), EmitError>
     Ok(())
 }
 
-/// The same of the parts of a branch, of which there is at least one.
+/// The same for the parts of a branch, which has at least one.
 #[cycle(check)]
 fn check_parts(parts: &[Part], inside: u32) -> Result<(), EmitError>
     requires { inside ≤ 1000 }
@@ -114,7 +114,7 @@ fn check_parts(parts: &[Part], inside: u32) -> Result<(), EmitError>
     Ok(())
 }
 
-/// Whether a part has a tree, and no part in it lies inside too many items; this one lies inside so many.
+/// Checks that a part has a tree, and that parts are not nested too deep. The part is inside `inside` items.
 #[cycle(check)]
 pub fn check_part(part: &Part, inside: u32) -> Result<(), EmitError>
     requires { inside ≤ 1001 }
@@ -126,7 +126,7 @@ pub fn check_part(part: &Part, inside: u32) -> Result<(), EmitError>
     check_items(&part.items, inside)
 }
 
-/// Whether an item has a tree, and no part in it lies inside too many items; this one lies inside so many.
+/// Checks that an item has a tree, and that parts are not nested too deep. The item is inside `inside` items.
 #[cycle(check)]
 fn check_item(item: &Item, inside: u32) -> Result<(), EmitError>
     requires { inside ≤ 1000 }

@@ -1,4 +1,4 @@
-//! The opcodes of tests, runs and references, by their folding or kind.
+//! The opcodes of tests, repeats and back-references, by folding or kind.
 
 ghost use Rattle.std.specs.Prelude.{◌≡◌};
 ghost use Rattle.sre_chars.specs.Numbers.{opcode_number, at_number};

@@ -1,4 +1,4 @@
-//! [`emit`]: the words of a part, or why there are none.
+//! [`emit`]: the bytecode of a part, or why there is none.
 
 ghost use Rattle.std.specs.Prelude.{◌≡◌, IfOk, IfErr, true};
 ghost use Rattle.sre_model.specs.Written.{code_words};
@@ -25,7 +25,7 @@ impl<A: Allocator> Writer<A> {
 }
 
 impl<A: Allocator + Copy> Writer<A> {
-    // Writes the block of a part, where one is wanted.
+    // Writes the INFO block of a part, if it is wanted.
     #[tactic(auto, using(crate::proofs::Written::wrote_nothing))]
     fn put_front(&mut self, alloc: A, part: &Part, with_block: bool)
         ensures { Wrote self.old self.new (front with_block (tree_of part.now)) }
@@ -36,18 +36,18 @@ impl<A: Allocator + Copy> Writer<A> {
     }
 }
 
-/// The words of a part's tree: its items' words and SUCCESS, and before them an information block where one is wanted.
+/// The bytecode of a part's tree: an INFO block if `with_block`, the items, and SUCCESS.
 ///
-/// Without a block no other words have that tree. A block has the least width, and no greatest one. Where the part
-/// begins with a literal of plain folding, it has the prefix of these literals, as far as only they and marks follow,
-/// with its overlap words, and says LITERAL where nothing else follows them and no mark stands among them. It has no
-/// set. `Code::check` confirms all that it claims.
+/// No other bytecode without a block has that tree. The block has the least width, and no greatest one. If the part
+/// begins with a literal of plain folding, the block has a prefix: these literals, up to the first item that is neither
+/// such a literal nor a MARK, with their overlap table. It has the flag LITERAL if the part has no other items. It has
+/// no set. `Code::check` confirms all that it claims.
 ///
-/// It takes time and memory that are linear in the words, but for memory that grows by doubling.
+/// Time and memory are linear in the bytecode. Lists grow by doubling.
 ///
 /// # Errors
 ///
-/// A cause that stands: [`EmitError`].
+/// [`EmitError`], with a cause that applies.
 pub fn emit(alloc: Global, part: &Part, with_block: bool) -> Result<Vec<u32>, EmitError>
     ensures emitted { IfOk result (λ words. Emitted part.now with_block words.items) }
     ensures cause { IfErr result (Cause part.now with_block) }
@@ -55,11 +55,11 @@ pub fn emit(alloc: Global, part: &Part, with_block: bool) -> Result<Vec<u32>, Em
     emit_in(alloc, part, with_block)
 }
 
-/// The same, with the memory of any allocator.
+/// As [`emit`], with any allocator.
 ///
 /// # Errors
 ///
-/// A cause that stands: [`EmitError`].
+/// [`EmitError`], with a cause that applies.
 pub fn emit_in<A: Allocator + Copy>(
     alloc: A,
     part: &Part,

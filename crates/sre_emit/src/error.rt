@@ -1,4 +1,4 @@
-//! Why no words are written.
+//! Why no bytecode is written.
 
 ghost use Rattle.std.specs.Prelude.{◌≡◌};
 ghost use Rattle.sre_emit.specs.Errors.{emit_error_number};
@@ -6,19 +6,19 @@ ghost use Rattle.sre_emit.specs.Errors.{emit_error_number};
 use sre_growth::Refusal;
 use thiserror::Error;
 
-/// Why no words are written for a part. Where several causes stand, any of them may be named.
+/// Why no bytecode is written for a part. If several causes apply, any of them may be named.
 #[derive(Clone, Copy, PartialEq, Eq, Debug, Error)]
 pub enum EmitError {
-    /// Memory was refused. It may come before any other.
+    /// An allocation failed. It may come before any other cause.
     #[error("out of memory")]
     Memory,
-    /// A word that counts or skips would pass 4294967295.
+    /// A count or a skip would be above 4294967295.
     #[error("TooLong")]
     TooLong,
-    /// A part lies inside more than 1000 items.
+    /// A part is inside more than 1000 items.
     #[error("TooDeep")]
     TooDeep,
-    /// A least count above its greatest, a branch without parts, or a table of a set that is not whole.
+    /// A least count above the greatest one, a branch without parts, or an incomplete table of a set.
     #[error("BadPart")]
     BadPart,
 }
@@ -34,7 +34,7 @@ impl From<Refusal> for EmitError {
 }
 
 impl EmitError {
-    /// The error's number, from 1 on in the order above.
+    /// The number of this error, from 1 (`Memory`) to 4 (`BadPart`).
     pub fn number(&self) -> u32
         ensures { result ≡ emit_error_number self.now }
     {

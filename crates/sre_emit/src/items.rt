@@ -14,7 +14,7 @@ use sre_chars::constants::SreOpcode;
 use std::alloc::Allocator;
 
 impl<A: Allocator> Writer<A> {
-    /// Writes the items of a set, and answers how many words they are.
+    /// Writes the items of a set, and returns the number of their words.
     #[tactic(auto, using(crate::proofs::Written::wrote_length))]
     fn put_counted_set(&mut self, set: &[SetItem]) -> usize
         ensures wrote { Wrote self.old self.new (set_words (map set_item_of set.now)) }
@@ -56,7 +56,7 @@ impl<A: Allocator> Writer<A> {
         }
     }
 
-    /// Writes an opcode and operands, of which the first is a count.
+    /// Writes an opcode and its operands, the first of which is a count.
     #[tactic(auto, using(crate::proofs::Written::wrote_more))]
     fn put_header(&mut self, code: SreOpcode, count: usize, others: &[u32])
         ensures { Wrote self.old self.new (opcode_number code ∷ count ∷ others.now) }
@@ -75,7 +75,7 @@ impl<A: Allocator> Writer<A> {
         self.put(SreOpcode::JUMP as u32);
     }
 
-    /// Writes what stands before the parts of a condition.
+    /// Writes a conditional's words before its parts.
     #[tactic(auto, using(crate::proofs::Written::wrote_more))]
     fn put_condition(&mut self, group: u32, count: usize)
         ensures { Wrote self.old self.new (opcode_number SreOpcode.GROUPREF_EXISTS ∷ group ∷ count ∷ []) }
@@ -84,7 +84,7 @@ impl<A: Allocator> Writer<A> {
         self.put_all(&[SreOpcode::GROUPREF_EXISTS as u32, group]);
     }
 
-    /// Writes a run's test and its SUCCESS, and answers how many words the test is.
+    /// Writes the test of a single-character repeat and its SUCCESS, and returns the number of words of the test.
     fn put_run_test(&mut self, test: &OneChar) -> usize
         ensures wrote { Wrote self.old self.new (closed_test (test_of test.now)) }
         ensures count { self.new.failure ≡ None → result ≡ length (test_words (test_of test.now)) }
@@ -120,7 +120,7 @@ impl<A: Allocator> Writer<A> {
         }
     }
 
-    /// Writes the items of a part, and answers how many words they are.
+    /// Writes the items of a part, and returns the number of their words.
     #[cycle(put)]
     #[tactic(auto, using(crate::proofs::Written::wrote_length))]
     fn put_counted(&mut self, part: &Part) -> usize
@@ -134,7 +134,7 @@ impl<A: Allocator> Writer<A> {
         self.len() - start
     }
 
-    /// Writes a body and what ends it, and answers how many words the body is.
+    /// Writes a body and the opcode that ends it, and returns the number of words of the body.
     #[cycle(put)]
     fn put_body(&mut self, body: &Part, end: SreOpcode) -> usize
         requires { has_alternatives body.now ≡ true }
@@ -146,7 +146,7 @@ impl<A: Allocator> Writer<A> {
         self.put_counted(body)
     }
 
-    /// Writes the alternatives of a branch, and the 0 that ends them.
+    /// Writes the alternatives of a branch, and the 0 after them.
     #[cycle(put)]
     #[tactic(auto, using(crate::proofs::ItemsWritten::part_alternatives))]
     fn put_parts(&mut self, parts: &[Part])

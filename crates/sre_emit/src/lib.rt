@@ -1,4 +1,4 @@
-//! Words from trees: a part is what a code is to match, and [`emit`] writes its words.
+//! Bytecode from trees: a [`Part`] is what a code is to match, and [`emit`] writes its bytecode.
 #![tactic(auto)]
 
 mod block;

@@ -1,66 +1,67 @@
-//! Parts: trees as a caller makes them.
+//! Parts: trees that a caller makes.
 //!
-//! Counts are at most 4294967295, which as a greatest count means no limit. Groups are counted from 0, and group `g`
-//! has the marks `2 * g` at its start and `2 * g + 1` at its end. Characters are numbers: scalar values over a `&str`,
-//! bytes over a `&[u8]`.
+//! Counts are at most 4294967295, which as a greatest count means no limit. Groups count from 0, and group `g` has the
+//! capture slots `2 * g` for its start and `2 * g + 1` for its end. Characters are numbers: scalar values in a `&str`,
+//! bytes in a `&[u8]`.
 
 use sre_chars::constants::{SreAtCode, SreCatCode};
 
-/// Items, one after the other. A part without items matches nothing, everywhere.
+/// Items, one after the other. A part without items matches the empty string at every position.
 #[derive(Drop)]
 #[cycle(parts)]
 pub struct Part {
     pub items: Vec<Item>,
 }
 
-/// What stands in a part.
+/// An item of a part.
 #[derive(Drop)]
 #[cycle(parts)]
 pub enum Item {
     /// FAILURE: never matches.
     Fail,
-    /// One character that passes a test.
+    /// A test of one character.
     One(OneChar),
-    /// AT: the position meets a condition.
+    /// AT: a test of the position.
     At(SreAtCode),
-    /// MARK: sets the mark of that number to the position.
+    /// MARK: sets the capture slot of that number to the position.
     Mark(u32),
-    /// BRANCH: one of several parts, of which there is at least one; the first that leads to a match.
+    /// BRANCH: at least one alternative, tried in order.
     Branch(Vec<Part>),
-    /// REPEAT: a part, so many times; the most first, or where it is lazy, the fewest.
+    /// REPEAT: a part, from `min` to `max` times. Greedy tries the most first, lazy the fewest.
     Loop {
         lazy: bool,
         min: u32,
         max: u32,
         body: Part,
     },
-    /// REPEAT_ONE and its kin: one character, so many times.
+    /// A single-character repeat, from `min` to `max` times: REPEAT_ONE, MIN_REPEAT_ONE or POSSESSIVE_REPEAT_ONE.
     Run {
         kind: RunKind,
         min: u32,
         max: u32,
         test: OneChar,
     },
-    /// POSSESSIVE_REPEAT: a part, as many times as it can be, which gives nothing back.
+    /// POSSESSIVE_REPEAT: a part, as many times as possible, without backtracking into it.
     PossLoop {
         min: u32,
         max: u32,
         body: Part,
     },
-    /// ATOMIC_GROUP: the first way of a part alone.
+    /// ATOMIC_GROUP: the first match path of a part, without backtracking into it.
     Atomic(Part),
-    /// ASSERT and ASSERT_NOT: whether a part matches from `back` characters before the position. The position stays.
+    /// ASSERT and ASSERT_NOT: a lookaround, whose body matches from `back` characters before the position. The position
+    /// does not change.
     Look {
         positive: bool,
         back: u32,
         body: Part,
     },
-    /// GROUPREF and its kin: the characters that a group matched, once more.
+    /// GROUPREF and its folded forms: a back-reference to the text of a group.
     Ref {
         fold: Fold,
         group: u32,
     },
-    /// GROUPREF_EXISTS: one part where the group is present, and else another one or nothing.
+    /// GROUPREF_EXISTS: a conditional. It matches `yes` if the group took part, else `no`, or nothing without a `no`.
     Exists {
         group: u32,
         yes: Part,
@@ -77,14 +78,14 @@ pub enum OneChar {
     AnyAll,
     /// CATEGORY: a character of a category.
     Category(SreCatCode),
-    /// LITERAL and NOT_LITERAL: the character of that number, or where it is negated, any other one.
+    /// LITERAL and NOT_LITERAL: the character of that number, or if it is negated, any other one.
     Literal {
         negated: bool,
         fold: Fold,
         value: u32,
     },
-    /// IN: the first item of the set that holds takes the character, or behind a NEGATE refuses it; where none holds,
-    /// it is the other way round.
+    /// IN: a set. The first item that holds for a character decides: the character is in the set, or after an odd
+    /// number of NEGATE items it is not. If none holds, it is the reverse.
     In {
         fold: Fold,
         set: Vec<SetItem>,
@@ -94,42 +95,42 @@ pub enum OneChar {
 /// An item of a set.
 #[derive(Drop)]
 pub enum SetItem {
-    /// That character.
+    /// One character.
     Literal(u32),
-    /// The lowest and the highest character.
+    /// The characters from the first to the second, both included.
     Range(u32, u32),
-    /// The same, of a character or of its upper case by the table.
+    /// As `Range`, for a character or its upper case in the Unicode table.
     RangeUniIgnore(u32, u32),
     /// The characters of a category.
     Category(SreCatCode),
-    /// The bits of the characters below 256, the least significant first.
+    /// A bitmap of the characters below 256, least significant bit first.
     Charset([u32; 8]),
-    /// For each of 256 blocks of 256 characters a number, and the bits of the blocks with these numbers, 8 words each.
+    /// A block number for each of 256 blocks of 256 characters, and the bitmaps of the numbered blocks, 8 words each.
     BigCharset { numbers: Vec<u8>, bits: Vec<u32> },
-    /// Turns the verdict over.
+    /// Inverts the result.
     Negate,
 }
 
-/// Which counts of a run are tried.
+/// Which counts a single-character repeat tries.
 #[derive(Clone, Copy, PartialEq, Eq, Debug)]
 pub enum RunKind {
-    /// REPEAT_ONE: the greatest first, and then fewer.
+    /// REPEAT_ONE: the greatest first, then fewer.
     Greedy,
-    /// MIN_REPEAT_ONE: the least first, and then more.
+    /// MIN_REPEAT_ONE: the least first, then more.
     Lazy,
-    /// POSSESSIVE_REPEAT_ONE: the greatest alone.
+    /// POSSESSIVE_REPEAT_ONE: the greatest only.
     Possessive,
 }
 
-/// How characters are folded before they are compared, by the opcode's ending.
+/// The case folding before characters are compared, by the opcode's suffix.
 #[derive(Clone, Copy, PartialEq, Eq, Debug)]
 pub enum Fold {
-    /// Not at all.
+    /// No folding.
     Plain,
-    /// IGNORE: the lower case of ASCII characters.
+    /// IGNORE: ASCII lower case.
     Ascii,
     /// LOC_IGNORE: the cases of the C locale, which are those of ASCII.
     Locale,
-    /// UNI_IGNORE: the lower case by the table.
+    /// UNI_IGNORE: lower case by the Unicode table.
     Unicode,
 }

@@ -6,7 +6,7 @@ ghost use Rattle.sre_emit.specs.Parts.{tree_of, item_of, in_order, alternatives}
 
 use crate::part::{Item, Part};
 
-/// The least number of characters that a part passes, held at the greatest word.
+/// The least width of a part in characters, saturated at 4294967295.
 #[cycle(width)]
 #[tactic(auto, using(crate::proofs::Widths::part_wide))]
 pub fn part_width(part: &Part) -> u32
@@ -15,7 +15,7 @@ pub fn part_width(part: &Part) -> u32
     items_width(&part.items)
 }
 
-/// The same of items.
+/// The least width of items.
 #[cycle(width)]
 fn items_width(items: &[Item]) -> u32
     ensures { result ≡ width (in_order (map item_of items.now)) }
@@ -29,7 +29,7 @@ fn items_width(items: &[Item]) -> u32
     least
 }
 
-/// The least of alternatives' widths.
+/// The smallest least width of the alternatives.
 #[cycle(width)]
 fn parts_width(parts: &[Part]) -> u32
     ensures { result ≡ least_width (alternatives (map tree_of parts.now)) }
@@ -46,7 +46,7 @@ fn parts_width(parts: &[Part]) -> u32
     least
 }
 
-/// The same of an item.
+/// The least width of an item.
 #[cycle(width)]
 fn item_width(item: &Item) -> u32
     ensures { result ≡ width_of_item (item_of item.now) }

@@ -1,4 +1,4 @@
-//! Writing words from the last to the first, so that what a skip leads over is written before it.
+//! The writer of bytecode, from the last word to the first. What a skip jumps over is then written before the skip.
 
 ghost use Rattle.std.specs.Prelude.{◌≡◌, ◌+◌, ◌*◌, ◌-◌, ◌<◌, ◌^◌, ◌∷◌, [], Some, None, IfOk, IfErr};
 ghost use Rattle.std.specs.Prelude.{map, length, reverse};
@@ -12,7 +12,7 @@ use sre_chars::constants::SreOpcode;
 use std::alloc::Allocator;
 use std::marker::Model;
 
-/// Words so far, the last one first, and why no more are written.
+/// The words so far, the last one first, and the first failure.
 #[derive(Drop)]
 pub struct Writer<A: Allocator> {
     words: Vec<u32, A>,
@@ -28,7 +28,7 @@ impl<A: Allocator> Model for Writer<A> {
 }
 
 impl<A: Allocator> Writer<A> {
-    /// A writer of no words yet.
+    /// A writer without words.
     pub fn new(alloc: A) -> Writer<A>
         ensures words { result.words ≡ [] }
         ensures failure { result.failure ≡ None }
@@ -39,7 +39,7 @@ impl<A: Allocator> Writer<A> {
         }
     }
 
-    /// How many words are written.
+    /// The number of words so far.
     pub fn len(&self) -> usize
         ensures words { result ≡ length self.now.words }
         ensures bound { result < 2 ^ 63 }
@@ -47,7 +47,7 @@ impl<A: Allocator> Writer<A> {
         self.words.len()
     }
 
-    /// Writes a word.
+    /// Writes a word, unless the writer has failed.
     #[tactic(auto, using(crate::proofs::Written::word_laws))]
     pub fn put(&mut self, word: u32)
         ensures { Wrote self.old self.new (word ∷ []) }
@@ -59,7 +59,7 @@ impl<A: Allocator> Writer<A> {
         }
     }
 
-    /// Fails, where it has not failed before.
+    /// Records a failure, unless there is one.
     pub fn fail(&mut self, error: EmitError)
         ensures words { self.new.words ≡ self.old.words }
         ensures first { self.old.failure ≡ None → self.new.failure ≡ Some error }
@@ -70,7 +70,7 @@ impl<A: Allocator> Writer<A> {
         }
     }
 
-    /// Writes a count, where it is a word.
+    /// Writes a count. It fails with `TooLong` above 4294967295.
     #[tactic(auto, using(crate::proofs::Written::count_laws))]
     pub fn put_count(&mut self, count: usize)
         ensures { Wrote self.old self.new (count ∷ []) }
@@ -82,7 +82,7 @@ impl<A: Allocator> Writer<A> {
         }
     }
 
-    /// The words, from the first to the last, or why there are none.
+    /// The words, from the first to the last, or the failure.
     pub fn finish(self) -> Result<Vec<u32, A>, EmitError>
         ensures words { IfOk result (λ words. (self.failure ≡ None) × (words.items ≡ reverse self.words)) }
         ensures failure { IfErr result (λ e. self.failure ≡ Some e) }

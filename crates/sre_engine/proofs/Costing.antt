@@ -1,5 +1,5 @@
 -- How the costs of a search's runs add up.
-use Rattle.std.proofs.Common.{◌≡◌, ℕ, ◌+◌, ◌*◌, ◌≤◌, inl, inr, true, false, length, refl, arith}
+use Rattle.std.proofs.Common.{◌≡◌, ℕ, ◌+◌, ◌*◌, ◌≤◌, inl, inr, true, false, refl, arith}
 use Rattle.std.proofs.Common.{Result, Ok, Err, IfErr, IsErrAnd, sym, subst}
 use Rattle.std.proofs.Common.{add-mul, one-mul}
 use Rattle.std.proofs.Math.Nat.{mul-le-mul_right}
@@ -7,29 +7,26 @@ use Rattle.sre_chars.specs.declared.string.StrDrive.{Ghosts}
 use Rattle.sre_chars.specs.declared.string.StringCursor.{StringCursor}
 use Rattle.sre_request.specs.declared.request.Request.{Request}
 use Rattle.sre_request.specs.Requests.{start_of}
-use Rattle.sre_request.specs.Runs.{run_of}
 use Rattle.sre_machine.specs.declared.turns.Halt.{Halt}
 use Rattle.sre_machine.specs.declared.turns.Halt.TheVariants as halt
 use Rattle.sre_engine.specs.Costs.{search_cost, most_tolls, most_waits, CostsUpTo, SearchGivenUp}
 use Rattle.sre_machine.specs.Allowances.{is_limited, Halted}
 use Rattle.sre_machine.specs.declared.allowance.Allowance.{Allowance}
-use Rattle.sre_turns.specs.Limits.{grant}
+use Rattle.sre_model.specs.TreePrices.{most_steps}
 use Rattle.sre_machine.specs.Memos.{MemoValue}
 use Rattle.sre_machine.specs.Paying.{Remembering, each_of, run_cost, RunGivenUp, RunSettles}
 
 -- what j runs cost, and what k more of them cost
-sum_of : (j k a s t g m : ℕ) → ((j + k) * a + (s + t) * g) * m ≡ (j * a + s * g) * m + (k * a + t * g) * m
-sum_of j k a s t g m =
-    let same : (j + k) * a + (s + t) * g ≡ (j * a + s * g) + (k * a + t * g) =
-    omega (arith, add-mul j k a, add-mul s t g) in
-    rw same (add-mul (j * a + s * g) (k * a + t * g) m)
+sum_of : (j k a s t m : ℕ) → ((j + k) * a + (s + t)) * m ≡ (j * a + s) * m + (k * a + t) * m
+sum_of j k a s t m =
+    let same : (j + k) * a + (s + t) ≡ (j * a + s) + (k * a + t) = omega (arith, add-mul j k a) in
+    rw same (add-mul (j * a + s) (k * a + t) m)
 
--- more runs and more tolls cost no less
-no_less : (j k a s t g m : ℕ) → j ≤ k → s ≤ t → (j * a + s * g) * m ≤ (k * a + t * g) * m
-no_less j k a s t g m h l =
+-- more runs and more credits cost no less
+no_less : (j k a s t m : ℕ) → j ≤ k → s ≤ t → (j * a + s) * m ≤ (k * a + t) * m
+no_less j k a s t m h l =
     let runs = mul-le-mul_right a h in
-    let tolls = mul-le-mul_right g l in
-    mul-le-mul_right m (omega (arith, runs, tolls))
+    mul-le-mul_right m (omega (arith, runs, l))
 
 -- a run that gives up is limited
 pub gives_up_limited : (a : Allowance) (why : Halt) → Halted a why → why ≡ halt.UsedUp → is_limited a ≡ true
@@ -45,17 +42,17 @@ passed_on (Err y) e P h p = subst P (sym h) p
 module _ {S : Type 0} {text : Ghosts S} (r : Request S text) where
   -- what a run costs, as a search of one run
   one_run : (pl : Remembering r) (t : ℕ) → search_cost r pl 1 t ≡ run_cost r pl t
-  one_run pl t = rw (one-mul (2 * length (run_of r).words + 4)) refl
+  one_run pl t = rw (one-mul (1 + most_steps pl.plain.tree)) refl
 
   -- what j runs cost, and what k more of them cost
   sum : (pl : Remembering r) (j k s t : ℕ)
       → search_cost r pl (j + k) (s + t) ≡ search_cost r pl j s + search_cost r pl k t
-  sum pl j k s t = sum_of j k (2 * length (run_of r).words + 4) s t (grant (run_of r).words) (each_of r pl)
+  sum pl j k s t = sum_of j k (1 + most_steps pl.plain.tree) s t (each_of r pl)
 
-  -- more runs and more tolls cost no less
+  -- more runs and more credits cost no less
   more : (pl : Remembering r) (j k s t : ℕ) → j ≤ k → s ≤ t → search_cost r pl j s ≤ search_cost r pl k t
   more pl j k s t h l =
-      no_less j k (2 * length (run_of r).words + 4) s t (grant (run_of r).words) (each_of r pl) h l
+      no_less j k (1 + most_steps pl.plain.tree) s t (each_of r pl) h l
 
   -- no run yet, and a memo that keeps no failures
   pub costs_begin : (m : MemoValue) (left : ℕ) → m.is_open ≡ false → CostsUpTo r m m left left 0
@@ -90,7 +87,8 @@ module _ {S : Type 0} {text : Ghosts S} (r : Request S text) where
     ];
   }
 
-  -- another run, which is given up: no more turns were waited and no more tolls granted than from where the memo begins
+  -- another run, which exceeds the limit: no more steps were waited and no more credits granted than from where the
+  -- memo begins
   costs_once : (begun m : MemoValue) (start : StringCursor) (given left after k : ℕ)
       → CostsUpTo r begun m given left k → begun.waits ≤ most_waits r → RunGivenUp r start m left after
       → start_of r ≤ start.position → SearchGivenUp r given after (k + 1)

@@ -1,4 +1,4 @@
--- How the turns of a search's runs add up.
+-- How the steps of a search's runs add up.
 use Rattle.std.proofs.Common.{◌≡◌, ℕ, ◌+◌, ◌-◌, ◌*◌, ◌≤◌, ◌<◌, ◌≢◌, arith, add-mul}
 use Rattle.std.proofs.Math.Nat.{mul-le-mul, mul-le-mul_right}
 use Rattle.sre_model.specs.Tree.{Tree}
@@ -34,7 +34,7 @@ run_spent a code given left after started restarted started' restarted' old one 
       rw runs (omega (arith, o, n, add-mul (started + restarted) (1 + restarted' - restarted) most));
 }
 
--- more turns than so many runs can take are not used up
+-- a budget of more steps than so many runs can take is not used up
 pub never_used_up : (a : Asked) (code : Code) (t : Tree) (given left started most count : ℕ) → Whole (words_of code) t
     → RunsWithin a t most → SpentUpTo a code given left started → started ≤ count → count * most < given → left ≢ 0
 never_used_up a code t given left started most count whole within spent few more used =

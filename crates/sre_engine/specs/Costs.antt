@@ -1,50 +1,49 @@
--- What a search that is limited costs at most, where no memory is refused to it.
+-- What a search that is limited costs at most, where no allocation fails.
 -- Words of the contracts inside this crate; what it makes public does not rest on it.
-use Rattle.std.specs.Prelude.{ℕ, ◌+◌, ◌*◌, ◌≤◌, ◌≡◌, ◌⊎◌, Bool, true, false, length, Result, IfErr}
+use Rattle.std.specs.Prelude.{ℕ, ◌+◌, ◌*◌, ◌≤◌, ◌≡◌, ◌⊎◌, Bool, true, false, Result, IfErr}
 use Rattle.sre_chars.specs.declared.string.StrDrive.{Ghosts}
 use Rattle.sre_growth.specs.Refusal.{Refused}
-use Rattle.sre_board.specs.Accounts.{most_bits}
+use Rattle.sre_board.specs.Accounts.{most_paid}
 use Rattle.sre_request.specs.declared.request.Request.{Request}
 use Rattle.sre_request.specs.Requests.{code_of, asked_of}
 use Rattle.sre_request.specs.Runs.{run_of}
-use Rattle.sre_turns.specs.Limits.{grant}
+use Rattle.sre_model.specs.TreePrices.{most_steps}
 use Rattle.sre_machine.specs.Allowances.{is_limited, left_of, Halted}
 use Rattle.sre_machine.specs.declared.allowance.Allowance.{Allowance}
 use Rattle.sre_machine.specs.declared.turns.Halt.{Halt}
 use Rattle.sre_machine.specs.declared.turns.Halt.TheVariants as halt
 use Rattle.sre_machine.specs.Memos.{MemoValue}
-use Rattle.sre_machine.specs.Paying.{Remembering, HoldsBits, rows_from, weight, each_of, window_of}
+use Rattle.sre_machine.specs.Paying.{Remembering, HoldsBits, rows_from, each_of, window_of}
 use Rattle.sre_engine.specs.Counts.{SpentUpTo}
 
--- what so many runs count for at most, by the tolls that are granted to them
+-- what so many runs count for at most, by the credits that are granted to them
 abbrev pub search_cost : {S : Type 0} {text : Ghosts S} (r : Request S text) → Remembering r → ℕ → ℕ → ℕ
-search_cost r pl runs tolls =
-    (runs * (2 * length (run_of r).words + 4) + tolls * grant (run_of r).words) * each_of r pl
+search_cost r pl runs tolls = (runs * (1 + most_steps pl.plain.tree) + tolls) * each_of r pl
 
--- how many tolls are granted at most from where a memo begins
+-- how many credits are granted at most from where a memo begins
 abbrev pub most_tolls : {S : Type 0} {text : Ghosts S} (r : Request S text) → Remembering r → ℕ
-most_tolls r pl = most_bits (run_of r) pl.plain (rows_from r pl) * weight r pl
+most_tolls r pl = most_paid (run_of r) pl.plain (rows_from r pl)
 
--- how many turns a memo waits at most before failures are kept
+-- how many steps a memo waits at most before failures are memoized
 abbrev pub most_waits : {S : Type 0} {text : Ghosts S} → Request S text → ℕ
 most_waits r = 32 * (window_of r + 1)
 
--- runs with no outcome, from a memo that began to one that is there now: what they cost of the turns that were given,
--- and, where failures are kept by now, what the memory holds
+-- runs with no outcome, from a memo that began to one that is there now: what they cost of the steps that were given,
+-- and, where failures are memoized by now, what the memory holds
 pub record CostsUpTo {S : Type 0} {text : Ghosts S} (r : Request S text) (begun now : MemoValue)
     (given left runs : ℕ) : Type 0 where
   pub cost : (pl : Remembering r)
       → Refused ⊎ (((now.is_open ≡ false) × (given + now.waits ≤ left + begun.waits))
-      ⊎ ((tolls n : ℕ) × (tolls ≤ n * weight r pl) × HoldsBits r pl now n × (now.is_open ≡ true)
+      ⊎ ((tolls n : ℕ) × (tolls ≤ n) × HoldsBits r pl now n × (now.is_open ≡ true)
       × (given ≤ left + begun.waits + search_cost r pl runs tolls)))
 
--- a search that was given up: how many turns it took at most, where no memory was refused. They cost no more than what
--- its memo waits, and the tolls that it pays
+-- a search that exceeded its limit: how many steps it took at most, where no allocation failed. They cost no more than
+-- what its memo waits, and the credits that it pays
 pub record SearchGivenUp {S : Type 0} {text : Ghosts S} (r : Request S text) (given left runs : ℕ) : Type 0 where
   pub cost : (pl : Remembering r)
       → Refused ⊎ (given ≤ left + most_waits r + search_cost r pl runs (most_tolls r pl))
 
--- what a search of so many starts and runs takes off the turns that are allowed
+-- what a search of so many starts and runs charges
 pub record Charged {S : Type 0} {text : Ghosts S} (r : Request S text) (told : Result Bool Halt) (started runs : ℕ)
     (a a' : Allowance) : Type 0 where
   pub limited : is_limited a' ≡ is_limited a

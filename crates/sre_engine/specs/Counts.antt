@@ -8,7 +8,7 @@ use Rattle.sre_model.specs.Grammar.{Whole}
 use Rattle.sre_model.specs.TurnBounds.{RunsWithin}
 use Rattle.sre_model.specs.Found.{Asked, subject_of}
 use Rattle.sre_model.specs.Prefixes.{stands_at, how_many}
-use Rattle.sre_model.specs.Remembered.{IsRemembered, enough_turns}
+use Rattle.sre_model.specs.Remembered.{IsRemembered, step_bound}
 use Rattle.sre_code.specs.Codes.{words_of, items_of, hints_of}
 use Rattle.sre_model.specs.Prefixes.{prefix_of}
 use Rattle.sre_code.specs.declared.code.Code.{Code}
@@ -16,7 +16,7 @@ use Rattle.sre_code.specs.declared.code.Hints.{Hints}
 use Rattle.sre_engine.specs.Answers.{Shown}
 use Rattle.sre_engine.specs.Members.{IsFirstSet, is_among}
 
--- whether a confirmed width fits between a start and the window's end
+-- whether a confirmed width fits between a start and the range's end
 abbrev pub width_fits : Asked → Option ℕ → ℕ → Bool
 width_fits a None p = true
 width_fits a (Some w) p = nat_le (p + w) a.end
@@ -71,22 +71,22 @@ pub record BeginsAgain (limited : Bool) (s : Shown) : Type 0 where
   pub few : s.restarted ≤ s.started
   pub never : limited ≡ false → s.restarted ≡ 0
 
--- of turns that were given, those that are left are no fewer than those that so many runs of the machine leave
+-- of the steps of a budget, those that are left are no fewer than those that so many runs of the machine leave
 pub record SpentUpTo (a : Asked) (code : Code) (given left runs : ℕ) : Type 0 where
   pub each : (t : Tree) → Whole (words_of code) t → (most : ℕ) → RunsWithin a t most → given ≤ left + runs * most
 
--- so many turns are enough to know an answer, unless memory is refused: the code is one of which all that failed is
--- remembered, and these are more than the number that is written for it
-pub record AreEnough (a : Asked) (code : Code) (turns : ℕ) : Type 0 where
+-- so many steps suffice for an answer, unless an allocation fails: each failure of the code is memoized, and they are
+-- more than its step bound
+pub record AreEnough (a : Asked) (code : Code) (steps : ℕ) : Type 0 where
   pub tree : Tree
   pub whole : Whole (words_of code) tree
   pub remembered : IsRemembered (length (items_of code)) tree a
-  pub more : enough_turns (length (items_of code)) tree a < turns
+  pub more : step_bound tree a < steps
 
--- what a search within turns that were given says of them: where it has no answer all are used up; those that are left
--- are no fewer than those that so many runs of the machine leave, and none is added; and more than are enough are used
--- up only where memory was refused
-pub record KeepsToTurns {E : Type 0} (a : Asked) (code : Code) (told : Result (Option Bool) E) (runs given left : ℕ) :
+-- what a search within a budget of steps does with it: without an answer no step is left; the steps that are left are
+-- no fewer than those that so many runs of the machine leave, and none is added; and a sufficient budget is exceeded
+-- only if an allocation failed
+pub record KeepsToSteps {E : Type 0} (a : Asked) (code : Code) (told : Result (Option Bool) E) (runs given left : ℕ) :
     Type 0 where
   pub used : IfOk told (λ b. b ≡ None → left ≡ 0)
   pub spent : SpentUpTo a code given left runs

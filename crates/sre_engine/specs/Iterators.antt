@@ -87,7 +87,7 @@ pub record Stays {S A : Type 0} {text : Ghosts S} (it next : SearchIter S A text
   pub request : request_of next ≡ request_of it
   pub counted : Counted it next
 
--- the next item within a number of turns: whether there is one, or that the turns were used up before that was known
+-- the next item within a budget of steps: whether there is one, or that the step limit was exceeded before
 abbrev pub NextWithin : {S A : Type 0} {text : Ghosts S}
     → SearchIter S A text → Result (Option Bool) SreError → SearchIter S A text → Type 0
 NextWithin it (Ok (Some true)) next = Gives it next

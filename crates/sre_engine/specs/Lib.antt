@@ -13,7 +13,8 @@ pub use Rattle.sre_model.specs.MarksSet
 pub use Rattle.sre_model.specs.Slots
 pub use Rattle.sre_model.specs.RunCounts
 pub use Rattle.sre_model.specs.LooksBehind
-pub use Rattle.sre_model.specs.Alternatives
+pub use Rattle.sre_model.specs.TreePrices
+pub use Rattle.sre_model.specs.Nesting
 pub use Rattle.sre_model.specs.Remembered
 pub use Rattle.sre_model.specs.Width
 pub use Rattle.sre_model.specs.Claims
@@ -27,7 +28,7 @@ pub use Rattle.sre_code.specs.Refusals
 pub use Rattle.sre_code.specs.Hinted
 pub use Rattle.sre_code.specs.Codes
 pub use Rattle.sre_code.specs.Owned
-pub use Rattle.sre_code.specs.EnoughTurns
+pub use Rattle.sre_code.specs.StepBounds
 pub use Rattle.sre_code.specs.MostSlots
 pub use Rattle.sre_request.specs.Requests
 pub use Rattle.sre_code.specs.declared.code.Hints

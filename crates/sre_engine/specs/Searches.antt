@@ -60,7 +60,7 @@ abbrev pub WalksOn : {S : Type 0} {text : Ghosts S} → Request S text → Bool 
 WalksOn r b s next =
     (t : Tree) → Whole (words_of (code_of r)) t → StepsTo (walk (asked_of r) t) b s (walk (asked_of next) t)
 
--- whether a match was found within turns
+-- whether a match was found within a step limit
 abbrev pub has_found : {E : Type 0} → Result (Option Bool) E → Bool
 has_found (Ok (Some b)) = b
 has_found (Ok None) = false

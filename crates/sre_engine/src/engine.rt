@@ -1,4 +1,4 @@
-//! What is asked of the machine: a match, a search, the walk over all matches.
+//! The calls: a match, a search, the iteration over all matches.
 
 mod admitted_places;
 mod anchors;

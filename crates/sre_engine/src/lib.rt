@@ -1,14 +1,14 @@
-//! Python's regular expression engine SRE: which match a compiled pattern has in a text.
+//! Python's regular expression engine SRE: it finds the matches of compiled patterns in texts.
 //!
-//! [`Code::check`] takes the words of a pattern that are a code, and refuses all others. A [`Request`] asks for such a
-//! code in a window of a text. A [`State`] answers it: `pymatch` at the window's start, `search` at the least start of
-//! the window. It then holds the match: its start, its end and the marks of its groups. [`SearchIter`] goes from match
-//! to match, and [`all_matches`] lists them. `match_within`, `search_within` and `next_within` do so within a number of
-//! turns, for words from strangers. Each answer is the one of the definitions that `specs/` passes on, and an
-//! error comes only where memory was refused.
+//! [`Code::check`] accepts well-formed bytecode, and rejects all other. A [`Request`] holds such a code, a text and a
+//! range of it. A [`State`] finds the match: `pymatch` at the start of the range, `search` at the least start in it
+//! that has one. The state then shows the start, the end and the capture groups of the match. [`SearchIter`] is the
+//! iteration over all matches, and [`all_matches`] lists them. `match_within`, `search_within` and `next_within` take a
+//! budget of steps, for untrusted input. A match or a search returns what the definitions in `specs/` prescribe, or an
+//! error if an allocation fails.
 //!
 //! ```
-//! // The words of `(a)b`: mark 0, the letter a, mark 1, the letter b, success.
+//! // The bytecode of `(a)b`: capture slot 0, the letter a, capture slot 1, the letter b, success.
 //! let uni = UniTable::ascii(alloc);
 //! let code = Code::check(alloc, &[17, 0, 16, 97, 17, 1, 16, 98, 1], &uni)?;
 //! let mut state = State::new(alloc);

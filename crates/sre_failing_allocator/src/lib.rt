@@ -1,21 +1,21 @@
 //! An allocator for tests, which passes each request on to another one and refuses a single request.
 //!
-//! A test runs with the first request refused, then the second, and so on until a run asks for fewer:
-//! then [`Refusing::left`] isn't 0 at its end. The allocator is owned, and a `&Refusing` is an allocator
-//! that is `Copy`. Which request is refused stands in a cell, so that no contract can say it: the tests do.
+//! A test runs with the first request refused, then the second, and so on, until a run makes fewer requests: then
+//! [`Refusing::left`] is not 0 at its end. The allocator is owned, and a `&Refusing` is an allocator that is `Copy`.
+//! The number of the refused request is in a cell, so no contract can state it; tests check it.
 #![tactic(auto)]
 
 use std::alloc::{AllocError, Allocator};
 use std::cell::Cell;
 
-/// Refuses one request, and hands all others to an inner allocator.
+/// Refuses one request, and passes all others on to an inner allocator.
 pub struct Refusing<B: Allocator> {
     inner: B,
     left: Cell<u64>,
 }
 
 impl<B: Allocator> Refusing<B> {
-    /// Over `inner`, with the request of this number refused; requests count from 1, and 0 refuses none.
+    /// Passes requests on to `inner`, but for the one of this number. Requests count from 1, and 0 refuses none.
     pub fn new(inner: B, refused: u64) -> Refusing<B> {
         Refusing {
             inner,
@@ -23,7 +23,7 @@ impl<B: Allocator> Refusing<B> {
         }
     }
 
-    /// How many requests are left up to the refused one, that one included: 0 once it was refused.
+    /// The number of requests up to the refused one, that one included. 0 once it was refused.
     pub fn left(&self) -> u64 {
         self.left.get()
     }
@@ -35,7 +35,7 @@ impl<B: Allocator> Drop for Refusing<B> {
     }
 }
 
-// Counts a request, and says whether it is the one to refuse.
+// Counts a request, and returns whether it is the one to refuse.
 fn tick(left: &Cell<u64>) -> bool {
     let now = left.get();
     left.set(now.saturating_sub(1));
@@ -43,7 +43,7 @@ fn tick(left: &Cell<u64>) -> bool {
 }
 
 unsafe impl<B: Allocator> Allocator for Refusing<B> {
-    // A block is given back to the allocator that it came from.
+    // A block is freed by the allocator that it came from.
     ghost dealloc_token = { λ heap ty ptr. B.dealloc_token heap.inner ty ptr };
 
     fn allocate(&self, size: usize, align: usize) -> Result<*mut u8, AllocError> {

@@ -1,7 +1,6 @@
-//! A finder: what tells the searches of a code where the next match can begin.
+//! The prefilter of a code, which finds the next start at which a match can begin.
 //!
-//! It seeks a pattern that covers the code's starts: first the bytes that each match contains, then, by automata, the
-//! next place at which a match can begin.
+//! It searches for a byte pattern that covers the code: first for a required literal, then by DFAs.
 
 ghost use Rattle.std.specs.Prelude.{◌≡◌, ◌≤◌, ◌+◌, length, map, IfOk, IfSome, OnErr, true, false, None};
 ghost use Rattle.std.specs.Vec.{vec_len};
@@ -34,26 +33,26 @@ use sre_request::Request;
 use std::alloc::{Allocator, Global};
 use std::marker::Model;
 
-/// How many bytes the tables of automata take at most.
+/// Limit on the size of the NFA from which the DFAs are built, in bytes.
 pub(crate) const SIZE_LIMIT: usize = 1 << 16;
 
-/// What seeks the starts of a code's matches, where that is worth what it takes.
+/// Prefilter for searches of a code. It has DFAs only where they probably save time.
 pub struct Finder<'c> {
     alloc: Global,
     code: Code<'c>,
     encoding: Encoding,
-    // whether the code was read as a pattern
+    // whether the code was translated to a pattern
     is_read: bool,
     seeker: Option<Seeker>,
-    // of a code with references, what seeks all of it by its bytes
+    // for a code with back-references: finds a required literal of the whole pattern
     whole: Option<Seeker>,
-    // whether there is nothing left that it can tell of this text
+    // whether it excludes no further start in this text
     is_silent: bool,
     end: Option<StringCursor>,
     pace: Pace,
 }
 
-// By hand, so that whoever lets a finder go calls this.
+// Custom `Drop`, so that callers contain one call instead of the drop of each field.
 impl<'c> Drop for Finder<'c> {
     fn drop(self) {
         let Finder {
@@ -82,13 +81,13 @@ impl<'c> Model for Finder<'c> {
 }
 
 impl<'c> Finder<'c> {
-    /// The finder of a code, for texts that are seen so as bytes: `Encoding::Bytes` for a text of bytes,
-    /// `Encoding::Utf8` for a `str`, and `Encoding::Ascii` for a `str` that is ASCII up to the end of the window. Of
-    /// texts that are seen otherwise it tells nothing.
+    /// Creates the prefilter of a code. `encoding` is how its texts are read: `Encoding::Bytes` for bytes,
+    /// `Encoding::Utf8` for a `str`, and `Encoding::Ascii` for a `str` that is ASCII up to the end of the range. In any
+    /// other text the prefilter excludes no start.
     ///
-    /// It never fails: where automata would not pay, as under a confirmed prefix of two characters or more or where a
-    /// match may be empty, where their tables would be too large, or where memory was refused, it has none and tells
-    /// nothing.
+    /// The call never fails. The prefilter has no DFAs and excludes no start if the search by a confirmed prefix is as
+    /// fast (two characters or more, or the whole code), a match can be empty, the pattern is too large, or an
+    /// allocation failed.
     pub fn new(alloc: Global, code: Code<'c>, encoding: Encoding) -> Finder<'c>
         ensures code { result.code ≡ code.entry }
         ensures encoding { result.encoding ≡ encoding }
@@ -111,8 +110,8 @@ impl<'c> Finder<'c> {
         }
     }
 
-    /// The same, but its automata are made where they are first asked, behind some starts that were tried in vain. So
-    /// where a match begins near the window's start, nothing is made.
+    /// As `new`, but builds the DFAs on first use, after 8 failed starts. A search that matches near the start of the
+    /// range builds nothing.
     pub fn on_demand(alloc: Global, code: Code<'c>, encoding: Encoding) -> Finder<'c>
         ensures code { result.code ≡ code.entry }
         ensures encoding { result.encoding ≡ encoding }
@@ -133,7 +132,7 @@ impl<'c> Finder<'c> {
         }
     }
 
-    // One that has no automata and tells nothing.
+    // A finder without DFAs, which excludes no start.
     pub(crate) fn without_automata(alloc: Global, code: Code<'c>, encoding: Encoding) -> Finder<'c>
         ensures code { result.code ≡ code.entry }
         ensures encoding { result.encoding ≡ encoding }
@@ -152,7 +151,7 @@ impl<'c> Finder<'c> {
         }
     }
 
-    /// Whether it has automata; of one that makes them on demand, whether it has by now.
+    /// Returns whether the DFAs exist. With `on_demand` that is whether they were built.
     pub fn has_automata(&self) -> bool {
         match &self.seeker {
             Some(seeker) => seeker.has_automata(),
@@ -160,7 +159,7 @@ impl<'c> Finder<'c> {
         }
     }
 
-    /// Forgets the text of before.
+    /// Forgets the last text. `search`, `all_matches` and `walk` do this themselves.
     pub fn reset(&mut self)
         ensures code { self.new.code ≡ self.old.code }
         ensures encoding { self.new.encoding ≡ self.old.encoding }
@@ -178,8 +177,8 @@ impl<'c> Finder<'c> {
     }
 }
 
-// Whether a search goes along the places of a prefix that are likely to be rare: of two characters or more, or all of
-// the code.
+// Whether a search visits only the occurrences of a confirmed prefix that is probably rare: two characters or more, or
+// the whole code.
 fn is_found_along(code: &Code<'_>) -> bool {
     let hints = code.hints();
     match hints.prefix {
@@ -188,23 +187,24 @@ fn is_found_along(code: &Code<'_>) -> bool {
     }
 }
 
-// What seeks a pattern that covers the starts of a code, where it is worth what it takes.
+// The search for a pattern that covers the starts of a code. `None` if it would not save time.
 fn seeker_of(alloc: Global, code: Code<'_>, encoding: Encoding) -> Option<Seeker>
     ensures { CoveringAny encoding code.entry result }
 {
     if is_found_along(&code) {
-        return None; // the search along the places of its prefix is as fast
+        return None; // the search by its prefix is as fast
     }
     let Ok(Some(hir)) = starts_of(alloc, &code, encoding) else {
         return None;
     };
     if hir.min_len() == 0 {
-        return None; // it may begin anywhere
+        return None; // it can match anywhere
     }
     Some(Seeker::new(alloc, hir, SIZE_LIMIT))
 }
 
-// What seeks all of a code that has references, by its bytes: the pattern of its starts ends at the first reference.
+// The search for a required literal of a code with back-references. The pattern of its starts ends at the first
+// back-reference, so it may lack a literal that follows.
 fn whole_of(alloc: Global, code: Code<'_>, encoding: Encoding) -> Option<Seeker>
     ensures { CoveringAny encoding code.entry result }
 {
@@ -217,7 +217,7 @@ fn whole_of(alloc: Global, code: Code<'_>, encoding: Encoding) -> Option<Seeker>
     Some(Seeker::new(alloc, hir, SIZE_LIMIT))
 }
 
-// Whether no match is left of a pattern that there is, as far as its bytes tell.
+// Whether no match is left from `start` on, because a required literal is missing. `false` without a pattern.
 fn is_over(whole: &mut Option<Seeker>, hay: &[u8], start: usize) -> bool
     requires { start ≤ length hay.now }
     ensures over { result ≡ true → NoneLeftOfAny hay.now whole.old start }
@@ -229,8 +229,8 @@ fn is_over(whole: &mut Option<Seeker>, hay: &[u8], start: usize) -> bool
     }
 }
 
-// From where on the next match can begin: the bytes that each match contains are looked for first, and the automata are
-// asked where they may read.
+// Where the next match can begin, at `start` or after it. Looks for the required literal first, then runs the DFAs if
+// they may read more.
 fn told_by(seeker: &mut Seeker, pace: &mut Pace, hay: &[u8], start: usize) -> Told
     requires { start ≤ length hay.now }
     ensures told { Tells hay.now (meaning seeker.old) start result }
@@ -247,7 +247,7 @@ fn told_by(seeker: &mut Seeker, pace: &mut Pace, hay: &[u8], start: usize) -> To
 }
 
 impl<'c> Finder<'c> {
-    // The end of a request's window, which is found once for a text, from a cursor that stands before it.
+    // The cursor at the end of the range. It is found once for each text, from a cursor in the range.
     #[inline(always)]
     pub(crate) fn end_in<S: StrDrive>(
         &mut self,
@@ -273,7 +273,7 @@ impl<'c> Finder<'c> {
         end
     }
 
-    // Reads the code as a pattern. It is called once: its frame is large, and cleared at each call.
+    // Translates the code to a pattern. Not inlined: it is called once, and its large frame is cleared at each call.
     #[inline(never)]
     fn read(&mut self)
         ensures code { self.new.code ≡ self.old.code }
@@ -285,7 +285,7 @@ impl<'c> Finder<'c> {
         self.whole = whole_of(self.alloc, self.code, self.encoding);
     }
 
-    // Asks for the first start from a cursor on that may have a match.
+    // The first start at or after a cursor that may have a match. `None` if there is none.
     #[inline(never)]
     fn ask<S: Haystack>(&mut self, req: &Request<'_, S>, from: StringCursor) -> Option<StringCursor>
         requires own { self.old.code ≡ code_of req.now }
@@ -346,8 +346,12 @@ impl<'c, S: Haystack> Starts<S> for Finder<'c> {
 }
 
 impl<'c> Finder<'c> {
-    /// Searches the window as `State::search` does, with the same answer; the starts of which the automata tell that
-    /// they have no match are passed.
+    /// Searches the range and returns whether there is a match, as `State::search` does. It skips starts that the
+    /// prefilter excludes.
+    ///
+    /// # Errors
+    ///
+    /// [`SreError::Memory`] if an allocation failed. Never if a confirmed prefix is the whole code.
     pub fn search<S: Haystack, A: Allocator + Copy>(
         &mut self,
         req: Request<'_, S>,
@@ -366,8 +370,12 @@ impl<'c> Finder<'c> {
         state.search_by(req, self)
     }
 
-    /// All matches of a window as `all_matches` gives them; the starts of which the automata tell that they have no
-    /// match are passed.
+    /// Returns all matches in the range, as `all_matches` of `sre_engine` does. It skips starts that the prefilter
+    /// excludes.
+    ///
+    /// # Errors
+    ///
+    /// [`SreError::Memory`] if an allocation failed.
     pub fn all_matches<S: Haystack, A: Allocator + Copy>(
         &mut self,
         req: Request<'_, S>,

@@ -1,4 +1,4 @@
-//! The walk over all matches, one after the other, of a finder's code.
+//! The iterator over all matches of a code, with a prefilter.
 
 ghost use Rattle.std.specs.Prelude.{◌≡◌, false};
 ghost use Rattle.sre_request.specs.Requests.{string_of, code_of};
@@ -12,8 +12,9 @@ use sre_engine::engine::{SearchIter, SreError, State};
 use sre_request::Request;
 use std::alloc::Allocator;
 
-/// The matches of a window as a `SearchIter` gives them; the starts of which the automata tell that they have no match
-/// are passed.
+/// Iterator over the matches in a range, as `SearchIter`. It skips starts that the prefilter excludes.
+///
+/// An item is an error only if an allocation failed. It ends the iteration.
 pub struct FinderIter<'c, 'a, S: StrDrive, A: Allocator + Copy> {
     finder: Finder<'c>,
     walk: SearchIter<'a, S, A>,
@@ -21,7 +22,7 @@ pub struct FinderIter<'c, 'a, S: StrDrive, A: Allocator + Copy> {
     ghost known: { ∥ EndStands (S.stands (string_of (request_of walk))) finder.end ∥₁ },
 }
 
-// By hand, as that of `Finder`.
+// Custom `Drop`, as that of `Finder`.
 impl<'c, 'a, S: StrDrive, A: Allocator + Copy> Drop for FinderIter<'c, 'a, S, A> {
     fn drop(self) {
         let FinderIter { finder, walk } = self;
@@ -34,7 +35,7 @@ impl<'c> Finder<'c> {
     ghost use Rattle.sre_engine.specs.Iterators.{request_of, shown_of, has_ended};
     ghost use Rattle.sre_finder.specs.FinderIters.{walk_of};
 
-    /// The walk over a request's window. The state shows what it showed until the first item comes.
+    /// Starts an iteration over the matches in the request's range. The state is unchanged until the first item.
     pub fn walk<'a, S: Haystack, A: Allocator + Copy>(
         self,
         req: Request<'a, S>,
@@ -58,21 +59,21 @@ impl<'c, 'a, S: StrDrive, A: Allocator + Copy> FinderIter<'c, 'a, S, A> {
     ghost use Rattle.sre_engine.specs.Iterators.{request_of, shown_of};
     ghost use Rattle.sre_finder.specs.FinderIters.{walk_of};
 
-    /// What is asked next, as `SearchIter::req` tells it.
+    /// Returns the request of the remaining range, as `SearchIter::req` does.
     pub fn req(&self) -> &Request<'a, S>
         ensures { result.now ≡ request_of (walk_of self.now) }
     {
         self.walk.req()
     }
 
-    /// The state, which shows the match of the last item.
+    /// Returns the state, which shows the match of the last item.
     pub fn state(&self) -> &State<A>
         ensures { result.now ≡ shown_of (walk_of self.now) }
     {
         self.walk.state()
     }
 
-    /// The finder, for another text.
+    /// Drops the iteration and returns the finder, for use with another text.
     pub fn into_finder(self) -> Finder<'c>
         ensures { result.code ≡ code_of (request_of (walk_of self.entry)) }
     {

@@ -1,4 +1,4 @@
-//! Texts whose bytes automata can read: bytes, and UTF-8.
+//! Texts whose bytes a DFA can read: bytes and UTF-8.
 
 ghost use Rattle.std.specs.Prelude.{◌≡◌, ◌≤◌, ◌<◌, ℕ, IfSome, length};
 ghost use Rattle.std.specs.Str.{chars};
@@ -9,25 +9,26 @@ ghost use Rattle.sre_finder.specs.Views.{SeenAs};
 use sre_chars::string::{StrDrive, StringCursor, cursor_at};
 use sre_patterns::Encoding;
 
-/// A text whose bytes automata can read.
+/// A text whose bytes a DFA can read.
 pub trait Haystack: StrDrive {
-    // The byte at which a position stands.
+    // The byte offset of a position.
     ghost place: { Self → ℕ → ℕ };
 
-    /// The bytes up to a cursor, where the characters up to there are seen so as bytes: those of a text of bytes as
-    /// `Encoding::Bytes`, those of a `str` as `Encoding::Utf8`, and as `Encoding::Ascii` where all of them are ASCII.
+    /// Returns the bytes up to a cursor if they have this encoding, else `None`. A text of bytes has `Encoding::Bytes`,
+    /// and a `str` has `Encoding::Utf8`. A `str` also has `Encoding::Ascii` if all characters up to the cursor are
+    /// ASCII.
     fn hay(&self, encoding: Encoding, end: StringCursor) -> Option<&[u8]>
         requires { Self.stands self.now end end.position }
         ensures { IfSome result
             (λ hay. SeenAs encoding (Self.text self.now) (place self.now) end.position hay.now) };
 
-    /// How many bytes are before a cursor.
+    /// Returns the byte offset of a cursor.
     fn place_of(&self, cursor: StringCursor) -> usize
         requires { Self.stands self.now cursor cursor.position }
         ensures { result ≡ place self.now cursor.position };
 
-    /// A cursor no earlier than `from` and no later than `end`, before which no position from `from` on stands at the
-    /// offset or behind it: one that stands there, where a character begins there.
+    /// Returns a cursor from `from` to `end`. If a character begins at the byte offset `offset`, the cursor is at that
+    /// character. Every position from `from` up to the cursor, itself excluded, has a byte offset below `offset`.
     fn cursor_up_to(&self, from: StringCursor, offset: usize, end: StringCursor) -> StringCursor
         requires from { Self.stands self.now from from.position }
         requires end { Self.stands self.now end end.position }
@@ -51,7 +52,7 @@ fn bytes_up_to(bytes: &[u8], end: usize) -> &[u8]
     &bytes[..end]
 }
 
-// The bytes of UTF-8 up to a cursor.
+// The UTF-8 bytes up to a cursor.
 #[inline(always)]
 fn text_up_to(text: &str, end: StringCursor) -> &[u8]
     requires { StandsInText text.now end end.position }
@@ -60,7 +61,7 @@ fn text_up_to(text: &str, end: StringCursor) -> &[u8]
     &text.as_bytes()[..end.offset()]
 }
 
-// The bytes of UTF-8 up to a cursor, where each character is one byte.
+// The bytes up to a cursor, if each character before it is one byte.
 #[inline(always)]
 fn ascii_up_to(text: &str, end: StringCursor) -> Option<&[u8]>
     requires { StandsInText text.now end end.position }
@@ -73,8 +74,8 @@ fn ascii_up_to(text: &str, end: StringCursor) -> Option<&[u8]>
     }
 }
 
-// The cursor at an offset between two others, where a character begins there, else the first of them. Where before the
-// last of them are as many bytes as characters, each is one byte, and nothing is counted.
+// The cursor at a byte offset between `from` and `end`, or `from` if no character begins there. If `end` has as many
+// bytes as characters before it, each character is one byte, so no character is counted.
 fn text_cursor(text: &str, from: StringCursor, offset: usize, end: StringCursor) -> StringCursor
     requires from { StandsInText text.now from from.position }
     requires end { StandsInText text.now end end.position }

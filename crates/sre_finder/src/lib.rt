@@ -1,4 +1,4 @@
-//! A finder: the kit's automata tell a search where the next match of a code can begin, and which match that is.
+//! Prefilters: the kit's DFAs find where the next match of a code can begin, or where it begins and ends.
 #![tactic(auto)]
 
 mod finder;

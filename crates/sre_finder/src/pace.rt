@@ -1,58 +1,59 @@
-//! When automata are asked: where that is likely to be worth what it takes.
+//! Decides when a prefilter runs its DFAs: only where that probably saves time.
 //!
-//! Most steps of a walk end at the first start that is tried, so the automata are asked behind a run in vain. Where
-//! that comes again and again they are asked first, for some steps. Where they tell of starts in vain, they are left
-//! alone for a while, each time twice as long. To tell one start they may read far beyond it, so in each text they are
-//! left alone while they have read much more of it than was passed: a search then takes a time that grows with the
-//! text's length, where the machine's does.
+//! Most steps of an iteration match at the first start, so the DFAs run only after a failed run of the machine. If
+//! first starts keep failing, the DFAs run before the first start too, for some steps. If candidates of the DFAs keep
+//! failing, the DFAs pause, each time twice as long. A DFA may read far beyond the candidate that it returns. So in
+//! each text the DFAs also pause while they have read much more than the search has passed. The time of a search then
+//! stays linear in the text's length if the machine's is.
 //!
-//! Those of a finder on demand are made only where some runs were in vain. Before that, behind fewer, it is asked once
-//! whether the bytes come that each match contains.
+//! A finder on demand builds its DFAs only after some failed runs. Before that, after fewer failed runs, it checks once
+//! whether a required literal still occurs.
 
 ghost use Rattle.std.specs.Prelude.{◌<◌};
 
-/// How many starts may be told in vain, less those that had a match.
+/// Limit on failed candidates. A candidate with a match takes two off the count.
 const VAIN: u32 = 8;
 
-/// For how many steps the automata are asked first, before that is tried without them again.
+/// Number of steps in which the DFAs run before the first start. After these, a step begins without them again.
 const STEPS: u32 = 64;
 
-/// How many bytes they may read for each that was passed, and how many more.
+/// Number of bytes that the DFAs may read for each byte that the search has passed. `MORE` bytes count as passed from
+/// the start.
 const READ: usize = 2;
 
 const MORE: usize = 8192;
 
-/// How many they may where they tell whole matches, of which each is read to its end, and back to its start.
+/// The same for DFAs that find whole matches. They read each match to its end, and back to its start.
 const READ_OF_MATCHES: usize = 8;
 
-/// For how many questions they are left alone at first, and where they have read too much.
+/// Number of questions that the first pause skips, and a pause after too many bytes read.
 const PAUSE: u32 = 64;
 
-/// How many runs in vain are awaited before they are made, and how many before it is asked whether any match is left.
+/// Number of failed runs before DFAs are built on demand, and (`LOOKS`) before the check for a required literal.
 const WAITS: u32 = 8;
 
 const LOOKS: u32 = 2;
 
-/// How far steps whose first start was in vain may outweigh the others: each counts twice.
+/// Limit on a balance of steps: a step whose first start failed adds 2, any other step subtracts 1.
 const FAILING: u32 = 4;
 
-/// When the automata are asked.
+/// When a prefilter runs its DFAs.
 #[derive(Clone, Copy, Debug)]
 pub(crate) struct Pace {
-    // how many steps more they are asked first
+    // remaining steps in which the DFAs run before the first start
     first: u32,
     failing: u32,
     vain: u32,
-    // for how many questions they are left alone, and for how many the next time
+    // number of questions to skip now, and in the next pause
     rest: u32,
     pause: u32,
-    // how many runs in vain are awaited before they are asked at all
+    // number of failed runs still required before the DFAs are built
     waits: u32,
-    // of the last question: whether it was a step's first, whether a start was told, and whether it was in vain
+    // the last question: whether it was a step's first, whether the DFAs were run, and whether the start then failed
     is_first: bool,
     is_told: bool,
     has_failed: bool,
-    // in this text: where they were first asked, and how much they had read by then
+    // in this text: the offset of the first question, and how many bytes the DFAs had read by then
     begun: Option<(usize, usize)>,
 }
 
@@ -72,22 +73,22 @@ impl Pace {
         }
     }
 
-    /// They are to be made where they are first asked.
+    /// The DFAs are built only after `WAITS` failed runs.
     pub(crate) fn wait(&mut self) {
         self.waits = WAITS;
     }
 
-    /// Another text comes.
+    /// Restarts the count of bytes for another text.
     pub(crate) fn begin_text(&mut self) {
         self.begun = None;
     }
 
-    /// The next steps ask first.
+    /// The DFAs run before the first start in the next `STEPS` steps.
     pub(crate) fn ask_first(&mut self) {
         self.first = STEPS;
     }
 
-    // Notes what came of the last question where another one comes: a run in vain was told before.
+    // Records that the start of the last question had a match, unless a failure was recorded.
     #[inline(always)]
     fn note_last(&mut self) {
         if self.has_failed {
@@ -101,7 +102,7 @@ impl Pace {
         }
     }
 
-    /// Whether the automata are asked for the next start.
+    /// Returns whether to run the DFAs for the next start.
     #[inline(always)]
     pub(crate) fn asks(&mut self) -> bool {
         if self.rest > 0 {
@@ -126,8 +127,8 @@ impl Pace {
         true
     }
 
-    /// Whether the automata may be asked for a start at a place, where they have read so much; else they are left alone
-    /// for a while.
+    /// Returns whether the DFAs may search for a start from the offset `place` on, if they have read `read` bytes in
+    /// all. If not, they pause.
     pub(crate) fn may_read(&mut self, place: usize, read: usize) -> bool {
         if self.waits > 0 {
             return false;
@@ -139,13 +140,15 @@ impl Pace {
         is_worth
     }
 
-    /// Whether they may be asked for a whole match that begins at a place or behind it, where they have read so much.
+    /// Returns whether the DFAs may search for a whole match from the offset `place` on, if they have read `read`
+    /// bytes.
     #[inline(always)]
     pub(crate) fn may_match(&mut self, place: usize, read: usize) -> bool {
         self.is_worth(place, read, READ_OF_MATCHES)
     }
 
-    // Whether they have read no more of this text than so many bytes for each that was passed, and some more.
+    // Whether the DFAs have read at most `most` bytes of this text for each byte that the search has passed, with
+    // `MORE` bytes in addition.
     #[inline(always)]
     fn is_worth(&mut self, place: usize, read: usize, most: usize) -> bool
         requires { 0 < most }
@@ -158,7 +161,7 @@ impl Pace {
         read.wrapping_sub(before) / most <= passed.saturating_add(MORE)
     }
 
-    /// Notes a run in vain.
+    /// Records a failed run of the machine.
     #[inline(always)]
     pub(crate) fn note_failed(&mut self) {
         if self.rest > 0 {

@@ -1,4 +1,5 @@
-//! The finder of spans: where order agrees, automata tell where the next match begins and where it ends.
+//! The finder of spans: its DFAs find where the next match begins and ends, if they try match paths in the code's
+//! order.
 
 ghost use Rattle.std.specs.Prelude.{◌≡◌, IfOk, IfSome, OnErr, None};
 ghost use Rattle.sre_growth.specs.Refusal.{Refused};
@@ -21,17 +22,16 @@ use sre_request::Request;
 use std::alloc::{Allocator, Global};
 use std::marker::Model;
 
-// What automata know of a request's match.
+// What the DFAs know of the next match.
 enum Known {
     // There is none.
     Nothing,
-    // It goes from one cursor to another.
+    // Its start and its end.
     Between(StringCursor, StringCursor),
     Unknown,
 }
 
-/// The automata that tell the spans of a code's matches, where such are known; else a finder, which tells where the
-/// next match can begin.
+/// DFAs that find the spans of a code's matches. If the code has no such DFAs, a [`Finder`], which only skips starts.
 pub struct SpanFinder<'c> {
     code: Code<'c>,
     encoding: Encoding,
@@ -40,7 +40,7 @@ pub struct SpanFinder<'c> {
     pace: Pace,
 }
 
-// By hand, as that of `Finder`.
+// Custom `Drop`, as that of `Finder`.
 impl<'c> Drop for SpanFinder<'c> {
     fn drop(self) {
         let SpanFinder {
@@ -67,11 +67,11 @@ impl<'c> Model for SpanFinder<'c> {
 }
 
 impl<'c> SpanFinder<'c> {
-    /// The finder of a code's spans, for texts that are seen so as bytes: `Encoding::Bytes` for a text of bytes,
-    /// `Encoding::Utf8` for a `str`, and `Encoding::Ascii` for a `str` that is ASCII up to the end of the window. Of
-    /// texts that are seen otherwise no span is told without the machine.
+    /// Creates the finder of a code's spans. `encoding` is how its texts are read: `Encoding::Bytes` for bytes,
+    /// `Encoding::Utf8` for a `str`, and `Encoding::Ascii` for a `str` that is ASCII up to the end of the range. In any
+    /// other text the machine finds each span.
     ///
-    /// It never fails: where no automata tell spans it is a [`Finder`] of the code, which may have none either.
+    /// The call never fails. If no DFAs find spans, it is a [`Finder`] of the code, which may have no DFAs either.
     pub fn new(alloc: Global, code: Code<'c>, encoding: Encoding) -> SpanFinder<'c>
         ensures code { result.code ≡ code.entry }
         ensures encoding { result.encoding ≡ encoding }
@@ -95,12 +95,12 @@ impl<'c> SpanFinder<'c> {
         }
     }
 
-    /// Whether it has automata that tell spans.
+    /// Returns whether it has DFAs that find spans.
     pub fn tells_spans(&self) -> bool {
         self.exact.is_some()
     }
 
-    /// Forgets the text of before.
+    /// Forgets the last text. `walk` does this itself.
     pub fn reset(&mut self)
         ensures code { self.new.code ≡ self.old.code }
         ensures encoding { self.new.encoding ≡ self.old.encoding }
@@ -114,18 +114,19 @@ impl<'c> SpanFinder<'c> {
     }
 }
 
-// What seeks a pattern that tries the ways of a code in their order, where it is worth what it takes.
+// The search for a pattern that tries the match paths of a code in their order. `None` if there is none, or if it would
+// not save time.
 fn exact_of(alloc: Global, code: Code<'_>, encoding: Encoding) -> Option<Seeker>
     ensures { ExactlyAny encoding code.entry result }
 {
     if code.hints().prefix.is_some() {
-        return None; // the search along its places is as fast
+        return None; // the search by its prefix is as fast
     }
     let Ok(Some(hir)) = ways_of(alloc, &code, encoding) else {
         return None;
     };
     if hir.min_len() == 0 {
-        return None; // an empty match may be barred, and automata do not know that
+        return None; // an empty match can be excluded, which DFAs cannot express
     }
     let mut exact = Seeker::new(alloc, hir, SIZE_LIMIT);
     exact.make();
@@ -136,7 +137,7 @@ fn exact_of(alloc: Global, code: Code<'_>, encoding: Encoding) -> Option<Seeker>
 }
 
 impl<'c> SpanFinder<'c> {
-    // What automata know of the match of a request, from a cursor at its window's start.
+    // What the DFAs know of the next match, from a cursor at the start of the range.
     fn known<S: Haystack>(&mut self, req: &Request<'_, S>, from: StringCursor) -> Known
         requires own { self.old.code ≡ code_of req.now }
         requires known { EndStands (S.stands (string_of req.now)) self.old.end }
@@ -146,7 +147,7 @@ impl<'c> SpanFinder<'c> {
         ensures known { EndStands (S.stands (string_of req.now)) self.new.end }
         ensures knows { Knows req.now result }
     {
-        let _start = req.start(); // it is in the window
+        let _start = req.start(); // it is in the range
         if self.exact.is_none() || req.match_all() {
             return Known::Unknown;
         }
@@ -172,7 +173,7 @@ impl<'c> SpanFinder<'c> {
         }
     }
 
-    // A step by the machine, as `step`.
+    // `step` by the machine, with the prefilter.
     fn run<S: Haystack, A: Allocator + Copy>(
         &mut self,
         req: &mut Request<'_, S>,
@@ -205,7 +206,8 @@ impl<'c> SpanFinder<'c> {
         Ok(Some(start))
     }
 
-    // The next match: a cursor at its start. The other one then stands at its end, where what is asked starts.
+    // Returns the cursor at the start of the next match, or `None` if there is none. Moves `cursor` and the request's
+    // start to the match's end.
     pub(crate) fn step<S: Haystack, A: Allocator + Copy>(
         &mut self,
         req: &mut Request<'_, S>,

@@ -1,4 +1,4 @@
-//! The walk over the spans of all matches, one after the other.
+//! The iterator over the spans of all matches.
 
 ghost use Rattle.std.specs.Prelude.{◌≡◌, ◌≤◌, ◌<◌, ◌&&◌, nat_eq, true, false, IfOk, IfSome, OnErr};
 ghost use Rattle.sre_growth.specs.Refusal.{Refused};
@@ -19,22 +19,26 @@ use sre_engine::engine::{AdmittedPlaces, Nobody, SreError, State, step_admitted}
 use sre_request::Request;
 use std::alloc::Allocator;
 
-/// Where a match starts and ends, in characters.
+/// Start and end of a match, as positions: both count characters.
 #[derive(Clone, Copy, PartialEq, Eq, Debug)]
 pub struct Span {
     pub start: usize,
     pub end: usize,
 }
 
-/// The spans of a window's matches, in the order of a `SearchIter`: where automata tell them no machine is run.
+/// Iterator over the spans of a range's matches, in the order of a `SearchIter`. If the DFAs return a span, the machine
+/// is not run.
 ///
-/// The state serves the steps of which automata tell no span, and `show`. What it shows after `next` is left open.
+/// The state is used by `show`, and for the steps for which the DFAs return no span. After `next`, what it shows is
+/// unspecified.
+///
+/// An item is an error only if an allocation failed. It ends the iteration.
 pub struct SpanIter<'c, 'a, S: StrDrive, A: Allocator + Copy> {
     finder: SpanFinder<'c>,
     req: Request<'a, S>,
     state: State<A>,
     cursor: StringCursor,
-    // of the match that came last: where it starts, and whether an empty one was barred there
+    // the last match: its start, and whether an empty match was excluded there
     at: StringCursor,
     advances: bool,
     ended: bool,
@@ -47,7 +51,7 @@ pub struct SpanIter<'c, 'a, S: StrDrive, A: Allocator + Copy> {
     ghost admitted: { AllAdmitted (items_of (code_of req)) places } by { one_all_admitted },
 }
 
-// By hand, as that of `Finder`.
+// Custom `Drop`, as that of `Finder`.
 impl<'c, 'a, S: StrDrive, A: Allocator + Copy> Drop for SpanIter<'c, 'a, S, A> {
     fn drop(self) {
         let SpanIter {
@@ -68,7 +72,8 @@ impl<'c> SpanFinder<'c> {
     ghost use Rattle.sre_request.specs.Requests.{code_of};
     ghost use Rattle.sre_finder.specs.SpanIters.{request_of, shown_of, has_ended};
 
-    /// The walk over the spans of a request's window. The state shows what it showed until the first item comes.
+    /// Starts an iteration over the spans of the matches in the request's range. The state is unchanged until the first
+    /// item.
     pub fn walk<'a, S: Haystack, A: Allocator + Copy>(
         self,
         req: Request<'a, S>,
@@ -100,26 +105,27 @@ impl<'c> SpanFinder<'c> {
 impl<'c, 'a, S: StrDrive, A: Allocator + Copy> SpanIter<'c, 'a, S, A> {
     ghost use Rattle.sre_finder.specs.SpanIters.{request_of, shown_of, has_ended, last_asked};
 
-    /// What is asked next: the matches still to come are those of its walk, until the walk has ended.
+    /// Returns the request of the remaining range. Until the iteration has ended, the remaining items are its matches.
     pub fn req(&self) -> &Request<'a, S>
         ensures { result.now ≡ request_of self.now }
     {
         &self.req
     }
 
-    /// The state, which shows the match that came last behind `show`.
+    /// Returns the state. After `show` it shows the last item's match.
     pub fn state(&self) -> &State<A>
         ensures { result.now ≡ shown_of self.now }
     {
         &self.state
     }
 
-    /// Has the state show the match that came last, with its marks, by a run of the machine at its start: whether there
-    /// was one. Behind an item there is. Before the first it searches for that.
+    /// Makes the state show the last item's match with its captures, by a run of the machine from its start. Returns
+    /// whether there is such a match: always `true` after an item. Before the first item, it searches for the first
+    /// match instead.
     ///
     /// # Errors
     ///
-    /// A growth of the state's memory was refused. Then there are no marks, and the walk goes on all the same.
+    /// [`SreError::Memory`] if an allocation failed. Then the state has no captures, and the iteration can go on.
     pub fn show(&mut self) -> Result<bool, SreError>
         ensures answer { (t : Tree) → Whole (words_of (code_of (request_of self.old))) t
             → IfOk result (λ b. answer_of b (shown_of self.new) ≡ found (last_asked self.old) t) }
@@ -133,7 +139,7 @@ impl<'c, 'a, S: StrDrive, A: Allocator + Copy> SpanIter<'c, 'a, S, A> {
         ensures ended { has_ended self.new ≡ has_ended self.old }
     {
         let Ok(mut req) = self.req.clone() else {
-            unreachable!(); // it takes no memory
+            unreachable!(); // it does not allocate
         };
         req.set_must_advance(self.advances);
         req.set_start(self.at.position());
@@ -144,7 +150,7 @@ impl<'c, 'a, S: StrDrive, A: Allocator + Copy> SpanIter<'c, 'a, S, A> {
         Ok(shown)
     }
 
-    /// The finder, for another text.
+    /// Drops the iteration and returns the finder, for use with another text.
     pub fn into_finder(self) -> SpanFinder<'c>
         ensures { result.code ≡ code_of (request_of self.entry) }
     {
@@ -163,7 +169,7 @@ impl<'c, 'a, S: StrDrive, A: Allocator + Copy> SpanIter<'c, 'a, S, A> {
     }
 }
 
-// Whether an empty match is barred at a start, where one may be at the window's.
+// Whether an empty match is excluded at `start`: only at the range's start `from`, if the request must advance.
 fn bars(must_advance: bool, start: usize, from: usize) -> bool
     ensures { result ≡ (must_advance && nat_eq start from) }
 {
@@ -173,7 +179,7 @@ fn bars(must_advance: bool, start: usize, from: usize) -> bool
 impl<'c, 'a, S: Haystack, A: Allocator + Copy> SpanIter<'c, 'a, S, A> {
     ghost use Rattle.sre_finder.specs.SpanIters.{NextSpan, most_spans};
 
-    // The next item.
+    // Returns the span of the next match.
     fn next_span(&mut self) -> Option<Result<Span, SreError>>
         ensures gives { NextSpan self.old result self.new }
         ensures falls { IfSome result (λ _. most_spans self.new < most_spans self.old) }

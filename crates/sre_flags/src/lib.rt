@@ -1,9 +1,8 @@
-//! Flags of Python's patterns, and of the information block of compiled ones, as sets of named bits.
+//! Flags of Python's patterns and of the INFO block, as sets of named bits.
 //!
-//! Both types show their bits as a number, and have the calls of the trait `Flags` of `bitflags`, with its
-//! contracts: `bits` is that number, `contains` says whether every bit of the other set is in this one, and
-//! `from_bits_truncate` drops the bits that no constant has. Names and bits are those of CPython's
-//! `_constants.py` and of the crate `rustpython-sre_engine`.
+//! Both types implement the trait `Flags` of `bitflags`, with its contracts: `bits` returns the set as a number,
+//! `contains` whether it has every bit of another set, and `from_bits_truncate` drops bits without a constant. Names
+//! and bits are those of CPython's `_constants.py` and of the crate `rustpython-sre_engine`.
 #![tactic(auto)]
 
 ghost use Rattle.std.specs.Prelude.{⊤};
@@ -13,18 +12,17 @@ use bitflags::{Flag, Flags};
 
 /// How a pattern is to be compiled: a set of bits of a 16-bit number.
 ///
-/// Nothing in the engine asks for these: a compiler of patterns does. Two sets are equal exactly where
-/// their numbers are.
+/// Only a compiler of patterns uses them, not the engine. Two sets are equal exactly if their numbers are.
 #[derive(Clone, Copy, PartialEq, Eq, Debug)]
 pub struct SreFlag {
     bits: u16,
 }
 
 impl SreFlag {
-    /// Template mode, which has no meaning any more.
+    /// Template mode, which has no effect any more.
     pub const TEMPLATE: SreFlag = SreFlag { bits: 1 };
 
-    /// Letters match without regard to case.
+    /// Letters match in either case.
     pub const IGNORECASE: SreFlag = SreFlag { bits: 2 };
 
     /// Letters are those of the locale.
@@ -33,16 +31,16 @@ impl SreFlag {
     /// `^` and `$` match at each line.
     pub const MULTILINE: SreFlag = SreFlag { bits: 8 };
 
-    /// `.` matches a newline, too.
+    /// `.` also matches a newline.
     pub const DOTALL: SreFlag = SreFlag { bits: 16 };
 
     /// Letters are those of Unicode.
     pub const UNICODE: SreFlag = SreFlag { bits: 32 };
 
-    /// Blanks and comments in a pattern are passed over.
+    /// Whitespace and comments in a pattern are ignored.
     pub const VERBOSE: SreFlag = SreFlag { bits: 64 };
 
-    /// The compiled pattern is shown.
+    /// The compiler prints the compiled pattern.
     pub const DEBUG: SreFlag = SreFlag { bits: 128 };
 
     /// Letters are those of ASCII.
@@ -110,19 +108,19 @@ impl Flags for SreFlag {
     }
 }
 
-/// What the information block in front of a compiled pattern claims: a set of bits of a word.
+/// What the INFO block claims: a set of bits of a word.
 ///
-/// Two sets are equal exactly where their numbers are.
+/// Two sets are equal exactly if their numbers are.
 #[derive(Clone, Copy, PartialEq, Eq, Debug)]
 pub struct SreInfo {
     bits: u32,
 }
 
 impl SreInfo {
-    /// Every match begins with the literals that the block lists.
+    /// Every match begins with the literals of the block's prefix.
     pub const PREFIX: SreInfo = SreInfo { bits: 1 };
 
-    /// The pattern is those literals and nothing else.
+    /// The whole pattern is those literals.
     pub const LITERAL: SreInfo = SreInfo { bits: 2 };
 
     /// Every match begins with a character of the block's set.

@@ -1,12 +1,11 @@
-//! The growths of lists, whose refusal is a value that nothing else makes.
+//! Growths of lists, whose failure is a value that nothing else makes.
 //!
-//! A [`Refusal`] carries the fact `Refused`: a growth was refused. `Refused` is sealed in the crate
-//! `sre_refusal_seal`, on which this crate alone stands, and the three functions here say it only where std's
-//! own growth of the list failed. So a call whose error has the fact errs only where memory was
-//! refused, however it came by the error.
+//! A [`Refusal`] carries the fact `Refused`: an allocation failed. The fact is sealed in the crate `sre_refusal_seal`,
+//! which only this crate uses. The three functions here state it only if std's own growth of the list failed. So a call
+//! whose error has the fact returns an error only if an allocation failed.
 //!
-//! Each function is a match on the call of std that grows the list, which `push` makes where the list is full,
-//! and no more: that is what a reader has to believe.
+//! Each function is a match on std's call that grows the list, which `push` makes only if the list is full. A reader
+//! has to trust no more than that.
 #![tactic(auto)]
 
 ghost use Rattle.std.specs.Prelude.{◌≡◌, ◌+◌, ◌-◌, ◌^◌, ◌<◌, ◌≤◌, ◌++◌, ◌∷◌, []};
@@ -18,7 +17,7 @@ ghost use denote.Param.{layout};
 
 use std::alloc::{AllocError, Allocator};
 
-/// The refusal of a growth: who holds one knows that a growth was refused.
+/// The failure of an allocation. It carries the fact that one failed.
 #[derive(Clone, Copy, Debug)]
 pub struct Refusal {
     cause: AllocError,
@@ -29,15 +28,15 @@ pub struct Refusal {
 ///
 /// # Errors
 ///
-/// [`Refusal`], where the list was full and could not grow. The list is then as it was.
+/// [`Refusal`], if the list was full and could not grow. The list is unchanged.
 #[inline(always)]
 pub fn push<T: Drop, A: Allocator>(list: &mut Vec<T, A>, item: T) -> Result<(), Refusal>
     ensures items { list.new.items ≡ (if is_ok result then list.old.items ++ item ∷ [] else list.old.items) }
     ensures len { vec_len list.new ≡ (if is_ok result then vec_len list.old + 1 else vec_len list.old) }
     ensures full { OnErr result (vec_capacity list.old ≤ vec_len list.old) }
 {
-    // Room first, and then a write: std's `push` takes each item through memory, to hand it back where it fails. Most
-    // lists have room, which is looked at here, since std's own look is a call.
+    // Reserve, then write: std's `push` passes each item through memory, to return it on failure. Most lists have room,
+    // which is tested here, since std's own test is a call.
     if list.len() < list.capacity() {
         list.push_reserved(item);
         return Ok(());
@@ -51,14 +50,14 @@ pub fn push<T: Drop, A: Allocator>(list: &mut Vec<T, A>, item: T) -> Result<(), 
     }
 }
 
-/// Cuts a list to `length` items, or fills it up to so many with `value`.
+/// Truncates a list to `length` items, or extends it to that many with `value`.
 ///
-/// A length is at most 2^32, that of a list with an item for each 32-bit number, and an item has at
-/// most 16 bytes: no memory has room for an absurd list, so asking for one would be a way to be refused.
+/// `length` is at most 2^32, one item for each 32-bit number, and an item has at most 16 bytes. Otherwise a caller
+/// could make the allocation fail by requesting an absurdly long list.
 ///
 /// # Errors
 ///
-/// [`Refusal`], where the list had no room for so many and could not grow. It is then as it was.
+/// [`Refusal`], if the list has no room for so many and could not grow. The list is unchanged.
 #[inline(always)]
 pub fn resize<T: Copy, A: Allocator>(
     list: &mut Vec<T, A>,
@@ -79,11 +78,11 @@ pub fn resize<T: Copy, A: Allocator>(
     }
 }
 
-/// A new list with the items of a slice, each of at most 16 bytes.
+/// A new list with the items of a slice. An item has at most 16 bytes.
 ///
 /// # Errors
 ///
-/// [`Refusal`], where the memory of the new list was refused.
+/// [`Refusal`], if the allocation of the new list failed.
 #[inline(always)]
 pub fn from_slice<T: Copy, A: Allocator>(alloc: A, items: &[T]) -> Result<Vec<T, A>, Refusal>
     requires small { size (layout T.row) ≤ 16 }

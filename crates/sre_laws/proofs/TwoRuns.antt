@@ -1,10 +1,10 @@
--- How many turns are enough for (?:a+a+)+b, over any text of up to 1,000 characters.
-use Rattle.std.proofs.Common.{◌≡◌, ℕ, zero, suc, ◌+◌, ◌*◌, ◌/◌, ◌<◌, ◌≤◌, ◌⊎◌, inl, inr, min, max, refl, arith}
+-- How many steps suffice for (?:a+a+)+b, over any text of up to 1,000 characters.
+use Rattle.std.proofs.Common.{◌≡◌, ℕ, zero, suc, ◌+◌, ◌*◌, ◌/◌, ◌<◌, ◌≤◌, ◌⊎◌, inl, inr, min, refl, arith}
 use Rattle.sre_engine.specs.Tree.{Tree, Empty, Then, Item, One, Loop, Run, Literal, Plain, Greedy, GreedyRun}
 use Rattle.sre_engine.specs.Ways.{unlimited}
 use Rattle.sre_engine.specs.Grammar.{Whole, ReadsItem}
 use Rattle.sre_engine.specs.Found.{Asked}
-use Rattle.sre_engine.specs.Remembered.{IsRemembered, kept_positions, enough_turns}
+use Rattle.sre_engine.specs.Remembered.{IsRemembered, kept_positions, step_bound}
 use Rattle.sre_laws.specs.TwoRuns.{words_of_two_runs}
 
 abbrev letters : Item
@@ -27,12 +27,12 @@ its_words =
 
 -- the number over n positions, where a run's characters make a difference up to c
 few : (n e c : ℕ) → n ≤ e + 1 → e ≤ 1000 → (c ≡ 0) ⊎ (c ≡ 1)
-    → n * (32 + (2 * 22 + 4 + 4 * 22 * (22 + 3) * 4 * (1 + max c 0)) * (1 + c / 8)) < 17697681
+    → n * (32 + 54 * (1 + c / 8)) < 86087
 few n e c m short (inl none) = rw none (omega (arith, m, short))
 few n e c m short (inr one) = rw one (omega (arith, m, short))
 
-pub turns_enough : (a : Asked) → a.start ≤ a.end → a.end ≤ 1000 → enough_turns 22 two_runs a < 17697681
-turns_enough a order short =
+pub steps_suffice : (a : Asked) → a.start ≤ a.end → a.end ≤ 1000 → step_bound two_runs a < 86087
+steps_suffice a order short =
     few (kept_positions two_runs a) a.end (min 1 a.end) (omega arith) short (least a.end)
   where
     least : (e : ℕ) → (min 1 e ≡ 0) ⊎ (min 1 e ≡ 1)

@@ -1,5 +1,5 @@
-//! Laws drawn from several clauses or calls: that requests over texts of two types are answered alike, that what was
-//! emitted is accepted, and what a search, a walk and its list leave where they end otherwise than by a match.
+//! Laws over several clauses or calls: requests over texts of two types have equal answers, and emitted bytecode passes
+//! the check. Others say what holds after a search or an iteration that finds no match, fails or has a step limit.
 
 ghost use Rattle.std.specs.Prelude.{◌<◌, ◌+◌, ◌-◌, ◌*◌, ℕ, length};
 ghost use Rattle.std.specs.Prelude.{◌≡◌, ◌≢◌, ◌≤◌, IfOk, IfErr, OnErr, Some, true, false, None, Ok, Err, cond, ◌&&◌};
@@ -30,7 +30,7 @@ use sre_engine::engine::{Found, SreError, all_matches};
 use sre_engine::{Code, Request, SearchIter, State, StrDrive, UniTable};
 use std::alloc::Global;
 
-/// Two requests that ask the same, of codes of the same tree, are answered alike by `pymatch`.
+/// Two requests with equal parameters, for codes with the same tree, have equal answers from `pymatch`.
 pub fn both_matched<S: StrDrive, T: StrDrive>(
     one: &Request<'_, S>,
     other: &Request<'_, T>,
@@ -41,13 +41,13 @@ pub fn both_matched<S: StrDrive, T: StrDrive>(
     requires tree { (t : Tree) → Whole (words_of (code_of one.now)) t → Whole (words_of (code_of other.now)) t }
     ensures { IfOk result (λ answers. answer_of answers.1 second.new ≡ answer_of answers.0 first.new) }
 {
-    let _words = one.pattern_codes().words(); // which have a tree
+    let _words = one.pattern_codes().words(); // has a tree
     let matched = first.pymatch(one)?;
     let again = second.pymatch(other)?;
     Ok((matched, again))
 }
 
-/// And by `search`.
+/// The same for `search`.
 pub fn both_searched<S: StrDrive, T: StrDrive>(
     one: Request<'_, S>,
     other: Request<'_, T>,
@@ -58,13 +58,13 @@ pub fn both_searched<S: StrDrive, T: StrDrive>(
     requires tree { (t : Tree) → Whole (words_of (code_of one)) t → Whole (words_of (code_of other)) t }
     ensures { IfOk result (λ answers. answer_of answers.1 second.new ≡ answer_of answers.0 first.new) }
 {
-    let _words = one.pattern_codes().words(); // which have a tree
+    let _words = one.pattern_codes().words(); // has a tree
     let found = first.search(one)?;
     let again = second.search(other)?;
     Ok((found, again))
 }
 
-/// A code is answered as it is with its block cut off.
+/// A code has the same answers from `pymatch` without its INFO block.
 pub fn matched_without_its_block<S: StrDrive, T: StrDrive>(
     one: &Request<'_, S>,
     cut: &Request<'_, T>,
@@ -75,11 +75,11 @@ pub fn matched_without_its_block<S: StrDrive, T: StrDrive>(
     requires behind { words_of (code_of cut.now) ≡ behind_block (words_of (code_of one.now)) }
     ensures { IfOk result (λ answers. answer_of answers.1 second.new ≡ answer_of answers.0 first.new) }
 {
-    let _words = one.pattern_codes().words(); // whose tree is that of the words behind the block
+    let _words = one.pattern_codes().words(); // has the tree of the code words after the block
     both_matched(one, cut, first, second)
 }
 
-/// And so it is searched.
+/// The same for `search`.
 pub fn searched_without_its_block<S: StrDrive, T: StrDrive>(
     one: Request<'_, S>,
     cut: Request<'_, T>,
@@ -90,12 +90,12 @@ pub fn searched_without_its_block<S: StrDrive, T: StrDrive>(
     requires behind { words_of (code_of cut) ≡ behind_block (words_of (code_of one)) }
     ensures { IfOk result (λ answers. answer_of answers.1 second.new ≡ answer_of answers.0 first.new) }
 {
-    let _words = one.pattern_codes().words(); // whose tree is that of the words behind the block
+    let _words = one.pattern_codes().words(); // has the tree of the code words after the block
     both_searched(one, cut, first, second)
 }
 
-/// Words that were emitted are refused for want of memory alone. The code's one tree is the part's, and what its block
-/// claims is confirmed.
+/// Emitted bytecode fails the check only if an allocation failed. The code's only tree is that of the part, and the
+/// claims of its INFO block are confirmed.
 pub fn checked<'a>(
     alloc: Global,
     part: &Part,
@@ -116,12 +116,12 @@ pub fn checked<'a>(
         (hints_of code).literal ≡ (with_block && is_all_literals (tree_of part.now))) }
 {
     let code = Code::check(alloc, words, uni)?;
-    let _words = code.words(); // which have one tree
-    let _hints = code.hints(); // which this tree confirms
+    let _words = code.words(); // has one tree
+    let _hints = code.hints(); // the tree confirms them
     Ok(code)
 }
 
-/// A match lies in the window, from its start on.
+/// A match of `pymatch` begins at the start of the range and ends within the range.
 pub fn matched_in_window<S: StrDrive>(
     req: &Request<'_, S>,
     state: &mut State<Global>,
@@ -131,7 +131,8 @@ pub fn matched_in_window<S: StrDrive>(
     state.pymatch(req)
 }
 
-/// A search finds a match that lies in the window, or leaves no marks; it errs only where memory was refused.
+/// A match of `search` is within the range. Without a match there are no captures. An error means that an allocation
+/// failed.
 pub fn searched_in_window<S: StrDrive>(
     req: Request<'_, S>,
     state: &mut State<Global>,
@@ -145,34 +146,34 @@ pub fn searched_in_window<S: StrDrive>(
     state.search(req)
 }
 
-/// A search is answered within more turns than all its runs can take, where each begins again.
+/// A search returns an answer if its limit is above the steps of all its runs, where each run may restart once.
 pub fn searched_within<S: StrDrive>(
     req: Request<'_, S>,
     state: &mut State<Global>,
-    turns: &mut u64,
+    steps: &mut u64,
 ) -> Result<Option<bool>, SreError>
     requires { (t : Tree) → Whole (words_of (code_of req)) t
-        → (most : ℕ) × RunsWithin (asked_of req) t most × (2 * (end_of req + 1 - start_of req) * most < turns.old) }
+        → (most : ℕ) × RunsWithin (asked_of req) t most × (2 * (end_of req + 1 - start_of req) * most < steps.old) }
     ensures told { IfOk result (λ told. told ≢ None) }
     ensures refused { OnErr result Refused }
 {
-    let _words = req.pattern_codes().words(); // which have a tree
-    state.search_within(req, turns)
+    let _words = req.pattern_codes().words(); // has a tree
+    state.search_within(req, steps)
 }
 
-/// A search that is given enough turns is answered, unless memory was refused.
+/// A search with a sufficient step budget returns an answer, unless an allocation failed.
 pub fn searched_with_enough<S: StrDrive>(
     req: Request<'_, S>,
     state: &mut State<Global>,
-    turns: &mut u64,
+    steps: &mut u64,
 ) -> Result<Option<bool>, SreError>
-    requires { AreEnough (asked_of req) (code_of req) turns.old }
+    requires { AreEnough (asked_of req) (code_of req) steps.old }
     ensures { IfOk result (λ told. told ≡ None → Refused) }
 {
-    state.search_within(req, turns)
+    state.search_within(req, steps)
 }
 
-/// So who has the words of `(?:a+a+)+b` knows how many turns answer a search of any text of up to 1,000 characters.
+/// So 86,087 steps suffice to search for `(?:a+a+)+b` in any text of up to 1,000 characters.
 pub fn two_runs_searched<S: StrDrive>(
     text: S,
     code: Code<'_>,
@@ -182,12 +183,11 @@ pub fn two_runs_searched<S: StrDrive>(
     requires short { length (S.text text) ≤ 1000 }
     ensures { IfOk result (λ told. told ≡ None → Refused) }
 {
-    let mut turns = 17_697_681;
-    state.search_within(Request::new(text, 0, usize::MAX, code, false), &mut turns)
+    let mut steps = 86_087;
+    state.search_within(Request::new(text, 0, usize::MAX, code, false), &mut steps)
 }
 
-/// And who asks a code for its number knows how many turns answer a search by it of any text of up to so many
-/// characters, in any window.
+/// The number that `Code::step_bound` returns suffices for a search of any text of up to that length, in any range.
 pub fn searched_with_its_number<S: StrDrive>(
     req: Request<'_, S>,
     characters: usize,
@@ -197,31 +197,31 @@ pub fn searched_with_its_number<S: StrDrive>(
     ensures { result ≡ Some (Ok None) → Refused }
 {
     let code = req.pattern_codes();
-    let _words = code.words(); // which have a tree
-    let _start = req.start(); // which is at most the window's end
-    let mut turns = code.enough_turns(characters)?;
-    Some(state.search_within(req, &mut turns))
+    let _words = code.words(); // has a tree
+    let _start = req.start(); // at most the range's end
+    let mut steps = code.step_bound(characters)?;
+    Some(state.search_within(req, &mut steps))
 }
 
-/// A step of a walk that is given enough turns is answered, too, unless memory was refused.
+/// The step of an iteration returns an answer with a sufficient step budget, unless an allocation failed.
 pub fn stepped_with_enough<S: StrDrive>(
     walk: &mut SearchIter<'_, S, Global>,
-    turns: &mut u64,
+    steps: &mut u64,
 ) -> Result<Option<bool>, SreError>
-    requires { AreEnough (asked_of (request_of walk.old)) (code_of (request_of walk.old)) turns.old }
+    requires { AreEnough (asked_of (request_of walk.old)) (code_of (request_of walk.old)) steps.old }
     ensures { IfOk result (λ told. told ≡ None → Refused) }
 {
-    walk.next_within(turns)
+    walk.next_within(steps)
 }
 
-/// The next match of a walk is refused only where memory was.
+/// The step of an iteration returns an error only if an allocation failed.
 pub fn stepped<S: StrDrive>(walk: &mut SearchIter<'_, S, Global>) -> Option<Result<(), SreError>>
     ensures { (e : SreError) → result ≡ Some (Err e) → Refused }
 {
     walk.next()
 }
 
-/// Matches in a list are few and in order, and there is none only where memory was refused.
+/// The matches of a list are in order and limited in number. An error means that an allocation failed.
 pub fn listed<S: StrDrive>(
     req: Request<'_, S>,
     state: &mut State<Global>,

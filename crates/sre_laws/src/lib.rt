@@ -1,4 +1,4 @@
-//! Laws drawn from several calls of the engine, each a function that is there to be proved: nothing calls it.
+//! Laws over several calls of the engine. Each is a function that is only proved: nothing calls it.
 #![tactic(auto)]
 
 pub mod laws;

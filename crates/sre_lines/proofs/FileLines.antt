@@ -25,7 +25,7 @@ pub where_err : {U E : Type 0} (r : Result U E) (P Q R : E → Type 0) → ((e :
 where_err (Ok u) P Q R f p q = tt
 where_err (Err e) P Q R f p q = f e p q
 
--- bytes that are appended in turn
+-- bytes that are appended one after the other
 appends_none : (known : Option (List ℕ)) → Appends known known []
 appends_none None = tt
 appends_none (Some xs) = sym (append-nil xs)

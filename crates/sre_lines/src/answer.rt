@@ -9,7 +9,7 @@ ghost use Rattle.sre_lines.specs.Answers.{refusal_name, refusal_text};
 use sre_engine::code::{CodeError, Hints};
 use std::alloc::{AllocError, Allocator};
 
-/// Appends the answer to a `check` of words that are a code.
+/// Appends the answer to a `check` of bytecode that passes.
 pub fn push_hints<A: Allocator>(answer: &mut String<A>, hints: &Hints) -> Result<(), AllocError>
     ensures { OnOk result (string_bytes answer.new ≡ string_bytes answer.old
         ++ hints_text hints.now.width hints.now.prefix hints.now.literal hints.now.first_set) }
@@ -35,7 +35,7 @@ fn yes_or_no(holds: bool) -> &'static str
     if holds { "yes" } else { "no" }
 }
 
-/// Appends that words are refused, with the cause and the place of the word at which it was seen.
+/// Appends that bytecode is rejected, with the cause and the address at which the check found it.
 pub fn push_refusal<A: Allocator>(
     answer: &mut String<A>,
     error: CodeError,
@@ -46,7 +46,7 @@ pub fn push_refusal<A: Allocator>(
     write!(answer, "refused {name} {place}")
 }
 
-// The name of a cause, and the place that it carries.
+// The name of a cause, and its address.
 fn name_and_place(error: CodeError) -> (&'static str, usize)
     ensures name { result.0.now ≡ refusal_name error }
     ensures place { result.1 ≡ place_of error }
@@ -66,7 +66,7 @@ fn name_and_place(error: CodeError) -> (&'static str, usize)
     }
 }
 
-/// Appends where a match starts and ends, positions of characters.
+/// Appends the start and the end of a match. Positions count characters.
 pub fn push_span<A: Allocator>(
     answer: &mut String<A>,
     start: usize,
@@ -78,7 +78,7 @@ pub fn push_span<A: Allocator>(
     write!(answer, "{start}..{end}")
 }
 
-/// Appends a match from `start` to `end`, positions of characters, with its last index and marks.
+/// Appends a match from `start` to `end`, with its last index and its capture slots. Positions count characters.
 pub fn push_match<A: Allocator>(
     answer: &mut String<A>,
     start: usize,
@@ -94,7 +94,7 @@ pub fn push_match<A: Allocator>(
     push_marks(answer, marks)
 }
 
-// Appends marks divided by commas, or `none` where there are none.
+// Appends capture slots separated by commas, or `none` if there are none.
 fn push_marks<A: Allocator>(
     answer: &mut String<A>,
     marks: &[Option<usize>],
@@ -112,7 +112,7 @@ fn push_marks<A: Allocator>(
     Ok(())
 }
 
-// Appends a mark's position, or `-` where it isn't set.
+// Appends the position in a capture slot, or `-` if it is not set.
 fn push_mark<A: Allocator>(answer: &mut String<A>, mark: Option<usize>) -> Result<(), AllocError>
     ensures { OnOk result (string_bytes answer.new ≡ string_bytes answer.old ++ number_text mark) }
 {

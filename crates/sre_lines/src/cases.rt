@@ -1,4 +1,4 @@
-//! The cases of a file, and their answers.
+//! Answers the cases of a file.
 
 ghost use Rattle.std.specs.Prelude.{◌≡◌, ◌≢◌, ◌≤◌, ◌++◌, ◌∷◌, [], ℕ, List, IfErr, OnErr, OnOk, codes, length};
 ghost use Rattle.std.specs.Prelude.{string_bytes};
@@ -37,21 +37,21 @@ use std::io::{self, Write};
 /// Why the program ends with status 1.
 #[derive(Clone, Copy, PartialEq, Eq, Debug)]
 pub enum CaseFault {
-    /// There isn't exactly one argument, or it is no UTF-8.
+    /// The arguments are not of the program's form, or one is not UTF-8.
     Usage,
     /// The file cannot be read.
     CannotRead,
-    /// The file is no table.
+    /// The file after `--table` is no table.
     NotATable,
-    /// The line of this number is no case; all lines count, from 1 on.
+    /// The line with this number is no case. All lines count, from 1.
     NotACase(u64),
-    /// Memory was refused outside a case.
+    /// An allocation failed outside a case.
     NoMemory,
     /// A write failed.
     OutputFailed,
 }
 
-/// How much is told of a fault, and of words that are refused.
+/// How much to print about a fault or rejected bytecode.
 #[derive(Clone, Copy)]
 pub enum Detail {
     /// That there is one.
@@ -60,12 +60,12 @@ pub enum Detail {
     Explained,
 }
 
-/// Answers the lines of a file in order, a line for each case. Lines end at byte 10, also the last
-/// one where that byte is missing; empty lines and those that begin with `#` are no cases.
+/// Writes one line for each case of a file, in order. Lines end at byte 10, which the last line may lack. Empty lines
+/// and lines that begin with `#` are no cases. The Unicode tables are those of ASCII.
 ///
-/// The faults are `NotACase`, `NoMemory` and `OutputFailed`. The answers to earlier lines are written
-/// then, and after a failed write perhaps a part of the next one, with nothing behind it. A refusal of
-/// memory to a case itself is its answer `memory`.
+/// The faults are `NotACase`, `NoMemory` and `OutputFailed`. Before a fault, the answers to all earlier lines are
+/// written. After a failed write, a part of the next answer may follow them. If an allocation for a case fails, the
+/// answer is `memory` instead.
 pub fn run_cases<W: Write>(alloc: Global, file: &[u8], out: &mut W) -> Result<(), CaseFault>
     ensures answers { OnOk result (Answered Detail.Plain ascii_table (W.contents out.old) (W.contents out.new)
         (lines_of file.now)) }
@@ -76,7 +76,7 @@ pub fn run_cases<W: Write>(alloc: Global, file: &[u8], out: &mut W) -> Result<()
     answer_lines(alloc, alloc, file, out)
 }
 
-/// Answers the lines. The words are checked on `alloc`; all else that grows does so on `heap`.
+/// As [`run_cases`]. The check of bytecode allocates on `alloc`, everything else on `heap`.
 pub fn answer_lines<A: Allocator + Copy, W: Write>(
     alloc: Global,
     heap: A,
@@ -99,7 +99,8 @@ pub fn answer_lines<A: Allocator + Copy, W: Write>(
     )
 }
 
-/// Answers the lines as [`answer_lines`] does, by a table, and with the causes of refusals where `detail` says so.
+/// As [`answer_lines`], with the given Unicode tables. With `Detail::Explained`, `check` prints why bytecode is
+/// rejected.
 pub fn answer_lines_by<A: Allocator + Copy, W: Write>(
     alloc: Global,
     heap: A,
@@ -140,7 +141,7 @@ pub fn answer_lines_by<A: Allocator + Copy, W: Write>(
     }
 }
 
-// What answers one line after the other. Its memory, the state's too, serves all of them.
+// Buffers and the state, which are reused for all lines.
 struct Desk<A: Allocator + Copy> {
     alloc: Global,
     detail: Detail,
@@ -150,7 +151,7 @@ struct Desk<A: Allocator + Copy> {
     answer: String<A>,
 }
 
-// By hand, so that whoever lets a desk go calls this.
+// Custom `Drop`, so that callers contain one call instead of the drop of each field.
 impl<A: Allocator + Copy> Drop for Desk<A> {
     fn drop(self) {
         let Desk {
@@ -165,7 +166,7 @@ impl<A: Allocator + Copy> Drop for Desk<A> {
     }
 }
 
-// Answers one line, where it is a case.
+// Answers one line if it is a case.
 fn answer_line<A: Allocator + Copy, W: Write>(
     desk: &mut Desk<A>,
     line: &[u8],
@@ -197,7 +198,7 @@ fn answer_line<A: Allocator + Copy, W: Write>(
     Ok(())
 }
 
-// Writes the answer to the case that was read last, with the byte that ends its line.
+// Writes the answer to the case that was read last, as a line.
 fn write_answer<A: Allocator + Copy, W: Write>(
     desk: &mut Desk<A>,
     case: Case,
@@ -229,7 +230,7 @@ fn write_answer<A: Allocator + Copy, W: Write>(
     }
 }
 
-// Appends the answer to a case, with the byte that ends its line.
+// Appends the answer to a case, as a line.
 fn push_answer<A: Allocator + Copy>(
     alloc: Global,
     detail: Detail,
@@ -274,7 +275,7 @@ fn push_verdict<A: Allocator + Copy>(
     }
 }
 
-// Appends that words are refused; the cause as well where a `check` tells it.
+// Appends that bytecode is rejected, for `check` with the cause if that is wanted.
 fn push_cause<A: Allocator>(
     detail: Detail,
     case: Case,
@@ -291,7 +292,7 @@ fn push_cause<A: Allocator>(
     }
 }
 
-// Appends the answer to a case whose words are a code.
+// Appends the answer to a case whose bytecode passed the check.
 fn push_code_answer<A: Allocator + Copy>(
     alloc: Global,
     heap: A,
@@ -326,12 +327,12 @@ fn push_code_answer<A: Allocator + Copy>(
     }
 }
 
-// From how many characters on a window is long enough for automata: to make them takes some hundred thousands of
-// instructions, as was measured, and more over UTF-8.
+// Least length in characters of a range that is long enough for DFAs. Building them takes some hundred thousand
+// instructions (measured), and more over UTF-8.
 const LONG: usize = 1 << 15;
 
-// Whether automata may gain something: where all matches or the first one of a long window are sought, and not along
-// the places of a confirmed prefix, which is as fast; a search along those of one character is not.
+// Whether DFAs may save time: for all matches, or the first one, in a long range without a confirmed prefix. The search
+// by a prefix is as fast, except the search for a single match by a prefix of one character.
 fn may_gain<S: StrDrive>(finding: Finding, request: &Request<'_, S>) -> bool {
     let hints = request.pattern_codes().hints();
     let is_sought = match (finding, hints.prefix) {
@@ -343,7 +344,7 @@ fn may_gain<S: StrDrive>(finding: Finding, request: &Request<'_, S>) -> bool {
     is_sought && request.end() - request.start() >= LONG
 }
 
-// As what automata read a text of bytes, where they may gain something.
+// The encoding for DFAs of a text of bytes, if they may save time.
 fn reading_bytes(finding: Finding, request: &Request<'_, &[u8]>) -> Option<Encoding> {
     if may_gain(finding, request) {
         Some(Encoding::Bytes)
@@ -352,7 +353,8 @@ fn reading_bytes(finding: Finding, request: &Request<'_, &[u8]>) -> Option<Encod
     }
 }
 
-// As what automata read UTF-8, where they may gain something. A text that has as many characters as bytes is ASCII.
+// The encoding for DFAs of a `str`, if they may save time. A range that ends at the number of bytes covers a text that
+// has as many characters as bytes, so it is ASCII.
 fn reading_text(finding: Finding, request: &Request<'_, &str>, text: &str) -> Option<Encoding> {
     if !may_gain(finding, request) {
         None
@@ -363,7 +365,7 @@ fn reading_text(finding: Finding, request: &Request<'_, &str>, text: &str) -> Op
     }
 }
 
-// What a case asks of its text.
+// The request of a case.
 fn request<'a, S: StrDrive>(text: S, subject: Subject, code: Code<'a>) -> Request<'a, S>
     ensures asked { asked_of result ≡ asked subject (uni_of code.entry) (S.text text) }
     ensures code { code_of result ≡ code.entry }
@@ -378,8 +380,8 @@ fn request<'a, S: StrDrive>(text: S, subject: Subject, code: Code<'a>) -> Reques
     request
 }
 
-// Appends the match that is found, or `no`; of a walk, all matches, with a state of its own on `heap`. Where `reading`
-// says as what, automata on `alloc` read the text.
+// Appends the match or `no`; for `walk`, all matches, with a state of their own on `heap`. If `reading` is an encoding,
+// DFAs on `alloc` read the text.
 fn push_found<S: Haystack, A: Allocator + Copy>(
     alloc: Global,
     heap: A,
@@ -409,7 +411,7 @@ fn push_found<S: Haystack, A: Allocator + Copy>(
     }
 }
 
-/// Writes the line that tells a fault, with `name` where the file is named; after an error a part of it stands there.
+/// Writes the line of a fault, with `name` as the file's name. If a write fails, a part of the line may be written.
 pub fn write_fault<W: Write>(fault: &CaseFault, name: &str, out: &mut W) -> Result<(), CaseFault>
     ensures line { OnOk result (Appends (W.contents out.old) (W.contents out.new)
         (fault_text fault.now name.now ++ 10 ∷ [])) }
@@ -423,7 +425,7 @@ pub fn write_fault<W: Write>(fault: &CaseFault, name: &str, out: &mut W) -> Resu
     }
 }
 
-/// Writes the text of a fault, with `name` where the file is named, and `end` directly behind it.
+/// Writes the text of a fault followed by `end`, with `name` as the file's name.
 pub(crate) fn write_line<W: Write>(
     fault: &CaseFault,
     name: &str,

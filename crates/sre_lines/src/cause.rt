@@ -1,7 +1,7 @@
-//! Why a line is no case: the field that is not of its form, and what is wrong with it.
+//! Why a line is no case: the faulty field, and what is wrong with it.
 //!
-//! A line is read once more to tell that, without memory. The first fault from the left is told, besides one: that the
-//! bytes of a text are no UTF-8 is told only where the line has no other fault.
+//! The line is parsed again without allocation. The first fault from the left is reported, with one exception: a text
+//! that is not UTF-8 is reported only if the line has no other fault.
 
 ghost use Rattle.std.specs.Prelude.{◌≡◌, ◌≢◌, ℕ, ◌+◌, ◌≤◌, ◌++◌, ◌∷◌, List, [], All, IfSome, IfNone, IsTrue, IsFalse};
 ghost use Rattle.std.specs.Prelude.{◌↔◌, ◌^◌, codes};
@@ -24,11 +24,11 @@ use crate::number::{decimal_number, hex_digit};
 pub enum Cause {
     /// COMMAND: it is none of the four.
     UnknownCommand,
-    /// The line has less fields than its command takes.
+    /// The line has fewer fields than its command takes.
     FieldMissing,
-    /// The line has more fields than its command takes, or two spaces together.
+    /// The line has more fields than its command takes, or two adjacent spaces.
     FieldTooMany,
-    /// WORDS: the first that is no number up to 4294967295.
+    /// WORDS: the fault of the first part that is no number up to 4294967295.
     Words(NumberFault),
     /// TEXT
     Text(TextFault),
@@ -36,33 +36,33 @@ pub enum Cause {
     Window(WindowFault),
     /// FLAGS
     Flags(FlagsFault),
-    /// TEXT: the bytes behind `s:` are no UTF-8, and the line has no other fault.
+    /// TEXT: the bytes after `s:` are not UTF-8, and the line has no other fault.
     NotUtf8,
 }
 
-/// Why digits write no number of a field.
+/// Why digits denote no number of a field.
 #[derive(Clone, Copy)]
 pub enum NumberFault {
-    /// They are none, or not all of them are digits.
+    /// There are none, or some are no digits.
     NoNumber,
-    /// The first of several is a zero.
+    /// There are several, and the first is zero.
     LeadingZero,
     /// The number is above the greatest that the field takes.
     TooLarge,
 }
 
-/// Why a field writes no text.
+/// Why a field denotes no text.
 #[derive(Clone, Copy)]
 pub enum TextFault {
     /// It begins neither with `b:` nor with `s:`.
     NoForm,
     /// The number of digits is odd.
     OddDigits,
-    /// A digit is no lower-case hexadecimal one.
+    /// A digit is not lower-case hexadecimal.
     NoHexDigit,
 }
 
-/// Why a field writes no window.
+/// Why a field denotes no range.
 #[derive(Clone, Copy)]
 pub enum WindowFault {
     /// It is neither `all` nor `START..END`.
@@ -71,19 +71,19 @@ pub enum WindowFault {
     Number(NumberFault),
 }
 
-/// Why a field writes no flags.
+/// Why a field denotes no flags.
 #[derive(Clone, Copy)]
 pub enum FlagsFault {
     /// It is empty.
     NoFlag,
     /// A letter is none of `f`, `a` and `n`.
     UnknownFlag,
-    /// The letters stand in another order, or one of them twice.
+    /// The letters are out of order, or one occurs twice.
     OutOfOrder,
 }
 
 impl Cause {
-    /// What the line of a fault goes on with to tell the field and what is wrong with it, up to the line's end.
+    /// The rest of a fault's line: the field, and what is wrong with it.
     pub(crate) fn told(self) -> &'static str
         ensures { result.now ≡ codes ": " ++ cause_text self ++ 10 ∷ [] }
     {
@@ -106,7 +106,7 @@ impl Cause {
     }
 }
 
-// The same of a window.
+// The same for a range.
 fn window_told(fault: WindowFault) -> &'static str
     ensures { result.now ≡ codes ": " ++ cause_text (Cause.Window fault) ++ 10 ∷ [] }
 {
@@ -120,7 +120,7 @@ fn window_told(fault: WindowFault) -> &'static str
     }
 }
 
-/// The line of a number in a file, all lines counted from 1.
+/// Returns the line with this number in a file. All lines count, from 1.
 pub fn line_at(file: &[u8], number: u64) -> &[u8]
     requires { (line : List ℕ) × IsLineAt file.now number line }
     ensures { IsLineAt file.now number result.now }
@@ -138,7 +138,7 @@ pub fn line_at(file: &[u8], number: u64) -> &[u8]
     }
 }
 
-/// Why a line is no case.
+/// Returns why a line is no case. The line must be none.
 pub fn cause_of(line: &[u8]) -> Cause
     requires { IsNoCase line.now }
     ensures { IsCause line.now result }
@@ -163,7 +163,7 @@ fn lone_cause(command: &[u8]) -> Cause
     }
 }
 
-// Why fields behind `check` make no case.
+// Why the fields after `check` make no case.
 fn check_cause(fields: &[u8]) -> Cause
     requires { (words : List ℕ) → AreWords words → words_text words ≢ fields.now }
     ensures { IsCauseOf (verb_text Verb.Check) (fields_of fields.now) result }
@@ -177,7 +177,7 @@ fn check_cause(fields: &[u8]) -> Cause
     }
 }
 
-// Why fields behind a command that asks for matches make no case.
+// Why the fields after a command that finds matches make no case.
 fn find_cause(fields: &[u8]) -> Cause
     requires { (subject : Subject) (words text : List ℕ) → AreWords words → IsSubject subject text
         → words_text words ++ subject_text subject text ≢ fields.now }
@@ -198,7 +198,7 @@ fn find_cause(fields: &[u8]) -> Cause
     field_cause(words, text, window, flags)
 }
 
-// Why four fields make no case: the first fault from the left, or that the text is no UTF-8.
+// Why four fields make no case: the first fault from the left, or that the text is not UTF-8.
 fn field_cause(words: &[u8], text: &[u8], window: &[u8], flags: &[u8]) -> Cause
     requires { IsNoSubject words.now text.now window.now flags.now }
     ensures { (finding : Finding) → IsCauseOf (verb_text (Verb.Find finding))
@@ -219,7 +219,7 @@ fn field_cause(words: &[u8], text: &[u8], window: &[u8], flags: &[u8]) -> Cause
     Cause::NotUtf8
 }
 
-// What is wrong with the first number of a field that is no word, if there is one.
+// The fault of the first part of a field that is no code word, if there is one.
 fn words_fault(field: &[u8]) -> Option<NumberFault>
     ensures none { IfNone result (IsWords field.now) }
     ensures fault { IfSome result (IsWordsFault field.now) }
@@ -239,7 +239,7 @@ fn words_fault(field: &[u8]) -> Option<NumberFault>
     }
 }
 
-// What is wrong with digits that write no word.
+// The fault of digits that denote no code word.
 fn word_fault(digits: &[u8]) -> Option<NumberFault>
     ensures none { IfNone result (IsWord digits.now) }
     ensures fault { IfSome result (IsNumberFault (2 ^ 32) digits.now) }
@@ -247,7 +247,7 @@ fn word_fault(digits: &[u8]) -> Option<NumberFault>
     number_fault(digits, 4294967295)
 }
 
-// What is wrong with digits that write no number of a window.
+// The fault of digits that denote no position of a range.
 fn place_fault(digits: &[u8]) -> Option<NumberFault>
     ensures none { IfNone result (IsPlace digits.now) }
     ensures fault { IfSome result (IsNumberFault (2 ^ 64) digits.now) }
@@ -255,7 +255,7 @@ fn place_fault(digits: &[u8]) -> Option<NumberFault>
     number_fault(digits, u64::MAX)
 }
 
-// What is wrong with digits that write no number up to `most`.
+// The fault of digits that denote no number up to `most`.
 fn number_fault(digits: &[u8], most: u64) -> Option<NumberFault>
     ensures none { IfNone result ((n : ℕ) × (n ≤ most) × (decimal n ≡ digits.now)) }
     ensures fault { IfSome result (IsNumberFault (most + 1) digits.now) }
@@ -272,7 +272,7 @@ fn number_fault(digits: &[u8], most: u64) -> Option<NumberFault>
     }
 }
 
-// Whether there are digits, and nothing else.
+// Whether there are digits and nothing else.
 fn is_numeral(digits: &[u8]) -> bool
     ensures { IsTrue result ↔ IsNumeral 10 digits.now }
 {
@@ -287,7 +287,7 @@ fn is_numeral(digits: &[u8]) -> bool
     true
 }
 
-// What is wrong with the form or the digits of a text.
+// The fault of a text's form or digits.
 fn text_fault(field: &[u8]) -> Option<TextFault>
     ensures none { IfNone result (IsBytes field.now) }
     ensures fault { IfSome result (IsTextFault field.now) }
@@ -307,7 +307,7 @@ fn text_fault(field: &[u8]) -> Option<TextFault>
     None
 }
 
-// Whether all digits are lower-case hexadecimal ones.
+// Whether all digits are lower-case hexadecimal.
 fn are_hex_digits(digits: &[u8]) -> bool
     ensures all { IsTrue result → All IsHexDigit digits.now }
     ensures other { IsFalse result → HasOther IsHexDigit digits.now }
@@ -320,7 +320,7 @@ fn are_hex_digits(digits: &[u8]) -> bool
     true
 }
 
-// What is wrong with a window.
+// The fault of a range.
 fn window_fault(field: &[u8]) -> Option<WindowFault>
     ensures none { IfNone result (IsWindowField field.now) }
     ensures fault { IfSome result (IsWindowFault field.now) }
@@ -346,7 +346,7 @@ fn window_fault(field: &[u8]) -> Option<WindowFault>
     }
 }
 
-// What is wrong with flags.
+// The fault of flags.
 fn flags_fault(field: &[u8]) -> Option<FlagsFault>
     ensures none { IfNone result (IsFlagsField field.now) }
     ensures fault { IfSome result (IsFlagsFault field.now) }

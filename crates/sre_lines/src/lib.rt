@@ -1,4 +1,4 @@
-//! The program's lines: cases in a file, and an answer to each.
+//! The program: a file of cases, and an answer to each.
 #![tactic(auto)]
 
 pub mod answer;

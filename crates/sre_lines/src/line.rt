@@ -1,7 +1,7 @@
-//! Lines as cases: how each field of a line is read.
+//! Parses a line as a case, field by field.
 //!
-//! A case is `check WORDS`, or `match`, `search` or `walk` with WORDS TEXT WINDOW FLAGS, its fields divided by single
-//! spaces. A line is read whole before its words are checked, and any other line is refused.
+//! A case is `check WORDS`, or `match`, `search` or `walk` with WORDS TEXT WINDOW FLAGS. Fields are separated by one
+//! space. The whole line is read before its bytecode is checked, and any other line is rejected.
 
 ghost use Rattle.std.specs.Prelude.{◌≡◌, ◌≢◌, ℕ, ◌^◌, ◌<◌, ◌++◌, ◌∷◌, List, All, Contains, IfSome, IfNone, IfOk, OnOk};
 ghost use Rattle.std.specs.Prelude.{[], IsTrue, ◌↔◌};
@@ -15,12 +15,12 @@ use sre_engine::EmptyRule;
 use sre_growth::Refusal;
 use std::alloc::Allocator;
 
-/// Why a line gave no case.
+/// Why a line could not be read as a case.
 #[derive(Clone, Copy, PartialEq, Eq, Debug)]
 pub enum LineFault {
     /// The line is no case.
     NotACase,
-    /// Memory was refused before the line was known to be a case.
+    /// An allocation failed before the line was known to be a case.
     NoMemory,
 }
 
@@ -35,30 +35,30 @@ impl From<Refusal> for LineFault {
     }
 }
 
-/// What a case begins with.
+/// The command of a case.
 #[derive(Clone, Copy)]
 pub(crate) enum Verb {
     Check,
     Find(Finding),
 }
 
-/// What a case asks. Its words and its text stand in [`Operands`].
+/// A case. Its bytecode and its text are in [`Operands`].
 #[derive(Clone, Copy)]
 pub enum Case {
-    /// Whether the words are a code, and its hints.
+    /// `check`: whether the bytecode passes the check, and its hints.
     Check,
-    /// A match, or all of a walk.
+    /// One match, or all.
     Find(Finding, Subject),
 }
 
-/// Where a match may start, and how many are told.
+/// Where a match may start, and how many matches are wanted.
 #[derive(Clone, Copy)]
 pub enum Finding {
-    /// `match`: at the window's start.
+    /// `match`: at the start of the range.
     Match,
-    /// `search`: anywhere in the window, and the least start counts.
+    /// `search`: anywhere in the range; the least start wins.
     Search,
-    /// `walk`: the same again and again, from the end of the match before.
+    /// `walk`: all matches, each search from the end of the match before.
     Walk,
 }
 
@@ -70,16 +70,16 @@ pub struct Subject {
     pub flags: Flags,
 }
 
-/// What the bytes of a text stand for.
+/// The form of a text.
 #[derive(Clone, Copy)]
 pub enum TextForm {
     /// `b:`, each byte a character.
     Bytes,
-    /// `s:`, the characters of UTF-8 text (RFC 3629).
+    /// `s:`, UTF-8 (RFC 3629).
     Utf8,
 }
 
-/// The positions that a case asks about; a request cuts them at the text's end.
+/// The range of a case in positions, which a request limits to the text.
 #[derive(Clone, Copy)]
 pub enum Window {
     /// `all`, the whole text.
@@ -91,22 +91,22 @@ pub enum Window {
 /// The flags of a case, `-` for none.
 #[derive(Clone, Copy)]
 pub struct Flags {
-    /// `f`: the match has to end at the window's end.
+    /// `f`: the match must end at the end of the range.
     pub match_all: bool,
-    /// `a`: the match has to end past the window's start.
+    /// `a`: the match must end after the start of the range.
     pub must_advance: bool,
-    /// `n`: a non-boundary is on nothing.
+    /// `n`: `\B` matches an empty text.
     pub empty_rule: EmptyRule,
 }
 
-/// The words and the text of the line that was read last. Their memory serves line after line.
+/// The bytecode and the text of the line that was read last. Their memory is reused for each line.
 #[derive(Drop)]
 pub struct Operands<A: Allocator> {
     pub words: Vec<u32, A>,
     pub text: Vec<u8, A>,
 }
 
-/// Reads a line, and leaves its words and its text in `operands`.
+/// Reads a line, and stores its bytecode and its text in `operands`.
 pub fn read_case<A: Allocator>(line: &[u8], operands: &mut Operands<A>) -> Result<Case, LineFault>
     ensures read { IfOk result (λ case. case_text case operands.new.words.items operands.new.text.items ≡ line.now) }
     ensures lawful { IfOk result (λ case. IsCase case operands.new.words.items operands.new.text.items) }
@@ -127,7 +127,7 @@ pub fn read_case<A: Allocator>(line: &[u8], operands: &mut Operands<A>) -> Resul
     }
 }
 
-/// The verb that a field writes.
+/// The command that a field denotes.
 pub(crate) fn verb_of(field: &[u8]) -> Option<Verb>
     ensures written { IfSome result (λ verb. verb_text verb ≡ field.now) }
     ensures refused { IfNone result ((verb : Verb) → verb_text verb ≢ field.now) }
@@ -141,7 +141,7 @@ pub(crate) fn verb_of(field: &[u8]) -> Option<Verb>
     }
 }
 
-// Reads the fields WORDS TEXT WINDOW FLAGS, first those that take no memory.
+// Reads the fields WORDS TEXT WINDOW FLAGS, first those that need no allocation.
 fn read_subject<A: Allocator>(
     fields: &[u8],
     operands: &mut Operands<A>,
@@ -178,7 +178,7 @@ fn read_subject<A: Allocator>(
     })
 }
 
-/// Reads numbers up to 4294967295 divided by commas, or `-` for none.
+/// Reads numbers up to 4294967295 separated by commas, or `-` for none.
 pub(crate) fn read_words<A: Allocator>(
     field: &[u8],
     words: &mut Vec<u32, A>,
@@ -202,7 +202,7 @@ pub(crate) fn read_words<A: Allocator>(
     }
 }
 
-// Reads one word more.
+// Reads one more code word.
 fn push_word<A: Allocator>(digits: &[u8], words: &mut Vec<u32, A>) -> Result<(), LineFault>
     ensures read { OnOk result
         ((w : ℕ) × (decimal w ≡ digits.now) × (words.new.items ≡ words.old.items ++ w ∷ []) × (w < 2 ^ 32)) }
@@ -216,7 +216,7 @@ fn push_word<A: Allocator>(digits: &[u8], words: &mut Vec<u32, A>) -> Result<(),
     Ok(())
 }
 
-// The word that a field writes.
+// The code word that a field denotes.
 #[tactic(auto, using(crate::proofs::Numbers::too_large_is_not_written))]
 fn word_of(digits: &[u8]) -> Option<u32>
     ensures written { IfSome result (λ n. decimal n ≡ digits.now) }
@@ -251,7 +251,7 @@ fn read_text<A: Allocator>(field: &[u8], text: &mut Vec<u8, A>) -> Result<TextFo
     Ok(form)
 }
 
-/// The form of a text that a letter tells.
+/// The form of a text that a letter denotes.
 pub(crate) fn form_of(letter: &[u8]) -> Option<TextForm>
     ensures written { IfSome result (λ form. form_text form ≡ letter.now) }
     ensures refused { IfNone result ((form : TextForm) → form_text form ≢ letter.now) }
@@ -273,7 +273,7 @@ fn is_text(form: TextForm, bytes: &[u8]) -> bool
     }
 }
 
-/// The window that a field writes.
+/// The range that a field denotes.
 pub(crate) fn window_of(field: &[u8]) -> Option<Window>
     ensures written { IfSome result (λ window. window_text window ≡ field.now) }
     ensures fits { IfSome result IsWindow }
@@ -293,7 +293,7 @@ pub(crate) fn window_of(field: &[u8]) -> Option<Window>
     })
 }
 
-/// The flags that a field writes.
+/// The flags that a field denotes.
 pub(crate) fn flags_of(field: &[u8]) -> Option<Flags>
     ensures written { IfSome result (λ flags. flags_text flags ≡ field.now) }
     ensures refused { IfNone result ((flags : Flags) → flags_text flags ≢ field.now) }
@@ -316,7 +316,7 @@ pub(crate) fn flags_of(field: &[u8]) -> Option<Flags>
     })
 }
 
-/// What stands before the first such byte, and what after it.
+/// Splits a field at the first byte `at`, which neither part contains. `None` if there is no such byte.
 pub fn split_once(field: &[u8], at: u8) -> Option<(&[u8], &[u8])>
     ensures parts { IfSome result (λ parts. parts.0.now ++ at ∷ parts.1.now ≡ field.now) }
     ensures first { IfSome result (λ parts. ¬ (Contains parts.0.now at)) }

@@ -1,4 +1,4 @@
-//! Numbers and bytes as the digits of a case's fields.
+//! Numbers and bytes as digits in the fields of a case.
 
 ghost use Rattle.std.specs.Prelude.{◌≡◌, ◌≢◌, ℕ, ◌+◌, ◌*◌, ◌/◌, ◌%◌, ◌^◌, ◌<◌, List, All, IfSome, IfNone, OnOk, false};
 ghost use Rattle.std.specs.Prelude.{IsTrue, ◌↔◌, Err};
@@ -9,7 +9,7 @@ ghost use Rattle.sre_lines.specs.Fields.{hex_text, BeginsAsNumber};
 use crate::line::LineFault;
 use std::alloc::Allocator;
 
-/// The number that a field writes in decimal, without sign and without leading zeros.
+/// The number that a field denotes in decimal, without sign and without leading zeros. `None` if it denotes none.
 pub fn decimal_number(digits: &[u8]) -> Option<u64>
     ensures written { IfSome result (λ n. decimal n ≡ digits.now) }
     ensures refused { IfNone result ((n : ℕ) → n < 2 ^ 64 → decimal n ≢ digits.now) }
@@ -26,7 +26,7 @@ pub fn decimal_number(digits: &[u8]) -> Option<u64>
     }
 }
 
-// Rules out the plus sign and the zeros in front that `parse` takes.
+// Excludes a plus sign and leading zeros, which `parse` accepts.
 fn begins_as_number(digits: &[u8]) -> bool
     ensures { IsTrue result ↔ BeginsAsNumber digits.now }
 {
@@ -37,7 +37,7 @@ fn begins_as_number(digits: &[u8]) -> bool
     }
 }
 
-/// Reads pairs of lower-case hexadecimal digits, perhaps none, in place of what `bytes` held.
+/// Replaces the content of `bytes` by the bytes that pairs of lower-case hexadecimal digits denote, perhaps none.
 #[tactic(auto, using(crate::proofs::Pairs::hex_pairs))]
 pub fn read_hex<A: Allocator>(digits: &[u8], bytes: &mut Vec<u8, A>) -> Result<(), LineFault>
     ensures read { OnOk result (hex_text bytes.new.items ≡ digits.now) }
@@ -59,7 +59,7 @@ pub fn read_hex<A: Allocator>(digits: &[u8], bytes: &mut Vec<u8, A>) -> Result<(
     Ok(())
 }
 
-// The byte that a pair of digits writes.
+// The byte that two hexadecimal digits denote.
 fn hex_byte(high: u8, low: u8) -> Option<u8>
     ensures read { IfSome result (λ b. (high ≡ digit_glyph false (b / 16)) × (low ≡ digit_glyph false (b % 16))) }
     ensures refused { IfNone result
@@ -68,7 +68,7 @@ fn hex_byte(high: u8, low: u8) -> Option<u8>
     Some(16 * hex_digit(high)? + hex_digit(low)?)
 }
 
-/// The number that a lower-case hexadecimal digit writes.
+/// The value of a lower-case hexadecimal digit. `None` for any other byte.
 pub fn hex_digit(digit: u8) -> Option<u8>
     ensures read { IfSome result (λ n. (n < 16) × (digit ≡ digit_glyph false n)) }
     ensures refused { IfNone result ((n : ℕ) → n < 16 → digit ≢ digit_glyph false n) }

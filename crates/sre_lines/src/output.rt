@@ -1,4 +1,4 @@
-//! Writes of which a part may fail.
+//! Writes that can fail midway.
 
 ghost use Rattle.std.specs.Prelude.{◌++◌, OnErr, OnOk};
 ghost use Rattle.std.specs.Io.KnownBytes.{Appends};
@@ -6,7 +6,7 @@ ghost use Rattle.sre_lines.specs.Output.{AppendsPart};
 
 use std::io::{self, Write};
 
-/// Writes bytes, all of them; after an error a part of them stands there, and nothing is written behind it.
+/// Writes all bytes. After an error, a part of them may be written, and nothing else.
 pub fn write_whole<W: Write>(bytes: &[u8], out: &mut W) -> io::Result<()>
     ensures whole { OnOk result (Appends (W.contents out.old) (W.contents out.new) bytes.now) }
     ensures part { OnErr result (AppendsPart (W.contents out.old) (W.contents out.new) bytes.now) }
@@ -29,7 +29,7 @@ pub fn write_whole<W: Write>(bytes: &[u8], out: &mut W) -> io::Result<()>
     Err(io::Error::from(io::ErrorKind::Interrupted))
 }
 
-/// Writes two pieces, one directly behind the other; after an error a part of both stands there.
+/// Writes two byte strings in sequence. After an error, a part of the sequence may be written.
 pub fn write_both<W: Write>(front: &[u8], end: &[u8], out: &mut W) -> io::Result<()>
     ensures whole { OnOk result (Appends (W.contents out.old) (W.contents out.new) (front.now ++ end.now)) }
     ensures part { OnErr result (AppendsPart (W.contents out.old) (W.contents out.new) (front.now ++ end.now)) }
@@ -38,7 +38,7 @@ pub fn write_both<W: Write>(front: &[u8], end: &[u8], out: &mut W) -> io::Result
     write_whole(end, out)
 }
 
-/// Writes three pieces, one directly behind the other; after an error a part of them stands there.
+/// Writes three byte strings in sequence. After an error, a part of the sequence may be written.
 pub fn write_three<W: Write>(front: &[u8], middle: &[u8], end: &[u8], out: &mut W) -> io::Result<()>
     ensures whole { OnOk result (Appends (W.contents out.old) (W.contents out.new)
         (front.now ++ (middle.now ++ end.now))) }

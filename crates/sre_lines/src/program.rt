@@ -1,4 +1,4 @@
-//! What the program does with its arguments and its file.
+//! The program: arguments, files, outputs and status.
 
 ghost use Rattle.std.specs.Prelude.{◌≡◌, ◌≢◌, ◌++◌, ◌∷◌, [], ℕ, List, Some, Ok, Err, IfOk, IfErr, OnOk, codes};
 ghost use Rattle.std.specs.Fn.{FnReturnsAt};
@@ -27,16 +27,16 @@ use std::process::ExitCode;
 /// How the program ends.
 #[derive(Clone, Copy, PartialEq, Eq, Debug)]
 pub enum Ending {
-    /// Every line is answered.
+    /// Every case is answered.
     AllAnswered,
-    /// At a fault, whose line is written.
+    /// A fault occurred, and its line is written.
     Told(CaseFault),
-    /// At a fault, whose line could not be written, or not more than a part of it.
+    /// A fault occurred, and its line is not written, or only a part of it.
     Untold(CaseFault),
 }
 
 impl Ending {
-    /// 0 where every line is answered, else 1.
+    /// Returns status 0 if every case is answered, else 1.
     pub fn status(self) -> ExitCode
         ensures { exit_status result ≡ status_of self }
     {
@@ -47,24 +47,23 @@ impl Ending {
     }
 }
 
-/// What the arguments ask.
+/// What the arguments request.
 #[derive(Drop)]
 pub struct Call {
-    /// Whether causes are told as well.
+    /// Whether to print causes as well.
     pub detail: Detail,
-    /// The name of the table's file; without one the table is that of ASCII.
+    /// The name of the file with Unicode tables. Without one, the tables are those of ASCII.
     pub table: Option<String>,
     /// The name of the file of cases.
     pub file: String,
 }
 
-/// Answers the cases of the file that the arguments name, which `read` reads. Where that stops at a fault, the line
-/// that tells it is written to `faults`.
+/// Runs the program: answers the cases of the file that the arguments name. `read` returns the content of a file. The
+/// line of a fault is written to `faults`.
 ///
-/// The first argument is the program's name. The last one is the file's. Before it `--explain` asks for the causes of
-/// faults, and of the refusals that a `check` is answered, and `--table TABLE` for the answers by the table that the
-/// file TABLE is written as; without it the table is that of ASCII. The arguments are an error where one is no UTF-8.
-/// No answer is left in the buffer of `out`, unless a write failed.
+/// The first argument is the program's name, the last one that of the file. Between them, `--explain` adds the causes
+/// of faults and of rejected bytecode. `--table TABLE` uses the Unicode tables in the file TABLE; without it they are
+/// those of ASCII. An argument that is not UTF-8 is an error. Unless a write failed, the buffer of `out` is flushed.
 pub fn run<F, W, E>(
     alloc: Global,
     args: io::Result<Args>,
@@ -88,7 +87,7 @@ where
     }
 }
 
-/// Writes the line of a fault. Where that fails too, the status is all that is left to say.
+/// Writes the line of a fault. If that fails too, only the status reports the fault.
 pub fn tell<E: Write>(fault: CaseFault, name: &str, faults: &mut E) -> Ending
     ensures fault { end_of result ≡ Err fault }
     ensures line { result ≡ Ending.Told fault
@@ -99,7 +98,7 @@ pub fn tell<E: Write>(fault: CaseFault, name: &str, faults: &mut E) -> Ending
     tell_with(fault, name, "\n", faults)
 }
 
-// The same with another end of the line.
+// The same, with another end of the line.
 fn tell_with<E: Write>(fault: CaseFault, name: &str, end: &str, faults: &mut E) -> Ending
     ensures fault { end_of result ≡ Err fault }
     ensures line { result ≡ Ending.Told fault
@@ -113,7 +112,7 @@ fn tell_with<E: Write>(fault: CaseFault, name: &str, end: &str, faults: &mut E) 
     }
 }
 
-// What the arguments ask.
+// The call that the arguments describe.
 fn call_of(args: io::Result<Args>) -> Result<Call, CaseFault>
     ensures { IsCall args result }
 {
@@ -127,7 +126,7 @@ fn call_of(args: io::Result<Args>) -> Result<Call, CaseFault>
     }
 }
 
-// What the arguments behind the program's name ask.
+// The call that the arguments after the program's name describe.
 fn asked(mut args: Args) -> Result<Call, CaseFault>
     ensures { IsCallOf (into_iter_items args) result }
 {
@@ -143,7 +142,7 @@ fn asked(mut args: Args) -> Result<Call, CaseFault>
     }
 }
 
-// What a flag and a file ask.
+// The call that a flag and a file describe.
 fn explained(flag: String, file: String) -> Result<Call, CaseFault>
     ensures { IsCallOf (flag ∷ file ∷ []) result }
 {
@@ -157,7 +156,7 @@ fn explained(flag: String, file: String) -> Result<Call, CaseFault>
     Err(CaseFault::Usage)
 }
 
-// What three arguments and those behind them ask.
+// The call that three or more arguments describe.
 fn asked_by_table(
     first: String,
     second: String,
@@ -173,7 +172,7 @@ fn asked_by_table(
     }
 }
 
-// What a flag, a table and a file ask.
+// The call that a flag, a table and a file describe.
 fn by_table(flag: String, table: String, file: String) -> Result<Call, CaseFault>
     ensures { IsCallOf (flag ∷ table ∷ file ∷ []) result }
 {
@@ -187,7 +186,7 @@ fn by_table(flag: String, table: String, file: String) -> Result<Call, CaseFault
     Err(CaseFault::Usage)
 }
 
-// What both flags ask, in either order.
+// The call with both flags, in either order.
 fn explained_by_table(
     first: String,
     second: String,
@@ -213,7 +212,7 @@ fn explained_by_table(
     Err(CaseFault::Usage)
 }
 
-// The fault of an error: want of memory, or else the usual one.
+// The fault of an I/O error: `NoMemory` if an allocation failed, else `usual`.
 fn memory_or(error: &io::Error, usual: CaseFault) -> CaseFault
     ensures { IsFaultOf error.now usual result }
 {
@@ -224,7 +223,7 @@ fn memory_or(error: &io::Error, usual: CaseFault) -> CaseFault
     }
 }
 
-// Answers what the arguments ask, by the table that they name.
+// Answers a call, with the Unicode tables that it names.
 fn answer_call<F, W, E>(
     alloc: Global,
     call: &Call,
@@ -253,7 +252,7 @@ where
     }
 }
 
-// Reads the table of this name, and tells where there is none.
+// Reads the Unicode tables from the file with this name. Reports a fault if there are none.
 fn read_named<F, E>(
     alloc: Global,
     detail: Detail,
@@ -277,7 +276,7 @@ where
     }
 }
 
-// The table that a file is written as; where it is none, that is told.
+// The Unicode tables in a file. Reports a fault if it has none.
 fn table_read<E: Write>(
     alloc: Global,
     detail: Detail,
@@ -304,7 +303,7 @@ fn table_read<E: Write>(
     }
 }
 
-// What ends the line that a file has no four lists.
+// The end of the line for a file without the four lists.
 fn form_end(detail: Detail) -> &'static str
     ensures { (file : List ℕ) → IsTableEnd detail file result.now }
 {
@@ -314,7 +313,7 @@ fn form_end(detail: Detail) -> &'static str
     }
 }
 
-// What ends the line that the lists of a file have a fault.
+// The end of the line for lists with a fault.
 fn lists_end(detail: Detail, error: UniError) -> &'static str
     ensures { (file : List ℕ) (table : Table) → table_text table ≡ file → lists_fault table ≡ Some error
         → IsTableEnd detail file result.now }
@@ -325,7 +324,7 @@ fn lists_end(detail: Detail, error: UniError) -> &'static str
     }
 }
 
-// The same where causes are told.
+// The same, with the cause.
 fn uni_end(error: UniError) -> &'static str
     ensures { result.now ≡ codes ": " ++ uni_text error ++ 10 ∷ [] }
 {
@@ -337,7 +336,7 @@ fn uni_end(error: UniError) -> &'static str
     }
 }
 
-// Answers the cases of the file of this name by a table, and tells the fault at which that stops.
+// Answers the cases of the file with this name, and reports a fault.
 fn answer_named<F, W, E>(
     alloc: Global,
     detail: Detail,
@@ -364,7 +363,7 @@ where
     }
 }
 
-// Tells that the file could not be read.
+// Reports that a file could not be read.
 fn tell_unread<E: Write>(detail: Detail, error: io::Error, name: &str, faults: &mut E) -> Ending
     ensures fault { (fault : CaseFault) × (end_of result ≡ Err fault) × IsFaultOf error CaseFault.CannotRead fault }
     ensures told { TellsFault (λ fault end. IsEndOf detail (Err error) fault end) (E.contents faults.old)
@@ -374,7 +373,7 @@ fn tell_unread<E: Write>(detail: Detail, error: io::Error, name: &str, faults: &
     tell_with(memory_or(&error, CaseFault::CannotRead), name, end, faults)
 }
 
-// What ends the line that a file could not be read.
+// The end of the line for a file that could not be read.
 fn unread_end(detail: Detail, error: &io::Error) -> &'static str
     ensures { (fault : CaseFault) → IsEndOf detail (Err error.now) fault result.now }
 {
@@ -384,7 +383,7 @@ fn unread_end(detail: Detail, error: &io::Error) -> &'static str
     }
 }
 
-// The same where causes are told.
+// The same, with the cause.
 fn kind_end(error: &io::Error) -> &'static str
     ensures { IsUnreadEnd error.now result.now }
 {
@@ -396,7 +395,7 @@ fn kind_end(error: &io::Error) -> &'static str
     }
 }
 
-// Answers the cases of a file, and tells the fault at which that stops.
+// Answers the cases of a file, and reports a fault.
 fn answer_file<W: Write + Drop, E: Write>(
     alloc: Global,
     detail: Detail,
@@ -419,7 +418,7 @@ fn answer_file<W: Write + Drop, E: Write>(
     }
 }
 
-// What ends the line of a fault of a file.
+// The end of the line for a fault in a file.
 fn fault_end(detail: Detail, file: &[u8], fault: CaseFault) -> &'static str
     requires { (n : ℕ) → fault ≡ CaseFault.NotACase n → IsNoCaseAt file.now n }
     ensures { IsEnd detail file.now fault result.now }
@@ -432,7 +431,7 @@ fn fault_end(detail: Detail, file: &[u8], fault: CaseFault) -> &'static str
     }
 }
 
-// Answers the cases of a file, and leaves no answer in a buffer.
+// Answers the cases of a file, and flushes the buffer.
 fn answer_bytes<W: Write + Drop>(
     alloc: Global,
     detail: Detail,
@@ -448,7 +447,7 @@ fn answer_bytes<W: Write + Drop>(
     ensures flushed { result ≢ Err CaseFault.OutputFailed → writer_buffer out.new ≡ [] }
 {
     let ran = answer_lines_by(alloc, alloc, detail, table, file, out);
-    // The answers before a fault are written too.
+    // The answers before a fault are written, too.
     match out.flush() {
         Ok(()) => ran,
         Err(_) => Err(CaseFault::OutputFailed),

@@ -1,7 +1,8 @@
-//! A table read from a file: four lines, `lower`, `upper`, `alnum` and `digits`, each with the numbers of a list.
+//! Reads Unicode tables from a file of four lines: `lower`, `upper`, `alnum` and `digits`, each with the numbers of a
+//! list.
 //!
-//! Behind the name and a space stand the numbers as a case has its words, two for each entry: a character and what it
-//! is in the other case, or the first and the last of a run of characters.
+//! The name and a space are followed by numbers in the form of WORDS, two for each entry. An entry is a character and
+//! its other case, or the first and the last character of a range.
 
 ghost use Rattle.std.specs.Prelude.{◌≡◌, ◌≢◌, ◌++◌, Err, Some, IfOk};
 ghost use Rattle.sre_chars.specs.Tables.{Table};
@@ -13,18 +14,18 @@ use crate::line::{LineFault, read_words, split_once};
 use sre_engine::{UniError, UniTable};
 use std::alloc::Global;
 
-/// Why a file gave no table.
+/// Why a file is no table.
 #[derive(Clone, Copy)]
 pub enum TableFault {
-    /// It has not just the four lines of a table.
+    /// It does not consist of the four lines of a table.
     Form,
-    /// The first fault of its lists, which is never a want of memory.
+    /// The first fault of its lists, never `UniError::Memory`.
     Lists(UniError),
-    /// Memory was refused.
+    /// An allocation failed.
     NoMemory,
 }
 
-/// Reads a table: the file is what it is written as.
+/// Reads the table that a file contains.
 pub fn read_table(alloc: Global, file: &[u8]) -> Result<UniTable, TableFault>
     ensures read { IfOk result (λ table. table_text table ≡ file.now) }
     ensures lists { (error : UniError) → result ≡ Err (TableFault.Lists error) → (table : Table)
@@ -43,7 +44,7 @@ pub fn read_table(alloc: Global, file: &[u8]) -> Result<UniTable, TableFault>
     }
 }
 
-// The lists of a table.
+// The four lists of a table.
 #[derive(Drop)]
 struct Lists {
     lower: Vec<(u32, u32)>,
@@ -94,7 +95,7 @@ fn table_of(
     }
 }
 
-// Why the lists of a file gave no table.
+// Why the lists of a file are no table.
 fn fault_of(error: UniError) -> TableFault
     ensures memory { error ≡ UniError.Memory → result ≡ TableFault.NoMemory }
     ensures other { error ≢ UniError.Memory → result ≡ TableFault.Lists error }
@@ -105,7 +106,7 @@ fn fault_of(error: UniError) -> TableFault
     }
 }
 
-// Reads the list of a name, and gives what stands behind its line.
+// Reads the list with a name, and returns the rest of the file after its line.
 fn read_list<'f>(
     alloc: Global,
     file: &'f [u8],
@@ -128,7 +129,7 @@ fn read_list<'f>(
     }
 }
 
-// Reads pairs as the numbers of all of them.
+// Reads pairs, from a field with the numbers of all of them.
 fn read_pairs(alloc: Global, field: &[u8]) -> Result<Vec<(u32, u32)>, LineFault>
     ensures read { IfOk result (λ pairs. words_text (numbers_of pairs.items) ≡ field.now) }
 {
@@ -139,7 +140,7 @@ fn read_pairs(alloc: Global, field: &[u8]) -> Result<Vec<(u32, u32)>, LineFault>
     }
 }
 
-// The pairs of numbers.
+// Groups numbers into pairs.
 fn paired(alloc: Global, numbers: &[u32]) -> Result<Vec<(u32, u32)>, LineFault>
     ensures read { IfOk result (λ pairs. numbers_of pairs.items ≡ numbers.now) }
 {

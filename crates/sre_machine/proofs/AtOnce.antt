@@ -1,22 +1,16 @@
--- A point that is gone on with is paid, though a possessive run goes over its characters at once inside a region whose
--- ends are not kept: such a code has no number of enough turns.
-use Rattle.std.proofs.Common.{◌≡◌, ◌≢◌, ◌⊎◌, inl, inr, ℕ, List, refl, sym, ◌∙◌}
+-- A point that is executed is paid, though a possessive repeat goes over its characters at once inside an atomic scope
+-- whose ends are not memoized: such a code has no step bound.
+use Rattle.std.proofs.Common.{◌≡◌, ◌≢◌, ◌⊎◌, inl, inr, List, refl, sym, ◌∙◌}
 use Rattle.std.proofs.lemmas.Bool.{true≢false}
-use Rattle.sre_chars.specs.declared.constants.SreOpcode.TheVariants as opcode
 use Rattle.sre_chars.specs.declared.string.StrDrive.{Ghosts}
 use Rattle.sre_chars.specs.declared.string.StringCursor.{StringCursor}
 use Rattle.sre_model.specs.Ways.{Way}
 use Rattle.sre_turns.specs.Board.{BoardValue}
 use Rattle.sre_turns.specs.Limits.{Limit}
 use Rattle.sre_turns.specs.Machine.{Arrives, Goes, spot}
-use Rattle.sre_turns.specs.RunEnds.{RunsOn}
-use Rattle.sre_turns.specs.Straight.{ForksAt}
-use Rattle.sre_turns.specs.declared.Point.TheVariants.{Instruction, Alternatives, Shorter, Longer, Inside, Again, Tried}
-use Rattle.sre_turns.specs.declared.Point.TheVariants.{TriedAgain}
 use Rattle.sre_turns.specs.declared.Point.{Point}
 use Rattle.sre_turns.proofs.Faring.{run_code}
 use Rattle.sre_turns.proofs.HereMoves.{here_forked}
-use Rattle.sre_turns.proofs.Straight.{StraightPoint, forks_never}
 use Rattle.sre_request.specs.declared.request.Request.{Request}
 use Rattle.sre_request.specs.Runs.{run_of}
 use Rattle.sre_machine.specs.Memos.{MemoValue}
@@ -24,32 +18,12 @@ use Rattle.sre_machine.specs.Paying.{Pays}
 use Rattle.sre_machine.specs.Turns.{IsKeeping, RunsOnAt, RunsAtOnce, TriesOn}
 use Rattle.sre_machine.specs.declared.trying.Keeping.{Keeping}
 use Rattle.sre_machine.specs.declared.trying.Keeping.TheVariants.{Nothing, Unmarked, Idle, Marked}
+use Rattle.sre_machine.proofs.Opening.{forks_here, run_forks}
 use Rattle.sre_machine.proofs.Paying.{pays_left}
-
--- a run without a greatest count forks
-run_forks : (ws : List ℕ) (i : ℕ) → RunsOn ws i → ForksAt ws i
-run_forks ws i on =
-    elim on.code [
-      | inl greedy ↦ record { code = opcode.REPEAT_ONE; there = greedy; forks = refl }
-      | inr others ↦ elim others [
-        | inl lazy ↦ record { code = opcode.MIN_REPEAT_ONE; there = lazy; forks = refl }
-        | inr possessive ↦ record { code = opcode.POSSESSIVE_REPEAT_ONE; there = possessive; forks = refl }
-      ]
-    ]
-
-never_straight : (ws : List ℕ) (point : Point) → RunsOnAt ws point → StraightPoint ws point → ⊥
-never_straight ws (Instruction i) on straight = forks_never ws i (run_forks ws i on) straight
-never_straight ws (Alternatives q) on straight = on
-never_straight ws (Shorter t k) on straight = on
-never_straight ws (Longer i n) on straight = on
-never_straight ws (Inside g) on straight = on
-never_straight ws Again on straight = on
-never_straight ws (Tried i) on straight = on
-never_straight ws TriedAgain on straight = on
 
 module _ {S : Type 0} {text : Ghosts S} (r : Request S text) (point : Point) (cursor : StringCursor)
     (b c : BoardValue) (m m' : MemoValue) (keeping : Keeping) where
-  -- a run that goes on inside a region whose ends are not kept is in no code of which turns are counted
+  -- a repeat that goes on inside an atomic scope whose ends are not memoized is in no code of which steps are counted
   at_once : RunsAtOnce r point keeping c m' → keeping ≡ Unmarked → TriesOn r point cursor b m c m' → (all : List Way)
       (l l' : Limit) → Arrives (run_of r) all l point cursor b → Goes (run_of r) all l' point cursor c
       → Pays r m l m' l'
@@ -59,15 +33,15 @@ module _ {S : Type 0} {text : Ghosts S} (r : Request S text) (point : Point) (cu
         let code = run_code (run_of r) here y.runs in
         let forked =
         here_forked (run_of r) pl.plain l'.start c.choices here (y.fares pl.plain code.0 code.1).here
-        (never_straight (run_of r).words point run.runs) run.inside in
+        (forks_here r point (run_forks r point run.runs)) run.inside in
         elim ((tries all l x).3.paid pl opened start n h) [
           | inl refused ↦ inl refused
           | inr held ↦ absurd (true≢false (sym (held.1.ends forked) ∙ run.none unmarked))
         ];
   }
 
-  -- so a point that is gone on with is paid, where failures are not kept, where it is no run without a greatest count,
-  -- and there
+  -- so a point that is executed is paid, where failures are not memoized, where it is no repeat without a greatest
+  -- count, and there
   pub paid_so : IsKeeping r keeping point b m
       → (keeping ≢ Nothing → (RunsOnAt (run_of r).words point → ⊥) ⊎ RunsAtOnce r point keeping c m')
       → (keeping ≢ Nothing → RunsOnAt (run_of r).words point → TriesOn r point cursor b m c m') → (all : List Way)

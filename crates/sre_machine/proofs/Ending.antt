@@ -1,5 +1,6 @@
--- The body of a region ends: what is tried inside is tried no more, and an end is kept for the bit that was taken in.
-use Rattle.std.proofs.Common.{◌≡◌, ℕ, ◌+◌, ◌*◌, ◌≤◌, ◌⊎◌, inl, inr, Bool, true, false, List, [], ◌∷◌, ◌++◌, drop}
+-- The body of an atomic scope ends: what is tried inside is tried no more, and an end is kept for the bit that was
+-- taken in.
+use Rattle.std.proofs.Common.{◌≡◌, ℕ, ◌+◌, ◌≤◌, ◌⊎◌, inl, inr, Bool, true, false, List, [], ◌∷◌, ◌++◌, drop}
 use Rattle.std.proofs.Common.{length, map, refl, sym, ap, ◌∙◌, subst, arith}
 use Rattle.std.specs.List.{AllByRecursion}
 use Rattle.sre_chars.specs.declared.string.StrDrive.{Ghosts}
@@ -23,7 +24,7 @@ use Rattle.sre_board.proofs.EndsTold.{bit_numbered}
 use Rattle.sre_request.specs.declared.request.Request.{Request}
 use Rattle.sre_request.specs.Runs.{run_of}
 use Rattle.sre_machine.specs.Memos.{MemoValue}
-use Rattle.sre_machine.specs.Paying.{Holds, Holding, Pays, Remembering, rows_from, weight}
+use Rattle.sre_machine.specs.Paying.{Holds, Holding, Pays, Remembering, rows_from}
 use Rattle.sre_machine.specs.Turns.{KeepsBodyEnd, Proceeds}
 use Rattle.sre_machine.proofs.Paying.{grants_nothing}
 
@@ -32,7 +33,8 @@ all_behind : {A : Type 0} (P : A → Type 0) (xs ys : List A) → AllByRecursion
 all_behind P [] ys all = all
 all_behind P (x ∷ xs) ys all = all_behind P xs ys all.1
 
--- what holds of each spot of a list, if that is true of it which is told of it inside a region, holds of all of them
+-- what holds of each configuration of a list, if that is true of it which is told of it inside an atomic scope, holds
+-- of all of them
 each_inside : (P Q : Attempt → Type 0) (xs : List Spot) (rest : List Attempt)
     → AllByRecursion P (map (λ (x : Spot). record { inside = true; spot = x }) xs ++ rest)
     → ((x : Spot) (newer older : List Spot) → xs ≡ newer ++ x ∷ older → P (record { inside = true; spot = x })
@@ -46,7 +48,7 @@ each_inside P Q (x ∷ xs) rest all f = (
 
 module _ {S : Type 0} {text : Ghosts S} (r : Request S text) (cursor : StringCursor) (b : BoardValue)
     (m m' : MemoValue) (keeps : KeepsBodyEnd r cursor b m m') where
-  -- failures are kept still
+  -- failures are memoized still
   stays_open : m.is_open ≡ true → m'.stopped ≡ false → m'.is_open ≡ true
   stays_open opened e = ap (λ (k : MemoValue). k.is_open) (keeps.same e) ∙ opened
 
@@ -54,13 +56,13 @@ module _ {S : Type 0} {text : Ghosts S} (r : Request S text) (cursor : StringCur
   still : StaysEnded m.ends m'.ends
   still n c held = elim (keeps.kept n c held) [ inl same ↦ (c, same) | inr other ↦ (cursor, other.0) ]
 
-  -- where no region ends nothing is granted
+  -- where no atomic scope ends nothing is granted
   pub pays_kept_end : (l : Limit) → Pays r m l m' l
   pays_kept_end l = record { paid = λ pl opened at n h. go pl opened n h m'.stopped refl }
     where
       go : (pl : Remembering r) → m.is_open ≡ true → (n : ℕ) → Holding r pl m l n → (stopped : Bool)
           → m'.stopped ≡ stopped → Refused ⊎ ((n' : ℕ) × Holding r pl m' l n' × (m'.is_open ≡ true)
-          × (l.tolls + n * weight r pl ≤ l.tolls + n' * weight r pl))
+          × (l.tolls + n ≤ l.tolls + n'))
       go pl opened n h true e = inl (keeps.refused e)
       go pl opened n h false e =
           let same = keeps.same e in
@@ -121,7 +123,7 @@ module _ {S : Type 0} {text : Ghosts S} (r : Request S text) (cursor : StringCur
         go : (pl : Remembering r) → m.is_open ≡ true → (n : ℕ) → Holding r pl m l n → (stopped : Bool)
             → m'.stopped ≡ stopped
             → Refused ⊎ ((n' : ℕ) × Holding r pl m' (without_open b.choices l) n' × (m'.is_open ≡ true)
-            × (l.tolls + n * weight r pl ≤ l.tolls + n' * weight r pl))
+            × (l.tolls + n ≤ l.tolls + n'))
         go pl opened n h true e = inl (keeps.refused e)
         go pl opened n h false e =
             let same = keeps.same e in
@@ -142,7 +144,7 @@ module _ {S : Type 0} {text : Ghosts S} (r : Request S text) (cursor : StringCur
               omega arith,
             )
 
-    -- so the turn that leaves it is paid
+    -- so the step that leaves it is paid
     pub ended_then : (n' : Next) (c : BoardValue) → Later (run_of r) all (without_open b.choices l) n' c
         → Proceeds (run_of r) all l n' c (λ more. Pays r m l m' more)
     ended_then n' c later = (
@@ -152,7 +154,7 @@ module _ {S : Type 0} {text : Ghosts S} (r : Request S text) (cursor : StringCur
       pays_ended,
     )
 
-  -- and one that leaves no region
+  -- and one that leaves no atomic scope
   pub kept_then : (all : List Way) (l : Limit) (n' : Next) (c : BoardValue) → Later (run_of r) all l n' c
       → Proceeds (run_of r) all l n' c (λ more. Pays r m l m' more)
   kept_then all l n' c later = (l, grants_nothing l, later, pays_kept_end l)

@@ -1,6 +1,6 @@
--- Turns one after the other: what they cost at most, where each toll that is granted is paid.
-use Rattle.std.proofs.Common.{Option, ◌≢◌, ◌/◌, ◌≡◌, ℕ, ◌+◌, ◌-◌, ◌*◌, ◌≤◌, ◌⊎◌, inl, inr, true}
-use Rattle.std.proofs.Common.{false, List, [], length, Result, Ok, Err, IfOk, IfErr}
+-- Steps one after the other: what they cost at most, where all credits that are granted are paid.
+use Rattle.std.proofs.Common.{Option, ◌≢◌, ◌/◌, ◌≡◌, ℕ, ◌+◌, ◌*◌, ◌≤◌, ◌⊎◌, inl, inr, true}
+use Rattle.std.proofs.Common.{false, List, [], Result, Ok, Err, IfOk, IfErr}
 use Rattle.std.proofs.Common.{refl, sym, ap, ◌∙◌, subst, arith}
 use Rattle.std.proofs.Common.{mul-le-mul, add-mul, one-mul}
 use Rattle.std.proofs.lemmas.Bool.{true≢false}
@@ -11,14 +11,14 @@ use Rattle.sre_model.specs.Tree.{Tree}
 use Rattle.sre_model.specs.Ways.{Way}
 use Rattle.sre_model.specs.Runs.{Run}
 use Rattle.sre_turns.specs.Board.{BoardValue, bare}
-use Rattle.sre_turns.specs.Limits.{Limit, Grants, earlier, grant}
+use Rattle.sre_turns.specs.Limits.{Limit, Grants, earlier}
 use Rattle.sre_turns.specs.Machine.{Stands, Later, spot, outcomes}
 use Rattle.sre_turns.specs.Settled.{Counted}
 use Rattle.sre_turns.specs.declared.Next.{Next}
 use Rattle.sre_turns.specs.declared.Next.TheVariants as next
 use Rattle.sre_turns.specs.declared.Point.TheVariants.{Instruction, Again}
 use Rattle.sre_turns.proofs.Faring.{run_code}
-use Rattle.sre_board.specs.Accounts.{most_bits}
+use Rattle.sre_board.specs.Accounts.{most_paid}
 use Rattle.sre_board.specs.Failures.{kept_of}
 use Rattle.sre_board.proofs.AccountLaws.{account_few, account_none}
 use Rattle.sre_request.specs.declared.request.Request.{Request}
@@ -34,7 +34,9 @@ use Rattle.sre_machine.specs.declared.turns.Decision.TheVariants.{Decided, Opene
 use Rattle.sre_request.specs.Runs.{run_of}
 use Rattle.sre_machine.specs.Memos.{MemoValue, KeepsEndsOf, KeepsFrom}
 use Rattle.sre_machine.specs.Paying.{Pays, Remembering, rows_from, Within, Follows, Counts, GivenUp, Settles, Waited}
-use Rattle.sre_machine.specs.Paying.{HoldsBits, run_cost, weight, each_of, RunGivenUp, RunSettles, AnewGivenUp}
+use Rattle.sre_turns.specs.Prices.{steps}
+use Rattle.sre_model.specs.TreePrices.{most_steps}
+use Rattle.sre_machine.specs.Paying.{HoldsBits, run_cost, each_of, RunGivenUp, RunSettles, AnewGivenUp}
 use Rattle.sre_machine.specs.Paying.{AnewSettles}
 use Rattle.sre_turns.proofs.Start.{first_limit, started, behind_has}
 use Rattle.sre_turns.proofs.SettledMoves.{settled_behind}
@@ -46,7 +48,7 @@ use Rattle.sre_model.proofs.TreeOf.{tree_of}
 use Rattle.sre_machine.specs.Turns.{Proceeds}
 use Rattle.sre_machine.proofs.Paying.{pays_nothing, pays_then, grants_nothing, held}
 
--- wherever the machine stands, no more turns were taken than the potential allows
+-- wherever the machine stands, no more steps were taken than the potential allows
 pub stands_within : (r : Run) (all : List Way) (l : Limit) (n : Next) (b : BoardValue) → Counted r
     → Stands r all l n b → Within r l
 stands_within r all l (next.At i c) b pl x =
@@ -57,7 +59,7 @@ stands_within r all l (next.Again c) b pl x =
 stands_within r all l next.Back b pl x = omega (arith, (x.fares pl).left)
 stands_within r all l (next.Done c) b pl x = omega (arith, (x.fares pl).fares.left)
 
--- the machine stands where it is known to stand, on a board that is the same
+-- the machine stands where it is known to stand, on a backtrack stack that is the same
 pub stands_there : (r : Run) (all : List Way) (l : Limit) (n n' : Next) (b b' : BoardValue) → n ≡ n' → b' ≡ b
     → Stands r all l n b → Stands r all l n' b'
 stands_there r all l n n' b b' next board x =
@@ -75,7 +77,7 @@ module _ {S : Type 0} {text : Ghosts S} (r : Request S text) (all : List Way) (f
       )
       (λ h. ap (λ (k : MemoValue). k.is_open) same ∙ h) refl refl
 
-  -- a turn more
+  -- a step more
   pub follows_on : (n n' : Next) (b' b'' : BoardValue) (m' m₁ m'' : MemoValue) (turned counted : ℕ)
       → counted ≡ turned + 1 → m₁ ≡ record m' { waits = m₁.waits }
       → ((l : Limit) → Stands (run_of r) all l n b' → Proceeds (run_of r) all l n' b'' (λ more. Pays r m₁ l m'' more))
@@ -95,26 +97,26 @@ module _ {S : Type 0} {text : Ghosts S} (r : Request S text) (all : List Way) (f
         );
   }
 
-  -- a turn for which nothing is granted
+  -- a step for which nothing is granted
   pub nothing_granted : (n' : Next) (b'' : BoardValue) (m' : MemoValue) (l : Limit) → Later (run_of r) all l n' b''
       → Proceeds (run_of r) all l n' b'' (λ more. Pays r m' l m' more)
   nothing_granted n' b'' m' l x =
       (l, grants_nothing l, x, pays_nothing r m' m' l l refl (refl, refl, refl) (λ h. h) refl refl)
 
-  -- so many turns cost no more than the potential and the tolls
+  -- so many steps cost no more than the potential and the credits
   cost_of : (pl : Remembering r) (limit more : Limit) (turned left left' : ℕ) → limit.granted ≡ more.granted
       → limit.taken ≡ before → more.taken + before ≡ limit.taken + turned → Within (run_of r) more
       → left ≤ left' + (turned + 1) * each_of r pl
-      → left ≤ left' + (limit.granted + more.tolls * grant (run_of r).words + 1) * each_of r pl
+      → left ≤ left' + (limit.granted + more.tolls + 1) * each_of r pl
   cost_of pl limit more turned left left' granted none same within spent =
       let l : (turned + 1) * each_of r pl
-      ≤ (limit.granted + more.tolls * grant (run_of r).words + 1) * each_of r pl =
+      ≤ (limit.granted + more.tolls + 1) * each_of r pl =
       mul-le-mul (omega (arith, granted, none, same, within)) (omega arith) in
       omega (arith, l, spent)
 
   module _ (m' : MemoValue) (turned given left left' due : ℕ) (counts : Counts r m m' given left turned)
       (few : m'.is_open ≡ true → (pl : Remembering r) → due ≤ each_of r pl) (spent : left ≤ left' + due) where
-    -- what one turn more costs
+    -- what one step more costs
     spent_more : (pl : Remembering r) → m.is_open ≡ true → Refused ⊎ (given ≤ left' + (turned + 1) * each_of r pl)
     spent_more pl keeps = elim (counts.spent keeps) [
       | inl refused ↦ inl refused
@@ -124,7 +126,7 @@ module _ {S : Type 0} {text : Ghosts S} (r : Request S text) (all : List Way) (f
           inr (omega (arith, x.1 pl, few x.0 pl, spent, one))
     ]
 
-    -- a turn is counted
+    -- a step is counted
     pub counts_on : (m'' : MemoValue) (counted : ℕ) → counted ≡ turned + 1
         → (m'.is_open ≡ true → (m''.is_open ≡ true) ⊎ Refused) → Counts r m m'' given left' counted
     counts_on m'' counted one keeps_on = record {
@@ -144,7 +146,7 @@ module _ {S : Type 0} {text : Ghosts S} (r : Request S text) (all : List Way) (f
       ];
     }
 
-    -- the turns are used up
+    -- the steps are used up
     pub given_up : (n : Next) (b' : BoardValue) → Follows r all first n b b' m m' before turned
         → GivenUp r all first b m before given left'
     given_up n b' f = record {
@@ -155,10 +157,8 @@ module _ {S : Type 0} {text : Ghosts S} (r : Request S text) (all : List Way) (f
             | inr z ↦ elim (spent_more pl keeps) [
               | inl refused ↦ inl refused
               | inr more ↦
-                  let few_bits : z.0 * weight r pl ≤ most_bits (run_of r) pl.plain (rows_from r pl) * weight r pl =
-                  mul-le-mul
-                  (account_few (run_of r) pl.plain (rows_from r pl) m'.kept m'.ends y.0.trying z.0 z.1.account)
-                  (omega arith) in
+                  let few_bits : z.0 ≤ most_paid (run_of r) pl.plain (rows_from r pl) =
+                  account_few (run_of r) pl.plain (rows_from r pl) m'.kept m'.ends y.0.trying z.0 z.1.account in
                   inr (
                     y.0.tolls,
                     omega (arith, z.3, few_bits),
@@ -199,7 +199,7 @@ module _ {S : Type 0} {text : Ghosts S} (r : Request S text) (all : List Way) (f
           ];
     }
 
--- a turn that was waited for
+-- a step that was waited for
 pub waited_on : (m m' m₁ m'' : MemoValue) (given left left' due : ℕ) → Waited m m' given left
     → m₁ ≡ record m' { waits = m₁.waits } → m₁.waits + due ≤ m'.waits → left ≤ left' + due
     → (m₁.is_open ≡ false → (m''.is_open ≡ m₁.is_open) × (m''.waits ≡ m₁.waits)) → Waited m m'' given left'
@@ -220,13 +220,14 @@ kept_memo m m' e = (ap (λ (k : MemoValue). k.is_open) e, ap (λ (k : MemoValue)
 module _ {S : Type 0} {text : Ghosts S} (r : Request S text) (all : List Way) (i : ℕ) (t : Tree) (start : StringCursor)
     (b : BoardValue) (m : MemoValue) (left left' : ℕ)
     (stands : (first : ℕ) → first ≤ start.position
-    → Stands (run_of r) all (first_limit (run_of r) i t start first) (next.At i start) b) where
+    → Stands (run_of r) all (first_limit (run_of r) i t start first) (next.At i start) b)
+    (few_steps : (pl : Remembering r) → steps (run_of r).words i ≤ most_steps pl.plain.tree) where
   few_first : (pl : Remembering r) (tolls : ℕ)
-      → left ≤ left' + (2 * (length (run_of r).words - i) + 3 + tolls * grant (run_of r).words + 1) * each_of r pl
+      → left ≤ left' + (steps (run_of r).words i + tolls + 1) * each_of r pl
       → left ≤ left' + run_cost r pl tolls
   few_first pl tolls spent =
-      let l : (2 * (length (run_of r).words - i) + 3 + tolls * grant (run_of r).words + 1)
-      * each_of r pl ≤ run_cost r pl tolls = mul-le-mul (omega arith) (omega arith) in
+      let l : (steps (run_of r).words i + tolls + 1) * each_of r pl ≤ run_cost r pl tolls =
+      mul-le-mul (omega (arith, few_steps pl)) (omega arith) in
       omega (arith, l, spent)
 
   pub run_given_up : GivenUp r all (next.At i start) b m 0 left left'
@@ -273,7 +274,7 @@ rested r start m m' m'' left left' same run =
     still : (pl : Remembering r) (n : ℕ) → HoldsBits r pl m' n → HoldsBits r pl (record m' { stopped = false }) n
     still pl n h = record { account = h.account; first = h.first; ends = h.ends; forked = h.forked }
 
--- a run that begins again with failures kept, of which there are none yet
+-- a run that begins again with failures memoized, of which there are none yet
 module _ {S : Type 0} {text : Ghosts S} (r : Request S text) (start : StringCursor) (m : MemoValue) (left : ℕ)
     (keeps : m.is_open ≡ true) (empty : m.kept ≡ kept_of [] [] []) (first : KeepsFrom r m)
     (ends : KeepsEndsOf r m) where
@@ -325,7 +326,7 @@ module _ {S : Type 0} {text : Ghosts S} (r : Request S text) (start : StringCurs
     ];
   }
 
--- how it begins, whatever the window's start is, up to there
+-- how it begins, whatever the range's start is, up to there
 pub begins_run : (r : Run) (literals : ℕ) (start : StringCursor) (b : BoardValue) → AreWords r.words
     → WholeItems r.words (tree_of r.words)
     → ((t : Tree) → WholeItems r.words t → ReadsBehind r.words literals t) → r.stands start start.position
@@ -360,7 +361,7 @@ ok_at {T} {E} A x t is h = subst (λ (y : Result T E). IfOk y A) is h
 pub not_opened : {found : Option StringCursor} (told : Decision) → told ≡ Decided found → told ≢ Opened
 not_opened told e o = let both = sym e ∙ o in absurd (cc)
 
--- what a turn goes over while failures are kept counts for so much
+-- what a step goes over while failures are memoized counts for so much
 pub each_most : {S : Type 0} {text : Ghosts S} (r : Request S text) (code : Code) (most counted window passed : ℕ)
     → code ≡ code_of r → ((t : Tree) → Whole (words_of code) t → refers t ≡ false → most ≡ most_counts t)
     → window ≤ end_of r → passed ≤ window → counted ≤ passed → counted ≤ most → (pl : Remembering r)

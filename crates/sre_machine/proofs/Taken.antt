@@ -1,13 +1,13 @@
--- A turn that was taken, as the machine's loop counts it.
+-- A step that was taken, as the machine's loop counts it.
 use Rattle.std.proofs.Common.{◌≡◌, ℕ, ◌+◌, ◌-◌, ◌≤◌, List, subst, arith}
 use Rattle.sre_chars.specs.declared.string.StringCursor.{StringCursor}
-use Rattle.sre_model.specs.Roles.{role}
 use Rattle.sre_model.specs.Runs.{Run}
 use Rattle.sre_model.specs.Ways.{Way}
 use Rattle.sre_turns.specs.Board.{BoardValue}
 use Rattle.sre_turns.specs.Limits.{Limit, raised, without_open}
 use Rattle.sre_turns.specs.Machine.{spot, Stands, Later, StandsWithin, Advances, Closes}
-use Rattle.sre_turns.specs.Potential.{units}
+use Rattle.sre_turns.specs.Prices.{toll}
+use Rattle.sre_turns.specs.Lying.{repeats}
 use Rattle.sre_turns.specs.declared.Next.{Next}
 use Rattle.sre_turns.specs.declared.Next.TheVariants as next
 use Rattle.sre_turns.specs.declared.Point.TheVariants.{Instruction, Again}
@@ -30,12 +30,12 @@ module _ (r : Run) (all : List Way) (limit turned counted : ℕ) (old new : Boar
   counts l e x =
       (omega (arith, e, x.0), record { limit = _; turns_left = omega (arith, e, one); stands = x.1 })
 
-  -- at an instruction that was come to
+  -- at an instruction that was reached
   pub instruction_taken : (i : ℕ) (c : StringCursor) → Advances r (Instruction i) c old n new
       → StandsWithin r all (limit - turned) (next.At i c) old → TurnCounted
   instruction_taken i c turn x =
       let code = run_code r (spot (Instruction i) c old) x.stands.runs in
-      let more : Limit = raised (units r.words r.subject.end i (role code.0)) x.limit in
+      let more : Limit = raised (toll r.words r.subject.end code.0 (Instruction i) (repeats old.frames)) x.limit in
       counts more x.turns_left (turn all more (arrived_at code.0 code.1 x.stands))
 
   -- at a possessive loop
@@ -43,10 +43,10 @@ module _ (r : Run) (all : List Way) (limit turned counted : ℕ) (old new : Boar
       → StandsWithin r all (limit - turned) (next.Again c) old → TurnCounted
   again_taken c turn x =
       let code = run_code r (spot Again c old) x.stands.runs in
-      let more : Limit = raised 1 x.limit in
+      let more : Limit = raised (toll r.words r.subject.end code.0 Again (repeats old.frames)) x.limit in
       counts more x.turns_left (turn all more (arrived_at code.0 code.1 x.stands))
 
-  -- where a region ends
+  -- where an atomic scope ends
   pub end_taken : (c : StringCursor) → Closes r c old n new → StandsWithin r all (limit - turned) (next.Done c) old
       → TurnCounted
   end_taken c turn x = counts (without_open old.choices x.limit) x.turns_left (turn all x.limit x.stands)

@@ -1,26 +1,26 @@
--- How the tolls are paid that are granted for instructions which may branch, while failures are kept: by bits that the
--- memory takes in, each of which pays for all ends of a run with a greatest count. And what turns cost before that:
--- each is one of those that the memo waits.
+-- How the credits are paid that are granted for instructions which may branch, while failures are memoized: by bits
+-- that the memory takes in, each of which pays for all ends of a repeat with a greatest count. And what steps cost
+-- before that: each is one of those that the memo waits.
 -- Words of the machine's contracts; what sre_engine makes public does not rest on it.
-use Rattle.std.specs.Prelude.{ℕ, ◌+◌, ◌-◌, ◌*◌, ◌/◌, ◌≤◌, ◌≡◌, ◌⊎◌, ⊤, List, [], ◌∷◌, length, min, max, true, false}
+use Rattle.std.specs.Prelude.{ℕ, ◌+◌, ◌-◌, ◌*◌, ◌/◌, ◌≤◌, ◌≡◌, ◌⊎◌, ⊤, List, [], ◌∷◌, min, true, false}
 use Rattle.std.specs.Prelude.{Option}
 use Rattle.std.specs.List.{AllByRecursion}
 use Rattle.sre_chars.specs.declared.string.StrDrive.{Ghosts}
 use Rattle.sre_chars.specs.declared.string.StringCursor.{StringCursor}
 use Rattle.sre_growth.specs.Refusal.{Refused}
 use Rattle.sre_model.specs.Runs.{Run}
-use Rattle.sre_turns.specs.Limits.{Limit, grant}
+use Rattle.sre_turns.specs.Limits.{Limit}
+use Rattle.sre_model.specs.TreePrices.{most_steps}
 use Rattle.sre_turns.specs.Settled.{Counted}
 use Rattle.sre_model.specs.Ways.{Way}
 use Rattle.sre_model.specs.RunCounts.{most_counts}
-use Rattle.sre_model.specs.Alternatives.{most_alternatives}
 use Rattle.sre_model.specs.MarksSet.{marks_in_regions}
 use Rattle.sre_model.specs.Regions.{has_forked_region}
 use Rattle.sre_turns.specs.Board.{BoardValue}
 use Rattle.sre_turns.specs.Machine.{Stands}
 use Rattle.sre_turns.specs.Attempts.{Attempt}
 use Rattle.sre_turns.specs.declared.Next.{Next}
-use Rattle.sre_board.specs.Accounts.{Account, Room, most_bits}
+use Rattle.sre_board.specs.Accounts.{Account, Room, most_paid}
 use Rattle.sre_board.specs.Ends.{EndsTable}
 use Rattle.sre_board.specs.Failures.{Kept}
 use Rattle.sre_request.specs.declared.request.Request.{Request}
@@ -30,24 +30,24 @@ use Rattle.sre_machine.specs.Memos.{MemoValue, first_kept}
 use Rattle.sre_machine.specs.declared.turns.Decision.{Decision}
 use Rattle.sre_machine.specs.declared.turns.Decision.TheVariants.{Decided, Opened}
 
--- how many characters the window has
+-- how many characters the range has
 abbrev pub window_of : {S : Type 0} {text : Ghosts S} → Request S text → ℕ
 window_of r = end_of r - start_of r
 
--- the turns of the words are counted, where a region forks none sets a mark, and there is room for the bits of all
--- their places
+-- the steps of the words are counted, where an atomic scope forks none sets a capture slot, and there is room for the
+-- bits of all their addresses
 pub record Remembering {S : Type 0} {text : Ghosts S} (r : Request S text) : Type 0 where
   pub plain : Counted (run_of r)
   pub unmarked : has_forked_region plain.tree ≡ true → marks_in_regions plain.tree ≡ false
   pub room : Room (run_of r) plain (first_kept r plain.tree)
   pub order : start_of r ≤ end_of r
 
--- from which position on failures are kept
+-- from which position on failures are memoized
 abbrev pub rows_from : {S : Type 0} {text : Ghosts S} (r : Request S text) → Remembering r → ℕ
 rows_from r pl = first_kept r pl.plain.tree
 
--- the memory has taken in so many bits, of which some are those of what is tried; where a region forks it keeps ends of
--- bodies, and else nothing is tried inside a region
+-- the memory has taken in so many bits, of which some are those of what is tried; where an atomic scope forks it keeps
+-- ends of bodies, and else nothing is tried inside an atomic scope
 pub record Holds {S : Type 0} {text : Ghosts S} (r : Request S text) (pl : Remembering r) (m : MemoValue)
     (xs : List Attempt) (n : ℕ) : Type 0 where
   pub account : Account (run_of r) pl.plain (rows_from r pl) m.kept m.ends xs n
@@ -60,25 +60,20 @@ abbrev pub Holding : {S : Type 0} {text : Ghosts S} (r : Request S text) → Rem
     → Type 0
 Holding r pl m l n = Holds r pl m l.trying n
 
--- how many tolls an instruction that may branch brings at most while failures are kept: one, and one more for each end
--- of a run or each alternative
-abbrev pub weight : {S : Type 0} {text : Ghosts S} (r : Request S text) → Remembering r → ℕ
-weight r pl = 1 + max (min (most_counts pl.plain.tree) (end_of r)) (most_alternatives pl.plain.tree)
-
--- for how many a turn counts at most while failures are kept
+-- for how many a step counts at most while failures are memoized
 abbrev pub each_of : {S : Type 0} {text : Ghosts S} (r : Request S text) → Remembering r → ℕ
 each_of r pl = 1 + min (most_counts pl.plain.tree) (end_of r) / 8
 
--- from one memo and limit to another the tolls are paid, if failures were kept and no memory was refused meanwhile
+-- from one memo and limit to another the credits are paid, if failures were memoized and no allocation failed meanwhile
 pub record Pays {S : Type 0} {text : Ghosts S} (r : Request S text) (m : MemoValue) (l : Limit) (m' : MemoValue)
     (l' : Limit) : Type 0 where
   pub paid : (pl : Remembering r) → m.is_open ≡ true → l.start ≡ start_of r → (n : ℕ) → Holding r pl m l n
       → Refused ⊎ ((n' : ℕ) × Holding r pl m' l' n' × (m'.is_open ≡ true)
-      × (l'.tolls + n * weight r pl ≤ l.tolls + n' * weight r pl))
+      × (l'.tolls + n ≤ l.tolls + n'))
 
--- no more turns were taken than the potential allows
+-- no more steps were taken than the potential allows
 abbrev pub Within : Run → Limit → Type 0
-Within r l = l.taken ≤ l.granted + l.tolls * grant r.words
+Within r l = l.taken ≤ l.granted + l.tolls
 
 -- what was taken in is held still, and the newest that was tried is tried no more
 abbrev pub HoldsTried : {S : Type 0} {text : Ghosts S} → Request S text → Attempt → Kept → Kept → Type 0
@@ -87,85 +82,85 @@ HoldsTried r x k k' =
     → Account (run_of r) pl.plain (rows_from r pl) k es (x ∷ xs) n
     → Account (run_of r) pl.plain (rows_from r pl) k' es xs n
 
--- from where some turns began the machine has come here, by so many more of them, and each toll is paid
+-- from where some steps began the machine has come here, by so many more of them, and all credits are paid
 pub record Follows {S : Type 0} {text : Ghosts S} (r : Request S text) (all : List Way) (first next : Next)
     (b b' : BoardValue) (m m' : MemoValue) (before turned : ℕ) : Type 0 where
   pub each : (limit : Limit) → Stands (run_of r) all limit first b
       → (more : Limit) × Stands (run_of r) all more next b' × (limit.granted ≡ more.granted)
       × (limit.start ≡ more.start) × (more.taken + before ≡ limit.taken + turned) × Pays r m limit m' more
 
--- while failures are kept each turn counts for so much; if they are not any more, memory was refused
+-- while failures are memoized each step counts for so much; if they are not any more, an allocation failed
 pub record Counts {S : Type 0} {text : Ghosts S} (r : Request S text) (m m' : MemoValue) (left left' turned : ℕ) :
     Type 0 where
   pub spent : m.is_open ≡ true
       → Refused ⊎ ((m'.is_open ≡ true) × ((pl : Remembering r) → left ≤ left' + turned * each_of r pl))
 
--- turns that were used up while failures were kept: how many there were at most, where no memory was refused
+-- steps that were used up while failures were memoized: how many there were at most, where no allocation failed
 pub record GivenUp {S : Type 0} {text : Ghosts S} (r : Request S text) (all : List Way) (first : Next) (b : BoardValue)
     (m : MemoValue) (before left left' : ℕ) : Type 0 where
   pub cost : (pl : Remembering r) → m.is_open ≡ true → (limit : Limit) → Stands (run_of r) all limit first b
       → limit.start ≡ start_of r → limit.taken ≡ before → (n : ℕ) → Holding r pl m limit n
       → Refused ⊎ ((tolls : ℕ)
-      × (tolls + n * weight r pl ≤ limit.tolls + most_bits (run_of r) pl.plain (rows_from r pl) * weight r pl)
-      × (left ≤ left' + (limit.granted + tolls * grant (run_of r).words + 1) * each_of r pl))
+      × (tolls + n ≤ limit.tolls + most_paid (run_of r) pl.plain (rows_from r pl))
+      × (left ≤ left' + (limit.granted + tolls + 1) * each_of r pl))
 
--- turns by which the whole was decided, with no outcome: how many there were at most, and what the memory holds then
+-- steps by which the whole was decided, with no outcome: how many there were at most, and what the memory holds then
 pub record Settles {S : Type 0} {text : Ghosts S} (r : Request S text) (all : List Way) (first : Next) (b : BoardValue)
     (m m' : MemoValue) (before left left' : ℕ) : Type 0 where
   pub cost : (pl : Remembering r) → m.is_open ≡ true → (limit : Limit) → Stands (run_of r) all limit first b
       → limit.start ≡ start_of r → limit.taken ≡ before → (n : ℕ) → Holding r pl m limit n
       → Refused ⊎ ((tolls n' : ℕ)
-      × (tolls + n * weight r pl ≤ limit.tolls + n' * weight r pl)
+      × (tolls + n ≤ limit.tolls + n')
       × Holds r pl m' [] n' × (m'.is_open ≡ true)
-      × (left ≤ left' + (limit.granted + tolls * grant (run_of r).words + 1) * each_of r pl))
+      × (left ≤ left' + (limit.granted + tolls + 1) * each_of r pl))
 
--- failures were not kept, and each turn that was taken was waited for
+-- failures were not memoized, and each step that was taken was waited for
 pub record Waited (m m' : MemoValue) (left left' : ℕ) : Type 0 where
   pub closed : m'.is_open ≡ false
   pub turns : left + m'.waits ≤ left' + m.waits
 
--- what a run counts for at most, by the tolls that are granted to it
+-- what a run counts for at most, by the credits that are granted to it
 abbrev pub run_cost : {S : Type 0} {text : Ghosts S} (r : Request S text) → Remembering r → ℕ → ℕ
-run_cost r pl tolls = (2 * length (run_of r).words + 4 + tolls * grant (run_of r).words) * each_of r pl
+run_cost r pl tolls = (1 + most_steps pl.plain.tree + tolls) * each_of r pl
 
 -- the memory has taken in so many bits, and nothing is tried
 abbrev pub HoldsBits : {S : Type 0} {text : Ghosts S} (r : Request S text) → Remembering r → MemoValue → ℕ → Type 0
 HoldsBits r pl m n = Holds r pl m [] n
 
--- a run from a cursor that was given up: how many turns it took at most, where no memory was refused
+-- a run from a cursor that was given up: how many steps it took at most, where no allocation failed
 pub record RunGivenUp {S : Type 0} {text : Ghosts S} (r : Request S text) (start : StringCursor) (m : MemoValue)
     (left left' : ℕ) : Type 0 where
   pub keeping : (pl : Remembering r) → start_of r ≤ start.position → m.is_open ≡ true → (n : ℕ) → HoldsBits r pl m n
       → Refused
-      ⊎ ((tolls : ℕ) × (tolls + n * weight r pl ≤ most_bits (run_of r) pl.plain (rows_from r pl) * weight r pl)
+      ⊎ ((tolls : ℕ) × (tolls + n ≤ most_paid (run_of r) pl.plain (rows_from r pl))
       × (left ≤ left' + run_cost r pl tolls))
   pub closed : (pl : Remembering r) → start_of r ≤ start.position → m.is_open ≡ false
-      → Refused ⊎ ((tolls : ℕ) × (tolls ≤ most_bits (run_of r) pl.plain (rows_from r pl) * weight r pl)
+      → Refused ⊎ ((tolls : ℕ) × (tolls ≤ most_paid (run_of r) pl.plain (rows_from r pl))
       × (left ≤ left' + m.waits + run_cost r pl tolls))
 
--- a run with no outcome: the same, and what the memory holds then; or failures were not kept in it
+-- a run with no outcome: the same, and what the memory holds then; or failures were not memoized in it
 pub record RunSettles {S : Type 0} {text : Ghosts S} (r : Request S text) (start : StringCursor) (m m' : MemoValue)
     (left left' : ℕ) : Type 0 where
   pub keeping : (pl : Remembering r) → start_of r ≤ start.position → m.is_open ≡ true → (n : ℕ) → HoldsBits r pl m n
-      → Refused ⊎ ((tolls n' : ℕ) × (tolls + n * weight r pl ≤ n' * weight r pl) × HoldsBits r pl m' n'
+      → Refused ⊎ ((tolls n' : ℕ) × (tolls + n ≤ n') × HoldsBits r pl m' n'
       × (m'.is_open ≡ true) × (left ≤ left' + run_cost r pl tolls))
   pub closed : (pl : Remembering r) → start_of r ≤ start.position → m.is_open ≡ false
       → Refused ⊎ (((m'.is_open ≡ false) × (left + m'.waits ≤ left' + m.waits))
-      ⊎ ((tolls n' : ℕ) × (tolls ≤ n' * weight r pl) × HoldsBits r pl m' n' × (m'.is_open ≡ true)
+      ⊎ ((tolls n' : ℕ) × (tolls ≤ n') × HoldsBits r pl m' n' × (m'.is_open ≡ true)
       × (left ≤ left' + m.waits + run_cost r pl tolls)))
 
--- a run that began again with failures kept, of which there were none, and was given up
+-- a run that began again with failures memoized, of which there were none, and was given up
 pub record AnewGivenUp {S : Type 0} {text : Ghosts S} (r : Request S text) (start : StringCursor) (left left' : ℕ) :
     Type 0 where
   pub cost : (pl : Remembering r) → start_of r ≤ start.position
-      → Refused ⊎ ((tolls : ℕ) × (tolls ≤ most_bits (run_of r) pl.plain (rows_from r pl) * weight r pl)
+      → Refused ⊎ ((tolls : ℕ) × (tolls ≤ most_paid (run_of r) pl.plain (rows_from r pl))
       × (left ≤ left' + run_cost r pl tolls))
 
 -- one with no outcome, and what the memory holds then
 pub record AnewSettles {S : Type 0} {text : Ghosts S} (r : Request S text) (start : StringCursor) (m : MemoValue)
     (left left' : ℕ) : Type 0 where
   pub cost : (pl : Remembering r) → start_of r ≤ start.position
-      → Refused ⊎ ((tolls n : ℕ) × (tolls ≤ n * weight r pl) × HoldsBits r pl m n
+      → Refused ⊎ ((tolls n : ℕ) × (tolls ≤ n) × HoldsBits r pl m n
       × (m.is_open ≡ true) × (left ≤ left' + run_cost r pl tolls))
 
 -- what holds of what was decided

@@ -1,6 +1,6 @@
--- Where the machine stands, and what an instruction's turn keeps, in the words of its functions' contracts.
+-- Where the machine stands, and what an instruction's step keeps, in the words of its functions' contracts.
 -- Words of the machine's contracts; what sre_engine makes public does not rest on it.
-use Rattle.std.specs.Prelude.{⊤, ℕ, ◌≡◌, ◌≢◌, ◌≤◌, Bool, true, false, List, [], Option}
+use Rattle.std.specs.Prelude.{⊤, ℕ, ◌≡◌, ◌≢◌, Bool, true, false, List, [], Option}
 use Rattle.sre_chars.specs.declared.constants.SreOpcode.{SreOpcode}
 use Rattle.sre_chars.specs.declared.string.StrDrive.{Ghosts}
 use Rattle.sre_chars.specs.declared.string.StringCursor.{StringCursor}
@@ -23,7 +23,7 @@ use Rattle.sre_turns.specs.BodyEnds.{EndsAt}
 use Rattle.sre_turns.specs.Machine.{Ends, spot}
 use Rattle.sre_turns.specs.Machine.{Refuses, DemandsAny, Continues, SkipsBoth, IsRead}
 use Rattle.sre_turns.specs.RunEnds.{RunsOn}
-use Rattle.sre_turns.specs.Limits.{Limit, Grants, CodeAt, tolls_of}
+use Rattle.sre_turns.specs.Limits.{Limit, Grants, CodeAt, has_toll}
 use Rattle.sre_turns.specs.declared.Next.TheVariants as next
 use Rattle.sre_turns.specs.declared.Next.{Next}
 use Rattle.sre_turns.specs.declared.Point.{Point}
@@ -43,15 +43,15 @@ AtPoint r point cursor = HasRun (run_of r) point cursor
 abbrev pub At : {S : Type 0} {text : Ghosts S} → Request S text → ℕ → StringCursor → Type 0
 At r place cursor = AtPoint r (Instruction place) cursor
 
--- the same on a board
+-- the same on a backtrack stack
 abbrev pub AtOnBoard : {S : Type 0} {text : Ghosts S} → Request S text → Point → StringCursor → BoardValue → Type 0
 AtOnBoard r point cursor b = IsAt (run_of r) point cursor b
 
--- the machine stands somewhere within so many turns, whose accepted outcomes begin with these
+-- the machine stands somewhere within so many steps, whose accepted outcomes begin with these
 abbrev pub WithinTurns : {S : Type 0} {text : Ghosts S} → Request S text → List Way → ℕ → Next → BoardValue → Type 0
 WithinTurns r all turns next b = StandsWithin (run_of r) all turns next b
 
--- nothing comes of the instruction at a place and a position; nor where another character stands than is wanted
+-- nothing comes of the instruction at an address and a position; nor where another character stands than is wanted
 abbrev pub RefusesAt : {S : Type 0} {text : Ghosts S} → Request S text → ℕ → ℕ → Type 0
 RefusesAt r place p = Refuses (run_of r) place p
 
@@ -81,19 +81,19 @@ UnaskedMarks r m = marks.Unmarked (run_of r).words m
 abbrev pub AlikeMarks : {S : Type 0} {text : Ghosts S} → Request S text → Marks → Marks → Type 0
 AlikeMarks r m n = MarksAlike (run_of r).words m n
 
--- what is known under some marks serves a point at a position, as a board is
+-- what is known under some marks serves a point at a position, as a backtrack stack is
 abbrev pub ServesThere : {S : Type 0} {text : Ghosts S} → Request S text → Marks → Point → ℕ → BoardValue → Type 0
 ServesThere r m point p b = MarksServe (run_of r).words m (spot_at point b.frames p b.marks)
 
--- no mark that a board has makes a difference at a point
+-- no mark that a backtrack stack has makes a difference at a point
 abbrev pub IdleThere : {S : Type 0} {text : Ghosts S} → Request S text → Point → BoardValue → Type 0
 IdleThere r point b = (p : ℕ) → MarksIdle (run_of r).words (spot_at point b.frames p b.marks)
 
--- nothing comes of a point at a position, under the loops of a board and under marks
+-- nothing comes of a point at a position, under the loops of a backtrack stack and under marks
 abbrev pub Fails : {S : Type 0} {text : Ghosts S} → Request S text → Point → ℕ → Marks → BoardValue → Type 0
 Fails r point p m b = Hopeless (run_of r) (is_inside b.choices) m (spot_at point b.frames p b.marks)
 
--- a point's turn makes of a board what comes next and another board, and keeps the first accepted outcome
+-- a point's step makes of a backtrack stack what comes next and another board, and keeps the first accepted outcome
 abbrev pub TurnAt : {S : Type 0} {text : Ghosts S} → Request S text → Point → StringCursor → BoardValue → Next
     → BoardValue → Type 0
 TurnAt r point cursor b next c = Advances (run_of r) point cursor b next c
@@ -102,18 +102,18 @@ abbrev pub Turn : {S : Type 0} {text : Ghosts S} → Request S text → ℕ → 
     → Type 0
 Turn r place cursor b next c = TurnAt r (Instruction place) cursor b next c
 
--- a turn later, where more may have been granted meanwhile, which is paid in some way
+-- a step later, where more may have been granted meanwhile, which is paid in some way
 abbrev pub Proceeds : Run → List Way → Limit → Next → BoardValue → (Limit → Type 0) → Type 0
 Proceeds r all limit next c Paid = (more : Limit) × Grants limit more × Later r all more next c × Paid more
 
--- the turn of a point that was just come to
+-- the step of a point that was just come to
 abbrev pub Takes : {S : Type 0} {text : Ghosts S} → Request S text → Point → StringCursor → BoardValue → MemoValue
     → Next → BoardValue → MemoValue → Type 0
 Takes r point cursor b m next c m' =
     (all : List Way) (limit : Limit) → Arrives (run_of r) all limit point cursor b
     → Proceeds (run_of r) all limit next c (λ more. Pays r m limit m' more)
 
--- the same where the machine goes back, and keeps what failed or does not
+-- the same where the machine backtracks, and keeps what failed or does not
 abbrev pub Retreats : {S : Type 0} {text : Ghosts S} → Request S text → Bool → BoardValue → MemoValue → Next
     → BoardValue → MemoValue → Type 0
 Retreats r keeps b m next c m' =
@@ -135,12 +135,12 @@ GivesUp r point cursor b m c m' =
     (all : List Way) (limit : Limit) → Arrives (run_of r) all limit point cursor b
     → Later (run_of r) all limit next.Back c × Pays r m limit m' limit
 
--- a run without a greatest count is at a point
+-- a repeat without a greatest count is at a point
 abbrev pub RunsOnAt : List ℕ → Point → Type 0
 RunsOnAt ws (Instruction i) = RunsOn ws i
 RunsOnAt ws pt = ⊥
 
--- it is gone on with, which is paid where it is no run without a greatest count
+-- it is executed, which is paid where it is no repeat without a greatest count
 abbrev pub GoesOn : {S : Type 0} {text : Ghosts S} → Request S text → Point → StringCursor → BoardValue → MemoValue
     → BoardValue → MemoValue → Type 0
 GoesOn r point cursor b m c m' =
@@ -148,7 +148,7 @@ GoesOn r point cursor b m c m' =
     → (more : Limit) × Grants limit more × Goes (run_of r) all more point cursor c
     × ((RunsOnAt (run_of r).words point → ⊥) → Pays r m limit m' more)
 
--- one toll is granted for it
+-- the credits of a repeat that is split are granted for it
 abbrev pub TriesOn : {S : Type 0} {text : Ghosts S} → Request S text → Point → StringCursor → BoardValue → MemoValue
     → BoardValue → MemoValue → Type 0
 TriesOn r point cursor b m c m' =
@@ -156,7 +156,7 @@ TriesOn r point cursor b m c m' =
     → (more : Limit) × Grants limit more × Tries (run_of r) all more point cursor c
     × Pays r m limit m' more
 
--- the turn of an instruction for which one toll was granted
+-- the step of an instruction to which the credits of a repeat that is split were granted
 abbrev pub TurnOnce : {S : Type 0} {text : Ghosts S} → Request S text → ℕ → StringCursor → BoardValue → Next
     → BoardValue → Type 0
 TurnOnce r place cursor b next c =
@@ -181,7 +181,7 @@ pub record LeavesOrStays {S : Type 0} {text : Ghosts S} (r : Request S text) (po
   pub stays : leaves ≡ false → StaysAt r point cursor b c
   pub goes : leaves ≡ false → GoesOn r point cursor b m c m'
 
--- under what marks failures are kept for a point: where they are not, but the memo is open, the words refer to
+-- under what marks failures are memoized for a point: where they are not, but the memo is open, the words refer to
 -- groups
 pub record IsKeeping {S : Type 0} {text : Ghosts S} (r : Request S text) (keeping : Keeping) (point : Point)
     (b : BoardValue) (m : MemoValue) : Type 0 where
@@ -194,15 +194,15 @@ pub record IsKeeping {S : Type 0} {text : Ghosts S} (r : Request S text) (keepin
   pub refers_idly : keeping ≡ Idle → RefersToGroups r
   pub left : keeping ≡ Nothing → m.is_open ≡ true → RefersToGroups r
 
--- a run without a greatest count is at a point inside a region, and no end of its body is kept there
+-- a repeat without a greatest count is at a point inside an atomic scope, and no end of its body is memoized there
 pub record RunsAtOnce {S : Type 0} {text : Ghosts S} (r : Request S text) (point : Point) (keeping : Keeping)
     (b : BoardValue) (m : MemoValue) : Type 0 where
   pub runs : RunsOnAt (run_of r).words point
   pub inside : is_inside b.choices ≡ true
   pub none : keeping ≡ Unmarked → m.keeps_ends ≡ false
 
--- from a point inside a region its body ends at a cursor: so it does from what is alike, as long as no mark is set that
--- the words ask for
+-- from a point inside an atomic scope its body ends at a cursor: so it does from what is alike, as long as no mark is
+-- set that the words ask for
 pub record EndsThere {S : Type 0} {text : Ghosts S} (r : Request S text) (point : Point) (cursor : StringCursor)
     (b : BoardValue) (end : StringCursor) : Type 0 where
   pub inside : is_inside b.choices ≡ true
@@ -210,8 +210,8 @@ pub record EndsThere {S : Type 0} {text : Ghosts S} (r : Request S text) (point 
   pub stands : (run_of r).stands end end.position
   pub ends : EndsAt (run_of r) no_marks (spot point cursor b) end.position
 
--- where a body ends that is kept: failures are kept, and ends of bodies, the machine is inside a region, and the words
--- refer to no group
+-- where a body ends that is memoized: failures are memoized, and ends of bodies, the machine is inside an atomic scope,
+-- and the words refer to no group
 pub record KeepsEndsHere {S : Type 0} {text : Ghosts S} (r : Request S text) (b : BoardValue) (m : MemoValue) :
     Type 0 where
   pub opened : m.is_open ≡ true
@@ -219,32 +219,25 @@ pub record KeepsEndsHere {S : Type 0} {text : Ghosts S} (r : Request S text) (b 
   pub inside : is_inside b.choices ≡ true
   pub plain : RefersToGroups r → ⊥
 
--- the machine stands where the body of the innermost region, or the whole, ends at a cursor
+-- the machine stands where the body of the innermost atomic scope, or the whole, ends at a cursor
 pub record BodyEnds {S : Type 0} {text : Ghosts S} (r : Request S text) (cursor : StringCursor) (b : BoardValue) :
     Type 0 where
   pub all : List Way
   pub limit : Limit
   pub ends : Ends (run_of r) all limit cursor b
 
--- a point brings tolls: the machine may have more than one way to go on
-pub record BringsTolls {S : Type 0} {text : Ghosts S} (r : Request S text) (point : Point) : Type 0 where
-  pub code : SreOpcode
-  pub there : CodeAt (run_of r).words point code
-  pub some : 1 ≤ tolls_of (run_of r).words (run_of r).subject.end code point
-
--- it brings none
+-- a point has no credits: there is no more than one way to go on
 abbrev pub BringsNoTolls : {S : Type 0} {text : Ghosts S} → Request S text → Point → Type 0
-BringsNoTolls r point =
-    (o : SreOpcode) → CodeAt (run_of r).words point o → tolls_of (run_of r).words (run_of r).subject.end o point ≡ 0
+BringsNoTolls r point = (o : SreOpcode) → CodeAt (run_of r).words point o → has_toll o point ≡ false
 
--- no end is told of a point and a cursor, where ends of bodies are kept
+-- no end is told of a point and a cursor, where ends of bodies are memoized
 abbrev pub NoEndTold : {S : Type 0} {text : Ghosts S} → Request S text → Point → StringCursor → BoardValue → MemoValue
     → Type 0
 NoEndTold r point cursor b m =
     is_inside b.choices ≡ true → m.keeps_ends ≡ true → (end : StringCursor)
     → TellsEnd m.kept m.ends (run_of r).words true (spot point cursor b) end → ⊥
 
--- where a body ends is kept, or memory was refused
+-- where a body ends is memoized, or an allocation failed
 pub record KeepsBodyEnd {S : Type 0} {text : Ghosts S} (r : Request S text) (cursor : StringCursor) (b : BoardValue)
     (m m' : MemoValue) : Type 0 where
   pub same : m'.stopped ≡ false → m' ≡ record m { ends = m'.ends }

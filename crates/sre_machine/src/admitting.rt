@@ -1,10 +1,11 @@
-//! What may come next at each place of the words, told in one pass.
+//! FIRST sets by address: the ASCII characters that may come next, computed in one pass.
 //!
-//! An instruction admits what is admitted where it goes on, so a pass from the last word to the first tells each place
-//! behind those that it leads to. Nothing is expected of the words: what is told of a place holds of the instruction
-//! there, if the machine can stand there, and of the alternatives whose length words begin there.
+//! The set of an instruction follows from the sets of the addresses that it leads to. So one pass from the last word to
+//! the first computes all. Nothing is assumed of the bytecode. The sets of an address hold for the instruction there,
+//! if the machine can reach it, and for the alternatives whose length words begin there.
 //!
-//! Where a region or a loop's body ends, any character is admitted: what follows is not known by the words alone.
+//! At the end of an atomic scope or of a loop's body any character is allowed: the bytecode alone does not show what
+//! follows.
 
 ghost use Rattle.std.specs.Prelude.{◌≡◌, ◌+◌, ◌<◌, ◌≤◌, length, true, IfOk};
 ghost use Rattle.sre_model.specs.Tree.{Order};
@@ -33,16 +34,16 @@ fn all() -> AsciiSet
     AsciiSet::new().complement()
 }
 
-/// Where the skip word at a place leads.
+/// The target of the skip word at an address.
 pub(crate) fn leads(words: &[u32], place: usize) -> usize
     requires { place ≤ length words.now + 4 }
     ensures { result ≡ skip words.now place }
 {
-    let _length = words.len(); // a slice has few items, so no place overflows
+    let _length = words.len(); // a slice has few items, so no address overflows
     place + operands::word_or_zero(words, place) as usize
 }
 
-// What a list says that the instruction at a place admits.
+// The FIRST set of the instruction at an address, from the list.
 fn instruction_at(words: &[u32], list: &[Admitted], place: usize) -> AsciiSet
     requires { AllAdmitted words.now list.now }
     ensures { AdmitsOnly words.now (Instruction place) (contains result) }
@@ -53,7 +54,7 @@ fn instruction_at(words: &[u32], list: &[Admitted], place: usize) -> AsciiSet
     }
 }
 
-// What a list says that the alternatives admit whose length words begin at a place.
+// The FIRST set of the alternatives whose length words begin at an address, from the list.
 fn alternatives_at(words: &[u32], list: &[Admitted], place: usize) -> AsciiSet
     requires { AllAdmitted words.now list.now }
     ensures { AdmitsOnly words.now (Alternatives place) (contains result) }
@@ -64,12 +65,12 @@ fn alternatives_at(words: &[u32], list: &[Admitted], place: usize) -> AsciiSet
     }
 }
 
-// The ASCII characters that a test at a place takes, where its words are there and tell them, and else all.
+// The ASCII characters that a test takes, if its words exist and show them, else all.
 fn taken(words: &[u32], place: usize, opcode: SreOpcode) -> AsciiSet
     requires { Opcode words.now place opcode }
     ensures { TestsOnly words.now place (contains result) }
 {
-    let _length = words.len(); // a slice has few items, so no place overflows
+    let _length = words.len(); // a slice has few items, so no address overflows
     let Some(operand) = word_at(words, place + 1) else {
         return all();
     };
@@ -91,12 +92,12 @@ fn taken(words: &[u32], place: usize, opcode: SreOpcode) -> AsciiSet
     }
 }
 
-// The same of any test, where it is told what sets take.
+// The ASCII characters that any test takes, with those of sets known from a list.
 fn test(words: &[u32], members: &[Option<AsciiSet>], place: usize) -> AsciiSet
     requires { AllTold words.now members.now }
     ensures { TestsOnly words.now place (contains result) }
 {
-    let _length = words.len(); // a slice has few items, so no place overflows
+    let _length = words.len(); // a slice has few items, so no address overflows
     let Some(word) = word_at(words, place) else {
         return all();
     };
@@ -112,14 +113,14 @@ fn test(words: &[u32], members: &[Option<AsciiSet>], place: usize) -> AsciiSet
     }
 }
 
-// What a run admits: what its test takes, and where it owes no character also what its tail admits.
+// The FIRST set of a repeat: what its test takes, and that of its tail if the least count is 0.
 fn run(words: &[u32], members: &[Option<AsciiSet>], list: &[Admitted], place: usize) -> AsciiSet
     requires there { place < length words.now }
     requires told { AllTold words.now members.now }
     requires admitted { AllAdmitted words.now list.now }
     ensures { RunsOnly words.now place (contains result) }
 {
-    let _length = words.len(); // a slice has few items, so no place overflows
+    let _length = words.len(); // a slice has few items, so no address overflows
     let own = test(words, members, place + 4);
     if operands::word_or_zero(words, place + 2) > 0 {
         return own;
@@ -128,13 +129,13 @@ fn run(words: &[u32], members: &[Option<AsciiSet>], list: &[Admitted], place: us
     own.union(instruction_at(words, list, tail))
 }
 
-// What a loop admits: what its body does, and where it owes none also what is behind it.
+// The FIRST set of a loop: that of its body, and that after it if the least count is 0.
 fn repeat(words: &[u32], list: &[Admitted], place: usize) -> AsciiSet
     requires there { place < length words.now }
     requires admitted { AllAdmitted words.now list.now }
     ensures { RepeatsOnly words.now place (contains result) }
 {
-    let _length = words.len(); // a slice has few items, so no place overflows
+    let _length = words.len(); // a slice has few items, so no address overflows
     let body = instruction_at(words, list, place + 4);
     if operands::word_or_zero(words, place + 2) > 0 {
         return body;
@@ -143,7 +144,7 @@ fn repeat(words: &[u32], list: &[Admitted], place: usize) -> AsciiSet
     body.union(instruction_at(words, list, end + 1))
 }
 
-// Whether what ends a loop's bodies stands at a place.
+// Whether MAX_UNTIL or MIN_UNTIL is at an address.
 fn ends_bodies(words: &[u32], place: usize) -> bool
     ensures { result ≡ true → (o : Order) × Opcode words.now place (until_opcode o) }
 {
@@ -153,20 +154,20 @@ fn ends_bodies(words: &[u32], place: usize) -> bool
     }
 }
 
-// What a condition admits: what either part does.
+// The FIRST set of a conditional: that of both parts.
 fn condition(words: &[u32], list: &[Admitted], place: usize) -> AsciiSet
     requires there { place < length words.now }
     requires admitted { AllAdmitted words.now list.now }
     ensures present { AdmitsOnly words.now (Instruction (place + 3)) (contains result) }
     ensures absent { AdmitsOnly words.now (Instruction (place + 1 + word words.now (place + 2))) (contains result) }
 {
-    let _length = words.len(); // a slice has few items, so no place overflows
+    let _length = words.len(); // a slice has few items, so no address overflows
     let present = instruction_at(words, list, place + 3);
     let skip = operands::word_or_zero(words, place + 2) as usize;
     present.union(instruction_at(words, list, place + 1 + skip))
 }
 
-// What an instruction at a place admits, by what is admitted where it goes on.
+// The FIRST set of the instruction at an address, from those of the addresses that it leads to.
 fn instruction(
     words: &[u32],
     members: &[Option<AsciiSet>],
@@ -213,7 +214,7 @@ fn instruction(
     }
 }
 
-// What alternatives admit whose length words begin at a place.
+// The FIRST set of the alternatives whose length words begin at an address.
 fn alternatives(words: &[u32], list: &[Admitted], place: usize) -> AsciiSet
     requires there { place < length words.now }
     requires admitted { AllAdmitted words.now list.now }
@@ -227,13 +228,13 @@ fn alternatives(words: &[u32], list: &[Admitted], place: usize) -> AsciiSet
     first.union(alternatives_at(words, list, place + length))
 }
 
-/// What may come next at each place of a code's words (`Code::items`), whichever text is asked: 32 bytes a word. Who
-/// asks many texts of one code tells it once, and hands it to each request (`Request::with_admitted`). A walk over much
-/// of a text tells it itself.
+/// The FIRST sets of each address of the bytecode (`Code::items`), for every text: 32 bytes a word. For many texts of
+/// one code, compute the list once and pass it to each request (`Request::with_admitted`). An iteration over a long
+/// text computes its own.
 ///
 /// # Errors
 ///
-/// [`Refusal`], where the memory of a list was refused.
+/// [`Refusal`] if an allocation fails.
 pub fn admitted_by_place<A: Allocator + Copy>(
     alloc: A,
     words: &[u32],

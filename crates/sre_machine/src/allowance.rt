@@ -1,19 +1,19 @@
-//! How many turns of the machine are allowed.
+//! [`Allowance`]: the step limit of a call.
 
 ghost use Rattle.std.specs.Prelude.{◌≡◌};
 ghost use Rattle.sre_machine.specs.Allowances.{is_limited, left_of};
 
-/// How many turns are left to what runs.
+/// How many steps are left.
 #[derive(Clone, Copy, Debug)]
 pub enum Allowance {
-    /// As many as it takes: they are not counted.
+    /// No limit: steps are not counted.
     Unlimited,
     /// So many.
     Turns(u64),
 }
 
 impl Allowance {
-    /// Whether the turns are limited.
+    /// Whether there is a limit.
     #[inline(always)]
     pub fn is_limited(&self) -> bool
         ensures { result ≡ is_limited self.now }
@@ -21,7 +21,7 @@ impl Allowance {
         matches!(self, Allowance::Turns(_))
     }
 
-    /// How many turns are left; 0 where they are not limited.
+    /// How many steps are left; 0 if there is no limit.
     #[inline(always)]
     pub fn left(&self) -> u64
         ensures { result ≡ left_of self.now }

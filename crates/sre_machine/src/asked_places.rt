@@ -1,13 +1,13 @@
-//! Which marks may be asked for from each place of the words on, told in one pass.
+//! Liveness analysis of captures: the slots that may be read from each address on, computed in one pass.
 //!
-//! A reference asks for its group's marks, and so does a condition. A MARK sets its own anew, so what is behind it does
-//! not ask for the mark that stood before. Else an instruction asks for what is asked for where it goes on: a pass from
-//! the last word to the first tells each place behind those that it leads to. Nothing is expected of the words: what is
-//! told of a place holds of the instruction there, and of the alternatives whose length words begin there.
+//! A back-reference or a conditional reads the slots of its group. A MARK sets its slot, so the value before it is dead
+//! there. Any other instruction reads what is read where it continues. So one pass from the last word to the first
+//! computes all. Nothing is assumed of the bytecode. The result for an address holds for the instruction there, and for
+//! the alternatives whose length words begin there.
 //!
-//! What is told is a range, so a mark that is set anew between others that are asked for counts as one of them. A loop
-//! asks for what its body does and for what is behind it. Where a body ends, what is behind the loop counts alone: what
-//! a further body asks for is told where the loop begins.
+//! The live slots are a range, so a dead slot between live ones counts as live. A loop reads what its body reads and
+//! what comes after it. At the end of a body only what comes after the loop counts; what a further body reads is in the
+//! entry at the loop's start.
 
 ghost use Rattle.std.specs.Prelude.{◌≡◌, ◌+◌, ◌<◌, ◌≤◌, length, true, Some, slice_get, IfOk};
 ghost use Rattle.sre_model.specs.Grammar.{Opcode, word, skip};
@@ -23,14 +23,14 @@ use sre_growth::Refusal;
 use std::alloc::Allocator;
 use std::convert::TryFrom;
 
-/// The marks from one on, up to another; none where the end is not behind the first.
+/// The slots from one on, up to another; none if the range is empty.
 #[derive(Clone, Copy)]
 pub(crate) struct AskedMarks {
     pub from: usize,
     pub end: usize,
 }
 
-/// Which marks may be asked for from a place on: by the instruction there, and by the alternatives whose length words
+/// The slots that may be read from an address on: by the instruction there, and by the alternatives whose length words
 /// begin there.
 #[derive(Clone, Copy)]
 pub(crate) struct AskedPlace {
@@ -38,13 +38,13 @@ pub(crate) struct AskedPlace {
     pub alternatives: AskedMarks,
 }
 
-// No mark.
+// No slot.
 #[inline(always)]
 fn none() -> AskedMarks {
     AskedMarks { from: 0, end: 0 }
 }
 
-// Any mark of a group that a word names.
+// Any slot of a group that a word can name.
 #[inline(always)]
 fn any() -> AskedMarks
     ensures { result ≡ any_marks }
@@ -55,7 +55,7 @@ fn any() -> AskedMarks
     }
 }
 
-// The two marks of a group.
+// The two slots of a group.
 fn of_group(group: u32) -> AskedMarks
     ensures { GroupLies (λ k. ⊥) (range_of result) group }
 {
@@ -66,7 +66,7 @@ fn of_group(group: u32) -> AskedMarks
     }
 }
 
-// The least range that has both. An empty one adds nothing, wherever it is.
+// The least range that contains both. An empty one adds nothing, wherever it is.
 fn union(one: AskedMarks, other: AskedMarks) -> AskedMarks
     ensures one { HaveAll result (range_of one) }
     ensures other { HaveAll result (range_of other) }
@@ -83,7 +83,7 @@ fn union(one: AskedMarks, other: AskedMarks) -> AskedMarks
     }
 }
 
-// The marks but for one, where that is the first or the last of them.
+// The range without a slot, if that is its first or its last one.
 fn without(marks: AskedMarks, mark: usize) -> AskedMarks
     ensures { LetGo mark result marks }
 {
@@ -105,7 +105,7 @@ fn without(marks: AskedMarks, mark: usize) -> AskedMarks
     marks
 }
 
-// What a list tells of the instruction at a place.
+// The live slots of the instruction at an address, from the list.
 fn instruction_at(list: &[AskedPlace], place: usize) -> AskedMarks
     ensures { HaveAll result ((asks_of list.now).instruction place) }
 {
@@ -115,7 +115,7 @@ fn instruction_at(list: &[AskedPlace], place: usize) -> AskedMarks
     }
 }
 
-// What a list tells of the alternatives whose length words begin at a place.
+// The live slots of the alternatives whose length words begin at an address, from the list.
 fn alternatives_at(list: &[AskedPlace], place: usize) -> AskedMarks
     ensures { HaveAll result ((asks_of list.now).alternatives place) }
 {
@@ -125,7 +125,7 @@ fn alternatives_at(list: &[AskedPlace], place: usize) -> AskedMarks
     }
 }
 
-// What a list tells of the instructions at two places.
+// The live slots of the instructions at two addresses.
 fn both(list: &[AskedPlace], one: usize, other: usize) -> AskedMarks
     ensures one { HaveAll result ((asks_of list.now).instruction one) }
     ensures other { HaveAll result ((asks_of list.now).instruction other) }
@@ -133,47 +133,48 @@ fn both(list: &[AskedPlace], one: usize, other: usize) -> AskedMarks
     union(instruction_at(list, one), instruction_at(list, other))
 }
 
-// What a MARK asks for.
+// The live slots at a MARK.
 fn mark(words: &[u32], list: &[AskedPlace], place: usize) -> AskedMarks
     requires { place < length words.now }
     ensures { MarkLeads words.now (asks_of list.now) (range_of result) place }
 {
-    let _length = words.len(); // a slice has few items, so no place overflows
+    let _length = words.len(); // a slice has few items, so no address overflows
     let number = operands::word_or_zero(words, place + 1) as usize;
     without(instruction_at(list, place + 2), number)
 }
 
-// What a reference asks for.
+// The live slots at a back-reference.
 fn reference(words: &[u32], list: &[AskedPlace], place: usize) -> AskedMarks
     requires { place < length words.now }
     ensures group { GroupAsked (λ k. ⊥) words.now (range_of result) place }
     ensures next { HaveAll result ((asks_of list.now).instruction (place + 2)) }
 {
-    let _length = words.len(); // a slice has few items, so no place overflows
+    let _length = words.len(); // a slice has few items, so no address overflows
     let own = of_group(operands::word_or_zero(words, place + 1));
     union(own, instruction_at(list, place + 2))
 }
 
-// What a condition asks for.
+// The live slots at a conditional.
 fn condition(words: &[u32], list: &[AskedPlace], place: usize) -> AskedMarks
     requires { place < length words.now }
     ensures group { GroupAsked (λ k. ⊥) words.now (range_of result) place }
     ensures absent { HaveAll result ((asks_of list.now).instruction (place + 1 + word words.now (place + 2))) }
     ensures present { HaveAll result ((asks_of list.now).instruction (place + 3)) }
 {
-    let _length = words.len(); // a slice has few items, so no place overflows
+    let _length = words.len(); // a slice has few items, so no address overflows
     let own = of_group(operands::word_or_zero(words, place + 1));
     let skip = operands::word_or_zero(words, place + 2) as usize;
     union(own, both(list, place + 1 + skip, place + 3))
 }
 
-// What an instruction asks for that goes on at one place and sets no mark: a test behind its words.
+// The live slots at an instruction that continues at one address and sets no slot: a test, at the address after its
+// words.
 fn onward(words: &[u32], list: &[AskedPlace], place: usize, opcode: SreOpcode) -> AskedMarks
     requires there { Opcode words.now place opcode }
     requires within { AreMarks list.now }
     ensures { InstructionAsks words.now list.now place result }
 {
-    let _length = words.len(); // a slice has few items, so no place overflows
+    let _length = words.len(); // a slice has few items, so no address overflows
     match opcode {
         SreOpcode::ANY | SreOpcode::ANY_ALL | SreOpcode::MAX_UNTIL | SreOpcode::MIN_UNTIL => {
             instruction_at(list, place + 1)
@@ -200,7 +201,7 @@ fn onward(words: &[u32], list: &[AskedPlace], place: usize, opcode: SreOpcode) -
     }
 }
 
-// What an instruction at a place asks for, by what is asked for where it goes on.
+// The live slots at an instruction, from those of the addresses where it continues.
 fn instruction(words: &[u32], list: &[AskedPlace], place: usize) -> AskedMarks
     requires there { place < length words.now }
     requires within { AreMarks list.now }
@@ -228,7 +229,7 @@ fn instruction(words: &[u32], list: &[AskedPlace], place: usize) -> AskedMarks
     }
 }
 
-// What alternatives ask for whose length words begin at a place.
+// The live slots of alternatives whose length words begin at an address.
 fn alternatives(words: &[u32], list: &[AskedPlace], place: usize) -> AskedMarks
     requires { place < length words.now }
     ensures { AlternativesAsk words.now (asks_of list.now) (range_of result) place }
@@ -243,12 +244,11 @@ fn alternatives(words: &[u32], list: &[AskedPlace], place: usize) -> AskedMarks
     )
 }
 
-/// Tells in a list which marks may be asked for from each place of a code's words (`Code::items`) on: 32 bytes a word.
-/// The list's memory is used again.
+/// Lists the live slots of each address of the bytecode (`Code::items`): 32 bytes a word. The list's memory is reused.
 ///
 /// # Errors
 ///
-/// [`Refusal`], where the memory of the list was refused.
+/// [`Refusal`] if an allocation fails.
 fn ask_places<A: Allocator>(words: &[u32], list: &mut Vec<AskedPlace, A>) -> Result<(), Refusal>
     ensures { IfOk result (λ _. AllAsked words.now list.new.items) }
 {
@@ -270,7 +270,7 @@ fn ask_places<A: Allocator>(words: &[u32], list: &mut Vec<AskedPlace, A>) -> Res
     Ok(())
 }
 
-// Whether a range has no mark.
+// Whether a range has no slot.
 #[inline(always)]
 fn is_empty(marks: AskedMarks) -> bool
     ensures { result ≡ true → marks.end ≤ marks.from }
@@ -278,12 +278,12 @@ fn is_empty(marks: AskedMarks) -> bool
     marks.from >= marks.end
 }
 
-/// Lists of each place of a code's words whether no mark is asked for from there on. A second list has which marks are,
-/// for the time being; the memory of both is used again.
+/// Lists for each address of the bytecode whether no slot is live there. `asked` has the live slots meanwhile. The
+/// memory of both lists is reused.
 ///
 /// # Errors
 ///
-/// [`Refusal`], where the memory of a list was refused. What is listed by then is right.
+/// [`Refusal`] if an allocation fails. What is listed by then is right.
 pub(crate) fn list_idle<A: Allocator>(
     words: &[u32],
     asked: &mut Vec<AskedPlace, A>,
@@ -302,7 +302,7 @@ pub(crate) fn list_idle<A: Allocator>(
     Ok(())
 }
 
-/// Whether a list says yes of a place.
+/// Whether a list has `true` for an address.
 #[inline(always)]
 pub(crate) fn says_of(list: &[bool], place: usize) -> bool
     ensures { result ≡ true → slice_get list.now place ≡ Some true }

@@ -1,7 +1,5 @@
-//! Points of which nothing can come, as the next character and a list of what each place admits tell.
-//!
-//! The request carries the list, which is told once for the words of its code. An empty one tells nothing, and then
-//! nothing is barred.
+//! Points that must fail, by the next character and the FIRST sets that the request carries. An empty list excludes
+//! nothing.
 
 ghost use Rattle.std.specs.Prelude.{◌≡◌, true};
 ghost use Rattle.sre_code.specs.AsciiSet.{contains};
@@ -24,7 +22,7 @@ fn is_outside(set: AsciiSet, character: u32) -> bool
     character < 128 && !set.contains(character)
 }
 
-/// Whether nothing can come of the instruction at a place before a character.
+/// Whether the instruction at an address fails before a character.
 #[inline(always)]
 pub(crate) fn bars<S: StrDrive>(
     req: &Request<'_, S>,
@@ -41,7 +39,7 @@ pub(crate) fn bars<S: StrDrive>(
     }
 }
 
-/// Whether nothing can come of the alternatives from a length word on before a character.
+/// Whether the alternatives from a length word on fail before a character.
 #[inline(always)]
 pub(crate) fn bars_alternatives<S: StrDrive>(
     req: &Request<'_, S>,

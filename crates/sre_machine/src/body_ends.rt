@@ -1,15 +1,15 @@
-//! Where the bodies of regions end: kept for each instruction and each possessive loop that was tried inside, and gone
-//! to at once from one that is alike.
+//! Memoized ends of atomic scopes, for each instruction and possessive loop that was tried inside. From an equivalent
+//! configuration the machine goes to the end at once.
 //!
-//! Of what comes of a spot inside a region the first outcome alone counts, and where no region sets a mark that is told
-//! by where it stops. So a body that has ended once is not run again from the same place and position.
+//! Only the first outcome of a scope's body counts. If no atomic scope sets a capture, that outcome is its end
+//! position. So a body that has ended once is not run again from the same address and position.
 
 ghost use Rattle.std.specs.Prelude.{◌≡◌, ◌⊎◌, IfSome, IfNone, true, false};
 ghost use Rattle.sre_growth.specs.Refusal.{Refused};
 ghost use Rattle.sre_board.specs.Ends.{HoldsOpenMore, KeepsOpenEnds, HoldsOpenEnds};
 ghost use Rattle.sre_machine.specs.Memos.{RecallsOf};
 ghost use Rattle.sre_machine.specs.Turns.{AtPoint, IsKeeping, EndsThere, BodyEnds, KeepsEndsHere};
-ghost use Rattle.sre_machine.specs.Turns.{BringsTolls, NoEndTold};
+ghost use Rattle.sre_machine.specs.Turns.{ForksThere, NoEndTold};
 ghost use Rattle.sre_request.specs.Runs.{run_of};
 
 use crate::memo::Memo;
@@ -20,7 +20,7 @@ use sre_request::Request;
 use sre_turns::Point;
 use std::alloc::Allocator;
 
-/// Where the body of the innermost region ends, from a point inside of which that is kept.
+/// The memoized end of the innermost atomic scope's body from a point inside, if there is one.
 #[inline(always)]
 pub(super) fn known_end<S: StrDrive, A: Allocator>(
     req: &Request<'_, S>,
@@ -34,7 +34,7 @@ pub(super) fn known_end<S: StrDrive, A: Allocator>(
     requires remembers { RecallsOf req.now memo.now }
     requires keeping { IsKeeping req.now keeping point board.now memo.now }
     ensures told { IfSome result (λ end. EndsThere req.now point cursor board.now end) }
-    ensures none { IfNone result (keeping ≡ Keeping.Unmarked → BringsTolls req.now point
+    ensures none { IfNone result (keeping ≡ Keeping.Unmarked → ForksThere req.now point
         → NoEndTold req.now point cursor board.now memo.now) }
 {
     if keeping != Keeping::Unmarked || !board.is_inside() || !memo.keeps_ends() {
@@ -46,8 +46,8 @@ pub(super) fn known_end<S: StrDrive, A: Allocator>(
     memo.end(req.pattern_codes().items(), board, point, cursor.position())
 }
 
-/// The body of the innermost region, if there is one, ends at a cursor: that is kept for each point that is tried
-/// inside, as long as the memo is open. Where memory is refused it is closed.
+/// The body of the innermost atomic scope, if there is one, ends at a cursor. With an open memo that end is memoized
+/// for each point that is being tried inside. If an allocation fails the memo closes.
 #[inline(always)]
 pub(super) fn keep_ends<S: StrDrive, A: Allocator>(
     req: &Request<'_, S>,

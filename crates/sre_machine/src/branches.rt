@@ -1,11 +1,11 @@
 //! Branches: `BRANCH length body JUMP skip ... 0`.
 //!
-//! The character at the cursor is read once for all alternatives. One that has to begin with another character is
-//! passed over, and of one that begins with a test the rest alone is left. A choice is saved only where something may
-//! come of an alternative behind the first. At the window's end no character tells, and each alternative is tried.
+//! The character at the cursor is read once for all alternatives. An alternative that must begin with another character
+//! is skipped. Of one that begins with a test, only the rest is left. A choice is saved only if an alternative after
+//! the first may match. At the end of the range no character decides, so each alternative is tried.
 //!
-//! Where the request tells what each place admits, an ASCII character is looked up there: an alternative's own words
-//! are read only if something may come of it.
+//! If the request carries FIRST sets, an ASCII character is looked up there. Then the words of an alternative are read
+//! only if it may match.
 
 ghost use Rattle.std.specs.Prelude.{◌≡◌, ℕ, ◌+◌, ◌<◌, ◌^◌, true, false, IfOk, IfSome, MatchOption};
 ghost use Rattle.sre_model.specs.Tree.{Test};
@@ -53,7 +53,7 @@ fn misses<S: StrDrive>(
     !takes(req, place, opcode, character)
 }
 
-// Whether a test may take a character; one that a run seldom has is not asked.
+// Whether a test may take a character. For a test that is rare in repeats it is `true` without a test.
 #[inline(always)]
 fn may_take<S: StrDrive>(req: &Request<'_, S>, place: usize, character: u32) -> bool
     requires { TestAt req.now place }
@@ -68,7 +68,7 @@ fn may_take<S: StrDrive>(req: &Request<'_, S>, place: usize, character: u32) -> 
     }
 }
 
-// Whether a run that may not be empty has no first character.
+// Whether a repeat that may not be empty has no first character.
 #[inline(always)]
 fn misses_run<S: StrDrive>(
     req: &Request<'_, S>,
@@ -89,8 +89,8 @@ fn misses_run<S: StrDrive>(
     !may_take(req, place + 4, character)
 }
 
-// Whether nothing can come of standing at an instruction: behind MARKs a test stands there, or a run, and it does not
-// take the character at the cursor.
+// Whether an instruction fails because it is a test or a repeat, after MARKs, that does not take the character at the
+// cursor.
 #[inline(never)]
 fn begins_otherwise<S: StrDrive>(
     req: &Request<'_, S>,
@@ -124,14 +124,14 @@ fn begins_otherwise<S: StrDrive>(
     by_opcode!(LITERAL LITERAL_IGNORE LITERAL_UNI_IGNORE IN IN_UNI_IGNORE)
 }
 
-// Where the machine goes on: at an instruction's place, with a cursor.
+// Where the machine continues: an instruction's address, and a cursor.
 #[derive(Clone, Copy)]
 struct Onward {
     place: usize,
     cursor: StringCursor,
 }
 
-// Behind a test of one character, if it takes the one at the cursor.
+// The address and cursor after a test of one character, if it takes the one at the cursor.
 #[inline(always)]
 fn behind_test<S: StrDrive>(
     req: &Request<'_, S>,
@@ -158,7 +158,7 @@ fn behind_test<S: StrDrive>(
     }
 }
 
-// Behind a JUMP if one stands at a place, and else at the place.
+// The target of a JUMP if there is one at an address, else the address.
 #[inline(always)]
 fn behind_jump<S: StrDrive>(req: &Request<'_, S>, place: usize, cursor: StringCursor) -> usize
     requires { At req.now place cursor }
@@ -171,7 +171,8 @@ fn behind_jump<S: StrDrive>(req: &Request<'_, S>, place: usize, cursor: StringCu
     place
 }
 
-// Behind a set that takes the character at the cursor, and behind the JUMP that ends an alternative of one character.
+// Continues after a set that takes the character at the cursor, and after the JUMP that ends an alternative of one
+// character.
 #[inline(always)]
 fn behind_set<S: StrDrive>(
     req: &Request<'_, S>,
@@ -195,8 +196,8 @@ fn behind_set<S: StrDrive>(
     })
 }
 
-// Where the machine goes on from an instruction, if something may come of it: behind a LITERAL, an IN, a NOT_LITERAL or
-// a LITERAL_UNI_IGNORE that takes the character, and else at the instruction itself.
+// Where the machine continues from an instruction that may match: after a LITERAL, an IN, a NOT_LITERAL or a
+// LITERAL_UNI_IGNORE that takes the character, else at the instruction itself.
 #[inline(always)]
 fn begin<S: StrDrive>(
     req: &Request<'_, S>,
@@ -238,7 +239,7 @@ fn begin<S: StrDrive>(
     }
 }
 
-// The same, where the request tells what each place admits.
+// The same as `begin`, if the request carries FIRST sets.
 #[inline(always)]
 fn begin_admitted<S: StrDrive>(
     req: &Request<'_, S>,
@@ -264,7 +265,7 @@ fn begin_admitted<S: StrDrive>(
     }
 }
 
-// The same, by what is told of each place or by the words.
+// The same as `begin`, by FIRST sets or by the code words.
 #[inline(always)]
 fn begin_by<S: StrDrive, const ADMITTED: bool>(
     req: &Request<'_, S>,
@@ -285,7 +286,7 @@ fn begin_by<S: StrDrive, const ADMITTED: bool>(
     }
 }
 
-// An alternative of which something may come: its length word, and where the machine goes on in it.
+// An alternative that may match: its length word, and where the machine continues in it.
 #[derive(Clone, Copy)]
 struct Alternative {
     length_word: usize,
@@ -293,7 +294,7 @@ struct Alternative {
     cursor: StringCursor,
 }
 
-// The first alternative from a length word on of which something may come, if there is one.
+// The first alternative from a length word on that may match, if there is one.
 #[inline(always)]
 fn first_alternative<S: StrDrive, const ADMITTED: bool>(
     req: &Request<'_, S>,
@@ -328,8 +329,8 @@ fn first_alternative<S: StrDrive, const ADMITTED: bool>(
     }
 }
 
-/// The cursor behind the only alternative from a length word on of which something may come, if there is one alone, and
-/// it is a test, and perhaps a JUMP, that comes to a place.
+/// The cursor after the only alternative from a length word on that may match. `None` unless exactly one may, and that
+/// is a test, and perhaps a JUMP, that leads to the address `end`.
 #[inline(always)]
 pub(super) fn only_alternative<S: StrDrive>(
     req: &Request<'_, S>,
@@ -355,7 +356,7 @@ pub(super) fn only_alternative<S: StrDrive>(
     }
 }
 
-// The alternatives from a length word on, where no character is left to tell which of them may come.
+// The alternatives from a length word on, at the end of the range, where no character decides.
 #[inline(never)]
 fn alternatives_at_end<S: StrDrive, A: Allocator>(
     req: &Request<'_, S>,
@@ -379,7 +380,7 @@ fn alternatives_at_end<S: StrDrive, A: Allocator>(
     )?)
 }
 
-// Goes on in an alternative, with the others from a length word on to be tried after it.
+// Continues in an alternative, and saves the others from a length word on.
 #[inline(always)]
 fn choose_alternative<S: StrDrive, A: Allocator>(
     req: &Request<'_, S>,
@@ -398,8 +399,7 @@ fn choose_alternative<S: StrDrive, A: Allocator>(
     Ok(Next::At(first.place, first.cursor))
 }
 
-// The first alternative from a length word on of which something may come, by what is told of each place or by the
-// words.
+// The first alternative from a length word on that may match, by FIRST sets or by the code words.
 #[inline(always)]
 fn other_alternative<S: StrDrive, const ADMITTED: bool>(
     req: &Request<'_, S>,

@@ -1,8 +1,8 @@
-//! Runs without a greatest count, while failures are kept: turn by turn.
+//! Single-character repeats without a greatest count, step by step, with an open memo.
 //!
-//! What comes of such a run is what comes of the same run from one character later, and of its own first end. Of a
-//! possessive one it is what comes of the later run alone, if there is one. So it goes on to that run, which is looked
-//! up and tried like any other instruction, and each end is tried once, from wherever the run is come to.
+//! The outcomes of such a repeat are those of the same repeat one character later, and those after its own first end.
+//! Of a possessive one they are those of the later repeat alone, if there is one. So the machine continues at that
+//! later repeat, which is looked up and tried like any instruction. Each end is tried once, wherever the repeat began.
 
 ghost use Rattle.std.specs.Prelude.{None, ◌≡◌, ◌+◌, ◌-◌, ◌^◌, ◌<◌, ◌≤◌, MatchOption, IfOk, true, false};
 ghost use Rattle.sre_model.specs.Ways.{unlimited};
@@ -31,7 +31,7 @@ use sre_request::Request;
 use sre_turns::{Next, Point};
 use std::alloc::Allocator;
 
-/// Whether a run without a greatest count is at a place.
+/// Whether a repeat without a greatest count is at an address.
 #[inline(always)]
 pub(super) fn is_endless_run<S: StrDrive>(
     req: &Request<'_, S>,
@@ -50,7 +50,7 @@ pub(super) fn is_endless_run<S: StrDrive>(
     }
 }
 
-// Whether the run at a place gives nothing back, as a possessive one; else it has other ends beside its longest.
+// Whether the repeat at an address is possessive. If not, it has other ends beside its longest.
 #[inline(always)]
 fn gives_nothing_back<S: StrDrive>(req: &Request<'_, S>, place: usize) -> bool
     requires { IsEndlessRun req.now place }
@@ -60,10 +60,10 @@ fn gives_nothing_back<S: StrDrive>(req: &Request<'_, S>, place: usize) -> bool
     word(req, place) == SreOpcode::POSSESSIVE_REPEAT_ONE as u32
 }
 
-// Whether behind a place there is nothing but MARKs up to a SUCCESS, so that nothing fails there.
+// Whether only MARKs come between an address and a SUCCESS, so that nothing fails there.
 fn only_ends<S: StrDrive>(req: &Request<'_, S>, start: usize) -> bool {
     let words = req.pattern_codes().items();
-    let _length = words.len(); // a slice has few items, so no place overflows
+    let _length = words.len(); // a slice has few items, so no address overflows
     let mut place = start;
     'mark: while stands_at(words, place, SreOpcode::MARK) {
         place += 2;
@@ -71,8 +71,8 @@ fn only_ends<S: StrDrive>(req: &Request<'_, S>, start: usize) -> bool {
     stands_at(words, place, SreOpcode::SUCCESS)
 }
 
-/// Whether inside a region whose ends are not kept a run is better gone over at once, whatever came of others: it gives
-/// nothing back, or the region ends behind it, so that its first end is the one that counts.
+/// Whether a repeat should scan at once in any case, inside an atomic scope whose ends are not memoized. It should if
+/// it is possessive, or if the scope ends after it, since only its first end then counts.
 #[inline(always)]
 pub(super) fn is_better_at_once<S: StrDrive>(req: &Request<'_, S>, place: usize) -> bool
     requires { IsEndlessRun req.now place }
@@ -83,7 +83,7 @@ pub(super) fn is_better_at_once<S: StrDrive>(req: &Request<'_, S>, place: usize)
     only_ends(req, run_operands(req, place).tail)
 }
 
-// Whether the run at a place is a lazy one; else it is greedy.
+// Whether the repeat at an address is lazy. If not, it is greedy.
 #[inline(always)]
 fn is_lazy<S: StrDrive>(req: &Request<'_, S>, place: usize) -> bool
     requires { HasOtherEnds req.now place }
@@ -93,7 +93,7 @@ fn is_lazy<S: StrDrive>(req: &Request<'_, S>, place: usize) -> bool
     word(req, place) == SreOpcode::MIN_REPEAT_ONE as u32
 }
 
-// Whether the test at a place takes the next character of the window.
+// Whether the test at an address takes the next character of the range.
 #[inline(always)]
 fn takes_next<S: StrDrive>(
     req: &Request<'_, S>,
@@ -115,7 +115,7 @@ fn takes_next<S: StrDrive>(
     takes(req, place, test, character)
 }
 
-// The first end of a run, behind its least count, and where the run begins that has its other ends: one character
+// The first end of a repeat, after its least count, and where the repeat with the other ends begins: one character
 // later, if there are any.
 #[derive(Clone, Copy)]
 struct FirstEnd {
@@ -123,7 +123,7 @@ struct FirstEnd {
     later: Option<StringCursor>,
 }
 
-// The first end of a run without a greatest count, if it has one.
+// The first end of a repeat without a greatest count, if it has one.
 #[inline(always)]
 fn first_end<S: StrDrive, A: Allocator>(
     req: &Request<'_, S>,
@@ -160,8 +160,8 @@ fn first_end<S: StrDrive, A: Allocator>(
     })
 }
 
-/// A run without a greatest count, while failures are kept: its first end, and the same run from one character later;
-/// of a possessive run, its end if there is no later run, or else that one alone.
+/// A repeat without a greatest count, with an open memo: its first end, and the same repeat one character later. For a
+/// possessive one it is the later repeat alone, or the end if there is no later one.
 #[inline(always)]
 pub(super) fn endless_run<S: StrDrive, A: Allocator>(
     req: &Request<'_, S>,
@@ -195,7 +195,7 @@ pub(super) fn endless_run<S: StrDrive, A: Allocator>(
     Ok(Next::At(place, later))
 }
 
-// Whether a lazy run without a greatest count is at a place, which is known to hold a run.
+// Whether the repeat at an address is lazy and has no greatest count.
 #[inline(always)]
 fn goes_on_lazily<S: StrDrive>(req: &Request<'_, S>, place: usize) -> bool
     requires { TestAt req.now (place + 4) }
@@ -208,7 +208,7 @@ fn goes_on_lazily<S: StrDrive>(req: &Request<'_, S>, place: usize) -> bool
     operand(req, place, 3) as usize == MAXREPEAT
 }
 
-// Where the run at a place begins that has the ends which are left behind one of them, if there are any.
+// Where the repeat with the ends after a given one begins, if there are any.
 #[inline(always)]
 fn later_start<S: StrDrive>(
     req: &Request<'_, S>,
@@ -235,8 +235,8 @@ fn later_start<S: StrDrive>(
     Some(after)
 }
 
-/// The longer counts of the run at a place that were saved before failures were kept: the next of them, and the same
-/// run from later on, which has the others, so that they are looked up and tried as those of any run.
+/// The longer counts of a repeat that were saved before the memo opened: the next of them, and the same repeat from
+/// later on for the others. So these are looked up and tried as those of any repeat.
 #[inline(never)]
 pub(super) fn later_run<S: StrDrive, A: Allocator>(
     req: &Request<'_, S>,

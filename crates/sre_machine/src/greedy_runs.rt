@@ -1,4 +1,4 @@
-//! Greedy runs of one character: the longest first, then the shorter ones.
+//! Greedy single-character repeats: the longest count first, then the shorter ones.
 
 ghost use Rattle.std.specs.Prelude.{◌≡◌, ◌⊎◌, MatchOption, true, IfOk};
 ghost use Rattle.sre_turns.specs.Board.{BoardValue};
@@ -21,14 +21,14 @@ use sre_request::Request;
 use sre_turns::{Next, Point};
 use std::alloc::Allocator;
 
-// One of the shorter counts of a run: how many are shorter still, and the cursor behind its characters.
+// One of the shorter counts of a repeat: how many are shorter still, and the cursor after its characters.
 #[derive(Clone, Copy)]
 pub(super) struct ShorterRun {
     pub(super) left: usize,
     pub(super) end: StringCursor,
 }
 
-// The first of the shorter counts of a run of which something may come, if there is one.
+// The first of the shorter counts of a repeat after which the tail may match, if there is one.
 #[inline(always)]
 fn first_shorter<S: StrDrive>(
     req: &Request<'_, S>,
@@ -67,8 +67,7 @@ fn first_shorter<S: StrDrive>(
     }
 }
 
-/// The shorter counts of a run, so many of them, each followed by the run's tail, whose first character is at hand if
-/// the words tell it.
+/// The shorter counts of a repeat, each followed by the tail. `wanted` is the tail's first character, if it is known.
 #[inline(always)]
 fn shorter<S: StrDrive, A: Allocator>(
     req: &Request<'_, S>,
@@ -98,7 +97,7 @@ fn shorter<S: StrDrive, A: Allocator>(
     )?)
 }
 
-/// The shorter counts of a run that were saved.
+/// The shorter counts of a repeat that were saved.
 #[inline(always)]
 pub(super) fn shorter_saved<S: StrDrive, A: Allocator>(
     req: &Request<'_, S>,
@@ -118,9 +117,9 @@ pub(super) fn shorter_saved<S: StrDrive, A: Allocator>(
     Ok(shorter(req, board, tail, wanted, count, start)?)
 }
 
-// Whether only the longest count of a run has to be tried: none is left, or the run's test does not take the character
-// that has to come behind the run, so that none of the run's own is that character. The latter is asked of a
-// NOT_LITERAL alone, as in `[^>]*>`, of which a comparison tells it.
+// Whether only the longest count of a repeat must be tried. Either no other is left, or the repeat's test does not take
+// the character that the tail needs, so none of the repeat's own characters is that one. The latter is tested for a
+// NOT_LITERAL only, as in `[^>]*>`, where one comparison decides it.
 #[inline(always)]
 fn is_only_count<S: StrDrive>(
     req: &Request<'_, S>,
@@ -140,7 +139,7 @@ fn is_only_count<S: StrDrive>(
     word(req, test) == SreOpcode::NOT_LITERAL as u32 && operand(req, test, 1) == character
 }
 
-/// `REPEAT_ONE skip least greatest test SUCCESS`: the longest run of the test, then the shorter ones.
+/// `REPEAT_ONE skip least greatest test SUCCESS`: the longest repeat of the test, then the shorter ones.
 #[inline(always)]
 pub(super) fn repeat_one<S: StrDrive, A: Allocator>(
     req: &Request<'_, S>,

@@ -1,7 +1,7 @@
-//! Lazy runs of one test: `MIN_REPEAT_ONE skip least greatest test SUCCESS`.
+//! Lazy single-character repeats: `MIN_REPEAT_ONE skip least greatest test SUCCESS`.
 //!
-//! Behind the least count each longer one takes one test more. Those behind which the tail's first character is not
-//! there, if the words tell it, are passed over in one turn.
+//! After the least count each longer one takes one more character. If the words show the tail's first character, the
+//! counts after which it is missing are skipped in one step.
 
 ghost use Rattle.std.specs.Prelude.{⊤, ◌≡◌, ◌+◌, ◌<◌, ◌||◌, nat_eq, nat_lt, IfOk, MatchOption};
 ghost use Rattle.sre_model.specs.Ways.{unlimited};
@@ -26,7 +26,7 @@ use sre_request::Request;
 use sre_turns::{Next, Point};
 use std::alloc::Allocator;
 
-// Whether a run may be longer than so many characters.
+// Whether a repeat may be longer than so many characters.
 #[inline(always)]
 fn may_grow(greatest: u32, count: usize) -> bool
     ensures { result ≡ (nat_eq greatest unlimited || nat_lt count greatest) }
@@ -34,7 +34,7 @@ fn may_grow(greatest: u32, count: usize) -> bool
     greatest as usize == MAXREPEAT || count < greatest as usize
 }
 
-// The cursor behind one character more of the run at a place, which has so many of them, if it may be longer.
+// The cursor after one more character of a repeat, which has `count` of them, if it may be longer.
 #[inline(always)]
 pub(super) fn one_longer<S: StrDrive>(
     req: &Request<'_, S>,
@@ -68,15 +68,15 @@ pub(super) fn one_longer<S: StrDrive>(
     }
 }
 
-// How far a lazy run goes on: behind how many of its characters, and where that is if something may come there.
+// How far a lazy repeat goes: after how many of its characters, and the cursor there if the tail may match.
 #[derive(Clone, Copy)]
 struct Reach {
     count: usize,
     end: Option<StringCursor>,
 }
 
-// The first of the longer counts of which something may come, if there is one. It is out of line, so that its loop has
-// the registers to itself.
+// The first of the longer counts after which the tail may match, if there is one. It is out of line, so that its loop
+// has the registers to itself.
 #[inline(never)]
 fn first_longer<S: StrDrive>(
     req: &Request<'_, S>,
@@ -118,7 +118,7 @@ fn first_longer<S: StrDrive>(
     }
 }
 
-/// The longer counts of the run at a place, behind so many characters, each followed by the run's tail.
+/// The longer counts of a repeat, after so many characters, each followed by the tail.
 #[inline(always)]
 pub(super) fn longer<S: StrDrive, A: Allocator>(
     req: &Request<'_, S>,
@@ -139,8 +139,8 @@ pub(super) fn longer<S: StrDrive, A: Allocator>(
     Ok(choose(req, board, tail, Point::Longer(place, reach.count), end)?)
 }
 
-/// The least count, and then the longer ones. Where the tail refuses behind the least count the longer ones are looked
-/// at in the same turn.
+/// The least count, then the longer ones. If the tail fails after the least count, the longer ones are tried in the
+/// same step.
 #[inline(always)]
 pub(super) fn min_repeat_one<S: StrDrive, A: Allocator>(
     req: &Request<'_, S>,

@@ -1,10 +1,10 @@
-//! The machine: a backtracking run over the words of a code, from one start.
+//! The machine: one backtracking run over the bytecode, from one start.
 //!
-//! Each turn does one instruction, or takes up what is still to be tried; what it does is said by the model's relation
-//! over the words. [`runner::Runner::attempt`] answers with the first accepted way.
+//! Each step executes an instruction or returns to a saved choice. The relation `Moves` of the specification says what
+//! a step does. [`runner::Runner::attempt`] returns the first accepted match path.
 //!
-//! A search that has gone back often remembers what it tried in vain, and where bodies of regions end
-//! ([`memo::Memo`]): it leaves at once what is alike. The answer is the same.
+//! A search that has backtracked much memoizes its failures and the ends of atomic scopes ([`memo::Memo`]), and skips
+//! equivalent configurations. The answer is the same.
 #![tactic(auto)]
 
 pub mod admitting;

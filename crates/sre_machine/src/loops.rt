@@ -1,9 +1,9 @@
-//! Loops: `REPEAT skip least greatest body`, and MAX_UNTIL or MIN_UNTIL behind the body, where the skip leads.
+//! Loops: `REPEAT skip least greatest body`, with MAX_UNTIL or MIN_UNTIL after the body, where the skip leads.
 //!
-//! The board holds the loops in progress. A body of which nothing can come is not begun, and an end of which nothing
-//! can come is not saved: so a loop over a text that decides by its next character saves nothing. The first body of a
-//! greedy loop is tried in the turn of its REPEAT. Where a body has matched nothing the loop's end is gone on with, so
-//! that the same end, saved before that body, is dropped: else nested loops would keep the square of their depth.
+//! The stack has the loops in progress. A body that must fail is not begun, and an end that must fail is not saved. So
+//! a loop that the next character decides saves nothing. The first body of a greedy loop is tried in the step of its
+//! REPEAT. After an empty body the loop's end is next, so the same end, saved before that body, is dropped. Otherwise
+//! nested loops would save the square of their depth.
 
 ghost use Rattle.std.specs.Prelude.{◌≡◌, ◌+◌, IfOk};
 ghost use Rattle.sre_model.specs.Grammar.{Word};
@@ -38,7 +38,7 @@ pub(super) fn may_repeat(greatest: u32, frame: Frame, cursor: StringCursor) -> b
     }
 }
 
-/// The frame with one body more, as far as is counted.
+/// The frame with one more body; the count saturates.
 #[inline(always)]
 pub(super) fn next_frame(frame: Frame, last: Option<usize>) -> Frame
     ensures { result ≡ next_frame frame last }
@@ -50,7 +50,7 @@ pub(super) fn next_frame(frame: Frame, last: Option<usize>) -> Frame
     }
 }
 
-/// `REPEAT skip least greatest body`: begins a loop, at its end, which tries a greedy loop's first body at once.
+/// `REPEAT skip least greatest body`: begins a loop at its end, and tries a greedy loop's first body at once.
 #[inline(always)]
 pub(super) fn repeat<S: StrDrive, A: Allocator, const STRIDES: bool>(
     req: &Request<'_, S>,
@@ -78,7 +78,7 @@ pub(super) fn repeat<S: StrDrive, A: Allocator, const STRIDES: bool>(
     }
 }
 
-// A further body of a greedy loop that was taken off the board, where one may be tried, or its end.
+// A further body of a greedy loop whose frame is off the stack, if one may be tried, or the loop's end.
 #[inline(always)]
 fn body_or_end<S: StrDrive, A: Allocator>(
     req: &Request<'_, S>,
@@ -109,8 +109,8 @@ fn body_or_end<S: StrDrive, A: Allocator>(
     Ok(Next::At(body, cursor))
 }
 
-// The same behind bodies that are gone over at once. It is out of line, so that what goes through memory for it does so
-// where there are such bodies alone.
+// The same as `body_or_end`, after a batch of bodies. It is out of line, so that only batches pass values through
+// memory.
 #[inline(never)]
 fn strided<S: StrDrive, A: Allocator>(
     req: &Request<'_, S>,
@@ -131,7 +131,7 @@ fn strided<S: StrDrive, A: Allocator>(
     Ok(body_or_end(req, board, place, end.frame, end.cursor)?)
 }
 
-// The same, or what is owed before one may be tried.
+// A required body, or, once there are enough, a further body or the end.
 #[inline(always)]
 fn further<S: StrDrive, A: Allocator, const STRIDES: bool>(
     req: &Request<'_, S>,

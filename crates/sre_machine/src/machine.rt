@@ -1,8 +1,8 @@
-//! The machine: a turn of a backtracking run over the words, with no recursion.
+//! The machine: one step of a backtracking run over the bytecode, without recursion.
 //!
-//! It rests on two facts alone: the text is lawful, and the words have a tree. So it has no test for bad words.
-//! Each opcode's function says that the accepted outcomes of the whole begin as they did, in one turn less. What is
-//! still to be tried waits on the board, and a choice of which nothing can come is not put there.
+//! It rests on two facts: the text is lawful, and the bytecode has a tree. So it has no test for malformed bytecode.
+//! The contract of each opcode's function says that the accepted outcomes of the run stay the same, with one step less.
+//! Choices wait on the backtrack stack. A choice that is known to fail is not pushed.
 
 ghost use Rattle.std.specs.Prelude.{◌≡◌, ℕ, ◌+◌, ◌^◌, ◌<◌, IfOk, MatchOption, true};
 ghost use Rattle.sre_turns.specs.Board.{BoardValue};
@@ -39,7 +39,7 @@ use sre_turns::{Next, Point};
 use std::alloc::Allocator;
 use std::convert::TryFrom;
 
-// The opcode at a place that the machine has come to.
+// The opcode at the machine's address.
 #[inline(always)]
 pub(super) fn opcode<S: StrDrive>(
     req: &Request<'_, S>,
@@ -56,7 +56,7 @@ pub(super) fn opcode<S: StrDrive>(
     }
 }
 
-/// A test of one character, which is passed where the test takes it.
+/// A test of one character, which passes if it takes the next one.
 #[inline(always)]
 fn test<S: StrDrive>(
     req: &Request<'_, S>,
@@ -80,7 +80,7 @@ fn test<S: StrDrive>(
     }
 }
 
-/// A test that is seldom met: all of them share one read of the character.
+/// A rare test: all of these share one read of the character.
 #[inline(always)]
 fn seldom_test<S: StrDrive>(
     req: &Request<'_, S>,
@@ -105,7 +105,7 @@ fn seldom_test<S: StrDrive>(
     }
 }
 
-/// `AT code`: goes on where the cursor stands as the code asks.
+/// `AT code`: continues if the position code holds at the cursor.
 #[inline(always)]
 fn position_code<S: StrDrive>(req: &Request<'_, S>, place: usize, cursor: StringCursor) -> Next
     requires opcode { OpcodeAt req.now place SreOpcode.AT }
@@ -124,7 +124,7 @@ fn position_code<S: StrDrive>(req: &Request<'_, S>, place: usize, cursor: String
     }
 }
 
-/// `MARK n`: mark n is set to the position.
+/// `MARK n`: sets capture slot n to the position.
 #[inline(always)]
 fn mark<S: StrDrive, A: Allocator>(
     req: &Request<'_, S>,
@@ -141,7 +141,7 @@ fn mark<S: StrDrive, A: Allocator>(
     Ok(Next::At(place + 2, cursor))
 }
 
-/// `JUMP skip`: goes on where the skip leads.
+/// `JUMP skip`: continues at the target of the skip.
 #[inline(always)]
 fn jump<S: StrDrive>(req: &Request<'_, S>, place: usize, cursor: StringCursor) -> Next
     requires opcode { OpcodeAt req.now place SreOpcode.JUMP }
@@ -152,7 +152,7 @@ fn jump<S: StrDrive>(req: &Request<'_, S>, place: usize, cursor: StringCursor) -
     Next::At(place + 1 + skip as usize, cursor)
 }
 
-// The character that has to come next where the machine stands at a place, if a LITERAL tells it, behind MARKs.
+// The character that must come next at an address, if a LITERAL gives it, after MARKs.
 #[inline(always)]
 pub(super) fn first_literal<S: StrDrive>(
     req: &Request<'_, S>,
@@ -175,7 +175,7 @@ pub(super) fn first_literal<S: StrDrive>(
     }
 }
 
-// Whether a character that has to come next, if it is known, does not.
+// Whether a required character, if it is known, is missing.
 #[inline(always)]
 pub(super) fn lacks<S: StrDrive>(
     req: &Request<'_, S>,
@@ -199,7 +199,7 @@ pub(super) fn lacks<S: StrDrive>(
     true
 }
 
-// Whether nothing can come of standing at an instruction, as the next character tells.
+// Whether an instruction fails because of the next character.
 #[inline(always)]
 pub(super) fn refuses<S: StrDrive>(req: &Request<'_, S>, place: usize, cursor: StringCursor) -> bool
     requires { At req.now place cursor }
@@ -222,7 +222,7 @@ fn is_elsewhere<S: StrDrive>(req: &Request<'_, S>, place: usize, cursor: StringC
     !holds_at(req, code, cursor)
 }
 
-// Whether nothing can come of a loop's end, as the next character tells, or the position where a position code stands.
+// Whether a loop's end fails because of the next character, or because of a position code there.
 #[inline(always)]
 pub(super) fn ends_in_vain<S: StrDrive>(
     req: &Request<'_, S>,
@@ -238,7 +238,7 @@ pub(super) fn ends_in_vain<S: StrDrive>(
     }
 }
 
-// Goes on at an instruction, with another point to be tried after it.
+// Continues at an instruction, and saves another point.
 #[inline(always)]
 pub(super) fn choose<S: StrDrive, A: Allocator>(
     req: &Request<'_, S>,
@@ -253,7 +253,7 @@ pub(super) fn choose<S: StrDrive, A: Allocator>(
     Ok(Next::At(place, cursor))
 }
 
-// The longer counts of a run that were saved, while failures are kept or not.
+// The longer counts of a repeat that were saved, with or without an open memo.
 #[inline(always)]
 fn longer_saved<S: StrDrive, A: Allocator, const KEEPS: bool>(
     req: &Request<'_, S>,
@@ -272,8 +272,8 @@ fn longer_saved<S: StrDrive, A: Allocator, const KEEPS: bool>(
     longer(req, board, place, count, start)
 }
 
-/// Goes on with the newest choice, if there is one. Marks of instructions that were tried are passed over: nothing came
-/// of them, which is kept where failures are.
+/// Continues with the newest choice, if there is one. Markers of tried instructions are popped: these failed, which is
+/// memoized if the memo is open.
 #[inline(always)]
 pub(super) fn back<S: StrDrive, A: Allocator, const KEEPS: bool>(
     req: &Request<'_, S>,
@@ -321,9 +321,8 @@ pub(super) fn back<S: StrDrive, A: Allocator, const KEEPS: bool>(
     }
 }
 
-/// One instruction, which may go over many bodies of a loop where strides are wanted. Each loop of turns has an
-/// instance of it for itself, by what it asks of strides and of limits: so it has one caller, and is compiled in its
-/// place.
+/// Executes one instruction, which may batch loop iterations if `STRIDES` is set. Each loop of steps has its own
+/// instance, by its parameters for batches and limits. So each has one caller, and is inlined there.
 #[tactic(auto, using(sre_turns::proofs::Moving::on_board))]
 #[inline(always)]
 pub(super) fn instruction<S: StrDrive, A: Allocator, const STRIDES: bool, const LIMITED: bool>(
@@ -336,7 +335,7 @@ pub(super) fn instruction<S: StrDrive, A: Allocator, const STRIDES: bool, const 
     ensures { IfOk result (λ next. Turn req.now place cursor board.old next board.new) }
 {
     let code = opcode(req, place, cursor);
-    // An arm for each frequent test and each reference, so that each knows its own opcode.
+    // An arm for each frequent test and each back-reference, so that each knows its opcode.
     macro_rules! by_opcode {
         ($($test:ident)*; $($seldom:ident)*; $($reference:ident)*) => {
             match code {

@@ -1,11 +1,11 @@
-//! Failures that are kept while marks are set which are asked for.
+//! Failures that are memoized under live captures.
 //!
-//! All of them were kept under marks that are alike to those of one time, of which there is a copy. They serve as long
-//! as the marks are alike to these. Where others are met often, these are taken over, and the failures go. Marks behind
-//! the last group that is asked for make no difference: which that is, a search asks its code once.
+//! All of them hold under one state of the live captures, of which there is a copy. They are used as long as the live
+//! captures equal it. If others are met often, the memo adopts those and drops its failures. Slots after the last group
+//! that the code reads make no difference. A search computes that end once.
 //!
-//! Nor do any make a difference at a place from which none is asked for, before it is set anew. A search lists such
-//! places once, when it first meets other marks.
+//! Nor do slots make a difference at an address where none is live. A search lists such addresses once, when it first
+//! meets other captures.
 
 ghost use Rattle.std.specs.Prelude.{[], ℕ, ◌≡◌, ◌⊎◌, ◌+◌, ◌-◌, ◌*◌, ◌^◌, ◌<◌, ◌≤◌, IfOk, None, slice_index_or};
 ghost use Rattle.std.specs.Prelude.{true, false};
@@ -31,19 +31,19 @@ use std::alloc::Allocator;
 use std::convert::TryFrom;
 use std::marker::Model;
 
-// How often other marks are met before they are taken over, besides once for each word of the failures that then go.
+// How often other captures are met before they are adopted, plus once for each word of failures that is then dropped.
 const PATIENCE: usize = 64;
 
-/// Failures, and the marks under which they were kept.
+/// Failures, and the captures under which they are memoized.
 #[derive(Drop)]
 pub(crate) struct Marked<A: Allocator> {
     marks: Vec<Option<usize>, A>,
     failures: Failures<A>,
-    // behind which mark none is asked for; not known as long as it is the greatest number
+    // the slot from which on none is read; unknown while it is the greatest number
     end: usize,
-    // how often other marks were met
+    // how often other captures were met
     strange: usize,
-    // which marks are asked for from each place on, and the places from which none is, once they are told
+    // the live slots of each address, and the addresses at which none is live, once they are computed
     asked: Vec<AskedPlace, A>,
     idle: Vec<bool, A>,
 }
@@ -56,7 +56,7 @@ impl<A: Allocator> Model for Marked<A> {
     ghost view = { λ m. marked_of m.marks.items m.end m.failures m.idle.items };
 }
 
-// The position of a mark; none where it is absent, or behind the end.
+// The position of a slot; `None` if it is not set, or past the end.
 #[inline(always)]
 fn entry_of(raw: &[Option<usize>], entry: usize) -> Option<usize>
     ensures { result ≡ slice_index_or raw.now entry None }
@@ -64,7 +64,7 @@ fn entry_of(raw: &[Option<usize>], entry: usize) -> Option<usize>
     if entry < raw.len() { raw[entry] } else { None }
 }
 
-// Whether two lists of marks have the same ones from an entry on, up to another.
+// Whether two lists of slots agree from an entry on, up to another.
 #[inline(always)]
 fn agree(kept: &[Option<usize>], raw: &[Option<usize>], from: usize, most: usize) -> bool
     ensures { result ≡ true → (k : ℕ) → from ≤ k → k < most
@@ -81,7 +81,7 @@ fn agree(kept: &[Option<usize>], raw: &[Option<usize>], from: usize, most: usize
     true
 }
 
-// Whether an opcode asks for a group.
+// Whether an opcode reads a group.
 fn is_asking(code: SreOpcode) -> bool
     ensures { result ≡ asks (role code) }
 {
@@ -95,7 +95,7 @@ fn is_asking(code: SreOpcode) -> bool
     )
 }
 
-// Whether a word is the number of an opcode that asks for a group.
+// Whether a word is the number of an opcode that reads a group.
 #[tactic(auto, using(crate::proofs::AskedGroups::asks_as, sre_model::proofs::Words::opcode_low))]
 fn may_ask(word: u32) -> bool
     ensures { result ≡ false → (o : SreOpcode) → opcode_number o ≡ word → asks (role o) ≡ false }
@@ -117,7 +117,8 @@ fn end_with(end: usize, word: u32, group: u32) -> usize
     end
 }
 
-// Behind which mark none is named. It looks behind each word that may be such an opcode, so it may say too much.
+// The slot from which on none is named. It reads the word after each that may be such an opcode, so it may be too
+// great.
 fn named_end(words: &[u32]) -> usize
     ensures { (g : ℕ) → Named words.now g → 2 * g + 1 < result }
 {
@@ -130,8 +131,8 @@ fn named_end(words: &[u32]) -> usize
     end
 }
 
-// Behind which mark none is asked for: the code tells it, or its words where it has a condition, which the code counts
-// as asking for each group.
+// The slot from which on none is read. The code knows it, except with a conditional, which counts as reading every
+// group; then it is estimated from single words.
 fn asked_end(code: &Code<'_>) -> usize
     ensures { (g : ℕ) → Asks (items_of code.now) g → 2 * g + 1 < result }
 {
@@ -142,7 +143,7 @@ fn asked_end(code: &Code<'_>) -> usize
     2 * last as usize + 2
 }
 
-// The same, if it is not known yet.
+// The same slot, computed if it is not known yet.
 fn known_end(end: usize, code: &Code<'_>) -> usize
     ensures { (result ≡ end) ⊎ ((g : ℕ) → Asks (items_of code.now) g → 2 * g + 1 < result) }
 {
@@ -152,7 +153,7 @@ fn known_end(end: usize, code: &Code<'_>) -> usize
     end
 }
 
-// Copies marks into a list, whose memory is used again.
+// Copies slots into a list, and reuses its memory.
 fn copy<A: Allocator>(
     list: &mut Vec<Option<usize>, A>,
     raw: &[Option<usize>],
@@ -167,7 +168,7 @@ fn copy<A: Allocator>(
 }
 
 impl<A: Allocator + Copy> Marked<A> {
-    /// No failures. It takes no memory.
+    /// No failures. It allocates nothing.
     pub(crate) fn new(alloc: A) -> Marked<A>
         ensures none { HoldsNone result.kept }
         ensures end { result.end ≡ 2 ^ 64 - 1 }
@@ -185,7 +186,7 @@ impl<A: Allocator + Copy> Marked<A> {
 }
 
 impl<A: Allocator> Marked<A> {
-    /// Forgets all failures; the memory is kept.
+    /// Drops all failures, and keeps the memory.
     #[inline(always)]
     pub(crate) fn forget(&mut self)
         ensures none { HoldsNone self.new.kept }
@@ -196,7 +197,7 @@ impl<A: Allocator> Marked<A> {
         self.strange = 0;
     }
 
-    /// Begins a search: forgets all failures, and which groups are asked for.
+    /// Begins a search: drops all failures, and the knowledge of which slots are read.
     #[inline(always)]
     pub(crate) fn begin(&mut self)
         ensures none { HoldsNone self.new.kept }
@@ -209,11 +210,11 @@ impl<A: Allocator> Marked<A> {
         self.idle.clear();
     }
 
-    /// Lists the places of the words from which no mark is asked for, if that was not done in this search.
+    /// Lists the addresses at which no slot is live, unless this search already did.
     ///
     /// # Errors
     ///
-    /// [`Refusal`], where memory was refused. What is listed by then is right.
+    /// [`Refusal`] if an allocation fails. What is listed by then is right.
     fn tell_places(&mut self, words: &[u32]) -> Result<(), Refusal>
         ensures idle { (self.new.idle ≡ self.old.idle) ⊎ AreIdle words.now self.new.idle }
         ensures marks { self.new.marks ≡ self.old.marks }
@@ -226,7 +227,7 @@ impl<A: Allocator> Marked<A> {
         list_idle(words, &mut self.asked, &mut self.idle)
     }
 
-    /// Whether it is listed that no mark is asked for from a place on, nor in a further body of a loop in progress.
+    /// Whether it is listed that no slot is live at an address, nor in a further body of a loop in progress.
     #[inline(always)]
     pub(crate) fn is_idle(&self, board: &Board<A>, place: usize) -> bool
         ensures { result ≡ true → SaysOf self.now.idle board.now.frames place }
@@ -235,7 +236,7 @@ impl<A: Allocator> Marked<A> {
         says_of(idle, place) && board.are_bodies_in(idle)
     }
 
-    /// Whether marks are those under which the failures were kept, from an entry on.
+    /// Whether slots from an entry on are those under which failures are memoized.
     #[inline(always)]
     pub(crate) fn agrees(&self, raw: &[Option<usize>], from: usize) -> bool
         ensures { result ≡ true → (k : ℕ) → from ≤ k → k < self.now.end
@@ -244,7 +245,7 @@ impl<A: Allocator> Marked<A> {
         agree(self.marks.as_slice(), raw, from, self.end)
     }
 
-    /// Notes that other marks were met, and says whether that was often enough to take them over.
+    /// Notes that other captures were met, and returns whether that was often enough to adopt them.
     #[inline(always)]
     fn is_worn(&mut self) -> bool
         ensures { self.new ≡ self.old }
@@ -253,11 +254,11 @@ impl<A: Allocator> Marked<A> {
         self.strange > self.failures.words().saturating_add(PATIENCE)
     }
 
-    /// Takes marks over: no failure was kept under them.
+    /// Adopts captures, with no failure under them.
     ///
     /// # Errors
     ///
-    /// [`Refusal`], where memory was refused. No failure is kept then, either.
+    /// [`Refusal`] if an allocation fails. No failure is memoized then, either.
     fn adopt(&mut self, code: &Code<'_>, raw: &[Option<usize>]) -> Result<(), Refusal>
         ensures none { HoldsNone self.new.kept }
         ensures end { (self.new.end ≡ self.old.end)
@@ -271,12 +272,12 @@ impl<A: Allocator> Marked<A> {
         copy(&mut self.marks, raw)
     }
 
-    /// Other marks are met, which are taken over where that was often enough. The first time the places from which none
-    /// is asked for are listed.
+    /// Notes that other captures were met, and adopts them once that happened often enough. The first time it lists the
+    /// addresses at which no slot is live.
     ///
     /// # Errors
     ///
-    /// [`Refusal`], where memory was refused. What is kept and listed by then is right.
+    /// [`Refusal`] if an allocation fails. What is memoized and listed by then is right.
     pub(crate) fn meet(&mut self, code: &Code<'_>, raw: &[Option<usize>]) -> Result<(), Refusal>
         ensures stays { MarkedStays self.old self.new ⊎ HoldsNone self.new.kept }
         ensures end { (self.new.end ≡ self.old.end)
@@ -294,7 +295,7 @@ impl<A: Allocator> Marked<A> {
     ///
     /// # Errors
     ///
-    /// [`Refusal`], where memory was refused. The failures that are kept stay so.
+    /// [`Refusal`] if an allocation fails. All failures stay memoized.
     #[inline(always)]
     pub(crate) fn prepare(
         &mut self,
@@ -312,7 +313,7 @@ impl<A: Allocator> Marked<A> {
         self.failures.prepare(words, board, point, first, end)
     }
 
-    /// What is known of a point at a position, as the board is.
+    /// What is known of a point at a position, under the present stack.
     #[inline(always)]
     pub(crate) fn known(
         &self,
@@ -327,7 +328,7 @@ impl<A: Allocator> Marked<A> {
         self.failures.known(words, board, point, position)
     }
 
-    /// Keeps that a point fails at a position, as the board is.
+    /// Memoizes that a point fails at a position, under the present stack.
     #[inline(always)]
     pub(crate) fn keep(&mut self, words: &[u32], board: &Board<A>, point: Point, position: usize)
         ensures more { HoldsOneMore words.now (is_inside board.now.choices)

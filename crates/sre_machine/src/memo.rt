@@ -1,11 +1,10 @@
-//! What a search remembers of its failures, and when it begins to.
+//! The memo of a search: its failures and ends of atomic scopes, and when memoization begins.
 //!
-//! To keep what failed costs time at each instruction, and most searches have little to gain by it. So a search goes
-//! its way without, and counts its steps back and the bodies of loops that it begins: only one that has taken 16 of
-//! these for each character of the window begins to remember. Bodies of regions that end are steps, too, and so are the
-//! characters of long stretches, eight for one. A search within turns counts its turns in place of its steps, twice as
-//! many for each character. The run that is under way then goes on, and remembers what it tries from there on; within
-//! turns it begins again.
+//! Memoization costs time at each instruction, and most searches gain little by it. So a search begins without it, and
+//! counts events: returns to saved choices, bodies of loops that begin, and bodies of atomic scopes that end. Eight
+//! characters of a long stretch count as one event. The memo opens at 16 events for each position of the range. A
+//! search with a step limit counts its steps instead, and its memo opens after 32 for each position. The current run
+//! then continues with the memo, but restarts if it has a step limit.
 
 ghost use Rattle.std.specs.Prelude.{[], ℕ, ◌≡◌, ◌⊎◌, ◌+◌, ◌-◌, ◌*◌, ◌<◌, ◌≤◌, None, IfSome, IfNone};
 ghost use Rattle.std.specs.Prelude.{slice_index_or, true, false};
@@ -38,18 +37,18 @@ use sre_turns::Point;
 use std::alloc::Allocator;
 use std::marker::Model;
 
-// How many steps are taken before the next look at how many there were.
+// So many events are counted one by one between two checks of their total.
 const STRIDE: usize = 32;
 
-// How many turns a search within turns takes for each character before it keeps failures.
+// How many steps for each position a search with a limit takes before its memo opens.
 const TURNS_EACH: usize = 32;
 
-// How many bodies that end are counted at most, and how many of them a failure inside of regions takes off.
+// The most ends of scopes that are counted, and how many of them one failure inside scopes takes off.
 const MOST_HOPE: usize = 16;
 
 const HOPE_LOST: usize = 4;
 
-// How many turns a search goes on without failures, if it is limited.
+// How many steps a search takes before its memo opens, if it has a limit.
 #[inline(always)]
 fn turns_waited<S: StrDrive>(req: &Request<'_, S>, limited: bool) -> usize
     ensures { result ≤ 32 * (end_of req.now - start_of req.now + 1) }
@@ -61,31 +60,31 @@ fn turns_waited<S: StrDrive>(req: &Request<'_, S>, limited: bool) -> usize
     window.saturating_add(1).saturating_mul(TURNS_EACH)
 }
 
-/// The failures of a search, and how many steps it goes on without them.
+/// The memoized failures of a search, and when its memo opens.
 #[derive(Drop)]
 pub struct Memo<A: Allocator> {
     failures: Failures<A>,
-    // those that are kept while marks are set which are asked for
+    // failures under live captures
     marked: Marked<A>,
-    // where the bodies of regions end, by the spots inside that were tried
+    // ends of atomic scopes, by the configurations that were tried inside
     ends: Ends<A>,
-    // whether such ends are kept: no region of the code sets a mark
+    // whether such ends are memoized: no atomic scope of the code sets a capture
     keeps_ends: bool,
-    // from which position on failures are kept, once they are
+    // the first position for which failures are memoized
     first: usize,
-    // how many bodies of regions ended of late whose ends are not kept, less what failed inside
+    // how many scopes ended lately whose ends are not memoized, less what failed inside
     hope: usize,
-    // how many steps are left before the next look
+    // how many events are left before the next check
     patience: usize,
-    // how many were taken up to that look
+    // how many there were up to that check
     waited: usize,
-    // how many turns a search within turns goes on without failures
+    // how many steps a search with a limit may take before its memo opens
     waits: usize,
-    // whether failures are kept by now
+    // whether the memo is open
     is_open: bool,
-    // why they are not any more: memory was refused
+    // why it closed: an allocation failed
     refused: Option<Refusal>,
-    // whether anything may be kept: if not, all is as it is where a search begins
+    // whether anything may be memoized; if not, all is as at the start of a search
     is_used: bool,
 }
 
@@ -102,7 +101,7 @@ impl<A: Allocator> Model for Memo<A> {
 }
 
 impl<A: Allocator + Copy> Memo<A> {
-    /// No failures. It takes no memory.
+    /// An empty memo. It allocates nothing.
     pub fn new(alloc: A) -> Memo<A>
         ensures none { HoldsNone result.kept }
         ensures unmarked { HoldsNone result.marked.kept }
@@ -127,8 +126,7 @@ impl<A: Allocator + Copy> Memo<A> {
 }
 
 impl<A: Allocator> Memo<A> {
-    /// Begins a search: forgets the failures of an earlier one, and the stretches that it passed. What the lists hold
-    /// of memory is kept.
+    /// Begins a search: drops all failures, and the stretches noted by an earlier search. The lists keep their memory.
     #[inline(always)]
     pub fn begin<S: StrDrive>(&mut self, req: &Request<'_, S>, board: &mut Board<A>, limited: bool)
         ensures remembers { RecallsOf req.now self.new }
@@ -149,7 +147,7 @@ impl<A: Allocator> Memo<A> {
         self.refused = None;
     }
 
-    // Forgets what is kept, if anything may be.
+    // Drops what is memoized, if anything may be.
     #[inline(always)]
     fn forget_used(&mut self)
         ensures { IsBlankMemo self.new }
@@ -159,7 +157,7 @@ impl<A: Allocator> Memo<A> {
         }
     }
 
-    // Forgets all that is kept. It is out of line, since few searches keep anything.
+    // Drops all that is memoized. It is out of line, since few searches memoize anything.
     #[inline(never)]
     fn forget_all(&mut self)
         ensures { IsBlankMemo self.new }
@@ -171,7 +169,7 @@ impl<A: Allocator> Memo<A> {
         self.is_used = false;
     }
 
-    /// Ends a run. That memory was refused is not kept beyond it.
+    /// Ends a run, and drops its allocation error.
     #[inline(always)]
     pub fn rest(&mut self)
         ensures same { self.new ≡ record self.old { stopped = false } }
@@ -181,7 +179,7 @@ impl<A: Allocator> Memo<A> {
         self.refused = None;
     }
 
-    /// Failures are kept from now on, of which there are none yet.
+    /// Opens the memo, without failures.
     #[inline(never)]
     pub(crate) fn open<S: StrDrive>(&mut self, req: &Request<'_, S>)
         ensures opened { self.new.is_open ≡ true }
@@ -198,8 +196,8 @@ impl<A: Allocator> Memo<A> {
         self.begin_keeping(req);
     }
 
-    // Failures are kept, from as far before the window as looks may go back, and where no region sets a mark the ends
-    // of their bodies, too.
+    // Opens the memo for positions from as far before the range as lookbehinds may go back. It also memoizes the ends
+    // of atomic scopes, if none of them sets a capture.
     #[inline(always)]
     fn begin_keeping<S: StrDrive>(&mut self, req: &Request<'_, S>)
         requires { self.old.patience ≡ 0 }
@@ -217,7 +215,7 @@ impl<A: Allocator> Memo<A> {
         self.hope = MOST_HOPE;
     }
 
-    // Notes that the body of a region ended, where that is not kept.
+    // Notes that the body of an atomic scope ended, if its end is not memoized.
     #[inline(always)]
     pub(crate) fn note_end(&mut self)
         ensures { self.new ≡ self.old }
@@ -227,7 +225,7 @@ impl<A: Allocator> Memo<A> {
         }
     }
 
-    // Notes that something failed inside a region.
+    // Notes that something failed inside an atomic scope.
     #[inline(always)]
     fn note_failure(&mut self, board: &Board<A>)
         ensures { self.new ≡ self.old }
@@ -237,13 +235,13 @@ impl<A: Allocator> Memo<A> {
         }
     }
 
-    // Whether bodies of regions mostly ended of late, so that a run inside goes over its characters at once.
+    // Whether bodies of atomic scopes mostly ended lately. A repeat inside one then scans its characters at once.
     #[inline(always)]
     pub(crate) fn is_hopeful(&self) -> bool {
         self.hope >= MOST_HOPE / 2
     }
 
-    // Whether failures are kept by now.
+    // Whether the memo is open.
     #[inline(always)]
     pub(crate) fn is_open(&self) -> bool
         ensures opened { result ≡ self.now.is_open }
@@ -252,7 +250,7 @@ impl<A: Allocator> Memo<A> {
         self.is_open
     }
 
-    // Takes so many turns off those that are waited without failures, if there are as many.
+    // Takes so many steps off those before the memo opens, if there are as many.
     #[inline(always)]
     pub(crate) fn waits_for(&mut self, turns: u64) -> bool
         ensures same { self.new ≡ record self.old { waits = self.new.waits } }
@@ -265,7 +263,7 @@ impl<A: Allocator> Memo<A> {
         true
     }
 
-    // Notes a step, and says whether failures are kept from now on.
+    // Notes an event, and returns whether the memo is open from now on.
     #[inline(always)]
     pub(crate) fn opens<S: StrDrive>(&mut self, req: &Request<'_, S>, board: &mut Board<A>) -> bool
         ensures kept { self.new.kept ≡ self.old.kept }
@@ -282,8 +280,8 @@ impl<A: Allocator> Memo<A> {
         self.looks(req, board)
     }
 
-    // Looks at how many steps there were, each body of a loop that was begun being one, too, and at the long stretches
-    // that they went over, of which eight characters count for one.
+    // Adds up all events so far and the long stretches, of which eight characters count as one, and returns whether the
+    // memo opens.
     #[inline(never)]
     fn looks<S: StrDrive>(&mut self, req: &Request<'_, S>, board: &mut Board<A>) -> bool
         requires { self.old.patience ≡ 0 }
@@ -309,7 +307,8 @@ impl<A: Allocator> Memo<A> {
         false
     }
 
-    // Makes room for the failures of a point, if there is none. Where memory is refused the search goes on without.
+    // Makes room for the failures of a point, if there is none. If an allocation fails the search continues without a
+    // memo.
     #[inline(always)]
     pub(crate) fn prepare(&mut self, words: &[u32], board: &Board<A>, point: Point, end: usize)
         ensures makes { MakesRoom words.now self.old.first end point (repeats board.now.frames) self.old self.new }
@@ -325,7 +324,7 @@ impl<A: Allocator> Memo<A> {
         }
     }
 
-    // No more failures are kept, since memory was refused.
+    // Closes the memo, because an allocation failed.
     #[inline(always)]
     fn close(&mut self, refusal: Refusal)
         ensures kept { self.new.kept ≡ self.old.kept }
@@ -340,7 +339,7 @@ impl<A: Allocator> Memo<A> {
         self.refused = Some(refusal);
     }
 
-    // What is known of a point at a position, as the board is.
+    // What is known of a point at a position, under the present stack.
     #[inline(always)]
     pub(crate) fn known(
         &self,
@@ -355,7 +354,7 @@ impl<A: Allocator> Memo<A> {
         self.failures.known(words, board, point, position)
     }
 
-    // Keeps that a point fails at a position, as the board is.
+    // Memoizes that a point fails at a position, under the present stack.
     #[inline(always)]
     pub(crate) fn keep(&mut self, words: &[u32], board: &Board<A>, point: Point, position: usize)
         ensures kept { KeepsSpot words.now (is_inside board.now.choices)
@@ -367,7 +366,7 @@ impl<A: Allocator> Memo<A> {
         self.failures.keep(words, board, point, position);
     }
 
-    // Whether ends of bodies are kept.
+    // Whether ends of atomic scopes are memoized.
     #[inline(always)]
     pub(crate) fn keeps_ends(&self) -> bool
         ensures { result ≡ self.now.keeps_ends }
@@ -375,8 +374,8 @@ impl<A: Allocator> Memo<A> {
         self.keeps_ends
     }
 
-    // Where the body of the innermost region ends, from a point inside at a position, as the board is; if that is
-    // kept.
+    // The end of the innermost atomic scope's body, from a point inside at a position under the present stack, if it is
+    // memoized.
     #[inline(never)]
     pub(crate) fn end(
         &self,
@@ -397,8 +396,8 @@ impl<A: Allocator> Memo<A> {
         self.ends.end(number)
     }
 
-    // Keeps that the body of the innermost region ends at a cursor, for each point that is tried inside. Where memory
-    // is refused the search goes on without.
+    // Memoizes the end of the innermost atomic scope's body for each point that is being tried inside. If an allocation
+    // fails the search continues without a memo.
     #[inline(never)]
     pub(crate) fn keep_ends(&mut self, words: &[u32], board: &Board<A>, end: StringCursor)
         ensures more { HoldsOpenMore self.old.kept words.now board.now.choices end self.old.ends self.new.ends }
@@ -419,7 +418,7 @@ impl<A: Allocator> Memo<A> {
         }
     }
 
-    // Whether failures are kept under marks that are the same as these from an entry on.
+    // Whether the captures from a slot on are those under which failures are memoized.
     #[inline(always)]
     pub(crate) fn agrees(&self, raw: &[Option<usize>], from: usize) -> bool
         ensures { result ≡ true → (k : ℕ) → from ≤ k → k < self.now.marked.end
@@ -428,8 +427,7 @@ impl<A: Allocator> Memo<A> {
         self.marked.agrees(raw, from)
     }
 
-    // Whether no mark is asked for from a place on, nor in a further body of a loop in progress, as far as that is
-    // told.
+    // Whether no capture is live at an address, nor in a further body of a loop in progress, as far as that is known.
     #[inline(always)]
     pub(crate) fn is_idle(&self, board: &Board<A>, place: usize) -> bool
         ensures { result ≡ true → SaysOf self.now.marked.idle board.now.frames place }
@@ -437,8 +435,8 @@ impl<A: Allocator> Memo<A> {
         self.marked.is_idle(board, place)
     }
 
-    // Other marks were met, which are taken over where that was often enough. From which places on marks make no
-    // difference is told the first time.
+    // Notes that other live captures were met, and adopts them once that happened often enough. The first time it
+    // computes the addresses at which no capture is live.
     #[inline(never)]
     pub(crate) fn meets(&mut self, code: &Code<'_>, raw: &[Option<usize>])
         ensures marked { MarkedStays self.old.marked self.new.marked ⊎ HoldsNone self.new.marked.kept }
@@ -456,7 +454,7 @@ impl<A: Allocator> Memo<A> {
         }
     }
 
-    // Makes room for the failures of a point under marks, if there is none.
+    // Makes room for the failures of a point under live captures, if there is none.
     #[inline(always)]
     pub(crate) fn prepare_marked(
         &mut self,
@@ -479,7 +477,7 @@ impl<A: Allocator> Memo<A> {
         }
     }
 
-    // What is known of a point at a position under marks, as the board is.
+    // What is known of a point at a position under live captures and the present stack.
     #[inline(always)]
     pub(crate) fn known_marked(
         &self,
@@ -494,7 +492,7 @@ impl<A: Allocator> Memo<A> {
         self.marked.known(words, board, point, position)
     }
 
-    // Keeps that a point fails at a position under marks, as the board is.
+    // Memoizes that a point fails at a position under live captures and the present stack.
     #[inline(always)]
     pub(crate) fn keep_marked(
         &mut self,

@@ -1,7 +1,7 @@
 //! Possessive loops: `POSSESSIVE_REPEAT skip least greatest body SUCCESS`, where the skip leads to the SUCCESS.
 //!
-//! Each body is a region, of which the first outcome alone counts, and the loop goes on from there. It never comes back
-//! to an earlier body. The loop is counted on the board before a body begins, so that the body's end finds it counted.
+//! Each body is an atomic scope: only its first outcome counts, and the loop continues from there. It never returns to
+//! an earlier body. The loop's count is raised on the stack before a body begins, so the body's end finds it counted.
 
 ghost use Rattle.std.specs.Prelude.{IfOk};
 ghost use Rattle.sre_turns.specs.declared.Point.TheVariants.{Again};

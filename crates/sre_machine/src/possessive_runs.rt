@@ -1,4 +1,5 @@
-//! Possessive runs, the longest alone: `POSSESSIVE_REPEAT_ONE skip least greatest test SUCCESS`.
+//! Possessive single-character repeats, the longest count only: `POSSESSIVE_REPEAT_ONE skip least greatest test
+//! SUCCESS`.
 ghost use Rattle.sre_request.specs.Runs.{OpcodeAt};
 ghost use Rattle.sre_machine.specs.Turns.{At, Turn};
 
@@ -11,7 +12,7 @@ use sre_request::Request;
 use sre_turns::Next;
 use std::alloc::Allocator;
 
-/// The run's tail behind the longest run, if that is long enough.
+/// Continues after the longest repeat, if that is long enough.
 #[inline(always)]
 pub(super) fn possessive_repeat_one<S: StrDrive, A: Allocator>(
     req: &Request<'_, S>,

@@ -1,5 +1,4 @@
-//! References to groups, and conditions on them: `GROUPREF group` and its three foldings, and
-//! `GROUPREF_EXISTS group skip`.
+//! Back-references and conditionals: `GROUPREF group` and its three case foldings, and `GROUPREF_EXISTS group skip`.
 
 ghost use Rattle.std.specs.Prelude.{◌≡◌, ◌+◌, nat_le};
 ghost use Rattle.sre_turns.specs.declared.Point.TheVariants.{Instruction};
@@ -17,7 +16,7 @@ use sre_request::Request;
 use sre_turns::Next;
 use std::alloc::Allocator;
 
-// Whether so many characters from a position on end no later than the window.
+// Whether so many characters from a position on end within the range.
 #[inline(always)]
 fn is_inside(position: usize, count: usize, end: usize) -> bool
     ensures { result ≡ nat_le (position + count) end }
@@ -25,7 +24,7 @@ fn is_inside(position: usize, count: usize, end: usize) -> bool
     position <= end && count <= end - position
 }
 
-/// `GROUPREF group`, and its foldings alike: passes the characters of the group, folded on both sides.
+/// `GROUPREF group` and its foldings: passes the characters of the group, folded on both sides.
 #[inline(always)]
 pub(super) fn reference<S: StrDrive, A: Allocator>(
     req: &Request<'_, S>,
@@ -55,8 +54,8 @@ pub(super) fn reference<S: StrDrive, A: Allocator>(
     }
 }
 
-/// `GROUPREF_EXISTS group skip yes` or `GROUPREF_EXISTS group skip yes JUMP skip no`: goes on with the yes part where
-/// the group is present, else where the skip leads, counted from the group's word.
+/// `GROUPREF_EXISTS group skip yes` or `GROUPREF_EXISTS group skip yes JUMP skip no`: continues with the yes part if
+/// the group is set, else at the target of the skip, counted from the group's word.
 #[inline(always)]
 pub(super) fn condition<S: StrDrive, A: Allocator>(
     req: &Request<'_, S>,

@@ -1,7 +1,7 @@
-//! Regions: `ATOMIC_GROUP skip body SUCCESS`, and `ASSERT skip back body SUCCESS` and ASSERT_NOT alike.
+//! Atomic scopes: `ATOMIC_GROUP skip body SUCCESS`, `ASSERT skip back body SUCCESS`, and ASSERT_NOT in the same layout.
 //!
-//! A region waits on the board while its body is in progress, and the loops around it are put aside so long. Its body
-//! has at most one outcome that counts, the first: so the choices inside it go as soon as the body ends.
+//! A scope is on the backtrack stack while its body is in progress, and the loops around it are set aside. Only the
+//! first outcome of its body counts. So the choices inside are dropped as soon as the body ends.
 
 ghost use Rattle.std.specs.Prelude.{◌≡◌, ◌-◌, [], true, IfOk, MatchOption};
 ghost use Rattle.sre_turns.specs.Board.{from_region};
@@ -20,7 +20,7 @@ use sre_request::Request;
 use sre_turns::{Next, Region};
 use std::alloc::Allocator;
 
-/// `ATOMIC_GROUP skip body SUCCESS`: the first way of the body alone.
+/// `ATOMIC_GROUP skip body SUCCESS`: the first outcome of the body alone.
 #[inline(always)]
 pub(super) fn atomic_group<S: StrDrive, A: Allocator>(
     req: &Request<'_, S>,
@@ -37,7 +37,7 @@ pub(super) fn atomic_group<S: StrDrive, A: Allocator>(
     Ok(Next::At(place + 2, cursor))
 }
 
-/// `ASSERT skip back body SUCCESS`: goes on here, where the body matches so many characters before.
+/// `ASSERT skip back body SUCCESS`: continues here if the body matches so many characters before.
 #[inline(always)]
 pub(super) fn assert<S: StrDrive, A: Allocator>(
     req: &Request<'_, S>,
@@ -59,7 +59,7 @@ pub(super) fn assert<S: StrDrive, A: Allocator>(
     Ok(Next::At(place + 3, back_by(req, cursor, back)))
 }
 
-/// `ASSERT_NOT skip back body SUCCESS`: goes on here, unless the body matches so many characters before.
+/// `ASSERT_NOT skip back body SUCCESS`: continues here unless the body matches so many characters before.
 #[inline(always)]
 pub(super) fn assert_not<S: StrDrive, A: Allocator>(
     req: &Request<'_, S>,
@@ -82,7 +82,7 @@ pub(super) fn assert_not<S: StrDrive, A: Allocator>(
     Ok(Next::At(place + 3, back_by(req, cursor, back)))
 }
 
-/// The innermost region, if there is one, ends at a cursor: its body has an outcome.
+/// Ends the innermost atomic scope, if there is one, at a cursor: its body has an outcome.
 #[inline(always)]
 pub(super) fn end<S: StrDrive, A: Allocator>(
     req: &Request<'_, S>,
@@ -97,7 +97,7 @@ pub(super) fn end<S: StrDrive, A: Allocator>(
     Some(after_outcome(region, cursor, entered))
 }
 
-// What comes of a region whose body has an outcome at a cursor.
+// What follows a scope whose body has an outcome at a cursor.
 #[inline(always)]
 fn after_outcome(region: Region, cursor: StringCursor, entered: StringCursor) -> Next
     ensures { result ≡ after_outcome region cursor entered }
@@ -110,7 +110,7 @@ fn after_outcome(region: Region, cursor: StringCursor, entered: StringCursor) ->
     }
 }
 
-/// What comes of a region whose body has no outcome. A possessive loop is left where a further body has none.
+/// What follows a scope whose body has no outcome. A possessive loop ends if a further body has none.
 #[inline(always)]
 pub(super) fn without_outcome<A: Allocator>(
     board: &mut Board<A>,

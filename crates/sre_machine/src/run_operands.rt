@@ -1,4 +1,4 @@
-//! The words behind the opcode of a run of one test: `skip least greatest test SUCCESS`.
+//! The operands of a single-character repeat: `skip least greatest test SUCCESS`.
 
 ghost use Rattle.std.specs.Prelude.{◌+◌};
 ghost use Rattle.sre_request.specs.Runs.{TestAt};
@@ -8,7 +8,7 @@ use sre_chars::string::StrDrive;
 use sre_reading::words::operand;
 use sre_request::Request;
 
-/// Where the run's tail begins, and the least and the greatest count of its characters.
+/// The address of the repeat's tail, and the least and the greatest count of its characters.
 #[derive(Clone, Copy)]
 pub(super) struct RunOperands {
     pub(super) tail: usize,
@@ -16,7 +16,7 @@ pub(super) struct RunOperands {
     pub(super) greatest: u32,
 }
 
-/// The operands of the run at a place.
+/// The operands of the repeat at an address.
 #[inline(always)]
 pub(super) fn run_operands<S: StrDrive>(req: &Request<'_, S>, place: usize) -> RunOperands
     requires { TestAt req.now (place + 4) }

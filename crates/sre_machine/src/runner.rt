@@ -1,4 +1,4 @@
-//! A runner: the memory in which the machine runs, and how many of its runs were begun.
+//! A runner: the memory in which the machine runs, and the number of its runs.
 
 ghost use Rattle.std.specs.Prelude.{◌≡◌, ◌≤◌, ◌+◌, ◌*◌, ◌^◌, ◌<◌, IfErr, false};
 ghost use Rattle.sre_model.specs.Tree.{Tree};
@@ -24,7 +24,7 @@ use std::alloc::Allocator;
 use std::marker::{Brand, Model};
 use std::sync::ledger::Blank;
 
-/// The board on which the machine runs, what is remembered of its failures, and how many runs were begun.
+/// The backtrack stack of the machine, the memo of its failures, and how many runs began.
 #[derive(Drop)]
 pub struct Runner<A: Allocator> {
     board: Board<A>,
@@ -45,12 +45,12 @@ impl<A: Allocator> Model for Runner<A> {
       restarted = r.begun.restarted;
     } };
 
-    // No refusal of an earlier run is held.
+    // No allocation error of an earlier run is left.
     ghost invariant = { λ r. r.memo.stopped ≡ false };
 }
 
 impl<A: Allocator + Copy> Runner<A> {
-    /// A runner with no marks, that has begun no run. It takes no memory.
+    /// A runner without captures and runs. It allocates nothing.
     pub fn new(alloc: A) -> Runner<A>
         ensures board { result.board ≡ bare no_marks }
         ensures started { result.started ≡ 0 }
@@ -63,21 +63,21 @@ impl<A: Allocator + Copy> Runner<A> {
         }
     }
 
-    /// The allocator that its memory is taken from.
+    /// The allocator of its memory.
     pub fn allocator(&self) -> A {
         self.board.allocator()
     }
 }
 
 impl<A: Allocator> Runner<A> {
-    /// The marks of the way that was found last; there are none where none was found.
+    /// The captures of the last match path that was found. There are none if the last attempt found none.
     pub fn marks(&self) -> &Marks<A>
         ensures { result.now ≡ self.now.board.marks }
     {
         self.board.marks()
     }
 
-    /// How many runs were begun.
+    /// How many runs began.
     pub fn begun(&self) -> Begun
         ensures started { result.started ≡ self.now.started }
         ensures restarted { result.restarted ≡ self.now.restarted }
@@ -85,7 +85,7 @@ impl<A: Allocator> Runner<A> {
         self.begun
     }
 
-    /// Counts so many runs as begun, in place of those that were.
+    /// Replaces the number of runs that began.
     #[inline(always)]
     pub fn count(&mut self, begun: Begun)
         ensures { self.new ≡ record self.old { started = begun.started; restarted = begun.restarted } }
@@ -93,14 +93,14 @@ impl<A: Allocator> Runner<A> {
         self.begun = begun;
     }
 
-    /// Takes the marks away; the memory is kept.
+    /// Drops the captures, and keeps the memory.
     pub fn clear(&mut self)
         ensures { self.new ≡ record self.old { board = bare no_marks } }
     {
         self.board.clear();
     }
 
-    /// Begins a search: with no marks, no failures and no run begun.
+    /// Begins a search: without captures and failures, and with no run counted.
     #[inline(always)]
     pub fn begin<S: StrDrive>(&mut self, req: &Request<'_, S>, limited: bool)
         ensures ready { IsReady req.now self.new }
@@ -113,11 +113,11 @@ impl<A: Allocator> Runner<A> {
         self.begun = Begun::none();
     }
 
-    /// Attempts a match of what follows some literals, from a cursor: the cursor at the end of the first accepted way,
-    /// whose marks the runner then has, or `None` where there is none. It takes its turns off those that are allowed,
-    /// and is given up where none is left. What fails is remembered for later attempts of the search.
+    /// Attempts a match of what follows some literals, from a cursor. Returns the cursor at the end of the first
+    /// accepted path, whose captures the runner then has, or `None` if there is none. It charges its steps to the
+    /// limit, and ends if none is left. Failures stay memoized for later attempts of the search.
     ///
-    /// No other function begins runs of the machine, and those that this one begins are counted.
+    /// No other function begins runs of the machine, and this one counts those that it begins.
     #[inline(always)]
     pub fn attempt<S: StrDrive>(
         &mut self,
@@ -153,9 +153,9 @@ impl<A: Allocator> Runner<A> {
         }
     }
 
-    // Where failures come to be kept in the course of a run, it goes on with what it saved, or, where it is limited,
-    // begins again. Then it takes the turns that were waited, and those of a run that keeps failures. Whether there is
-    // an accepted way is told, and its end is written: nothing else is at hand where a start fails, as most do.
+    // If the memo opens during a run, the run continues with its saved choices, or restarts if steps are limited. All
+    // steps count, those before a restart too. The result says whether there is an accepted path, and its end is
+    // written apart: most starts fail, and then nothing else is returned.
     #[inline(always)]
     fn run_from<S: StrDrive>(
         &mut self,
@@ -182,8 +182,8 @@ impl<A: Allocator> Runner<A> {
         }
     }
 
-    // A run that begins again on an empty board with its memo open, which is counted. It is out of line, since few runs
-    // begin again.
+    // A run that restarts on an empty stack with its memo open, and is counted. It is out of line, since few runs
+    // restart.
     #[inline(never)]
     fn run_anew<S: StrDrive>(
         &mut self,
@@ -214,7 +214,7 @@ impl<A: Allocator> Runner<A> {
         }
     }
 
-    // A run on an empty board, until it is decided or another is to begin with failures kept.
+    // A run on an empty stack, until it is decided or must restart with its memo open.
     #[inline(always)]
     fn run_once<S: StrDrive>(
         &mut self,

@@ -1,8 +1,8 @@
-//! The ASCII characters that sets take, told for all places of the words in one pass.
+//! The ASCII characters that sets take, computed for all addresses in one pass.
 //!
-//! What the items of a set take from a place on is told by the item there and by what those behind it take. So a pass
-//! from the last word to the first tells each set, in as many steps as there are words. Nothing is expected of the
-//! words: what is told of a place holds of each set whose items begin there, if one does.
+//! What a set's items take follows from the item at an address and from what the items after it take. So one pass from
+//! the last word to the first computes each set, with one visit to each word. Nothing is assumed of the bytecode. The
+//! result for an address holds for each set whose items begin there.
 
 ghost use Rattle.std.specs.Prelude.{◌≡◌, ℕ, ◌+◌, ◌<◌, ◌≤◌, length, slice_range, slice_get, Some, IfOk, IfSome};
 ghost use Rattle.sre_chars.specs.Tables.{Table};
@@ -20,14 +20,14 @@ use sre_growth::Refusal;
 use std::alloc::Allocator;
 use std::convert::TryFrom;
 
-// The ASCII characters for which an item of a set holds, and where the next item begins.
+// The ASCII characters that an item of a set matches, and the address of the next item.
 #[derive(Clone, Copy)]
 struct Item {
     members: AsciiSet,
     next: usize,
 }
 
-/// The word at a place, if one is there.
+/// The word at an address, if there is one.
 #[inline(always)]
 pub(crate) fn word_at(words: &[u32], place: usize) -> Option<u32>
     ensures { IfSome result (λ w. Word words.now place w) }
@@ -38,12 +38,12 @@ pub(crate) fn word_at(words: &[u32], place: usize) -> Option<u32>
     }
 }
 
-// The item of a LITERAL, if its operand is there.
+// The item of a LITERAL, if its operand exists.
 fn literal(words: &[u32], place: usize) -> Option<Item>
     requires { Opcode words.now place SreOpcode.LITERAL }
     ensures { IfSome result (λ item. HoldsFor words.now place item.members item.next) }
 {
-    let _length = words.len(); // a slice has few items, so no place overflows
+    let _length = words.len(); // a slice has few items, so no address overflows
     let value = word_at(words, place + 1)?;
     Some(Item {
         members: AsciiSet::of_character(value),
@@ -51,12 +51,12 @@ fn literal(words: &[u32], place: usize) -> Option<Item>
     })
 }
 
-// The item of a RANGE, if its operands are there.
+// The item of a RANGE, if its operands exist.
 fn range(words: &[u32], place: usize) -> Option<Item>
     requires { Opcode words.now place SreOpcode.RANGE }
     ensures { IfSome result (λ item. HoldsFor words.now place item.members item.next) }
 {
-    let _length = words.len(); // a slice has few items, so no place overflows
+    let _length = words.len(); // a slice has few items, so no address overflows
     let low = word_at(words, place + 1)?;
     let high = word_at(words, place + 2)?;
     Some(Item {
@@ -65,12 +65,12 @@ fn range(words: &[u32], place: usize) -> Option<Item>
     })
 }
 
-// The item of a CATEGORY, if a category's number is there.
+// The item of a CATEGORY, if its operand is a category's number.
 fn category(words: &[u32], place: usize) -> Option<Item>
     requires { Opcode words.now place SreOpcode.CATEGORY }
     ensures { IfSome result (λ item. HoldsFor words.now place item.members item.next) }
 {
-    let _length = words.len(); // a slice has few items, so no place overflows
+    let _length = words.len(); // a slice has few items, so no address overflows
     let number = word_at(words, place + 1)?;
     match SreCatCode::try_from(number) {
         Ok(code) => Some(Item {
@@ -81,13 +81,13 @@ fn category(words: &[u32], place: usize) -> Option<Item>
     }
 }
 
-// The ASCII characters whose bits are set in the words behind a CHARSET.
+// The ASCII characters whose bits are set in the words after a CHARSET.
 fn ascii_bits(words: &[u32], place: usize) -> AsciiSet
     requires { place + 9 ≤ length words.now }
     ensures { (table : Table) (c : ℕ) → c < 128
         → contains result c ≡ item_holds table (Charset (slice_range words.now (place + 1) (place + 9))) c }
 {
-    let _length = words.len(); // a slice has few items, so no place overflows
+    let _length = words.len(); // a slice has few items, so no address overflows
     AsciiSet::of_bits([
         words[place + 1],
         words[place + 2],
@@ -96,7 +96,7 @@ fn ascii_bits(words: &[u32], place: usize) -> AsciiSet
     ])
 }
 
-// The item of a CHARSET, if its words are there.
+// The item of a CHARSET, if its words exist.
 fn charset(words: &[u32], place: usize) -> Option<Item>
     requires { Opcode words.now place SreOpcode.CHARSET }
     ensures { IfSome result (λ item. HoldsFor words.now place item.members item.next) }
@@ -111,7 +111,7 @@ fn charset(words: &[u32], place: usize) -> Option<Item>
     })
 }
 
-// The item at a place, if it is a LITERAL, a RANGE, a CATEGORY or a CHARSET.
+// The item at an address, if it is a LITERAL, a RANGE, a CATEGORY or a CHARSET.
 fn item_at(words: &[u32], place: usize, opcode: SreOpcode) -> Option<Item>
     requires { Opcode words.now place opcode }
     ensures { IfSome result (λ item. HoldsFor words.now place item.members item.next) }
@@ -125,7 +125,7 @@ fn item_at(words: &[u32], place: usize, opcode: SreOpcode) -> Option<Item>
     }
 }
 
-/// What a list tells of a place.
+/// The entry of an address, if it is known.
 pub(crate) fn members_at(words: &[u32], list: &[Option<AsciiSet>], place: usize) -> Option<AsciiSet>
     requires { AllTold words.now list.now }
     ensures { AreTold words.now place result }
@@ -136,7 +136,7 @@ pub(crate) fn members_at(words: &[u32], list: &[Option<AsciiSet>], place: usize)
     }
 }
 
-// The ASCII characters that a set takes whose items begin at a place, by those that the items behind take.
+// The ASCII characters of a set whose items begin at an address, from those that the items after it take.
 #[tactic(auto, using(crate::proofs::ByPlace::members_laws))]
 fn members(words: &[u32], list: &[Option<AsciiSet>], place: usize) -> Option<AsciiSet>
     requires there { place < length words.now }
@@ -172,7 +172,7 @@ pub(crate) fn filled<T: Copy + Drop, A: Allocator>(
     Ok(list)
 }
 
-/// Makes so many equal items of a list, whose memory is used again.
+/// Fills a list with so many equal items, and reuses its memory.
 pub(crate) fn fill<T: Copy + Drop, A: Allocator>(
     list: &mut Vec<T, A>,
     count: usize,
@@ -188,12 +188,12 @@ pub(crate) fn fill<T: Copy + Drop, A: Allocator>(
     Ok(())
 }
 
-/// For each place of the words the ASCII characters that a set takes whose items begin there, where they are told:
-/// those of a set whose items are each a LITERAL, a RANGE, a CATEGORY, a CHARSET or a NEGATE.
+/// For each address, the ASCII characters of a set whose items begin there, if they are known. They are known if each
+/// item is a LITERAL, a RANGE, a CATEGORY, a CHARSET or a NEGATE.
 ///
 /// # Errors
 ///
-/// [`Refusal`], where the memory of the list was refused.
+/// [`Refusal`] if an allocation fails.
 pub(crate) fn set_members<A: Allocator>(
     alloc: A,
     words: &[u32],

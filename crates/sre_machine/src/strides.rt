@@ -1,8 +1,8 @@
-//! Strides: bodies of a loop that are gone over in one turn.
+//! Batched loop iterations: many bodies of a loop in one step.
 //!
-//! A loop over alternatives, as in `"(?:[^"\\]|\\.)*"`, takes most of its bodies by the only alternative that takes the
-//! next character, which is a test and nothing more, while nothing can come of the loop's end. There nothing is to be
-//! saved, so its frame is written once behind all of them. Each counts as a body that began.
+//! A loop over alternatives, as in `"(?:[^"\\]|\\.)*"`, mostly takes a body by the only alternative that takes the next
+//! character. That alternative is a single test, and the loop's end must fail there. So there is nothing to save, and
+//! the frame is written once, after all of them. Each counts as a body that began.
 
 ghost use Rattle.std.specs.Prelude.{◌≡◌, ◌+◌, ◌<◌, ◌≤◌, Some, IfSome};
 ghost use Rattle.sre_model.specs.Grammar.{Word};
@@ -30,14 +30,14 @@ use sre_request::Request;
 use sre_turns::Frame;
 use std::alloc::Allocator;
 
-/// Where a loop's body ends: the loop's frame, and the cursor.
+/// The end of a loop's body: the loop's frame, and the cursor.
 #[derive(Clone, Copy)]
 pub(super) struct BodyEnd {
     pub(super) frame: Frame,
     pub(super) cursor: StringCursor,
 }
 
-// Where the next body ends, if it is of one character and there is no other way on.
+// The end of the next body, if it is one character and nothing else may match here.
 #[inline(always)]
 fn next_body<S: StrDrive>(
     req: &Request<'_, S>,
@@ -77,7 +77,8 @@ fn next_body<S: StrDrive>(
     Some(behind)
 }
 
-// What is told of the next bodies, unless none comes: at the window's end, and before the literal behind the loop.
+// The ASCII characters that are whole bodies, unless no body follows: at the end of the range, or before the literal
+// after the loop.
 #[inline(always)]
 fn told_before<S: StrDrive>(
     req: &Request<'_, S>,
@@ -95,7 +96,7 @@ fn told_before<S: StrDrive>(
     told_bodies(req, place, alternatives, cursor)
 }
 
-// Bodies of one character from a cursor on, as long as there is no other way on.
+// Bodies of one character from a cursor on, as long as nothing else may match.
 #[inline(never)]
 fn stride<S: StrDrive>(
     req: &Request<'_, S>,
@@ -135,7 +136,7 @@ fn had_one_character(frame: Frame, cursor: StringCursor) -> bool {
     }
 }
 
-// Whether a BRANCH is at a place of the words.
+// Whether a BRANCH is at an address.
 #[inline(always)]
 fn is_branch<S: StrDrive>(req: &Request<'_, S>, place: usize) -> bool {
     match word_at(req.pattern_codes().items(), place) {
@@ -144,8 +145,8 @@ fn is_branch<S: StrDrive>(req: &Request<'_, S>, place: usize) -> bool {
     }
 }
 
-/// Whether a loop whose body is at a place may be gone over in strides: these are wanted, it has no greatest count, and
-/// its body has alternatives. The next body behind a longer one is not tried so: most bodies are like the one before.
+/// Whether iterations of a loop may be batched: batches are wanted, the loop has no greatest count, and its body has
+/// alternatives. It does not try a batch after a longer body, since most bodies are like the one before.
 #[inline(always)]
 pub(super) fn may_stride<S: StrDrive, const STRIDES: bool>(
     req: &Request<'_, S>,
@@ -160,8 +161,7 @@ pub(super) fn may_stride<S: StrDrive, const STRIDES: bool>(
         && is_branch(req, body)
 }
 
-/// Goes over bodies of one character each where a loop without a greatest count has alternatives, and a literal has to
-/// come behind it.
+/// Batches bodies of one character each, in a loop without a greatest count over alternatives, with a literal after it.
 #[inline(always)]
 pub(super) fn stride_on<S: StrDrive, A: Allocator>(
     req: &Request<'_, S>,

@@ -1,7 +1,7 @@
-//! Which ASCII characters are a whole body of a loop over alternatives.
+//! The ASCII characters that are a whole body of a loop over alternatives.
 //!
-//! Where a stride is long, a set in place of the alternatives tells its next characters: those with which one
-//! alternative alone begins, which is a test and nothing more.
+//! In a long batch one set decides the next characters, instead of the alternatives. It has the characters with which
+//! exactly one alternative begins, which is a single test.
 
 ghost use Rattle.std.specs.Prelude.{◌≡◌, ◌⊎◌, ◌+◌, ℕ, true, false, IfSome};
 ghost use Rattle.sre_model.specs.Grammar.{Word, Opcode};
@@ -22,16 +22,16 @@ use sre_reading::one_character::test_end;
 use sre_reading::words::word;
 use sre_request::Request;
 
-// The ASCII characters that a test takes, and where the machine goes on behind it: behind the JUMP that ends its
-// alternative, if it is all of it.
+// The ASCII characters that a test takes, and where the machine continues: after the JUMP that ends the alternative, if
+// the test is all of it.
 #[derive(Clone, Copy)]
 struct ToldTest {
     taken: AsciiSet,
     behind: usize,
 }
 
-// Where a JUMP at a place leads, if one stands there, and else the place. The machine need not come to it, so the words
-// may end there; where it does, `behind_jump` tells the same with no such question.
+// The target of a JUMP if there is one at an address, else the address. The machine may never reach the address, so the
+// bytecode may end there. If it does reach it, `behind_jump` returns the same without that test.
 fn behind_jump_at(words: &[u32], place: usize) -> usize
     ensures { (result ≡ place) ⊎ ((v : ℕ) × (Opcode words.now place SreOpcode.JUMP × (Word words.now (place + 1) v
         × (result ≡ place + 1 + v)))) }
@@ -42,14 +42,14 @@ fn behind_jump_at(words: &[u32], place: usize) -> usize
     if word != SreOpcode::JUMP as u32 {
         return place;
     }
-    let _length = words.len(); // a slice has few items, so no place overflows
+    let _length = words.len(); // a slice has few items, so no address overflows
     match word_at(words, place + 1) {
         Some(skip) => place + 1 + skip as usize,
         None => place,
     }
 }
 
-// What is told of the test at a place, whose opcode is at hand.
+// The test at an address with a known opcode, if its characters are known.
 fn told_by<S: StrDrive>(
     req: &Request<'_, S>,
     opcode: SreOpcode,
@@ -70,7 +70,7 @@ fn told_by<S: StrDrive>(
     })
 }
 
-// What is told of an alternative that begins with a test.
+// The test that an alternative begins with, if its characters are known.
 fn told_test<S: StrDrive>(
     req: &Request<'_, S>,
     place: usize,
@@ -88,8 +88,8 @@ fn told_test<S: StrDrive>(
     }
 }
 
-// The ASCII characters with which one alternative alone begins that comes to a place, with one alternative more, whose
-// test is told; none before it begins with a character of the first set, and one alone with one of the second.
+// The ASCII characters with which exactly one alternative begins that leads to an address, once one more alternative is
+// added. Before it, none begins with a character of `none`, and exactly one with each of `only`.
 #[inline(always)]
 fn with_test(none: AsciiSet, only: AsciiSet, test: ToldTest, place: usize) -> AsciiSet
     ensures { (ch : ℕ) → contains result ch ≡ true
@@ -103,8 +103,9 @@ fn with_test(none: AsciiSet, only: AsciiSet, test: ToldTest, place: usize) -> As
     others.union(none.difference(none.difference(test.taken)))
 }
 
-/// The ASCII characters with which one alternative alone begins, of those from a length word on, and which are all of
-/// it, so that it comes to a place behind them; none where an alternative begins with no test that tells its own.
+/// The ASCII characters with which exactly one alternative from a length word on begins, and which are all of it, so
+/// that it leads to an address. The set is empty if an alternative does not begin with a test whose characters are
+/// known.
 #[inline(never)]
 pub(super) fn told_bodies<S: StrDrive>(
     req: &Request<'_, S>,

@@ -1,5 +1,5 @@
-//! Instructions and possessive loops that are tried: what failed is kept, and where it comes again the machine goes
-//! back at once.
+//! The steps of a run with an open memo: failures are memoized, and at a memoized failure the machine backtracks at
+//! once.
 
 ghost use Rattle.std.specs.Prelude.{ℕ, ◌≡◌, ◌≢◌, ◌⊎◌, IfOk, true, false};
 ghost use Rattle.sre_model.specs.Marks.{Marks, no_marks};
@@ -15,7 +15,7 @@ ghost use Rattle.sre_machine.specs.EndlessRuns.{IsEndlessRun};
 ghost use Rattle.sre_machine.specs.Turns.{At, AtPoint, AtOnBoard, Fails, Takes, TriesOn, IsKeeping, LeavesOrStays};
 ghost use Rattle.sre_machine.specs.Turns.{RefersToGroups, UnaskedMarks, AlikeMarks, ForksThere};
 ghost use Rattle.sre_machine.specs.Turns.{ServesThere, IdleThere};
-ghost use Rattle.sre_machine.specs.Turns.{BringsTolls, BringsNoTolls, NoEndTold, RunsOnAt, RunsAtOnce};
+ghost use Rattle.sre_machine.specs.Turns.{BringsNoTolls, NoEndTold, RunsOnAt, RunsAtOnce};
 ghost use Rattle.sre_turns.specs.Limits.{attempt};
 ghost use Rattle.sre_growth.specs.Refusal.{Refused};
 
@@ -32,8 +32,8 @@ use sre_request::Request;
 use sre_turns::{Next, Point};
 use std::alloc::Allocator;
 
-/// Whether the machine may have more than one way to go on at a place, or go on at itself: between two such places
-/// nothing branches, so failures are kept there alone.
+/// Whether the machine may branch at an address, or may continue at that address itself. Between two such addresses
+/// nothing branches, so failures are memoized only there.
 #[inline(always)]
 pub(super) fn may_branch<S: StrDrive>(
     req: &Request<'_, S>,
@@ -43,7 +43,6 @@ pub(super) fn may_branch<S: StrDrive>(
     requires { At req.now place cursor }
     ensures free { result ≡ false → BringsNoTolls req.now (Instruction place) }
     ensures forks { result ≡ true → ForksThere req.now (Instruction place) }
-    ensures tolls { result ≡ true → BringsTolls req.now (Instruction place) }
 {
     matches!(
         opcode(req, place, cursor),
@@ -58,7 +57,7 @@ pub(super) fn may_branch<S: StrDrive>(
     )
 }
 
-/// The same at a point: a possessive loop may go on with a further body, or end.
+/// Whether the machine may branch at a point. A possessive loop may continue with a further body, or end.
 #[inline(always)]
 pub(super) fn may_branch_at<S: StrDrive>(
     req: &Request<'_, S>,
@@ -68,7 +67,6 @@ pub(super) fn may_branch_at<S: StrDrive>(
     requires { AtPoint req.now point cursor }
     ensures free { result ≡ false → BringsNoTolls req.now point }
     ensures forks { result ≡ true → ForksThere req.now point }
-    ensures tolls { result ≡ true → BringsTolls req.now point }
 {
     match point {
         Point::Instruction(place) => may_branch(req, place, cursor),
@@ -82,7 +80,7 @@ pub(super) fn may_branch_at<S: StrDrive>(
     }
 }
 
-/// Whether no mark is set that the words ask for: those that are set end before the first group that is asked for.
+/// Whether no live capture is set: those that are set end before the first group that the code reads.
 #[inline(always)]
 pub(super) fn is_unmarked<S: StrDrive, A: Allocator>(req: &Request<'_, S>, board: &Board<A>) -> bool
     ensures unmarked { result ≡ true → UnaskedMarks req.now board.now.marks }
@@ -96,7 +94,7 @@ pub(super) fn is_unmarked<S: StrDrive, A: Allocator>(req: &Request<'_, S>, board
     board.marks().raw().len() <= first
 }
 
-// Whether the marks that the words ask for are those under which the memo keeps failures.
+// Whether the live captures are those under which the memo has failures.
 #[inline(always)]
 fn is_marked_so<S: StrDrive, A: Allocator>(
     req: &Request<'_, S>,
@@ -110,7 +108,7 @@ fn is_marked_so<S: StrDrive, A: Allocator>(
     memo.agrees(board.marks().raw(), first)
 }
 
-// Whether no mark that is set makes a difference at a point, as far as that is told.
+// Whether no capture is live at a point, as far as that is known.
 #[inline(always)]
 fn is_idle<S: StrDrive, A: Allocator>(
     req: &Request<'_, S>,
@@ -133,8 +131,7 @@ fn is_idle<S: StrDrive, A: Allocator>(
     }
 }
 
-// Whether a failure may be kept with those under no marks: none is set that the words ask for, or none makes a
-// difference.
+// Whether a failure may be memoized without captures: none that the code reads is set, or none is live here.
 #[inline(always)]
 fn serves_unmarked<S: StrDrive, A: Allocator>(
     req: &Request<'_, S>,
@@ -152,21 +149,20 @@ fn serves_unmarked<S: StrDrive, A: Allocator>(
     is_idle(req, board, memo, point)
 }
 
-/// Under which marks failures are kept, those of the board being such.
+/// The kind of captures under which failures are memoized at a point.
 #[derive(Clone, Copy, Debug, PartialEq, Eq)]
 pub(super) enum Keeping {
-    // None are kept.
+    // None: nothing is memoized.
     Nothing,
-    // No mark is set that the words ask for.
+    // No capture that the code reads is set.
     Unmarked,
-    // None that is set makes a difference.
+    // No capture is live here.
     Idle,
-    // The marks that the words ask for are those which the memo has.
+    // The live captures are those of the memo.
     Marked,
 }
 
-// Under which marks failures are kept, for a point. Where marks are set that are asked for there are failures only
-// where the machine may branch.
+// Under which captures failures are memoized at a point. Under live captures that is only where the machine may branch.
 #[inline(always)]
 fn keeping_at<S: StrDrive, A: Allocator>(
     req: &Request<'_, S>,
@@ -197,7 +193,7 @@ fn keeping_at<S: StrDrive, A: Allocator>(
     Keeping::Nothing
 }
 
-// Keeps a point of which nothing came under marks that are asked for, if they are those of the memo.
+// Memoizes a failure under the present live captures, if they are the memo's.
 #[inline(never)]
 fn keep_marked<S: StrDrive, A: Allocator>(
     req: &Request<'_, S>,
@@ -218,7 +214,7 @@ fn keep_marked<S: StrDrive, A: Allocator>(
     }
 }
 
-// Keeps a point of which nothing came.
+// Memoizes that a point failed.
 #[inline(never)]
 pub(super) fn keep<S: StrDrive, A: Allocator>(
     req: &Request<'_, S>,
@@ -243,9 +239,8 @@ pub(super) fn keep<S: StrDrive, A: Allocator>(
     }
 }
 
-// Whether a point is known to fail. Where it is not, its mark is made, so that its failure is told;
-// but for a spot that has no bit, whose failure can't be kept: such marks of loops in loops would take the square of
-// their depth.
+// Whether a point is known to fail. If not, its marker is pushed, so that its failure will be memoized. A configuration
+// without a bit gets no marker, since markers of nested loops would take the square of their depth.
 #[inline(never)]
 fn has_failed<S: StrDrive, A: Allocator>(
     req: &Request<'_, S>,
@@ -277,7 +272,7 @@ fn has_failed<S: StrDrive, A: Allocator>(
     }
 }
 
-// The same under marks that the words ask for, which are those of the memo.
+// Whether a point is known to fail under live captures, which are the memo's. If not, its marker is pushed.
 #[inline(never)]
 fn has_failed_marked<S: StrDrive, A: Allocator>(
     req: &Request<'_, S>,
@@ -307,7 +302,7 @@ fn has_failed_marked<S: StrDrive, A: Allocator>(
     }
 }
 
-// Takes note of marks under which no failures are kept, at a point where they might be.
+// Notes other live captures than the memo's, at a point whose failure might be memoized.
 #[inline(always)]
 fn meet_marks<S: StrDrive, A: Allocator>(
     req: &Request<'_, S>,
@@ -327,8 +322,7 @@ fn meet_marks<S: StrDrive, A: Allocator>(
     }
 }
 
-// Whether a point is left at once, since failures are kept and it is known to fail. Where it is not, the machine
-// stands there still.
+// Whether the memo is open and a point is known to fail. If not, the machine is still there.
 #[inline(always)]
 fn is_hopeless<S: StrDrive, A: Allocator>(
     req: &Request<'_, S>,
@@ -342,7 +336,7 @@ fn is_hopeless<S: StrDrive, A: Allocator>(
     requires remembers { RecallsOf req.now memo.old }
     requires keeping { IsKeeping req.now keeping point board.old memo.old }
     requires tried { MayBeTried point }
-    requires no_end { keeping ≡ Keeping.Unmarked → BringsTolls req.now point
+    requires no_end { keeping ≡ Keeping.Unmarked → ForksThere req.now point
         → NoEndTold req.now point cursor board.old memo.old }
     ensures remembers { RecallsOf req.now memo.new }
     ensures leaves { LeavesOrStays req.now point cursor result board.old memo.old board.new memo.new }
@@ -367,7 +361,7 @@ fn is_hopeless<S: StrDrive, A: Allocator>(
     }
 }
 
-// Whether the machine is inside a region where no end of its body is kept.
+// Whether the machine is inside an atomic scope whose end is not memoized.
 #[inline(always)]
 fn keeps_no_end<A: Allocator>(board: &Board<A>, memo: &Memo<A>, keeping: Keeping) -> bool
     ensures inside { result ≡ true → is_inside board.now.choices ≡ true }
@@ -376,11 +370,11 @@ fn keeps_no_end<A: Allocator>(board: &Board<A>, memo: &Memo<A>, keeping: Keeping
     board.is_inside() && (keeping != Keeping::Unmarked || !memo.keeps_ends())
 }
 
-// Whether a run without a greatest count is at a place that is gone on with turn by turn, as such runs are while
-// failures are kept. Inside a region whose ends are not kept it goes over its characters at once where that is better:
-// turn by turn each of these places would be gone on from anew, whenever the body ends, which takes many times as long.
-// Where it fails, turn by turn is better: then each place is known to fail. Within turns it never goes at once, since a
-// turn would go over more characters than it counts for.
+// Whether an address has a repeat without a greatest count that goes step by step, as such repeats do with an open
+// memo. Inside an atomic scope whose ends are not memoized, a repeat scans at once if that is better. Step by step,
+// each of its positions would be tried again after each body, which takes many times as long. But if the scope fails,
+// step by step is better, since each position is then known to fail. With a step limit a repeat never scans at once,
+// because a step would scan more characters than it counts.
 #[inline(always)]
 fn goes_on_endlessly<S: StrDrive, A: Allocator, const LIMITED: bool>(
     req: &Request<'_, S>,
@@ -405,7 +399,8 @@ fn goes_on_endlessly<S: StrDrive, A: Allocator, const LIMITED: bool>(
     !memo.is_hopeful() && !is_better_at_once(req, place)
 }
 
-/// One instruction, which is left at once where it is known to fail, or where the body that it is in is known to end.
+/// One instruction. The machine backtracks at once if it is known to fail, and ends the scope at once if its end is
+/// known.
 #[tactic(auto, using(sre_turns::proofs::Moving::on_board))]
 #[inline(always)]
 pub(super) fn instruction_or_back<S: StrDrive, A: Allocator, const LIMITED: bool>(
@@ -437,7 +432,8 @@ pub(super) fn instruction_or_back<S: StrDrive, A: Allocator, const LIMITED: bool
     instruction::<S, A, false, LIMITED>(req, board, place, cursor)
 }
 
-/// A further body of the innermost loop, which is possessive, or its end. It is left at once as an instruction is.
+/// A further body of the innermost loop, which is possessive, or its end. As for an instruction, a known failure or end
+/// is used at once.
 #[tactic(auto, using(sre_turns::proofs::Moving::on_board))]
 #[inline(always)]
 pub(super) fn again_or_back<S: StrDrive, A: Allocator>(

@@ -1,4 +1,4 @@
-//! The machine's loop: turns until the whole is decided.
+//! The machine's loops: steps until the run is decided.
 
 ghost use Rattle.std.specs.Prelude.{◌≡◌, ◌≢◌, ℕ, ◌+◌, ◌-◌, ◌*◌, ◌^◌, ◌<◌, ◌≤◌, [], List, IfOk, IfErr, true, false};
 ghost use Rattle.sre_model.specs.Ways.{Way};
@@ -28,7 +28,7 @@ use std::alloc::Allocator;
 use std::marker::{Brand, Model};
 use std::sync::ledger::{Blank, Book, Ledger, Share};
 
-// Whether an end is accepted, whatever the marks are.
+// Whether the flags accept an end, whatever the captures are.
 #[inline(always)]
 fn is_accepted<S: StrDrive>(req: &Request<'_, S>, stop: usize) -> bool
     ensures { SaysAccepted (run_of req.now) stop result }
@@ -36,7 +36,7 @@ fn is_accepted<S: StrDrive>(req: &Request<'_, S>, stop: usize) -> bool
     (!req.match_all() || stop == req.end()) && (!req.must_advance() || stop != req.start())
 }
 
-// How many turns were taken. It takes no bytes, and only `tick` changes it.
+// The number of steps taken. It takes no bytes, and only `tick` changes it.
 #[derive(Drop)]
 struct Turned<L: Ledger> {
     book: Book<L>,
@@ -62,7 +62,7 @@ impl<L: Ledger> Turned<L> {
     }
 }
 
-// What the accepted outcomes of a run begin with, and how many turns it takes at most.
+// What the accepted outcomes of a run begin with, and the most steps that it takes.
 pub(crate) trait Plan {
     ghost all: { List Way };
 
@@ -75,12 +75,12 @@ impl Plan for Brand {
     ghost limit = { 0 };
 }
 
-/// How many runs of the machine were begun.
+/// How many runs of the machine began.
 #[derive(Clone, Copy)]
 pub struct Begun {
-    /// Those at a start.
+    /// Those that began at a start.
     pub started: u64,
-    /// Those that began again at their start, since failures came to be kept in the course of a run within turns.
+    /// Those that restarted at their start, because the memo opened during a run with a step limit.
     pub restarted: u64,
 }
 
@@ -97,12 +97,12 @@ impl Begun {
     }
 }
 
-/// Why a run was given up.
+/// Why a run ended without an answer.
 #[derive(Clone, Copy, Debug)]
 pub enum Halt {
-    /// Memory was refused to it.
+    /// An allocation failed.
     Refused(Refusal),
-    /// The turns that it might take are used up.
+    /// The step limit is exceeded.
     UsedUp,
 }
 
@@ -117,18 +117,18 @@ impl From<Refusal> for Halt {
     }
 }
 
-// How turns end.
+// How a loop of steps ends.
 #[derive(Clone, Copy, Debug)]
 pub(crate) enum Decision {
-    // The whole is decided: the cursor at the first accepted outcome's end, where there is one.
+    // The run is decided: the cursor at the end of the first accepted outcome, if there is one.
     Decided(Option<StringCursor>),
-    // Failures are to be kept from now on, so a run within turns is to begin again.
+    // The memo is to open, so a run with a step limit must restart.
     Opened,
 }
 
-// For how many the next turn counts: one, and one for each eight characters of the long stretches that the turn before
-// went over. These count for no more than the window. While failures are kept they count for no more than the code's
-// runs count and its looks go back, which is all that a turn goes over then. Turns that are not limited count for none.
+// The cost of the next step: 1, plus 1 for each 8 characters of the long stretches that the step before scanned. These
+// count at most as many characters as the range has. With an open memo they also count at most `most_counts`, since a
+// step then scans no more than a repeat counts or a lookbehind goes back. Without a limit the cost is 0.
 #[inline(always)]
 fn turns_due<S: StrDrive, A: Allocator, const LIMITED: bool>(
     req: &Request<'_, S>,
@@ -152,8 +152,7 @@ fn turns_due<S: StrDrive, A: Allocator, const LIMITED: bool>(
     1 + passed as u64 / 8
 }
 
-// Takes so many turns off those that are left, and says whether there were as many. Where turns are not limited nothing
-// is taken.
+// Charges a cost to the limit. Returns whether so many steps were left. Without a limit it charges nothing.
 #[inline(always)]
 fn takes_turns<const LIMITED: bool>(turns: u64, allowed: &mut Allowance) -> bool
     requires limits { LIMITED ≡ is_limited allowed.old }
@@ -177,7 +176,7 @@ fn takes_turns<const LIMITED: bool>(turns: u64, allowed: &mut Allowance) -> bool
     true
 }
 
-// Whether turns wait before failures are kept: they are limited, and none are kept yet.
+// Whether steps count towards opening the memo: they are limited, and the memo is closed.
 #[inline(always)]
 fn may_wait<A: Allocator, const LIMITED: bool>(memo: &Memo<A>) -> bool
     ensures limited { result ≡ true → LIMITED ≡ true }
@@ -187,7 +186,7 @@ fn may_wait<A: Allocator, const LIMITED: bool>(memo: &Memo<A>) -> bool
     LIMITED && !memo.is_open()
 }
 
-// Whether turns may be taken with no failure kept.
+// Whether steps of this cost may be taken before the memo opens.
 #[inline(always)]
 fn waits_on<A: Allocator>(memo: &mut Memo<A>, waits: bool, turns: u64) -> bool
     ensures same { memo.new ≡ record memo.old { waits = memo.new.waits } }
@@ -200,8 +199,8 @@ fn waits_on<A: Allocator>(memo: &mut Memo<A>, waits: bool, turns: u64) -> bool
     memo.waits_for(turns)
 }
 
-// Turns until the whole is decided, of which some may have been taken. What fails is kept if the memo is open at first.
-// If it is not, limited turns end where it is to open.
+// The loop with a memo: steps until the run is decided. Some steps may already be taken. If the memo is open at first,
+// failures are memoized. If it is closed, a loop with a limit ends when the memo is to open.
 #[inline(never)]
 fn remembering_turns<L: Ledger, K: Plan, S: StrDrive, A: Allocator, const LIMITED: bool>(
     req: &Request<'_, S>,
@@ -257,8 +256,8 @@ fn remembering_turns<L: Ledger, K: Plan, S: StrDrive, A: Allocator, const LIMITE
     }
 }
 
-// The rest of turns that are not limited, once failures are kept: whether there is an accepted outcome, whose end is
-// then written.
+// The rest of a run without a limit, once the memo is open. Returns whether there is an accepted outcome, and writes
+// its end.
 #[inline(never)]
 fn turns_on<L: Ledger, K: Plan, S: StrDrive, A: Allocator>(
     req: &Request<'_, S>,
@@ -287,11 +286,11 @@ fn turns_on<L: Ledger, K: Plan, S: StrDrive, A: Allocator>(
     }
 }
 
-// Turns from an instruction on, with no limit, and with no failure kept until the memo opens, which is asked on the way
-// back and where a region ends. Then `turns_on` goes on: what was saved before is resumed once at most, and what comes
-// after is remembered. Only here a loop goes over many bodies in one turn: failures of places between are not kept.
-// It is one function out of line, whatever its size, so that `Runner::attempt` is inlined where a search tries its
-// starts. Most starts fail, so the end of an accepted outcome is written apart from what is told.
+// The loop without a memo and without a limit, from an instruction on. After each backtrack and each end of an atomic
+// scope it tests whether the memo opens. Then `turns_on` continues: each choice saved before is resumed at most once,
+// and failures after that are memoized. Only this loop batches loop iterations, since failures at the positions between
+// are not memoized. It is a single function out of line, whatever its size, so that `Runner::attempt` is inlined into
+// the search. Most starts fail, so the end of an accepted outcome is written apart from the result.
 #[inline(never)]
 fn turns<L: Ledger, K: Plan, S: StrDrive, A: Allocator>(
     req: &Request<'_, S>,
@@ -360,11 +359,11 @@ pub(crate) enum Ending {
     Found,
     // There is none.
     Failed,
-    // Failures are to be kept from now on, so a run within turns is to begin again.
+    // The memo is to open, so a run with a step limit must restart.
     Opened,
 }
 
-// Takes a decision apart: how the run ended, and the end that was found, which is written.
+// Splits a decision: returns how the run ended, and writes the end if there is one.
 #[inline(always)]
 fn taken_apart(told: Decision, ended: &mut StringCursor) -> Ending
     ensures { decision_of result ended.new ≡ told }
@@ -379,7 +378,7 @@ fn taken_apart(told: Decision, ended: &mut StringCursor) -> Ending
     }
 }
 
-// Turns from the place behind some literals, of which none was taken.
+// Picks the loop of steps for a run, and starts it at the address after some literals. No step is taken before.
 #[inline(always)]
 pub(crate) fn turns_from<L: Ledger, K: Plan, S: StrDrive, A: Allocator>(
     req: &Request<'_, S>,

@@ -1,7 +1,8 @@
-//! Runs of which nothing can come, since the LITERAL that has to come behind them is nowhere in the rest of the window.
+//! Repeats that must fail, because the LITERAL that the tail needs is nowhere in the rest of the range.
 //!
-//! To look for it costs less than a run over as many characters, and yet much where the run is short. So it is looked
-//! for only where runs went over much of the text in vain, as at each step of a walk of `[a-z]*b|a` over letters a.
+//! Searching for it costs less than a repeat over as many characters, and yet much if the repeat is short. So it is
+//! searched only after repeats have failed over much of the text, as at each step of an iteration of `[a-z]*b|a` over
+//! letters a.
 
 ghost use Rattle.std.specs.Prelude.{◌≡◌, ℕ, ◌<◌, ◌≤◌, true, length};
 ghost use Rattle.sre_model.specs.Grammar.{Opcode};
@@ -17,7 +18,7 @@ use sre_request::Request;
 use std::alloc::Allocator;
 use std::convert::TryFrom;
 
-/// Whether an opcode stands at a place.
+/// Whether an opcode is at an address.
 #[inline(always)]
 pub(super) fn stands_at(words: &[u32], place: usize, opcode: SreOpcode) -> bool
     ensures { result ≡ true → (Opcode words.now place opcode) × (place < length words.now) }
@@ -28,13 +29,13 @@ pub(super) fn stands_at(words: &[u32], place: usize, opcode: SreOpcode) -> bool
     }
 }
 
-// The character that has to come next where the machine stands at a place, if a LITERAL tells it, behind MARKs. The
-// machine need not come there, so the words may end before.
+// The character that must come next at an address, if a LITERAL gives it, after MARKs. The machine may never reach the
+// address, so the bytecode may end before it.
 fn demanded_at<S: StrDrive>(req: &Request<'_, S>, start: usize) -> Option<u32>
     ensures { DemandedAt req.now start result }
 {
     let words = req.pattern_codes().items();
-    let _length = words.len(); // a slice has few items, so no place overflows
+    let _length = words.len(); // a slice has few items, so no address overflows
     let mut place = start;
     'mark: while stands_at(words, place, SreOpcode::MARK) {
         place += 2;
@@ -45,8 +46,7 @@ fn demanded_at<S: StrDrive>(req: &Request<'_, S>, start: usize) -> Option<u32>
     word_at(words, place + 1)
 }
 
-// Whether nothing can come of standing at a place from a cursor on, since the LITERAL there is nowhere up to the
-// window's end.
+// Whether the code at an address fails from a cursor on, because its LITERAL is nowhere up to the end of the range.
 fn is_nowhere<S: StrDrive>(req: &Request<'_, S>, place: usize, cursor: StringCursor) -> bool
     requires { Standing req.now cursor }
     ensures { result ≡ true → (q : ℕ) → cursor.position ≤ q → RefusesAt req.now place q }
@@ -61,7 +61,7 @@ fn is_nowhere<S: StrDrive>(req: &Request<'_, S>, place: usize, cursor: StringCur
     !req.string().seek(&mut found, character, req.end())
 }
 
-// The same of the tail of a run that is long for what is left of the window.
+// Whether the tail of a repeat fails so, if the repeat takes at least 1 in `LOOK_SPEED` of the remaining characters.
 #[inline(never)]
 fn lacks_what_follows<S: StrDrive>(
     req: &Request<'_, S>,
@@ -78,9 +78,9 @@ fn lacks_what_follows<S: StrDrive>(
     longest_run(req, test, part, cursor).count >= part as usize && is_nowhere(req, tail, cursor)
 }
 
-/// Whether nothing can come of a run's tail from a cursor on, as far as it is worth to look: where the last run in vain
-/// was long, and this one is, too. The look counts as a stretch of twice the part that it runs over, since it goes over
-/// the rest a good deal faster.
+/// Whether the tail of a repeat is known to fail from a cursor on. It is tested only if the last failed repeat was
+/// long, and this one is, too. The test counts as scanning twice the part that the repeat covers, since it scans the
+/// rest much faster.
 #[inline(always)]
 pub(super) fn is_in_vain<S: StrDrive, A: Allocator>(
     req: &Request<'_, S>,

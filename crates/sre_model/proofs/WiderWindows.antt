@@ -1,17 +1,56 @@
--- What is kept and counted for a window holds of each window inside it.
-use Rattle.std.proofs.Common.{ℕ, ◌+◌, ◌*◌, ◌/◌, ◌≤◌, arith}
-use Rattle.std.proofs.Math.Nat.{mul-le-mul, mul-le-mul_left}
-use Rattle.sre_model.specs.Tree.{Tree}
+-- What is memoized and counted for a range holds of each range inside it.
+use Rattle.std.proofs.Common.{ℕ, ◌+◌, ◌-◌, ◌*◌, ◌/◌, ◌≤◌, Bool, true, false, cond, min, nat_eq, arith}
+use Rattle.std.proofs.Math.Nat.{mul-le-mul, mul-le-mul_left, mul-le-mul_right}
+use Rattle.sre_model.specs.Tree.{Tree, Empty, Then, Item, Fail, One, At, Mark, Branch, Loop, Run, PossessiveLoop}
+use Rattle.sre_model.specs.Tree.{Atomic, Look, Reference, Exists, ExistsElse, Trees, Only, Or, GreedyRun, LazyRun}
+use Rattle.sre_model.specs.Tree.{PossessiveRun}
+use Rattle.sre_model.specs.Ways.{unlimited}
 use Rattle.sre_model.specs.Found.{Asked}
-use Rattle.sre_model.specs.Slots.{most_slots}
-use Rattle.sre_model.specs.Remembered.{kept_positions, words_at_place, IsRemembered, counts_at_most, ways_at_most}
-use Rattle.sre_model.specs.Remembered.{spots_at_most, enough_turns}
+use Rattle.sre_model.specs.Slots.{loop_slots, most_slots}
+use Rattle.sre_model.specs.TreePrices.{steps_of, other_ends, cost_of, item_cost, branch_cost, most_steps}
+use Rattle.sre_model.specs.Remembered.{kept_positions, words_at_place, IsRemembered, counts_at_most, sides, step_bound}
 
 -- one window lies inside another
 pub record IsInside (a b : Asked) : Type 0 where
   pub order : a.start ≤ a.end
   pub from : b.start ≤ a.start
   pub to : a.end ≤ b.end
+
+-- what a tree costs grows with the range
+module _ (e f : ℕ) (wider : e ≤ f) where
+  ends_grow : (low high : ℕ) → 1 + other_ends e low high ≤ 1 + other_ends f low high
+  ends_grow low high = by (nat_eq high unlimited)
+    where
+      by : (c : Bool) → 1 + cond c 0 (min high e - low) ≤ 1 + cond c 0 (min high f - low)
+      by true = omega arith
+      by false = omega (arith, wider)
+
+  mutual
+    pub cost_grows : (s : ℕ) (t : Tree) (b : ℕ) → cost_of e s t b ≤ cost_of f s t b
+    cost_grows s Empty b = omega arith
+    cost_grows s (Then x rest) b = omega (arith, item_grows s x (steps_of rest b), cost_grows s rest b)
+
+    item_grows : (s : ℕ) (x : Item) (b : ℕ) → item_cost e s x b ≤ item_cost f s x b
+    item_grows s Fail b = omega arith
+    item_grows s (One t) b = omega arith
+    item_grows s (At a) b = omega arith
+    item_grows s (Mark n) b = omega arith
+    item_grows s (Branch ts) b = omega (arith, branch_grows s ts b)
+    item_grows s (Loop o low high body) b = omega (arith, cost_grows (loop_slots low high * s) body 1)
+    item_grows s (Run GreedyRun low high t) b = mul-le-mul_left s (mul-le-mul_right (b + 2) (ends_grow low high))
+    item_grows s (Run LazyRun low high t) b = mul-le-mul_left s (mul-le-mul_right (b + 2) (ends_grow low high))
+    item_grows s (Run PossessiveRun low high t) b = omega arith
+    item_grows s (PossessiveLoop low high body) b = omega (arith, cost_grows 1 body 2)
+    item_grows s (Atomic body) b = cost_grows 1 body 2
+    item_grows s (Look sign back body) b = cost_grows 1 body 2
+    item_grows s (Reference fold g) b = omega arith
+    item_grows s (Exists g there) b = cost_grows s there b
+    item_grows s (ExistsElse g there absent) b =
+        omega (arith, cost_grows s there (1 + b), cost_grows s absent b)
+
+    branch_grows : (s : ℕ) (ts : Trees) (b : ℕ) → branch_cost e s ts b ≤ branch_cost f s ts b
+    branch_grows s (Only t) b = cost_grows s t (1 + b)
+    branch_grows s (Or t ts) b = omega (arith, cost_grows s t (1 + b), branch_grows s ts b)
 
 module _ (places : ℕ) (t : Tree) (a b : Asked) (inside : IsInside a b) where
   positions : kept_positions t a ≤ kept_positions t b
@@ -26,9 +65,6 @@ module _ (places : ℕ) (t : Tree) (a b : Asked) (inside : IsInside a b) where
   counts : counts_at_most t a ≤ counts_at_most t b
   counts = omega arith
 
-  ways : ways_at_most t a ≤ ways_at_most t b
-  ways = omega (arith, counts)
-
   pub remembered_inside : IsRemembered places t b → IsRemembered places t a
   remembered_inside r = record {
     unmarked = r.unmarked;
@@ -39,16 +75,17 @@ module _ (places : ℕ) (t : Tree) (a b : Asked) (inside : IsInside a b) where
     order = inside.order;
   }
 
-  -- what the ways of one position take
-  abbrev of_ways : Asked → ℕ
-  of_ways c = 4 * places * (places + 3) * spots_at_most t * (1 + ways_at_most t c)
+-- so does the number of steps that suffices
+module _ (t : Tree) (a b : Asked) (inside : IsInside a b) where
+  -- what one position costs
+  abbrev at_position : Asked → ℕ
+  at_position c = 1 + most_steps t + cost_of c.end 1 t 2 * sides t
 
-  pub enough_inside : enough_turns places t a ≤ enough_turns places t b
-  enough_inside =
-      let more : 1 + ways_at_most t a ≤ 1 + ways_at_most t b = omega (arith, ways) in
-      let each : of_ways a ≤ of_ways b = mul-le-mul_left (4 * places * (places + 3) * spots_at_most t) more in
-      let long : counts_at_most t a / 8 ≤ counts_at_most t b / 8 = omega (arith, counts) in
-      let long_ones : (2 * places + 4 + of_ways a) * (1 + counts_at_most t a / 8)
-      ≤ (2 * places + 4 + of_ways b) * (1 + counts_at_most t b / 8) =
-      mul-le-mul (omega (arith, each)) (omega (arith, long)) in
-      mul-le-mul positions (omega (arith, long_ones))
+  pub bound_inside : step_bound t a ≤ step_bound t b
+  bound_inside =
+      let costs : cost_of a.end 1 t 2 * sides t ≤ cost_of b.end 1 t 2 * sides t =
+      mul-le-mul_right (sides t) (cost_grows a.end b.end inside.to 1 t 2) in
+      let long : counts_at_most t a / 8 ≤ counts_at_most t b / 8 = omega (arith, counts 0 t a b inside) in
+      let each : at_position a * (1 + counts_at_most t a / 8) ≤ at_position b * (1 + counts_at_most t b / 8) =
+      mul-le-mul (omega (arith, costs)) (omega (arith, long)) in
+      mul-le-mul (positions 0 t a b inside) (omega (arith, each))

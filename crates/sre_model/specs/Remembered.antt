@@ -1,6 +1,6 @@
--- Codes of which a search keeps all that failed, and a number of turns that is enough for them.
--- Of the meaning: what sre_engine makes public rests on it.
-use Rattle.std.specs.Prelude.{ℕ, ◌+◌, ◌-◌, ◌*◌, ◌^◌, ◌/◌, ◌≡◌, ◌<◌, ◌≤◌, true, false, cond, min, max}
+-- Codes of which a search memoizes each failure, and the number of steps that suffices for them.
+-- Of the specification: what sre_engine makes public rests on it.
+use Rattle.std.specs.Prelude.{ℕ, ◌+◌, ◌-◌, ◌*◌, ◌^◌, ◌/◌, ◌≡◌, ◌<◌, ◌≤◌, true, false, cond, min}
 use Rattle.sre_model.specs.Tree.{Tree}
 use Rattle.sre_model.specs.Found.{Asked}
 use Rattle.sre_model.specs.References.{refers}
@@ -9,7 +9,7 @@ use Rattle.sre_model.specs.MarksSet.{marks_in_regions}
 use Rattle.sre_model.specs.Slots.{most_slots}
 use Rattle.sre_model.specs.RunCounts.{most_counts}
 use Rattle.sre_model.specs.LooksBehind.{backs}
-use Rattle.sre_model.specs.Alternatives.{most_alternatives}
+use Rattle.sre_model.specs.TreePrices.{most_steps, cost_of}
 
 -- from which position on what failed is kept: as far before the window as looks may go back
 abbrev pub kept_from : Tree → Asked → ℕ
@@ -38,22 +38,14 @@ pub record IsRemembered (places : ℕ) (t : Tree) (a : Asked) : Type 0 where
 abbrev pub counts_at_most : Tree → Asked → ℕ
 counts_at_most t a = min (most_counts t) a.end
 
--- how many ways to go on an instruction has at most: the ends of a run, as far as its characters make a difference, or
--- the alternatives of a branch
-abbrev pub ways_at_most : Tree → Asked → ℕ
-ways_at_most t a = max (counts_at_most t a) (most_alternatives t)
+-- where an atomic scope may branch, an address has configurations of its own inside of scopes, beside those outside
+abbrev pub sides : Tree → ℕ
+sides t = cond (has_forked_region t) 2 1
 
--- how many spots a place has at a position at most: one for each slot; and where a region forks, one inside of regions
--- and one outside, which have bits of their own
-abbrev pub spots_at_most : Tree → ℕ
-spots_at_most t = cond (has_forked_region t) (most_slots t * 2) (most_slots t)
-
--- so many turns are enough for a search. Each position pays for those that come before failures are kept, for a run
--- that begins there, and for each way, and one more, of each place and spot, of which a few times as many turns come as
--- there are places. A turn counts for more where it passes a long stretch of characters: for one more for each eight of
--- those that make a difference
-abbrev pub enough_turns : ℕ → Tree → Asked → ℕ
-enough_turns places t a =
+-- so many steps suffice for a search. Each position pays for those before failures are memoized, for a run that begins
+-- there, and for what each instruction that may branch costs. A step that scans characters costs one more for each
+-- eight of those that make a difference
+abbrev pub step_bound : Tree → Asked → ℕ
+step_bound t a =
     kept_positions t a
-    * (32 + (2 * places + 4 + 4 * places * (places + 3) * spots_at_most t * (1 + ways_at_most t a))
-    * (1 + counts_at_most t a / 8))
+    * (32 + (1 + most_steps t + cost_of a.end 1 t 2 * sides t) * (1 + counts_at_most t a / 8))

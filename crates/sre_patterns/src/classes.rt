@@ -1,4 +1,4 @@
-//! Tests of one character, as classes of bytes or of characters.
+//! Single-character tests, as classes of bytes or characters.
 
 ghost use Rattle.std.specs.Prelude.{◌≡◌, ℕ, IfOk, Some, [], ◌∷◌, encode_utf8};
 ghost use Rattle.regex_hir.specs.Re.{literal};
@@ -22,7 +22,7 @@ use sre_reading::one_character::{takes, test_end};
 use sre_request::Request;
 use std::alloc::{AllocError, Global};
 
-/// A pattern of the characters that the test at a place takes: a literal's bytes, or a class.
+/// A pattern that covers the test at an address: the bytes of a literal, or a class.
 pub(crate) fn pattern_of(
     alloc: Global,
     code: &Code<'_>,
@@ -44,7 +44,7 @@ pub(crate) fn pattern_of(
     }
 }
 
-// The bytes of a literal; none where no byte or character has its number.
+// The bytes of a literal. `None` if no byte or character has this number.
 fn literal_of(alloc: Global, encoding: Encoding, value: u32) -> Result<Option<Hir>, AllocError>
     ensures { IfOk result (λ o. (h : Hir) → o ≡ Some h → (table : Table)
         → CoversTest (view_of encoding) table (meaning h) (Literal Plain value)) }
@@ -80,8 +80,7 @@ fn literal_character(alloc: Global, value: u32) -> Result<Option<Hir>, AllocErro
     Ok(Some(Hir::Literal(text.into_bytes())))
 }
 
-/// The class of the characters that the test at a place takes; past ASCII of all characters, where these are read as
-/// UTF-8.
+/// A class that covers the test at an address. For UTF-8 it has all characters past ASCII.
 fn class_of(
     alloc: Global,
     code: &Code<'_>,
@@ -111,7 +110,7 @@ fn class_of(
     }
 }
 
-/// Whether the test at a place takes a character.
+/// Whether the test at an address accepts a character.
 pub(crate) fn is_taken(code: &Code<'_>, place: usize, opcode: SreOpcode, character: u32) -> bool
     requires code { Opcode (items_of code.now) place opcode }
     requires stands { HasTest (items_of code.now) place }
@@ -122,7 +121,7 @@ pub(crate) fn is_taken(code: &Code<'_>, place: usize, opcode: SreOpcode, charact
     takes(&req, place, opcode, character)
 }
 
-/// The numbers below a bound that the test at a place takes, each as a range.
+/// The numbers below a bound that the test at an address accepts, each as a range.
 pub(crate) fn taken_below(
     alloc: Global,
     code: &Code<'_>,
@@ -156,7 +155,7 @@ pub(crate) fn anything(alloc: Global, encoding: Encoding) -> Result<Hir, AllocEr
     }
 }
 
-/// Where the words of the test at a place end.
+/// The address after the test at an address.
 pub(crate) fn end_of_test(code: &Code<'_>, place: usize) -> usize
     requires { HasTest (items_of code.now) place }
     ensures { (j : ℕ) (t : Test) → TestStands (items_of code.now) place j t → result ≡ j }

@@ -1,15 +1,15 @@
-//! Why there is no pattern.
+//! Why a translation failed.
 
 use std::alloc::{AllocError, AllocFailed};
 
-/// Why there is no pattern.
+/// Why a translation failed.
 #[derive(Clone, Copy, Debug)]
 pub(crate) enum Fault {
-    /// Parts nest too deep.
+    /// Items are nested too deeply.
     TooDeep,
-    /// A pattern can't try the ways of a part in their order.
+    /// No pattern tries the match paths of an item in their order.
     OutOfOrder,
-    /// A request for memory was refused.
+    /// An allocation failed.
     Memory,
 }
 

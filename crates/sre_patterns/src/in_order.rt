@@ -1,9 +1,9 @@
-//! The pattern of a code that tries the ways of its tree in their order, where there is one.
+//! Translates bytecode to a pattern that tries the match paths in the tree's order, if there is one.
 //!
-//! Then the first match of the pattern is the first way, so automata tell spans and not only starts. A pattern has no
-//! word for what looks, refers or gives nothing back, nor for each position; nor for a loop whose body may read
-//! nothing, which SRE ends otherwise. Counts have to be kept as they are, and over UTF-8 it has to be known which
-//! characters a test takes.
+//! The first match of such a pattern is the first match path, so DFAs find spans and not only starts. There is no such
+//! pattern for lookarounds, back-references, conditionals, atomic groups and possessive repeats, and none for some
+//! positions. Nor is there one for a loop whose body can be empty, since SRE ends such a loop differently. Counts must
+//! be within the limit `KEPT`. Over UTF-8, it must be known which of all characters a test accepts.
 
 ghost use Rattle.std.specs.Prelude.{◌≡◌, ◌≤◌, ◌<◌, ◌+◌, ◌^◌, ℕ, IfOk, Some, true};
 ghost use Rattle.regex_hir.specs.Meaning.{meaning};
@@ -34,15 +34,15 @@ use sre_chars::constants::SreOpcode;
 use sre_code::Code;
 use std::alloc::{AllocError, Global};
 
-// How many characters there are.
+// The number of characters: one more than the greatest.
 const CHARACTERS: u32 = 0x11_0000;
 
-// Up to which character a test is asked one by one. Unicode's blanks are below it.
+// Up to which character each result of a test is computed. Unicode's white space is below it.
 const FAR: u32 = 0x4000;
 
-/// A pattern that tries the ways of the words' tree in their order: what follows it is tried from the end of each way
-/// in turn, and from nowhere else. `None` is for words of which no such pattern is known, and for items that lie in
-/// more than `DEPTH`; an error is for refused memory. No clause says when they come.
+/// Returns a pattern that tries the match paths of the tree in their order: what follows the code is tried from the end
+/// of each match path in turn, and from nowhere else. Returns `None` if no such pattern is known or items are nested
+/// deeper than `DEPTH`, and an error if an allocation failed. When either occurs is not proved.
 pub fn ways_of(
     alloc: Global,
     code: &Code<'_>,
@@ -59,7 +59,7 @@ pub fn ways_of(
     }
 }
 
-// The items from a place up to an end.
+// The pattern of the items from an address to `end`.
 #[cycle(in_order)]
 fn sequence(
     alloc: Global,
@@ -86,7 +86,7 @@ fn sequence(
     })
 }
 
-// The item at a place.
+// The pattern of the item at an address.
 #[cycle(in_order)]
 fn item(
     alloc: Global,
@@ -131,7 +131,7 @@ fn item(
     }
 }
 
-// The class of the characters that the test at a place takes.
+// The class of exactly the characters that the test at an address accepts.
 fn class_at(alloc: Global, code: &Code<'_>, encoding: Encoding, place: usize) -> Result<Hir, Fault>
     requires { HasTest (items_of code.now) place }
     ensures { IfOk result (λ h. TriesTest (view_of encoding) (uni_of code.now) (items_of code.now) place (meaning h)) }
@@ -143,7 +143,7 @@ fn class_at(alloc: Global, code: &Code<'_>, encoding: Encoding, place: usize) ->
     }
 }
 
-// The class of the bytes below a bound that the test at a place takes.
+// The class of exactly the bytes below a bound that the test at an address accepts.
 fn bytes_at(alloc: Global, code: &Code<'_>, bound: u32, place: usize) -> Result<Hir, AllocError>
     requires few { bound ≤ 256 }
     requires test { HasTest (items_of code.now) place }
@@ -153,7 +153,7 @@ fn bytes_at(alloc: Global, code: &Code<'_>, bound: u32, place: usize) -> Result<
     Ok(Hir::Bytes(Class::new(ranges)?))
 }
 
-// The class of all characters that the test at a place takes, where it answers alike from one on that is not far.
+// The class of exactly the characters that the test at an address accepts, if its results are constant from `FAR` on.
 fn characters_at(alloc: Global, code: &Code<'_>, place: usize) -> Result<Hir, Fault>
     requires { HasTest (items_of code.now) place }
     ensures { IfOk result (λ h. TriesTest InUtf8 (uni_of code.now) (items_of code.now) place (meaning h)) }
@@ -173,7 +173,7 @@ fn characters_at(alloc: Global, code: &Code<'_>, place: usize) -> Result<Hir, Fa
     Ok(Hir::Chars(Class::new(ranges)?))
 }
 
-// The characters that the test at a place takes, where it answers alike from one of them on.
+// The characters that the test at an address accepts. Its results are constant from the character `from` on.
 fn taken_and_on(
     alloc: Global,
     code: &Code<'_>,
@@ -196,7 +196,7 @@ fn taken_and_on(
     Ok(ranges)
 }
 
-// The numbers below a bound that the test at a place takes, each as a range.
+// The numbers below a bound that the test at an address accepts, each as a range.
 fn taken_at(
     alloc: Global,
     code: &Code<'_>,
@@ -219,7 +219,7 @@ fn taken_at(
     Ok(ranges)
 }
 
-// The position at a place, where an assertion holds just there.
+// The assertion of the position at an address, if one holds exactly there.
 fn position(code: &Code<'_>, encoding: Encoding, place: usize) -> Result<Part, Fault>
     requires opcode { Opcode (items_of code.now) place SreOpcode.AT }
     requires item { HasItem (items_of code.now) place }
@@ -235,7 +235,7 @@ fn position(code: &Code<'_>, encoding: Encoding, place: usize) -> Result<Part, F
     }
 }
 
-// The test of one character at a place.
+// The pattern of the single-character test at an address.
 fn one(alloc: Global, code: &Code<'_>, encoding: Encoding, place: usize) -> Result<Part, Fault>
     requires { HasTest (items_of code.now) place }
     ensures { IfOk result (λ p. TriesItem (view_of encoding) (uni_of code.now) (items_of code.now) place
@@ -248,14 +248,14 @@ fn one(alloc: Global, code: &Code<'_>, encoding: Encoding, place: usize) -> Resu
     })
 }
 
-// Whether a pattern keeps the counts of a repetition as they are.
+// Whether the counts of a repetition are within `KEPT`, so that a pattern has them exactly.
 fn are_kept(low: u32, high: u32) -> bool
     ensures { result ≡ true → low ≤ high → AreKept KEPT low high }
 {
     low <= KEPT && (high <= KEPT || high == u32::MAX)
 }
 
-// The run of a test at a place, which gives characters back.
+// The pattern of the single-character repeat at an address, which is greedy or lazy.
 fn run(
     alloc: Global,
     code: &Code<'_>,
@@ -280,7 +280,7 @@ fn run(
     })
 }
 
-// Whether the loop whose body ends at a place tries the most rounds first.
+// Whether the loop whose body ends at the address `until` is greedy.
 fn is_greedy_loop(code: &Code<'_>, until: usize) -> bool
     requires { (o : Order) × Opcode (items_of code.now) until (until_opcode o) }
     ensures greedy { (o : Order) → Opcode (items_of code.now) until (until_opcode o)
@@ -290,14 +290,14 @@ fn is_greedy_loop(code: &Code<'_>, until: usize) -> bool
     word(code, until) != SreOpcode::MIN_UNTIL as u32
 }
 
-// Whether each match of a pattern is known to read a byte.
+// Whether each match of a pattern is known to read at least one byte.
 fn reads(hir: &Hir) -> bool
     ensures { result ≡ true → IsMinLen (meaning hir.now) 1 }
 {
     hir.min_len() != 0
 }
 
-// The loop at a place.
+// The pattern of the loop at an address.
 #[cycle(in_order)]
 fn counted(
     alloc: Global,
@@ -327,7 +327,7 @@ fn counted(
     })
 }
 
-// The branch at a place.
+// The pattern of the branch at an address.
 #[cycle(in_order)]
 fn branch(
     alloc: Global,
@@ -341,7 +341,7 @@ fn branch(
         (meaning p.hir) p.end) }
 {
     let words = code.items();
-    let _length = words.len(); // a slice has few items, so no place overflows
+    let _length = words.len(); // a slice is short enough that no address overflows
     let mut all: Vec<Hir> = Vec::new(alloc);
     let mut at = place + 1;
     'alternative: while word(code, at) != 0 {

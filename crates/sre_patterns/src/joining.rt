@@ -1,4 +1,4 @@
-//! Parts one after the other.
+//! Concatenation and alternation of patterns.
 
 ghost use Rattle.std.specs.Prelude.{map, OnOk, IfOk};
 ghost use Rattle.regex_hir.specs.Re.{Re, cat, alt, empty, literal};
@@ -9,7 +9,7 @@ ghost use Rattle.sre_patterns.specs.Patterns.{cat_onto};
 use regex_hir::Hir;
 use std::alloc::{AllocError, Global};
 
-/// Adds a part behind others. An empty one is left out, and literals one after the other become one.
+/// Appends a pattern to a sequence. An empty pattern is omitted, and adjacent literals are merged.
 pub(crate) fn add(parts: &mut Vec<Hir>, hir: Hir) -> Result<(), AllocError>
     ensures { OnOk result ((b : Re)
         → IsWider (cat_onto (map meaning parts.old.items) (cat (meaning hir) b))
@@ -25,7 +25,7 @@ pub(crate) fn add(parts: &mut Vec<Hir>, hir: Hir) -> Result<(), AllocError>
     }
 }
 
-// Adds a literal, which becomes one with a literal before it.
+// Appends a literal, merged with a literal before it.
 fn add_literal(parts: &mut Vec<Hir>, bytes: Vec<u8>) -> Result<(), AllocError>
     ensures { OnOk result ((b : Re)
         → IsWider (cat_onto (map meaning parts.old.items) (cat (literal bytes.items) b))
@@ -49,7 +49,7 @@ fn add_literal(parts: &mut Vec<Hir>, bytes: Vec<u8>) -> Result<(), AllocError>
     }
 }
 
-/// All parts, one after the other.
+/// The concatenation of all parts.
 pub(crate) fn joined(mut parts: Vec<Hir>) -> Hir
     ensures { IsWider (cat_onto (map meaning parts.items) empty) (meaning result) }
 {
@@ -62,7 +62,7 @@ pub(crate) fn joined(mut parts: Vec<Hir>) -> Hir
     }
 }
 
-/// One of two patterns.
+/// The alternation of two patterns.
 pub(crate) fn either(alloc: Global, first: Hir, second: Hir) -> Result<Hir, AllocError>
     ensures { IfOk result (λ h. IsWider (alt (meaning first) (meaning second)) (meaning h)) }
 {

@@ -1,11 +1,11 @@
-//! From the words of a code to a pattern of bytes that matches wherever the code does.
+//! Translates bytecode to a byte pattern that matches wherever the bytecode does.
 //!
-//! The pattern is the `Hir` of the kit's crate `regex_hir`, from which other crates of the kit make automata. `hir_of`
-//! gives one that has a match wherever the tree of the words has a way, from the same place to the same, and
-//! `starts_of` one that tells of the starts alone. What a pattern cannot say is left wide: a mark and a look ask
-//! nothing, and a reference takes any characters. So where a search for the pattern finds nothing there is nothing, and
-//! what it finds is to be looked at by the machine. `ways_of` gives one, for fewer codes, that tries the ways of the
-//! tree in their order: what a search for that finds is the match.
+//! The pattern is an `Hir` of the kit's crate `regex_hir`, from which other crates of the kit build DFAs. The pattern
+//! of `hir_of` covers each match path of the tree, with the same start and end. That of `starts_of` covers the starts
+//! alone. What a pattern cannot express becomes wider: captures and lookarounds always pass, and a back-reference takes
+//! any characters. So a search for the pattern misses no match, and the machine confirms each candidate. For fewer
+//! codes, `ways_of` returns a pattern that tries the match paths in the tree's order: its match is the match of the
+//! code.
 #![tactic(auto)]
 
 mod classes;

@@ -1,4 +1,4 @@
-//! Positions, as looks.
+//! Positions of AT instructions, as assertions (`Look`) of the kit's patterns.
 
 ghost use Rattle.std.specs.Prelude.{◌≡◌};
 ghost use Rattle.sre_shape.specs.Looks as looks;
@@ -8,7 +8,7 @@ use crate::encoding::Encoding;
 use regex_hir::Look;
 use sre_chars::constants::SreAtCode;
 
-/// The position that holds at the same places of the texts that are seen so: in ASCII each table has the same words.
+/// An equivalent position for texts of this encoding. In ASCII all tables have the same word characters.
 pub(crate) fn position_in(code: SreAtCode, encoding: Encoding) -> SreAtCode
     ensures { result ≡ patterns.position_in encoding code }
 {
@@ -22,7 +22,7 @@ pub(crate) fn position_in(code: SreAtCode, encoding: Encoding) -> SreAtCode
     }
 }
 
-/// The look that holds wherever the position does; none where a table says what a word is.
+/// An assertion that holds wherever the position does. `None` if a Unicode table decides what a word character is.
 pub(crate) fn look_of(code: SreAtCode) -> Option<Look>
     ensures { result ≡ looks.look_of code }
 {
@@ -37,7 +37,8 @@ pub(crate) fn look_of(code: SreAtCode) -> Option<Look>
     }
 }
 
-/// The look that holds just where the position does; none where no look does, or where a table says what a word is.
+/// An assertion that holds exactly where the position does. `None` if there is none, or if a Unicode table decides what
+/// a word character is.
 pub(crate) fn exact_look(code: SreAtCode) -> Option<Look>
     ensures { result ≡ looks.exact_look code }
 {
@@ -47,8 +48,8 @@ pub(crate) fn exact_look(code: SreAtCode) -> Option<Look>
         SreAtCode::END_STRING => Some(Look::End),
         SreAtCode::END_LINE => Some(Look::EndLf),
         SreAtCode::BOUNDARY | SreAtCode::LOC_BOUNDARY => Some(Look::WordAscii),
-        SreAtCode::END => None, // it holds before the last line break alone
-        SreAtCode::NON_BOUNDARY | SreAtCode::LOC_NON_BOUNDARY => None, // a rule bars it on nothing
+        SreAtCode::END => None, // it also holds before a final line break
+        SreAtCode::NON_BOUNDARY | SreAtCode::LOC_NON_BOUNDARY => None, // `EmptyRule` can exclude it on an empty text
         SreAtCode::UNI_BOUNDARY | SreAtCode::UNI_NON_BOUNDARY => None,
     }
 }

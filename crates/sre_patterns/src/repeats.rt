@@ -1,4 +1,4 @@
-//! Repetitions, whose counts are kept as far as they are small.
+//! Repetitions, whose counts are exact up to a limit.
 
 ghost use Rattle.std.specs.Prelude.{◌≡◌, IfOk, true, None};
 ghost use Rattle.regex_hir.specs.Meaning.{meaning, repeat};
@@ -7,19 +7,19 @@ ghost use Rattle.sre_shape.specs.Repeated as repetitions;
 use regex_hir::Hir;
 use std::alloc::{AllocError, Global};
 
-/// The greatest count that a pattern has. Above it a least count is this one, and a greatest count is none.
+/// The greatest count in a pattern. A greater minimum is lowered to it. If a count is greater, the maximum is dropped.
 pub const KEPT: u32 = 1000;
 
-/// Which rounds of a repetition are tried first.
+/// Which iterations of a repetition are tried first.
 #[derive(Clone, Copy)]
 pub(crate) enum Order {
-    /// Those that the code tries first.
+    /// The same as in the bytecode.
     AsWritten,
-    /// The fewest, which is enough for starts.
+    /// The fewest, which suffices to find starts.
     Lazy,
 }
 
-/// Whether the most rounds are tried first of a repetition that is greedy as it is written, or is not.
+/// Whether a repetition in a pattern is greedy, if the one in the bytecode is `as_written`.
 pub(crate) fn is_greedy(order: Order, as_written: bool) -> bool {
     match order {
         Order::AsWritten => as_written,
@@ -27,7 +27,7 @@ pub(crate) fn is_greedy(order: Order, as_written: bool) -> bool {
     }
 }
 
-/// A pattern as often as the counts say, as far as these are kept.
+/// The repetition of a pattern, with counts limited by `KEPT`.
 pub(crate) fn repeated(
     alloc: Global,
     low: u32,
@@ -50,7 +50,7 @@ pub(crate) fn repeated(
     })
 }
 
-/// A pattern any number of times.
+/// The greedy repetition of a pattern without limits.
 pub(crate) fn any_number(alloc: Global, sub: Hir) -> Result<Hir, AllocError>
     ensures { IfOk result (λ h. meaning h ≡ repeat 0 None true (meaning sub)) }
 {

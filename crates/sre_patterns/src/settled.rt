@@ -1,7 +1,7 @@
-//! From which character on a test answers alike.
+//! From which character on a test has a constant result.
 //!
-//! Then a class of all characters is known from the answers up to there. Nothing is known where a table decides: of the
-//! case of letters, and of Unicode's letters and digits.
+//! Then the results up to that character determine the class of all characters. The bound is unknown if a Unicode table
+//! decides: for case, and for Unicode's letters and digits.
 
 ghost use Rattle.std.specs.Prelude.{◌≡◌, ◌+◌, ℕ, IfSome};
 ghost use Rattle.sre_chars.specs.Categories.{category};
@@ -19,21 +19,21 @@ use sre_code::Code;
 use sre_code::members::opcode;
 use sre_code::operands::{category_code, operand};
 
-// An item of a set: from which character on it answers alike, and where the next one begins.
+// From which character on an item of a set is constant, and the address of the next item.
 #[derive(Clone, Copy)]
 struct SettledItem {
     from: u32,
     next: usize,
 }
 
-// The number behind another one.
+// The next number.
 fn behind(value: u32) -> Option<u32>
     ensures { IfSome result (λ n. n ≡ value + 1) }
 {
     value.checked_add(1)
 }
 
-// From which character on a category answers alike.
+// From which character on a category is constant.
 fn settled_category(code: SreCatCode) -> Option<u32>
     ensures { IfSome result (λ from. (table : Table) → SettledFrom from (category table (category_number code))) }
 {
@@ -48,13 +48,13 @@ fn settled_category(code: SreCatCode) -> Option<u32>
     }
 }
 
-// From which character on an item of a set answers alike.
+// From which character on an item of a set is constant.
 fn settled_item(words: &[u32], place: usize, opcode: SreOpcode) -> Option<SettledItem>
     requires opcode { Opcode words.now place opcode }
     requires stands { HasSet words.now place }
     ensures { IfSome result (λ item. SettlesBehind words.now place item.next item.from) }
 {
-    let _length = words.len(); // a slice has few items, so no place overflows
+    let _length = words.len(); // a slice is short enough that no address overflows
     match opcode {
         SreOpcode::LITERAL => Some(SettledItem {
             from: behind(operand(words, place, 1))?,
@@ -80,7 +80,7 @@ fn settled_item(words: &[u32], place: usize, opcode: SreOpcode) -> Option<Settle
     }
 }
 
-// From which character on the set whose items begin at a place answers alike.
+// From which character on the set with items from `start` on is constant.
 fn settled_set(words: &[u32], start: usize) -> Option<u32>
     requires { HasSet words.now start }
     ensures { IfSome result (λ from. SettledSet words.now start from) }
@@ -99,7 +99,7 @@ fn settled_set(words: &[u32], start: usize) -> Option<u32>
     }
 }
 
-/// From which character on the test at a place answers alike, where that is known.
+/// From which character on the test at an address is constant, if that is known.
 pub(crate) fn settled_from(code: &Code<'_>, place: usize, opcode: SreOpcode) -> Option<u32>
     requires code { Opcode (items_of code.now) place opcode }
     requires stands { HasTest (items_of code.now) place }
@@ -107,7 +107,7 @@ pub(crate) fn settled_from(code: &Code<'_>, place: usize, opcode: SreOpcode) -> 
         → SettledFrom from (holds (uni_of code.now) t)) }
 {
     let words = code.items();
-    let _length = words.len(); // a slice has few items, so no place overflows
+    let _length = words.len(); // a slice is short enough that no address overflows
     match opcode {
         SreOpcode::ANY => Some(11),
         SreOpcode::ANY_ALL => Some(0),

@@ -1,4 +1,4 @@
-//! Items, and what stands in them.
+//! Translates items, with the items nested in them.
 
 ghost use Rattle.std.specs.Prelude.{◌≡◌, IfOk, Some};
 ghost use Rattle.regex_hir.specs.Meaning.{meaning};
@@ -24,18 +24,19 @@ use sre_chars::constants::SreOpcode;
 use sre_code::Code;
 use std::alloc::{AllocError, Global};
 
-/// In how many items an item may lie, itself among them.
+/// Limit on the nesting of items, the innermost included.
 pub const DEPTH: u32 = 64;
 
-/// A part: its pattern, and where its words end.
+/// The pattern of a part, and the address at which the part ends.
 #[derive(Drop)]
 pub(crate) struct Part {
     pub(crate) hir: Hir,
     pub(crate) end: usize,
 }
 
-/// A pattern that has a match wherever the tree of the words has a way, from the same place to the same. `None` is for
-/// items that lie in more than `DEPTH`, and an error for refused memory; no clause says when either comes.
+/// Returns a pattern that covers the code: for each match path of the tree it has a match with the same start and end.
+/// Returns `None` if items are nested deeper than `DEPTH`, and an error if an allocation failed. When either occurs is
+/// not proved.
 pub fn hir_of(alloc: Global, code: &Code<'_>, encoding: Encoding) -> Result<Option<Hir>, AllocError>
     ensures { IfOk result (λ o. (h : Hir) → o ≡ Some h → (t : Tree) → WholeItems (items_of code.now) t
         → Covers (view_of encoding) (uni_of code.now) (meaning h) t) }
@@ -48,8 +49,8 @@ pub fn hir_of(alloc: Global, code: &Code<'_>, encoding: Encoding) -> Result<Opti
     }
 }
 
-/// A pattern that has a match from wherever the tree of the words has a way. It tells nothing of where that ends: it is
-/// lazy, and what stands from the first reference on is left out. `None` and an error are those of `hir_of`.
+/// Returns a pattern that has a match from the start of each match path of the tree. Where its matches end is
+/// unrelated: it is lazy, and omits everything from the first back-reference on. `None` and errors are as for `hir_of`.
 pub fn starts_of(
     alloc: Global,
     code: &Code<'_>,
@@ -66,7 +67,7 @@ pub fn starts_of(
     }
 }
 
-// The first items, up to an end or a reference before it.
+// The pattern of the first items, up to `end` or to a back-reference before it.
 fn front(alloc: Global, code: &Code<'_>, encoding: Encoding, end: usize) -> Result<Hir, Fault>
     requires { HasItems (items_of code.now) 0 end }
     ensures { IfOk result (λ h.
@@ -89,7 +90,7 @@ fn front(alloc: Global, code: &Code<'_>, encoding: Encoding, end: usize) -> Resu
     Ok(joined(parts))
 }
 
-// Whether a word is the opcode of a reference.
+// Whether a code word is the opcode of a back-reference.
 fn is_reference(word: u32) -> bool {
     word == SreOpcode::GROUPREF as u32
         || word == SreOpcode::GROUPREF_IGNORE as u32
@@ -97,7 +98,7 @@ fn is_reference(word: u32) -> bool {
         || word == SreOpcode::GROUPREF_UNI_IGNORE as u32
 }
 
-// The items from a place on, up to an end or a JUMP before it.
+// The pattern of the items from an address to `end`, or to a JUMP before it.
 #[cycle(items)]
 fn sequence(
     alloc: Global,
@@ -128,7 +129,7 @@ fn sequence(
     })
 }
 
-// The item at a place.
+// The pattern of the item at an address.
 #[cycle(items)]
 fn item(
     alloc: Global,
@@ -175,7 +176,7 @@ fn item(
     }
 }
 
-// A part that takes no character and asks nothing.
+// The empty pattern, for an item that is ignored.
 fn nothing(end: usize) -> Part
     ensures hir { meaning result.hir ≡ empty }
     ensures end { result.end ≡ end }
@@ -186,7 +187,7 @@ fn nothing(end: usize) -> Part
     }
 }
 
-// The position at a place.
+// The pattern of the position at an address. It is empty if no assertion covers the position.
 fn position(code: &Code<'_>, encoding: Encoding, place: usize) -> Part
     requires opcode { Opcode (items_of code.now) place SreOpcode.AT }
     requires item { HasItem (items_of code.now) place }
@@ -204,7 +205,7 @@ fn position(code: &Code<'_>, encoding: Encoding, place: usize) -> Part
     }
 }
 
-// The test of one character at a place.
+// The pattern of the single-character test at an address.
 fn one(alloc: Global, code: &Code<'_>, encoding: Encoding, place: usize) -> Result<Part, Fault>
     requires { HasTest (items_of code.now) place }
     ensures { IfOk result (λ p. CoversItemAt (view_of encoding) (uni_of code.now) (items_of code.now) place
@@ -217,7 +218,7 @@ fn one(alloc: Global, code: &Code<'_>, encoding: Encoding, place: usize) -> Resu
     })
 }
 
-// The run of a test at a place.
+// The pattern of the single-character repeat at an address.
 fn run(
     alloc: Global,
     code: &Code<'_>,
@@ -241,7 +242,7 @@ fn run(
     })
 }
 
-// The loop at a place, possessive or not.
+// The pattern of the loop at an address, possessive or not.
 #[cycle(items)]
 fn counted(
     alloc: Global,
@@ -266,7 +267,7 @@ fn counted(
     })
 }
 
-// The atomic group at a place.
+// The pattern of the atomic group at an address.
 #[cycle(items)]
 fn atomic(
     alloc: Global,
@@ -285,7 +286,7 @@ fn atomic(
     Ok(Part { hir: body.hir, end })
 }
 
-// The condition at a place.
+// The pattern of the conditional at an address: either of its parts.
 #[cycle(items)]
 fn condition(
     alloc: Global,
@@ -315,7 +316,7 @@ fn condition(
     })
 }
 
-// The branch at a place.
+// The pattern of the branch at an address.
 #[cycle(items)]
 fn branch(
     alloc: Global,
@@ -330,7 +331,7 @@ fn branch(
         (meaning p.hir) p.end) }
 {
     let words = code.items();
-    let _length = words.len(); // a slice has few items, so no place overflows
+    let _length = words.len(); // a slice is short enough that no address overflows
     let mut all: Vec<Hir> = Vec::new(alloc);
     let mut at = place + 1;
     'alternative: while word(code, at) != 0 {

@@ -1,4 +1,4 @@
-//! The words of a code, read where a tree says what stands there.
+//! Reads code words where the tree determines what they are.
 
 ghost use Rattle.std.specs.Prelude.{◌≡◌, ◌+◌, ◌<◌, ◌^◌, length};
 ghost use Rattle.sre_chars.specs.Numbers.{at_number};
@@ -14,7 +14,7 @@ use sre_reading::one_character::opcode;
 use sre_request::Request;
 use std::convert::TryFrom;
 
-/// The word at a place.
+/// The code word at an address.
 pub(crate) fn word(code: &Code<'_>, place: usize) -> u32
     requires { place < length (items_of code.now) }
     ensures word { Word (items_of code.now) place result }
@@ -23,7 +23,7 @@ pub(crate) fn word(code: &Code<'_>, place: usize) -> u32
     operands::word(code.items(), place)
 }
 
-/// The word some places on.
+/// The code word at `place + offset`.
 pub(crate) fn operand(code: &Code<'_>, place: usize, offset: usize) -> u32
     requires { place + offset < length (items_of code.now) }
     ensures word { Word (items_of code.now) (place + offset) result }
@@ -32,8 +32,7 @@ pub(crate) fn operand(code: &Code<'_>, place: usize, offset: usize) -> u32
     operands::operand(code.items(), place, offset)
 }
 
-/// Where a skip word some places on leads, which stands behind the opcode and other operands: it is counted from the
-/// word behind the opcode.
+/// The target of the skip word at `place + offset`. A skip counts from the word after the opcode.
 pub(crate) fn skip(code: &Code<'_>, place: usize, offset: usize) -> usize
     requires { place + offset < length (items_of code.now) }
     ensures to { result ≡ place + 1 + grammar.word (items_of code.now) (place + offset) }
@@ -43,7 +42,7 @@ pub(crate) fn skip(code: &Code<'_>, place: usize, offset: usize) -> usize
     place + 1 + skip
 }
 
-/// The opcode of the item at a place.
+/// The opcode of the item at an address.
 pub(crate) fn item_opcode(code: &Code<'_>, place: usize) -> SreOpcode
     requires { HasItem (items_of code.now) place }
     ensures word { Opcode (items_of code.now) place result }
@@ -55,7 +54,7 @@ pub(crate) fn item_opcode(code: &Code<'_>, place: usize) -> SreOpcode
     }
 }
 
-/// The opcode of the test at a place.
+/// The opcode of the test at an address.
 pub(crate) fn test_opcode(code: &Code<'_>, place: usize) -> SreOpcode
     requires { HasTest (items_of code.now) place }
     ensures { Opcode (items_of code.now) place result }
@@ -63,7 +62,7 @@ pub(crate) fn test_opcode(code: &Code<'_>, place: usize) -> SreOpcode
     opcode(&Request::new(b"".as_slice(), 0, 0, *code, false), place)
 }
 
-/// The code of the position at a place.
+/// The position code of the AT instruction at an address.
 pub(crate) fn at_code(code: &Code<'_>, place: usize) -> SreAtCode
     requires opcode { Opcode (items_of code.now) place SreOpcode.AT }
     requires item { HasItem (items_of code.now) place }

@@ -1,6 +1,6 @@
-//! Tests whose ASCII characters are at hand.
+//! Tests whose ASCII characters are known.
 //!
-//! Most characters are ASCII, and of these a bit tells what the test itself, or a walk over a set's items, would.
+//! Most characters are ASCII. For these one bit decides, instead of the test or a scan of a set's items.
 
 ghost use Rattle.std.specs.Prelude.{◌≡◌, ℕ, ◌<◌, nat_eq, true, IfSome, IsSome};
 ghost use Rattle.sre_code.specs.AsciiSet.{contains};
@@ -26,9 +26,9 @@ fn either_case(character: u32) -> AsciiSet
     AsciiSet::of_character(character).union(AsciiSet::of_character(upper_ascii(character)))
 }
 
-/// The ASCII characters that the test at a place takes. Told are those of ANY, of a literal, also of one that ignores
-/// case by ASCII's or Unicode's rules, of a negated literal, of a category, and of a set whose items are each a
-/// LITERAL, a RANGE, a CATEGORY, a CHARSET or a NEGATE.
+/// The ASCII characters that the test at an address takes. They are known for ANY, a literal, one that ignores case by
+/// ASCII's or Unicode's rules, a negated literal and a category. They are known for a set if each item is a LITERAL, a
+/// RANGE, a CATEGORY, a CHARSET or a NEGATE. For other tests the result is `None`.
 pub fn ascii_taken(words: &[u32], place: usize) -> Option<AsciiSet>
     requires { HasTest words.now place }
     ensures taken { IfSome result (λ taken. TakesAscii words.now place taken) }

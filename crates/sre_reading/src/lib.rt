@@ -1,7 +1,7 @@
-//! What the machine reads of a request: words of its code, steps over its text, tests of one character and their runs,
-//! positions, references.
+//! What the machine reads of a request: code words, characters of the text, tests of one character and their repeats,
+//! positions, back-references.
 //!
-//! Each function rests on what stands at a place of the words, and says what the definitions say of it.
+//! Each function requires that its instruction is at the given address, and returns what the definitions say of it.
 #![tactic(auto)]
 
 pub mod ascii;

@@ -1,6 +1,6 @@
 //! Tests of one character: which characters a test takes, and where its words end.
 //!
-//! A caller that knows the opcode passes it as a constant, so that nothing is left of the choice among them.
+//! A caller that knows the opcode passes it as a constant, so that the match on opcodes is compiled away.
 
 ghost use Rattle.std.specs.Prelude.{◌≡◌, ℕ, List};
 ghost use Rattle.sre_model.specs.Tree.{Test, Locale, SetItem};
@@ -36,7 +36,7 @@ fn takes_a_case(words: &[u32], uni: &LentTable, place: usize, character: u32) ->
         || is_member(words, uni, place, upper_ascii(character))
 }
 
-/// The opcode of the test at a place.
+/// The opcode of the test at an address.
 #[inline(always)]
 pub fn opcode<S: StrDrive>(req: &Request<'_, S>, place: usize) -> SreOpcode
     requires { TestAt req.now place }
@@ -48,7 +48,7 @@ pub fn opcode<S: StrDrive>(req: &Request<'_, S>, place: usize) -> SreOpcode
     }
 }
 
-/// Whether the test whose opcode is at a place takes a character.
+/// Whether the test at an address takes a character.
 #[inline(always)]
 pub fn takes<S: StrDrive>(
     req: &Request<'_, S>,
@@ -63,7 +63,7 @@ pub fn takes<S: StrDrive>(
 {
     let words = req.pattern_codes().items();
     let uni = req.pattern_codes().uni();
-    // A row for each folding but that of the locale: its opcodes, and the character as it shows it.
+    // A row for each case folding except the locale's: its opcodes, and the folded character.
     macro_rules! takes_folded {
         ($($literal:ident $not_literal:ident $set:ident: $folded:expr,)*) => {
             match opcode {
@@ -93,7 +93,7 @@ pub fn takes<S: StrDrive>(
     )
 }
 
-/// What `takes` says, out of line: for the tests that are seldom met.
+/// The same as `takes`, out of line, for rare tests.
 #[inline(never)]
 pub fn takes_seldom<S: StrDrive>(
     req: &Request<'_, S>,
@@ -109,7 +109,7 @@ pub fn takes_seldom<S: StrDrive>(
     takes(req, place, opcode, character)
 }
 
-/// Where the words of the test whose opcode is at a place end.
+/// The address after the words of the test at an address.
 #[inline(always)]
 pub fn test_end<S: StrDrive>(req: &Request<'_, S>, place: usize, opcode: SreOpcode) -> usize
     requires code { OpcodeAt req.now place opcode }

@@ -1,6 +1,7 @@
-//! Positions: whether a cursor stands where a position code asks for.
+//! Positions: whether a position code holds at a cursor.
 //!
-//! Characters before the window's start are seen, and none from its end on. The locale's words are ASCII's.
+//! It reads characters before the start of the range, and none from its end on. Word characters of the locale are
+//! ASCII's.
 
 ghost use Rattle.std.specs.Prelude.{◌≡◌, ◌+◌, nat_eq, ◌&&◌};
 ghost use Rattle.sre_chars.specs.Numbers.{category_number};
@@ -14,7 +15,7 @@ use sre_chars::string::{LentTable, StrDrive, StringCursor, category};
 use sre_code::ascii_set::AsciiSet;
 use sre_request::Request;
 
-// Whether a character is in a category: a bit tells of an ASCII one, where it is cheaper than to compare.
+// Whether a character is in a category. A bit decides for an ASCII one, if that is cheaper than comparing.
 #[inline(always)]
 fn is_in(uni: &LentTable, code: SreCatCode, character: u32) -> bool
     ensures { result ≡ category uni.now (category_number code) character }
@@ -25,7 +26,7 @@ fn is_in(uni: &LentTable, code: SreCatCode, character: u32) -> bool
     category(uni, code, character)
 }
 
-// Whether the character before a cursor is in a category; none is before the text's start.
+// Whether the character before a cursor is in a category. Before the start of the text there is none.
 #[inline(always)]
 fn is_behind<S: StrDrive>(req: &Request<'_, S>, code: SreCatCode, cursor: StringCursor) -> bool
     requires { Standing req.now cursor }
@@ -39,7 +40,7 @@ fn is_behind<S: StrDrive>(req: &Request<'_, S>, code: SreCatCode, cursor: String
     is_in(req.pattern_codes().uni(), code, character)
 }
 
-// Whether the character at a cursor is in a category; none is at the window's end.
+// Whether the character at a cursor is in a category. At the end of the range there is none.
 #[inline(always)]
 fn is_ahead<S: StrDrive>(req: &Request<'_, S>, code: SreCatCode, cursor: StringCursor) -> bool
     requires { Standing req.now cursor }
@@ -53,7 +54,7 @@ fn is_ahead<S: StrDrive>(req: &Request<'_, S>, code: SreCatCode, cursor: StringC
     is_in(req.pattern_codes().uni(), code, character)
 }
 
-// Whether a linebreak at a cursor is the window's last character.
+// Whether a linebreak at a cursor is the last character of the range.
 #[inline(always)]
 fn is_last_linebreak<S: StrDrive>(req: &Request<'_, S>, cursor: StringCursor) -> bool
     requires { Standing req.now cursor }
@@ -67,7 +68,7 @@ fn is_last_linebreak<S: StrDrive>(req: &Request<'_, S>, cursor: StringCursor) ->
         && is_ahead(req, SreCatCode::LINEBREAK, cursor)
 }
 
-// Whether the window ends at 0, and the cursor stands there.
+// Whether the range ends at 0, and the cursor is there.
 #[inline(always)]
 fn is_on_nothing<S: StrDrive>(req: &Request<'_, S>, cursor: StringCursor) -> bool
     ensures { result ≡ is_on_nothing (run_of req.now).subject cursor.position }
@@ -75,7 +76,7 @@ fn is_on_nothing<S: StrDrive>(req: &Request<'_, S>, cursor: StringCursor) -> boo
     cursor.position() == 0 && req.end() == 0
 }
 
-// Whether there is no non-boundary at a cursor either, by the request's rule.
+// Whether the request's rule excludes `\B` at a cursor: the range ends at 0, and the rule is `Never`.
 #[inline(always)]
 fn bars_non_boundary<S: StrDrive>(req: &Request<'_, S>, cursor: StringCursor) -> bool
     ensures { result ≡ bars_non_boundary (run_of req.now).subject cursor.position }
@@ -83,8 +84,8 @@ fn bars_non_boundary<S: StrDrive>(req: &Request<'_, S>, cursor: StringCursor) ->
     is_on_nothing(req, cursor) && req.empty_rule() == EmptyRule::Never
 }
 
-// Whether one of the characters on both sides is of a category, and the other is not. Out of line: the machine's turn
-// is one function, which is inlined in its loop only while it is small.
+// Whether exactly one of the characters on both sides is of a category. Out of line: the machine's step is inlined in
+// its loop only while it is small.
 #[inline(never)]
 fn is_boundary<S: StrDrive>(req: &Request<'_, S>, word: SreCatCode, cursor: StringCursor) -> bool
     requires { Standing req.now cursor }
@@ -94,7 +95,7 @@ fn is_boundary<S: StrDrive>(req: &Request<'_, S>, word: SreCatCode, cursor: Stri
     is_behind(req, word, cursor) != is_ahead(req, word, cursor)
 }
 
-/// Whether a cursor stands where a code asks for.
+/// Whether a position code holds at a cursor.
 #[inline(always)]
 pub fn holds_at<S: StrDrive>(req: &Request<'_, S>, code: SreAtCode, cursor: StringCursor) -> bool
     requires { Standing req.now cursor }

@@ -1,6 +1,6 @@
-//! References: whether the characters of a group stand again at a cursor.
+//! Back-references: whether the characters of a group repeat at a cursor.
 //!
-//! The opcode is looked at once, before a loop of its own that folds as it does.
+//! The opcode is matched once, before a loop of its own that folds case as the opcode does.
 
 ghost use Rattle.std.specs.Prelude.{◌≡◌, ◌+◌, ◌≤◌, length, is_some, IfSome};
 ghost use Rattle.sre_model.specs.Tree.{Fold};
@@ -16,7 +16,7 @@ use sre_chars::constants::SreOpcode;
 use sre_chars::string::{LentTable, StrDrive, StringCursor, lower_ascii, lower_unicode};
 use sre_request::Request;
 
-/// A character as the folding of a reference's opcode shows it.
+/// A character, folded as a back-reference's opcode folds it.
 #[inline(always)]
 pub fn folded(uni: &LentTable, opcode: SreOpcode, character: u32) -> u32
     requires { role opcode ≡ ToRefer }
@@ -31,7 +31,7 @@ pub fn folded(uni: &LentTable, opcode: SreOpcode, character: u32) -> u32
     }
 }
 
-// As `is_repeated`, where the opcode is a constant.
+// The same as `is_repeated`, if the opcode is a constant.
 #[inline(always)]
 fn is_repeated_folded<S: StrDrive>(
     req: &Request<'_, S>,
@@ -67,8 +67,8 @@ fn is_repeated_folded<S: StrDrive>(
     Some(here)
 }
 
-/// The cursor behind so many characters of the window from a cursor on, where they are those of a group from its start
-/// on, both as the folding of the reference's opcode shows them.
+/// The cursor after so many characters of the range from a cursor on, if they equal those of a group from its start on,
+/// both folded as the opcode folds them.
 pub fn is_repeated<S: StrDrive>(
     req: &Request<'_, S>,
     opcode: SreOpcode,

@@ -1,6 +1,6 @@
-//! Runs: how far a test of one character goes on taking.
+//! Single-character repeats: how many characters in a row a test takes.
 //!
-//! The opcode is looked at once, before a loop of its own that holds what it needs of the words.
+//! The opcode is matched once, before a loop of its own that has the operands at hand.
 
 ghost use Rattle.std.specs.Prelude.{⊤, ◌≡◌, ℕ, ◌+◌, ◌-◌, ◌<◌, ◌≤◌, Bool, true, false, cond, List, length, IfSome};
 ghost use Rattle.std.specs.Prelude.{slice_range};
@@ -29,14 +29,14 @@ use sre_code::members::{has_bit, is_between, is_in_category, is_member};
 use sre_code::operands::{category_code, operand, word};
 use sre_request::Request;
 
-/// Some characters from a cursor on: how many, and the cursor behind them.
+/// Some characters from a cursor on: their number, and the cursor after them.
 #[derive(Clone, Copy)]
 pub struct Stretch {
     pub count: usize,
     pub end: StringCursor,
 }
 
-// How many characters a run from a cursor may have: those that are left, up to the greatest count.
+// The most characters of a repeat from a cursor on: those left in the range, up to the greatest count.
 #[inline(always)]
 fn most<S: StrDrive>(req: &Request<'_, S>, high: u32, cursor: StringCursor) -> usize
     ensures { result ≡ most_from (run_of req.now).subject high cursor.position }
@@ -50,7 +50,7 @@ fn most<S: StrDrive>(req: &Request<'_, S>, high: u32, cursor: StringCursor) -> u
     }
 }
 
-// A run of any characters, each of which is taken.
+// A repeat of any characters, each of which is taken.
 #[inline(always)]
 fn run_any<S: StrDrive, const WANTED: bool>(
     req: &Request<'_, S>,
@@ -77,7 +77,7 @@ fn run_any<S: StrDrive, const WANTED: bool>(
     }
 }
 
-// The longest run of characters of which the test whose opcode is at a place says what is wanted.
+// The longest repeat of characters for which the test at an address answers `WANTED`.
 #[inline(always)]
 fn run_tested<S: StrDrive, const WANTED: bool>(
     req: &Request<'_, S>,
@@ -105,8 +105,7 @@ fn run_tested<S: StrDrive, const WANTED: bool>(
     Stretch { count, end: cursor }
 }
 
-// The one character of which the test whose opcode is at a place says otherwise than is wanted, where it says what is
-// wanted of all others.
+// The single character for which the test at an address does not answer `WANTED`, if there is only one.
 #[inline(always)]
 fn only_other<S: StrDrive, const WANTED: bool>(
     req: &Request<'_, S>,
@@ -126,7 +125,7 @@ fn only_other<S: StrDrive, const WANTED: bool>(
     }
 }
 
-// A stretch up to the next such character, or of as many characters as it may have where none of them is.
+// A stretch up to the next such character, or of the most characters if there is none among them.
 #[inline(always)]
 fn stretch_to<S: StrDrive>(
     req: &Request<'_, S>,
@@ -150,8 +149,8 @@ fn stretch_to<S: StrDrive>(
     }
 }
 
-// A stretch of so many characters up to a cursor, continued up to the next such character, or to as many as it may
-// have. It is out of line, since most runs are short.
+// A stretch of so many characters up to a cursor, continued up to the next such character or to the most. It is out of
+// line, since most repeats are short.
 #[inline(never)]
 fn stretch_on<S: StrDrive>(
     req: &Request<'_, S>,
@@ -173,8 +172,8 @@ fn stretch_on<S: StrDrive>(
     }
 }
 
-// How many characters of a run are looked at one by one before the rest is sought: all of them where they are less than
-// twice as many as are better not sought.
+// How many characters of a repeat are tested one by one before the rest is searched: `few` of the text, or all if they
+// are less than twice as many.
 #[inline(always)]
 fn most_near<S: StrDrive>(req: &Request<'_, S>, most: usize) -> usize
     ensures { result ≤ most }
@@ -183,8 +182,7 @@ fn most_near<S: StrDrive>(req: &Request<'_, S>, most: usize) -> usize
     if most / 2 < few { most } else { few }
 }
 
-// The longest run of characters of which the test whose opcode is at a place says what is wanted, where it says
-// otherwise of one character alone.
+// The longest repeat of characters for which the test at an address answers `WANTED`, if only one character does not.
 #[inline(always)]
 fn run_but<S: StrDrive, const WANTED: bool>(
     req: &Request<'_, S>,
@@ -209,7 +207,7 @@ fn run_but<S: StrDrive, const WANTED: bool>(
     stretch_on(req, other, most, near.count, near.end)
 }
 
-// The same, whatever the test says of others.
+// The longest repeat of characters for which the test at an address answers `WANTED`, for any test.
 #[inline(always)]
 fn run_by<S: StrDrive, const WANTED: bool>(
     req: &Request<'_, S>,
@@ -260,7 +258,7 @@ impl Taker for Between {
     }
 }
 
-// Takes the characters below 256 whose bit is set in the eight words behind a CHARSET.
+// Takes the characters below 256 whose bit is set in the eight words after a CHARSET.
 #[derive(Clone, Copy)]
 struct Bits<'a> {
     words: &'a [u32],
@@ -279,7 +277,7 @@ impl<'a> Taker for Bits<'a> {
     }
 }
 
-// Takes the characters of a category, of which the ASCII ones are at hand.
+// Takes the characters of a category; the ASCII ones are at hand.
 #[derive(Clone, Copy)]
 struct OfCategory<'a> {
     uni: &'a LentTable<'a>,
@@ -301,7 +299,7 @@ impl<'a> Taker for OfCategory<'a> {
     }
 }
 
-// Takes the characters of a set, of which the ASCII ones are at hand.
+// Takes the characters of a set; the ASCII ones are at hand.
 #[derive(Clone, Copy)]
 struct OfSet<'a> {
     words: &'a [u32],
@@ -325,7 +323,7 @@ impl<'a> Taker for OfSet<'a> {
     }
 }
 
-// The same of the test at a place whose operands are at hand.
+// The longest such repeat for a test whose operands are at hand.
 #[inline(always)]
 fn run_while<S: StrDrive, T: Taker, const WANTED: bool>(
     req: &Request<'_, S>,
@@ -354,7 +352,7 @@ fn run_while<S: StrDrive, T: Taker, const WANTED: bool>(
     Stretch { count, end: cursor }
 }
 
-// The same of an IN at a place, of any items.
+// The longest such repeat for an IN with any items.
 #[inline(always)]
 fn run_in_items<S: StrDrive, const WANTED: bool>(
     req: &Request<'_, S>,
@@ -382,8 +380,8 @@ fn run_in_items<S: StrDrive, const WANTED: bool>(
     run_while::<S, OfSet<'_>, WANTED>(req, place, &of_set, most, start)
 }
 
-// The same of an IN at a place. A set of one RANGE, CATEGORY or CHARSET is told by its length and first word, and has a
-// loop of its own.
+// The longest such repeat for an IN. A set of one RANGE, CATEGORY or CHARSET is recognized by its length and first
+// word, and has a loop of its own.
 #[inline(always)]
 fn run_in_set<S: StrDrive, const WANTED: bool>(
     req: &Request<'_, S>,
@@ -423,8 +421,8 @@ fn run_in_set<S: StrDrive, const WANTED: bool>(
     run_in_items::<S, WANTED>(req, place, most, start)
 }
 
-// The longest run of characters of which the test at a place says what is wanted, from a cursor on, of at most so many
-// characters of the window.
+// The longest repeat of characters for which the test at an address answers `WANTED`, from a cursor on, up to `most`
+// characters of the range.
 #[inline(always)]
 fn run_wanted<S: StrDrive, const WANTED: bool>(
     req: &Request<'_, S>,
@@ -458,7 +456,7 @@ fn run_wanted<S: StrDrive, const WANTED: bool>(
     )
 }
 
-/// The longest run of the test at a place from a cursor on, of at most so many characters of the window.
+/// The longest repeat of the test at an address from a cursor on, up to `most` characters of the range.
 #[inline(always)]
 pub fn run_up_to<S: StrDrive>(
     req: &Request<'_, S>,
@@ -477,7 +475,7 @@ pub fn run_up_to<S: StrDrive>(
     run_wanted::<S, true>(req, place, most, start)
 }
 
-/// The longest run of the test at a place from a cursor on, inside the window and up to `high` characters, where
+/// The longest repeat of the test at an address from a cursor on, within the range and up to `high` characters, where
 /// 4294967295 means no limit.
 pub fn longest_run<S: StrDrive>(
     req: &Request<'_, S>,
@@ -496,8 +494,8 @@ pub fn longest_run<S: StrDrive>(
     run_up_to(req, place, most, start)
 }
 
-/// The first cursor from one on, inside the window, whose character the test at a place takes, or one at the window's
-/// end.
+/// The first cursor, from a given one on, whose character the test at an address takes, or the one at the end of the
+/// range.
 #[inline(never)]
 pub fn first_taken<S: StrDrive>(
     req: &Request<'_, S>,

@@ -1,4 +1,4 @@
-//! Steps over the text of a request, by one character or by some.
+//! Moves over the text of a request, by one character or by some.
 
 ghost use Rattle.std.specs.Prelude.{◌≡◌, ◌≢◌, ◌+◌, ◌-◌, ◌<◌, ◌≤◌, length, true, false};
 ghost use Rattle.sre_request.specs.Requests.{end_of};
@@ -8,7 +8,7 @@ ghost use Rattle.sre_reading.specs.Reads.{character_at};
 use sre_chars::string::{StrDrive, StringCursor};
 use sre_request::Request;
 
-/// The character at a cursor that stands before the window's end, and the cursor behind it.
+/// The character at a cursor before the end of the range, and the cursor after it.
 #[inline(always)]
 pub fn read<S: StrDrive>(req: &Request<'_, S>, cursor: StringCursor) -> (u32, StringCursor)
     requires stands { Standing req.now cursor }
@@ -20,7 +20,7 @@ pub fn read<S: StrDrive>(req: &Request<'_, S>, cursor: StringCursor) -> (u32, St
     read_in_text(req, cursor)
 }
 
-/// The character at a cursor that stands before the text's end, inside the window or not, and the cursor behind it.
+/// The character at a cursor before the end of the text, inside the range or not, and the cursor after it.
 #[inline(always)]
 pub fn read_in_text<S: StrDrive>(req: &Request<'_, S>, cursor: StringCursor) -> (u32, StringCursor)
     requires stands { Standing req.now cursor }
@@ -34,7 +34,7 @@ pub fn read_in_text<S: StrDrive>(req: &Request<'_, S>, cursor: StringCursor) -> 
     (character, after)
 }
 
-/// Whether the character before a cursor is one that is asked for, and the cursor in front of it.
+/// Whether the character before a cursor is a given one, and the cursor before it.
 #[inline(always)]
 pub fn back_over<S: StrDrive>(
     req: &Request<'_, S>,
@@ -83,7 +83,7 @@ pub fn back_by<S: StrDrive>(
     before
 }
 
-/// The cursor at a position of the text, reached from a cursor at hand. Out of line: only references need it.
+/// The cursor at a position of the text, reached from a given cursor. Out of line: only back-references need it.
 #[inline(never)]
 pub fn cursor_at<S: StrDrive>(
     req: &Request<'_, S>,

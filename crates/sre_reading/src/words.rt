@@ -1,4 +1,4 @@
-//! Single words of a request's code, of which a proof knows that they stand there.
+//! Single code words of a request, at addresses that a proof knows to exist.
 
 ghost use Rattle.std.specs.Prelude.{◌+◌, ◌<◌, ◌^◌};
 ghost use Rattle.sre_reading.specs.Reads.{HasWordAt, WordAt};
@@ -7,7 +7,7 @@ use sre_chars::string::StrDrive;
 use sre_code::operands;
 use sre_request::Request;
 
-/// The word at a place.
+/// The word at an address.
 #[inline(always)]
 pub fn word<S: StrDrive>(req: &Request<'_, S>, place: usize) -> u32
     requires { HasWordAt req.now place }
@@ -17,7 +17,7 @@ pub fn word<S: StrDrive>(req: &Request<'_, S>, place: usize) -> u32
     operands::word(req.pattern_codes().items(), place)
 }
 
-/// The word some places on.
+/// The word at an offset from an address.
 #[inline(always)]
 pub fn operand<S: StrDrive>(req: &Request<'_, S>, place: usize, offset: usize) -> u32
     requires { HasWordAt req.now (place + offset) }

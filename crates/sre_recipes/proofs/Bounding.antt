@@ -19,14 +19,14 @@ use Rattle.sre_recipes.specs.Bounded.{first_of, AreLeft}
 use Rattle.sre_recipes.proofs.Steps.{walk_step}
 use Rattle.sre_recipes.specs.Limits.{is_spent, one_less, Goes, Takes, Stops, OutlastRest}
 
--- all turns are left of themselves
-pub left_all : (turns : Option ℕ) → AreLeft turns turns
+-- where no step is taken, all are left
+pub left_all : (steps : Option ℕ) → AreLeft steps steps
 left_all None = refl
 left_all (Some n) = omega arith
 
 -- and what is left of those that are left is left of the first
 pub left_on : (given between left : Option ℕ) → AreLeft given between → AreLeft between left → AreLeft given left
-left_on None between left first then = subst (λ (turns : Option ℕ). AreLeft turns left) first then
+left_on None between left first then = subst (λ (steps : Option ℕ). AreLeft steps left) first then
 left_on (Some g) None left first then = absurd first
 left_on (Some g) (Some b) None first then = then
 left_on (Some g) (Some b) (Some l) first then = omega (arith, first, then)
@@ -87,15 +87,15 @@ gives_falls it next gives =
 -- and a match that comes is taken
 pub takes_one : {S A : Type 0} {text : Ghosts S} (it next : SearchIter S A text) (before between after : Bounds)
     → is_spent before.most ≡ false → Goes it next before between
-    → after.most ≡ one_less between.most → after.used_up ≡ between.used_up → after.turns ≡ between.turns
+    → after.most ≡ one_less between.most → after.limit_exceeded ≡ between.limit_exceeded → after.steps ≡ between.steps
     → Takes it next before after
-takes_one it next before between after wanted goes most used turns = record {
+takes_one it next before between after wanted goes most used steps = record {
   one = λ m ms.
       one_taken before.most m ms wanted
       ∙ ap (λ (n : Option ℕ). m ∷ first_of n ms) (sym (most ∙ ap one_less goes.most));
   going = used ∙ goes.going;
-  turns = subst (AreLeft before.turns) (sym turns) goes.turns;
-  lasts = λ enough. subst (OutlastRest next) (sym turns) (goes.lasts enough);
+  steps = subst (AreLeft before.steps) (sym steps) goes.steps;
+  lasts = λ enough. subst (OutlastRest next) (sym steps) (goes.lasts enough);
 }
 
 -- a match comes off what is wanted of a walk whose words are still those that were asked for
@@ -110,6 +110,6 @@ taken_step it next before after words t gives takes same whole =
 -- and none is left
 pub stopped : {S A : Type 0} {text : Ghosts S} (it : SearchIter S A text) (before after : Bounds) (words : List ℕ)
     (t : Tree)
-    → Stops it before after → after.used_up ≡ false → words_of (code_of (request_of it)) ≡ words → Whole words t
+    → Stops it before after → after.limit_exceeded ≡ false → words_of (code_of (request_of it)) ≡ words → Whole words t
     → first_of before.most (left_of it t) ≡ []
 stopped it before after words t stops going same whole = stops.none going t (subst (λ ws. Whole ws t) (sym same) whole)

@@ -1,4 +1,4 @@
--- What a step of a walk leaves of turns that outlast the walk.
+-- What one match of a walk leaves of a budget of steps that outlasts the walk.
 use Rattle.std.proofs.Common.{◌≢◌, ◌≤◌, ◌<◌, ℕ, ◌+◌, ◌-◌, ◌*◌, ◌/◌, Some, sym}
 use Rattle.std.proofs.Common.{subst, arith, add-mul}
 use Rattle.std.proofs.Math.Nat.{mul-le-mul, mul-le-mul_right, div-mul-le_self}
@@ -21,7 +21,7 @@ use Rattle.sre_recipes.specs.Bounded.{most_runs, OutlastWalk}
 use Rattle.sre_recipes.specs.Limits.{OutlastRest}
 use Rattle.sre_recipes.proofs.Bounding.{falls_by}
 
--- of a window that begins later a turn counts for no more
+-- of a window that begins later a step costs no more
 each_less : (a : Asked) (m : Match) → a.start ≤ m.end → most_each (asked_after a m) ≤ most_each a
 each_less a m later =
     let below = div-mul-le_self (a.end - m.end) 8 in
@@ -32,9 +32,9 @@ within_later : (a : Asked) (m : Match) (t : Tree) (most : ℕ) → a.start ≤ m
     → RunsWithin (asked_after a m) t most
 within_later a m t most later within = record {
   each = λ n p inside.
-      let turns = turns_of (subject_of a) (behind_items n t) p in
-      let same : turns ≤ turns = omega arith in
-      let less : turns * most_each (asked_after a m) ≤ turns * most_each a = mul-le-mul same (each_less a m later) in
+      let steps = turns_of (subject_of a) (behind_items n t) p in
+      let same : steps ≤ steps = omega arith in
+      let less : steps * most_each (asked_after a m) ≤ steps * most_each a = mul-le-mul same (each_less a m later) in
       omega (arith, less, within.each n p inside);
 }
 
@@ -65,7 +65,7 @@ outlast_after a code m given left runs from order inside fewer spent few lasts =
       more = omega (arith, all, taken, both, add-mul (2 * after) (2 * starts) most, lasts.more);
     }
 
--- and so of a step of a walk
+-- and so of one match of a walk
 pub lasts_on : {S A : Type 0} {text : Ghosts S} (it next : SearchIter S A text) (given left : ℕ) → Gives it next
     → SpentUpTo (asked_of (request_of it)) (code_of (request_of it)) given left (runs_of (shown_of next))
     → OutlastRest it (Some given) → OutlastRest next (Some left)
@@ -84,7 +84,7 @@ lasts_on it next given left gives spent lasts =
     subst (λ (code : Code). OutlastWalk (asked_of u) code left) (sym gives.request.pattern_codes)
     (subst (λ (a : Asked). OutlastWalk a (code_of r) left) (sym gives.request.asked) after)
 
--- turns that outlast a walk are not used up in a step
+-- a budget that outlasts a walk is not used up by one match
 pub lasts_step : {S A : Type 0} {text : Ghosts S} (it next : SearchIter S A text) (given left : ℕ) → Counted it next
     → SpentUpTo (asked_of (request_of it)) (code_of (request_of it)) given left (runs_of (shown_of next))
     → OutlastRest it (Some given) → left ≢ 0

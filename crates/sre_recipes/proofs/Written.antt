@@ -7,7 +7,7 @@ use Rattle.std.specs.List.{slice_range, range_with_len}
 use Rattle.sre_engine.specs.Found.{Match}
 use Rattle.sre_recipes.specs.Pieces.{pieces_between, first_groups, pieces_and_groups}
 use Rattle.sre_recipes.specs.Templates.{replaced}
-use Rattle.sre_recipes.specs.Computed.{ReplacedInTurn}
+use Rattle.sre_recipes.specs.Computed.{ReplacedInOrder}
 use Rattle.sre_recipes.specs.Lexed.{Lexeme, reached, lexeme_of}
 use Rattle.sre_recipes.specs.Adjoining.{adjoining, unless_empty}
 use Rattle.sre_recipes.proofs.Adjoining.{adjoining_step, reached_step}
@@ -96,16 +96,16 @@ replaced_end text new before after left p stop all step is kept =
 pub computed_step : {F : Type 0} (Puts : F → Match → List ℕ → F → Type 0) (text : List ℕ) (f h first : F)
     (before after old new : List ℕ) (m : Match) (left ms all : List Match) (p q from stop : ℕ)
     → left ≡ m ∷ ms → q ≡ m.end → after ≡ (before ++ slice_range text p m.start) ++ new → Puts f m new h
-    → ((rest : List ℕ) → ReplacedInTurn Puts text f p stop left rest
-    → (x : List ℕ) × (before ++ rest ≡ old ++ x) × ReplacedInTurn Puts text first from stop all x)
-    → (rest : List ℕ) → ReplacedInTurn Puts text h q stop ms rest
-    → (x : List ℕ) × (after ++ rest ≡ old ++ x) × ReplacedInTurn Puts text first from stop all x
+    → ((rest : List ℕ) → ReplacedInOrder Puts text f p stop left rest
+    → (x : List ℕ) × (before ++ rest ≡ old ++ x) × ReplacedInOrder Puts text first from stop all x)
+    → (rest : List ℕ) → ReplacedInOrder Puts text h q stop ms rest
+    → (x : List ℕ) × (after ++ rest ≡ old ++ x) × ReplacedInOrder Puts text first from stop all x
 computed_step Puts text f h first before after old new m left ms all p q from stop step to is puts kept = λ rest then.
     let piece = slice_range text p m.start in
-    let on : ReplacedInTurn Puts text h m.end stop ms rest =
-    subst (λ (e : ℕ). ReplacedInTurn Puts text h e stop ms rest) to then in
-    let here : ReplacedInTurn Puts text f p stop left (piece ++ (new ++ rest)) =
-    subst (λ (l : List Match). ReplacedInTurn Puts text f p stop l (piece ++ (new ++ rest))) (sym step)
+    let on : ReplacedInOrder Puts text h m.end stop ms rest =
+    subst (λ (e : ℕ). ReplacedInOrder Puts text h e stop ms rest) to then in
+    let here : ReplacedInOrder Puts text f p stop left (piece ++ (new ++ rest)) =
+    subst (λ (l : List Match). ReplacedInOrder Puts text f p stop l (piece ++ (new ++ rest))) (sym step)
     (new, h, rest, puts, on, refl) in
     let told = kept (piece ++ (new ++ rest)) here in (
       told.0,
@@ -120,13 +120,13 @@ computed_step Puts text f h first before after old new m left ms all p q from st
 pub computed_end : {F : Type 0} (Puts : F → Match → List ℕ → F → Type 0) (text : List ℕ) (f first : F)
     (before after old : List ℕ) (left all : List Match) (p from stop : ℕ)
     → left ≡ [] → after ≡ before ++ slice_range text p stop
-    → ((rest : List ℕ) → ReplacedInTurn Puts text f p stop left rest
-    → (x : List ℕ) × (before ++ rest ≡ old ++ x) × ReplacedInTurn Puts text first from stop all x)
-    → (x : List ℕ) × (after ≡ old ++ x) × ReplacedInTurn Puts text first from stop all x
+    → ((rest : List ℕ) → ReplacedInOrder Puts text f p stop left rest
+    → (x : List ℕ) × (before ++ rest ≡ old ++ x) × ReplacedInOrder Puts text first from stop all x)
+    → (x : List ℕ) × (after ≡ old ++ x) × ReplacedInOrder Puts text first from stop all x
 computed_end Puts text f first before after old left all p from stop none is kept =
     let rest = slice_range text p stop in
     let told = kept rest
-    (subst (λ (l : List Match). ReplacedInTurn Puts text f p stop l rest) (sym none) refl) in (
+    (subst (λ (l : List Match). ReplacedInOrder Puts text f p stop l rest) (sym none) refl) in (
       told.0,
       is ∙ told.1,
       told.2,

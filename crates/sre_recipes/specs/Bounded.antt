@@ -1,4 +1,4 @@
--- The first matches, where no more than so many are wanted, the turns that are left, and turns that outlast a walk.
+-- The first matches, where no more than so many are wanted, the steps that are left, and budgets that outlast a walk.
 -- Of the meaning: what sre_recipes makes public rests on it.
 use Rattle.std.specs.Prelude.{⊤, ℕ, ◌≡◌, ◌≤◌, ◌<◌, ◌+◌, ◌-◌, ◌*◌, List, take, Option, Some, None}
 use Rattle.sre_code.specs.declared.code.Code.{Code}
@@ -13,26 +13,25 @@ abbrev pub first_of : Option ℕ → List Match → List Match
 first_of None ms = ms
 first_of (Some n) ms = take n ms
 
--- of turns that were given no more are left; without a limit there stays none
+-- no more steps are left than were given; without a limit there stays none
 abbrev pub AreLeft : Option ℕ → Option ℕ → Type 0
 AreLeft None left = left ≡ None
 AreLeft (Some given) None = ⊥
 AreLeft (Some given) (Some left) = left ≤ given
 
--- how many runs the steps of a walk begin at most, but for those that begin again: one for each start, and one more for
--- each match
+-- how many runs a walk begins at most, but for those that begin again: one for each start, and one more for each match
 abbrev pub most_runs : Asked → ℕ
 most_runs a = (a.end + 1 - a.start) + most_matches a
 
--- so many turns are more than all runs of a walk can take, each of which may begin again once
-pub record OutlastWalk (a : Asked) (code : Code) (turns : ℕ) : Type 0 where
+-- a budget of more steps than all runs of a walk can take, each of which may begin again once
+pub record OutlastWalk (a : Asked) (code : Code) (steps : ℕ) : Type 0 where
   pub tree : Tree
   pub whole : Whole (words_of code) tree
   pub most : ℕ
   pub within : RunsWithin a tree most
-  pub more : 2 * most_runs a * most < turns
+  pub more : 2 * most_runs a * most < steps
 
--- turns without a limit outlast any walk
+-- no limit outlasts any walk
 abbrev pub Outlast : Asked → Code → Option ℕ → Type 0
 Outlast a code None = ⊤
-Outlast a code (Some turns) = OutlastWalk a code turns
+Outlast a code (Some steps) = OutlastWalk a code steps

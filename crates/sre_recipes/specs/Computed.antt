@@ -15,9 +15,9 @@ Computes {S} {A} {R} texts step shown text f m new g =
     × (new ≡ shown r)
 
 -- the characters up to each match and what is put in its place, one after the other, and those behind the last one
-abbrev pub ReplacedInTurn : {F : Type 0} → (F → Match → List ℕ → F → Type 0) → List ℕ → F → ℕ → ℕ → List Match
+abbrev pub ReplacedInOrder : {F : Type 0} → (F → Match → List ℕ → F → Type 0) → List ℕ → F → ℕ → ℕ → List Match
     → List ℕ → Type 0
-ReplacedInTurn Puts text f from to [] all = all ≡ slice_range text from to
-ReplacedInTurn {F} Puts text f from to (m ∷ ms) all =
-    (new : List ℕ) × (g : F) × (rest : List ℕ) × Puts f m new g × ReplacedInTurn Puts text g m.end to ms rest
+ReplacedInOrder Puts text f from to [] all = all ≡ slice_range text from to
+ReplacedInOrder {F} Puts text f from to (m ∷ ms) all =
+    (new : List ℕ) × (g : F) × (rest : List ℕ) × Puts f m new g × ReplacedInOrder Puts text g m.end to ms rest
     × (all ≡ slice_range text from m.start ++ (new ++ rest))

@@ -20,35 +20,35 @@ abbrev pub one_less : Option ℕ → Option ℕ
 one_less None = None
 one_less (Some n) = Some (n - 1)
 
--- so many turns outlast what is left of a walk
+-- a budget of steps outlasts what is left of a walk
 abbrev pub OutlastRest : {S A : Type 0} {text : Ghosts S} → SearchIter S A text → Option ℕ → Type 0
-OutlastRest it turns = Outlast (asked_of (request_of it)) (code_of (request_of it)) turns
+OutlastRest it steps = Outlast (asked_of (request_of it)) (code_of (request_of it)) steps
 
--- a step of a walk within turns, where they are bounded: a match comes
+-- one more match is looked for, within a budget of steps if there is one: a match comes
 pub record Goes {S A : Type 0} {text : Ghosts S} (it next : SearchIter S A text) (before after : Bounds) : Type 0 where
   pub most : after.most ≡ before.most
-  pub going : after.used_up ≡ false
-  pub turns : AreLeft before.turns after.turns
-  pub lasts : OutlastRest it before.turns → OutlastRest next after.turns
+  pub going : after.limit_exceeded ≡ false
+  pub steps : AreLeft before.steps after.steps
+  pub lasts : OutlastRest it before.steps → OutlastRest next after.steps
 
--- or none is left, unless the turns were used up
+-- or none is left, unless the step limit was exceeded
 pub record Ends {S A : Type 0} {text : Ghosts S} (it : SearchIter S A text) (before after : Bounds) : Type 0 where
-  pub over : after.used_up ≡ false → IsOver it
-  pub used : after.used_up ≡ true → after.turns ≡ Some 0
-  pub turns : AreLeft before.turns after.turns
-  pub lasts : OutlastRest it before.turns → after.used_up ≡ false
+  pub over : after.limit_exceeded ≡ false → IsOver it
+  pub used : after.limit_exceeded ≡ true → after.steps ≡ Some 0
+  pub steps : AreLeft before.steps after.steps
+  pub lasts : OutlastRest it before.steps → after.limit_exceeded ≡ false
 
 -- a match was taken within bounds
 pub record Takes {S A : Type 0} {text : Ghosts S} (it next : SearchIter S A text) (before after : Bounds) : Type 0 where
   pub one : (m : Match) (ms : List Match) → first_of before.most (m ∷ ms) ≡ m ∷ first_of after.most ms
-  pub going : after.used_up ≡ false
-  pub turns : AreLeft before.turns after.turns
-  pub lasts : OutlastRest it before.turns → OutlastRest next after.turns
+  pub going : after.limit_exceeded ≡ false
+  pub steps : AreLeft before.steps after.steps
+  pub lasts : OutlastRest it before.steps → OutlastRest next after.steps
 
--- no match is left within bounds, unless the turns were used up
+-- no match is left within bounds, unless the step limit was exceeded
 pub record Stops {S A : Type 0} {text : Ghosts S} (it : SearchIter S A text) (before after : Bounds) : Type 0 where
-  pub none : after.used_up ≡ false → (t : Tree) → Whole (words_of (code_of (request_of it))) t
+  pub none : after.limit_exceeded ≡ false → (t : Tree) → Whole (words_of (code_of (request_of it))) t
       → first_of before.most (left_of it t) ≡ []
-  pub used : after.used_up ≡ true → after.turns ≡ Some 0
-  pub turns : AreLeft before.turns after.turns
-  pub lasts : OutlastRest it before.turns → after.used_up ≡ false
+  pub used : after.limit_exceeded ≡ true → after.steps ≡ Some 0
+  pub steps : AreLeft before.steps after.steps
+  pub lasts : OutlastRest it before.steps → after.limit_exceeded ≡ false

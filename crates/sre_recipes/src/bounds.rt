@@ -1,4 +1,4 @@
-//! How far a recipe goes: the first matches alone, or a number of turns.
+//! Limits of a recipe: a number of matches, or a number of steps.
 
 ghost use Rattle.std.specs.Prelude.{◌≡◌, ◌<◌, ◌≤◌, false, None, Some, IfOk, IfSome, OnErr, MatchOption, IsSome};
 ghost use Rattle.sre_engine.specs.Requests.{string_of};
@@ -11,75 +11,75 @@ use crate::span::{Span, next_span, span_of};
 use sre_engine::{SearchIter, SreError, StrDrive};
 use std::alloc::Allocator;
 
-/// How far a recipe goes.
+/// The limits of a recipe, which each call updates.
 #[derive(Clone, Copy, PartialEq, Eq, Debug)]
 pub struct Bounds {
-    /// How many matches are wanted at most; `None`: all of them. Each that is taken counts it down.
+    /// The greatest number of matches, or `None` for all. The call subtracts the matches that it used.
     pub most: Option<usize>,
-    /// How many turns of the machine the recipe may take; `None`: as many as it needs. What is left comes back.
-    pub turns: Option<u64>,
-    /// Whether the turns were used up before the last answer was known.
-    pub used_up: bool,
+    /// The greatest number of machine steps, or `None` for no limit. The call leaves the unused steps here.
+    pub steps: Option<u64>,
+    /// Whether the last call exceeded the step limit.
+    pub limit_exceeded: bool,
 }
 
 impl Bounds {
-    /// The first matches alone, as a `count` or `maxsplit` above 0 bounds them in Python. **0 means none** here, and
-    /// all there.
+    /// Limits a recipe to the first `most` matches, as Python's `count` and `maxsplit` do above 0. **0 means no match**
+    /// here; in Python it means all.
     pub fn first(most: usize) -> Bounds
         ensures most { result.most ≡ Some most }
-        ensures turns { result.turns ≡ None }
-        ensures used_up { result.used_up ≡ false }
+        ensures steps { result.steps ≡ None }
+        ensures limit_exceeded { result.limit_exceeded ≡ false }
     {
         Bounds {
             most: Some(most),
-            turns: None,
-            used_up: false,
+            steps: None,
+            limit_exceeded: false,
         }
     }
 
-    /// All matches, within a number of turns.
-    pub fn within(turns: u64) -> Bounds
+    /// Limits a recipe to a number of machine steps, for all matches together.
+    pub fn within(steps: u64) -> Bounds
         ensures most { result.most ≡ None }
-        ensures turns { result.turns ≡ Some turns }
-        ensures used_up { result.used_up ≡ false }
+        ensures steps { result.steps ≡ Some steps }
+        ensures limit_exceeded { result.limit_exceeded ≡ false }
     {
         Bounds {
             most: None,
-            turns: Some(turns),
-            used_up: false,
+            steps: Some(steps),
+            limit_exceeded: false,
         }
     }
 
-    // All matches, however long they take.
+    // No limits.
     pub(crate) fn none() -> Bounds
         ensures most { result.most ≡ None }
-        ensures turns { result.turns ≡ None }
-        ensures used_up { result.used_up ≡ false }
+        ensures steps { result.steps ≡ None }
+        ensures limit_exceeded { result.limit_exceeded ≡ false }
     {
         Bounds {
             most: None,
-            turns: None,
-            used_up: false,
+            steps: None,
+            limit_exceeded: false,
         }
     }
 }
 
-// The next match of a walk within a number of turns; nothing is told where they are used up.
-fn next_in_turns<S: StrDrive, A: Allocator + Copy>(
+// The span of the next match within a step limit. The outer `None` means that the limit was exceeded.
+fn next_span_within<S: StrDrive, A: Allocator + Copy>(
     walk: &mut SearchIter<'_, S, A>,
-    turns: &mut u64,
+    steps: &mut u64,
 ) -> Result<Option<Option<Span>>, SreError>
     ensures gives { IfOk result (λ told. IfSome told (λ next. MatchOption next (IsOver walk.old) (λ span.
         Gives walk.old walk.new
         × IsSpan (S.stands (string_of (request_of walk.old))) (shown_of walk.new) span.start span.end))) }
-    ensures used { IfOk result (λ told. told ≡ None → turns.new ≡ 0) }
-    ensures fewer { turns.new ≤ turns.old }
-    ensures never { OutlastRest walk.old (Some turns.old) → IfOk result IsSome }
-    ensures lasts { OutlastRest walk.old (Some turns.old) → IfOk result (λ told. IfSome told (λ next.
-        IsSome next → OutlastRest walk.new (Some turns.new))) }
+    ensures used { IfOk result (λ told. told ≡ None → steps.new ≡ 0) }
+    ensures fewer { steps.new ≤ steps.old }
+    ensures never { OutlastRest walk.old (Some steps.old) → IfOk result IsSome }
+    ensures lasts { OutlastRest walk.old (Some steps.old) → IfOk result (λ told. IfSome told (λ next.
+        IsSome next → OutlastRest walk.new (Some steps.new))) }
     ensures refused { OnErr result Refused }
 {
-    match walk.next_within(turns) {
+    match walk.next_within(steps) {
         Err(error) => Err(error),
         Ok(None) => Ok(None),
         Ok(Some(false)) => Ok(Some(None)),
@@ -87,34 +87,34 @@ fn next_in_turns<S: StrDrive, A: Allocator + Copy>(
     }
 }
 
-// The next match of a walk within turns, where these are bounded.
-fn next_step<S: StrDrive, A: Allocator + Copy>(
+// The span of the next match, within the step limit if there is one.
+fn next_limited<S: StrDrive, A: Allocator + Copy>(
     walk: &mut SearchIter<'_, S, A>,
     bounds: &mut Bounds,
 ) -> Result<Option<Span>, SreError>
-    requires { bounds.old.used_up ≡ false }
+    requires { bounds.old.limit_exceeded ≡ false }
     ensures gives { IfOk result (λ next. MatchOption next (Ends walk.old bounds.old bounds.new) (λ span.
         Gives walk.old walk.new
         × IsSpan (S.stands (string_of (request_of walk.old))) (shown_of walk.new) span.start span.end
         × Goes walk.old walk.new bounds.old bounds.new)) }
     ensures refused { OnErr result Refused }
 {
-    let Some(turns) = bounds.turns else {
+    let Some(steps) = bounds.steps else {
         return next_span(walk);
     };
-    let mut left = turns;
-    let told = next_in_turns(walk, &mut left)?;
-    bounds.turns = Some(left);
+    let mut left = steps;
+    let told = next_span_within(walk, &mut left)?;
+    bounds.steps = Some(left);
     match told {
         Some(next) => Ok(next),
         None => {
-            bounds.used_up = true;
+            bounds.limit_exceeded = true;
             Ok(None)
         }
     }
 }
 
-// Whether no match is wanted any more.
+// Whether the limit on matches is used up.
 fn is_spent(most: Option<usize>) -> bool
     ensures { result ≡ is_spent most }
 {
@@ -124,7 +124,7 @@ fn is_spent(most: Option<usize>) -> bool
     }
 }
 
-// How many matches are wanted once one was taken.
+// The limit on matches after one more match.
 fn one_less(most: Option<usize>) -> Option<usize>
     ensures { result ≡ one_less most }
 {
@@ -134,12 +134,12 @@ fn one_less(most: Option<usize>) -> Option<usize>
     }
 }
 
-// The next match of a walk within bounds.
+// The span of the next match within both limits. `None` if the iteration ended or a limit was reached.
 pub(crate) fn next_bounded<S: StrDrive, A: Allocator + Copy>(
     walk: &mut SearchIter<'_, S, A>,
     bounds: &mut Bounds,
 ) -> Result<Option<Span>, SreError>
-    requires { bounds.old.used_up ≡ false }
+    requires { bounds.old.limit_exceeded ≡ false }
     ensures gives { IfOk result (λ next. MatchOption next (Stops walk.old bounds.old bounds.new) (λ span.
         Gives walk.old walk.new
         × IsSpan (S.stands (string_of (request_of walk.old))) (shown_of walk.new) span.start span.end
@@ -150,7 +150,7 @@ pub(crate) fn next_bounded<S: StrDrive, A: Allocator + Copy>(
     if is_spent(bounds.most) {
         return Ok(None);
     }
-    let Some(span) = next_step(walk, bounds)? else {
+    let Some(span) = next_limited(walk, bounds)? else {
         return Ok(None);
     };
     bounds.most = one_less(bounds.most);

@@ -1,4 +1,4 @@
-//! A text with its matches replaced by what a function gives for each.
+//! Replacement of all matches by the results of a closure.
 
 ghost use Rattle.std.specs.Prelude.{◌≡◌, ◌≤◌, ◌++◌, true, false, None, Some, Err, slice_range};
 ghost use Rattle.std.specs.Prelude.{IfOk, IfSome, IsSome, OnErr};
@@ -9,11 +9,12 @@ ghost use Rattle.sre_engine.specs.Codes.{words_of};
 ghost use Rattle.sre_engine.specs.Requests.{string_of, start_of, end_of, code_of, asked_of};
 ghost use Rattle.sre_engine.specs.Iterators.{request_of, left_of};
 ghost use Rattle.sre_growth.specs.Refusal.{Refused};
-ghost use Rattle.sre_recipes.specs.Computed.{Computes, ReplacedInTurn};
+ghost use Rattle.sre_recipes.specs.Computed.{Computes, ReplacedInOrder};
 ghost use Rattle.sre_recipes.specs.Limits.{OutlastRest};
 ghost use Rattle.sre_recipes.specs.Bounded.{first_of, AreLeft, Outlast};
 
 use crate::bounds::{Bounds, next_bounded};
+use crate::find::copied;
 use crate::groups::{CapturesOf, shown_captures};
 use crate::slice::up_to;
 use crate::span::Span;
@@ -21,7 +22,7 @@ use crate::texts::{Rewritten, Text};
 use sre_engine::{Request, SearchIter, SreError, State, StrDrive, StringCursor};
 use std::alloc::{AllocError, Global};
 
-// Appends the text from a cursor to a match and what stands in its place; the cursor then stands behind the match.
+// Appends the text from a cursor to a match, then the replacement. Moves the cursor to the match's end.
 fn append_new<S: Rewritten>(
     output: &mut Vec<u8>,
     text: S,
@@ -47,7 +48,7 @@ fn append_new<S: Rewritten>(
     Ok(())
 }
 
-// Appends the text of a window to an empty one, with what a function gives in the place of each match of a walk.
+// Appends the remaining range, with each remaining match of an iteration replaced by the closure's result.
 fn append_computed<S, F>(
     alloc: Global,
     walk: &mut SearchIter<'_, S, Global>,
@@ -59,18 +60,19 @@ where
     S: Rewritten,
     F: FnMut(&CapturesOf<S, Global>) -> Result<S::New, AllocError>,
     requires callable { F.IsAlwaysCallable compute }
-    requires going { bounds.old.used_up ≡ false }
+    requires going { bounds.old.limit_exceeded ≡ false }
     requires written { S.IsText output.old.items }
     ensures ok { (t : Tree) → Whole (words_of (code_of (request_of walk.old))) t → IfOk result (λ _.
-        bounds.new.used_up ≡ false → (new : _) × (S.characters output.new.items ≡ S.characters output.old.items ++ new)
-        × ReplacedInTurn (Computes S.text (λ f c r g. F.step f c r g) (λ r. S.shown r)
+        bounds.new.limit_exceeded ≡ false → (new : _)
+        × (S.characters output.new.items ≡ S.characters output.old.items ++ new)
+        × ReplacedInOrder (Computes S.text (λ f c r g. F.step f c r g) (λ r. S.shown r)
         (S.text (string_of (request_of walk.old))))
         (S.text (string_of (request_of walk.old))) compute (start_of (request_of walk.old))
         (end_of (request_of walk.old)) (first_of bounds.old.most (left_of walk.old t)) new) }
     ensures written { IfOk result (λ _. S.IsText output.new.items) }
-    ensures used { IfOk result (λ _. bounds.new.used_up ≡ true → bounds.new.turns ≡ Some 0) }
-    ensures turns { IfOk result (λ _. AreLeft bounds.old.turns bounds.new.turns) }
-    ensures lasts { OutlastRest walk.old bounds.old.turns → IfOk result (λ _. bounds.new.used_up ≡ false) }
+    ensures used { IfOk result (λ _. bounds.new.limit_exceeded ≡ true → bounds.new.steps ≡ Some 0) }
+    ensures steps { IfOk result (λ _. AreLeft bounds.old.steps bounds.new.steps) }
+    ensures lasts { OutlastRest walk.old bounds.old.steps → IfOk result (λ _. bounds.new.limit_exceeded ≡ false) }
     ensures refused { ((f : _) (c : _) (e : _) (g : _) → F.step f c (Err e) g → Refused) → OnErr result Refused }
 {
     let (text, stop) = (walk.req().string(), walk.req().end());
@@ -86,7 +88,7 @@ where
     Ok(())
 }
 
-// Appends the text of a window with what a function gives in the place of each match.
+// Appends the text of a range, with each match replaced by the closure's result.
 fn append_all_computed<S, F>(
     alloc: Global,
     req: Request<'_, S>,
@@ -100,25 +102,26 @@ where
     requires callable { F.IsAlwaysCallable compute }
     requires written { S.IsText output.old.items }
     ensures ok { (t : Tree) → Whole (words_of (code_of req.entry)) t → IfOk result (λ _.
-        bounds.new.used_up ≡ false → (new : _) × (S.characters output.new.items ≡ S.characters output.old.items ++ new)
-        × ReplacedInTurn
+        bounds.new.limit_exceeded ≡ false → (new : _)
+        × (S.characters output.new.items ≡ S.characters output.old.items ++ new)
+        × ReplacedInOrder
         (Computes S.text (λ f c r g. F.step f c r g) (λ r. S.shown r) (S.text (string_of req.entry)))
         (S.text (string_of req.entry)) compute (start_of req.entry) (end_of req.entry)
         (first_of bounds.old.most (walk (asked_of req.entry) t)) new) }
     ensures written { IfOk result (λ _. S.IsText output.new.items) }
-    ensures used { IfOk result (λ _. bounds.new.used_up ≡ true → bounds.new.turns ≡ Some 0) }
-    ensures turns { IfOk result (λ _. AreLeft bounds.old.turns bounds.new.turns) }
-    ensures lasts { Outlast (asked_of req.entry) (code_of req.entry) bounds.old.turns
-        → IfOk result (λ _. bounds.new.used_up ≡ false) }
+    ensures used { IfOk result (λ _. bounds.new.limit_exceeded ≡ true → bounds.new.steps ≡ Some 0) }
+    ensures steps { IfOk result (λ _. AreLeft bounds.old.steps bounds.new.steps) }
+    ensures lasts { Outlast (asked_of req.entry) (code_of req.entry) bounds.old.steps
+        → IfOk result (λ _. bounds.new.limit_exceeded ≡ false) }
     ensures refused { ((f : _) (c : _) (e : _) (g : _) → F.step f c (Err e) g → Refused) → OnErr result Refused }
 {
-    bounds.used_up = false;
+    bounds.limit_exceeded = false;
     let mut walk = SearchIter::new(req, State::new(alloc));
     append_computed(alloc, &mut walk, bounds, compute, output)?;
     Ok(())
 }
 
-// The text of a window with what a function gives in the place of each match.
+// The text of a range, with each match replaced by the closure's result.
 fn computed_text<S, F>(
     alloc: Global,
     req: Request<'_, S>,
@@ -130,14 +133,14 @@ where
     F: FnMut(&CapturesOf<S, Global>) -> Result<S::New, AllocError>,
     requires { F.IsAlwaysCallable compute }
     ensures ok { (t : Tree) → Whole (words_of (code_of req.entry)) t → IfOk result (λ new.
-        bounds.new.used_up ≡ false → ReplacedInTurn
+        bounds.new.limit_exceeded ≡ false → ReplacedInOrder
         (Computes S.text (λ f c r g. F.step f c r g) (λ r. S.shown r) (S.text (string_of req.entry)))
         (S.text (string_of req.entry)) compute (start_of req.entry) (end_of req.entry)
         (first_of bounds.old.most (walk (asked_of req.entry) t)) (S.shown new)) }
-    ensures used { IfOk result (λ _. bounds.new.used_up ≡ true → bounds.new.turns ≡ Some 0) }
-    ensures turns { IfOk result (λ _. AreLeft bounds.old.turns bounds.new.turns) }
-    ensures lasts { Outlast (asked_of req.entry) (code_of req.entry) bounds.old.turns
-        → IfOk result (λ _. bounds.new.used_up ≡ false) }
+    ensures used { IfOk result (λ _. bounds.new.limit_exceeded ≡ true → bounds.new.steps ≡ Some 0) }
+    ensures steps { IfOk result (λ _. AreLeft bounds.old.steps bounds.new.steps) }
+    ensures lasts { Outlast (asked_of req.entry) (code_of req.entry) bounds.old.steps
+        → IfOk result (λ _. bounds.new.limit_exceeded ≡ false) }
     ensures refused { ((f : _) (c : _) (e : _) (g : _) → F.step f c (Err e) g → Refused) → OnErr result Refused }
 {
     let mut output = Vec::new(alloc);
@@ -145,14 +148,15 @@ where
     Ok(S::from_output(output))
 }
 
-/// The text of a window in which each match is replaced by what a function gives for it, as Python's `sub` replaces by
-/// a function. It is called with the captures of each match in turn, and may change what it holds.
+/// Returns the text of the range with each match replaced by the result of a closure, as Python's `sub` does for a
+/// function. The closure is called once for each match, in order, with the match's captures. It can change its own
+/// state.
 ///
 /// ```
-/// // The words of `a`.
+/// // Bytecode of `a`.
 /// let code = Code::check(alloc, &[16, 97, 1], &uni)?;
 /// let mut several = 0;
-/// let new = replace_with(alloc, Request::whole("éaba", code), |found| {
+/// let new = replace_with(alloc, &Request::whole("éaba", code), |found| {
 ///     several += 1;
 ///     format!(in alloc; "<{several}{}>", found.get(0).unwrap_or_default())
 /// })?;
@@ -161,34 +165,35 @@ where
 ///
 /// # Errors
 ///
-/// [`SreError::Memory`], where a growth was refused, or the function gave an error.
+/// [`SreError::Memory`] if an allocation failed, or the closure returned an error.
 pub fn replace_with<S, F>(
     alloc: Global,
-    req: Request<'_, S>,
+    req: &Request<'_, S>,
     compute: F,
 ) -> Result<S::New, SreError>
 where
     S: Rewritten,
     F: FnMut(&CapturesOf<S, Global>) -> Result<S::New, AllocError>,
     requires { F.IsAlwaysCallable compute }
-    ensures ok { (t : Tree) → Whole (words_of (code_of req.entry)) t → IfOk result (λ new. ReplacedInTurn
-        (Computes S.text (λ f c r g. F.step f c r g) (λ r. S.shown r) (S.text (string_of req.entry)))
-        (S.text (string_of req.entry)) compute (start_of req.entry) (end_of req.entry)
-        (walk (asked_of req.entry) t) (S.shown new)) }
+    ensures ok { (t : Tree) → Whole (words_of (code_of req.now)) t → IfOk result (λ new. ReplacedInOrder
+        (Computes S.text (λ f c r g. F.step f c r g) (λ r. S.shown r) (S.text (string_of req.now)))
+        (S.text (string_of req.now)) compute (start_of req.now) (end_of req.now)
+        (walk (asked_of req.now) t) (S.shown new)) }
     ensures refused { ((f : _) (c : _) (e : _) (g : _) → F.step f c (Err e) g → Refused) → OnErr result Refused }
 {
     let mut bounds = Bounds::none();
-    computed_text(alloc, req, &mut bounds, compute)
+    computed_text(alloc, copied(req), &mut bounds, compute)
 }
 
-/// The same within bounds, as `replace_bounded` does by a template.
+/// `replace_with` within bounds: replaces only the first `bounds.most` matches. Returns `None` if the step limit is
+/// exceeded.
 ///
 /// # Errors
 ///
-/// [`SreError::Memory`], where a growth was refused, or the function gave an error.
+/// [`SreError::Memory`] if an allocation failed, or the closure returned an error.
 pub fn replace_with_bounded<S, F>(
     alloc: Global,
-    req: Request<'_, S>,
+    req: &Request<'_, S>,
     bounds: &mut Bounds,
     compute: F,
 ) -> Result<Option<S::New>, SreError>
@@ -196,19 +201,19 @@ where
     S: Rewritten,
     F: FnMut(&CapturesOf<S, Global>) -> Result<S::New, AllocError>,
     requires { F.IsAlwaysCallable compute }
-    ensures ok { (t : Tree) → Whole (words_of (code_of req.entry)) t → IfOk result (λ told. IfSome told (λ new.
-        ReplacedInTurn
-        (Computes S.text (λ f c r g. F.step f c r g) (λ r. S.shown r) (S.text (string_of req.entry)))
-        (S.text (string_of req.entry)) compute (start_of req.entry) (end_of req.entry)
-        (first_of bounds.old.most (walk (asked_of req.entry) t)) (S.shown new))) }
-    ensures used { IfOk result (λ told. told ≡ None → bounds.new.turns ≡ Some 0) }
-    ensures turns { IfOk result (λ _. AreLeft bounds.old.turns bounds.new.turns) }
-    ensures lasts { Outlast (asked_of req.entry) (code_of req.entry) bounds.old.turns → IfOk result IsSome }
-    ensures unlimited { bounds.old.turns ≡ None → IfOk result IsSome }
+    ensures ok { (t : Tree) → Whole (words_of (code_of req.now)) t → IfOk result (λ told. IfSome told (λ new.
+        ReplacedInOrder
+        (Computes S.text (λ f c r g. F.step f c r g) (λ r. S.shown r) (S.text (string_of req.now)))
+        (S.text (string_of req.now)) compute (start_of req.now) (end_of req.now)
+        (first_of bounds.old.most (walk (asked_of req.now) t)) (S.shown new))) }
+    ensures used { IfOk result (λ told. told ≡ None → bounds.new.steps ≡ Some 0) }
+    ensures steps { IfOk result (λ _. AreLeft bounds.old.steps bounds.new.steps) }
+    ensures lasts { Outlast (asked_of req.now) (code_of req.now) bounds.old.steps → IfOk result IsSome }
+    ensures unlimited { bounds.old.steps ≡ None → IfOk result IsSome }
     ensures refused { ((f : _) (c : _) (e : _) (g : _) → F.step f c (Err e) g → Refused) → OnErr result Refused }
 {
-    let new = computed_text(alloc, req, bounds, compute)?;
-    if bounds.used_up {
+    let new = computed_text(alloc, copied(req), bounds, compute)?;
+    if bounds.limit_exceeded {
         Ok(None)
     } else {
         Ok(Some(new))

@@ -1,4 +1,4 @@
-//! The pieces between matches.
+//! Splitting: the pieces of text between matches.
 
 ghost use Rattle.std.specs.Prelude.{◌≡◌, ◌≤◌, ◌++◌, ◌∷◌, [], true, false, None, Some, map, slice_range};
 ghost use Rattle.std.specs.Prelude.{IfOk, IfSome, IsSome, OnErr};
@@ -17,6 +17,7 @@ ghost use Rattle.sre_recipes.specs.Limits.{OutlastRest};
 ghost use Rattle.sre_recipes.specs.Bounded.{first_of, AreLeft, Outlast};
 
 use crate::bounds::{Bounds, next_bounded};
+use crate::find::copied;
 use crate::groups::add_groups;
 use crate::slice::up_to;
 use crate::span::Span;
@@ -24,7 +25,7 @@ use crate::texts::Text;
 use sre_engine::{Request, SearchIter, SreError, State, StrDrive, StringCursor};
 use std::alloc::Allocator;
 
-// Appends the piece from a cursor to a match, behind which the cursor then stands.
+// Appends the text from a cursor to a match, and moves the cursor to the match's end.
 fn add_piece<S: Text, A: Allocator>(
     pieces: &mut Vec<S, A>,
     text: S,
@@ -45,21 +46,21 @@ fn add_piece<S: Text, A: Allocator>(
     Ok(())
 }
 
-// Appends the pieces between the matches that are left of a walk.
+// Appends the pieces between the remaining matches of an iteration.
 fn add_pieces<S: Text, A: Allocator + Copy>(
     walk: &mut SearchIter<'_, S, A>,
     bounds: &mut Bounds,
     pieces: &mut Vec<S, A>,
 ) -> Result<(), SreError>
-    requires { bounds.old.used_up ≡ false }
+    requires { bounds.old.limit_exceeded ≡ false }
     ensures ok { (t : Tree) → Whole (words_of (code_of (request_of walk.old))) t → IfOk result (λ _.
-        bounds.new.used_up ≡ false → map S.text pieces.new.items
+        bounds.new.limit_exceeded ≡ false → map S.text pieces.new.items
         ≡ map S.text pieces.old.items
         ++ pieces_between (S.text (string_of (request_of walk.old))) (start_of (request_of walk.old))
         (end_of (request_of walk.old)) (first_of bounds.old.most (left_of walk.old t))) }
-    ensures used { IfOk result (λ _. bounds.new.used_up ≡ true → bounds.new.turns ≡ Some 0) }
-    ensures turns { IfOk result (λ _. AreLeft bounds.old.turns bounds.new.turns) }
-    ensures lasts { OutlastRest walk.old bounds.old.turns → IfOk result (λ _. bounds.new.used_up ≡ false) }
+    ensures used { IfOk result (λ _. bounds.new.limit_exceeded ≡ true → bounds.new.steps ≡ Some 0) }
+    ensures steps { IfOk result (λ _. AreLeft bounds.old.steps bounds.new.steps) }
+    ensures lasts { OutlastRest walk.old bounds.old.steps → IfOk result (λ _. bounds.new.limit_exceeded ≡ false) }
     ensures refused { OnErr result Refused }
 {
     let (text, stop) = (walk.req().string(), walk.req().end());
@@ -71,7 +72,7 @@ fn add_pieces<S: Text, A: Allocator + Copy>(
     Ok(())
 }
 
-// Appends the pieces of a window between its matches.
+// Appends the pieces of a range between its matches.
 fn add_all_pieces<S: Text, A: Allocator + Copy>(
     alloc: A,
     req: Request<'_, S>,
@@ -79,90 +80,90 @@ fn add_all_pieces<S: Text, A: Allocator + Copy>(
     pieces: &mut Vec<S, A>,
 ) -> Result<(), SreError>
     ensures ok { (t : Tree) → Whole (words_of (code_of req.entry)) t → IfOk result (λ _.
-        bounds.new.used_up ≡ false → map S.text pieces.new.items
+        bounds.new.limit_exceeded ≡ false → map S.text pieces.new.items
         ≡ map S.text pieces.old.items
         ++ pieces_between (S.text (string_of req.entry)) (start_of req.entry) (end_of req.entry)
         (first_of bounds.old.most (walk (asked_of req.entry) t))) }
-    ensures used { IfOk result (λ _. bounds.new.used_up ≡ true → bounds.new.turns ≡ Some 0) }
-    ensures turns { IfOk result (λ _. AreLeft bounds.old.turns bounds.new.turns) }
-    ensures lasts { Outlast (asked_of req.entry) (code_of req.entry) bounds.old.turns
-        → IfOk result (λ _. bounds.new.used_up ≡ false) }
+    ensures used { IfOk result (λ _. bounds.new.limit_exceeded ≡ true → bounds.new.steps ≡ Some 0) }
+    ensures steps { IfOk result (λ _. AreLeft bounds.old.steps bounds.new.steps) }
+    ensures lasts { Outlast (asked_of req.entry) (code_of req.entry) bounds.old.steps
+        → IfOk result (λ _. bounds.new.limit_exceeded ≡ false) }
     ensures refused { OnErr result Refused }
 {
-    bounds.used_up = false;
+    bounds.limit_exceeded = false;
     let mut walk = SearchIter::new(req, State::new(alloc));
     add_pieces(&mut walk, bounds, pieces)
 }
 
-/// The pieces of a window between its matches, as Python's `split` gives them for a pattern without groups: one more
-/// than there are matches, empty ones among them. An empty match divides, too.
+/// Returns the pieces of the range between its matches, as Python's `split` does for a pattern without groups. There is
+/// one piece more than there are matches, and pieces can be empty. An empty match splits, too.
 ///
 /// ```
-/// // The words of `,`.
+/// // Bytecode of `,`.
 /// let code = Code::check(alloc, &[16, 44, 1], &uni)?;
-/// let pieces = split(alloc, Request::whole("é,,b", code))?;
+/// let pieces = split(alloc, &Request::whole("é,,b", code))?;
 /// assert!(pieces.as_slice() == ["é", "", "b"].as_slice());
 /// ```
 ///
 /// # Errors
 ///
-/// [`SreError::Memory`], where a growth was refused.
+/// [`SreError::Memory`] if an allocation failed.
 pub fn split<S: Text, A: Allocator + Copy>(
     alloc: A,
-    req: Request<'_, S>,
+    req: &Request<'_, S>,
 ) -> Result<Vec<S, A>, SreError>
-    ensures ok { (t : Tree) → Whole (words_of (code_of req.entry)) t → IfOk result (λ pieces.
+    ensures ok { (t : Tree) → Whole (words_of (code_of req.now)) t → IfOk result (λ pieces.
         map S.text pieces.items
-        ≡ pieces_between (S.text (string_of req.entry)) (start_of req.entry) (end_of req.entry)
-        (walk (asked_of req.entry) t)) }
+        ≡ pieces_between (S.text (string_of req.now)) (start_of req.now) (end_of req.now)
+        (walk (asked_of req.now) t)) }
     ensures refused { OnErr result Refused }
 {
     let mut pieces = Vec::new(alloc);
     let mut bounds = Bounds::none();
-    add_all_pieces(alloc, req, &mut bounds, &mut pieces)?;
+    add_all_pieces(alloc, copied(req), &mut bounds, &mut pieces)?;
     Ok(pieces)
 }
 
-/// The same within bounds: divided at the first matches alone, so that the last piece is all that is behind them, as
-/// with Python's `maxsplit`; or `None` where the turns were used up before they were known.
+/// `split` within bounds: splits only at the first `bounds.most` matches, as Python's `split` does with `maxsplit`. The
+/// last piece is then all that follows them. Returns `None` if the step limit is exceeded.
 ///
 /// ```
-/// // The words of `,`.
+/// // Bytecode of `,`.
 /// let code = Code::check(alloc, &[16, 44, 1], &uni)?;
 /// let whole = Request::whole("é,b,c", code);
-/// if let Some(two) = split_bounded(alloc, whole, &mut Bounds::first(1))? {
+/// if let Some(two) = split_bounded(alloc, &whole, &mut Bounds::first(1))? {
 ///     assert!(two.as_slice() == ["é", "b,c"].as_slice());
 /// }
 /// ```
 ///
 /// # Errors
 ///
-/// [`SreError::Memory`], where a growth was refused.
+/// [`SreError::Memory`] if an allocation failed.
 pub fn split_bounded<S: Text, A: Allocator + Copy>(
     alloc: A,
-    req: Request<'_, S>,
+    req: &Request<'_, S>,
     bounds: &mut Bounds,
 ) -> Result<Option<Vec<S, A>>, SreError>
-    ensures ok { (t : Tree) → Whole (words_of (code_of req.entry)) t → IfOk result (λ told. IfSome told (λ pieces.
+    ensures ok { (t : Tree) → Whole (words_of (code_of req.now)) t → IfOk result (λ told. IfSome told (λ pieces.
         map S.text pieces.items
-        ≡ pieces_between (S.text (string_of req.entry)) (start_of req.entry) (end_of req.entry)
-        (first_of bounds.old.most (walk (asked_of req.entry) t)))) }
-    ensures used { IfOk result (λ told. told ≡ None → bounds.new.turns ≡ Some 0) }
-    ensures turns { IfOk result (λ _. AreLeft bounds.old.turns bounds.new.turns) }
-    ensures lasts { Outlast (asked_of req.entry) (code_of req.entry) bounds.old.turns → IfOk result IsSome }
-    ensures unlimited { bounds.old.turns ≡ None → IfOk result IsSome }
+        ≡ pieces_between (S.text (string_of req.now)) (start_of req.now) (end_of req.now)
+        (first_of bounds.old.most (walk (asked_of req.now) t)))) }
+    ensures used { IfOk result (λ told. told ≡ None → bounds.new.steps ≡ Some 0) }
+    ensures steps { IfOk result (λ _. AreLeft bounds.old.steps bounds.new.steps) }
+    ensures lasts { Outlast (asked_of req.now) (code_of req.now) bounds.old.steps → IfOk result IsSome }
+    ensures unlimited { bounds.old.steps ≡ None → IfOk result IsSome }
     ensures refused { OnErr result Refused }
 {
     let mut pieces = Vec::new(alloc);
-    add_all_pieces(alloc, req, bounds, &mut pieces)?;
-    if bounds.used_up {
+    add_all_pieces(alloc, copied(req), bounds, &mut pieces)?;
+    if bounds.limit_exceeded {
         Ok(None)
     } else {
         Ok(Some(pieces))
     }
 }
 
-// Appends the piece from a cursor to the match that a state shows, and its groups; the cursor then stands behind it.
+// Appends the text from a cursor to the state's match, then the match's groups. Moves the cursor to the match's end.
 fn add_with_groups<S: Text, A: Allocator + Copy>(
     pieces: &mut Vec<Option<S>, A>,
     text: S,
@@ -186,22 +187,22 @@ fn add_with_groups<S: Text, A: Allocator + Copy>(
     Ok(())
 }
 
-// Appends the pieces between the matches that are left of a walk, and the groups of these.
+// Appends the pieces between the remaining matches of an iteration, and the groups of these matches.
 fn add_pieces_and_groups<S: Text, A: Allocator + Copy>(
     walk: &mut SearchIter<'_, S, A>,
     bounds: &mut Bounds,
     groups: usize,
     pieces: &mut Vec<Option<S>, A>,
 ) -> Result<(), SreError>
-    requires { bounds.old.used_up ≡ false }
+    requires { bounds.old.limit_exceeded ≡ false }
     ensures ok { (t : Tree) → Whole (words_of (code_of (request_of walk.old))) t → IfOk result (λ _.
-        bounds.new.used_up ≡ false → map (option_map S.text) pieces.new.items
+        bounds.new.limit_exceeded ≡ false → map (option_map S.text) pieces.new.items
         ≡ map (option_map S.text) pieces.old.items
         ++ pieces_and_groups (S.text (string_of (request_of walk.old))) groups (start_of (request_of walk.old))
         (end_of (request_of walk.old)) (first_of bounds.old.most (left_of walk.old t))) }
-    ensures used { IfOk result (λ _. bounds.new.used_up ≡ true → bounds.new.turns ≡ Some 0) }
-    ensures turns { IfOk result (λ _. AreLeft bounds.old.turns bounds.new.turns) }
-    ensures lasts { OutlastRest walk.old bounds.old.turns → IfOk result (λ _. bounds.new.used_up ≡ false) }
+    ensures used { IfOk result (λ _. bounds.new.limit_exceeded ≡ true → bounds.new.steps ≡ Some 0) }
+    ensures steps { IfOk result (λ _. AreLeft bounds.old.steps bounds.new.steps) }
+    ensures lasts { OutlastRest walk.old bounds.old.steps → IfOk result (λ _. bounds.new.limit_exceeded ≡ false) }
     ensures refused { OnErr result Refused }
 {
     let (text, stop) = (walk.req().string(), walk.req().end());
@@ -213,7 +214,7 @@ fn add_pieces_and_groups<S: Text, A: Allocator + Copy>(
     Ok(())
 }
 
-// Appends the pieces of a window between its matches, and the groups of these.
+// Appends the pieces of a range between its matches, and the groups of these matches.
 fn add_all_with_groups<S: Text, A: Allocator + Copy>(
     alloc: A,
     req: Request<'_, S>,
@@ -222,77 +223,78 @@ fn add_all_with_groups<S: Text, A: Allocator + Copy>(
     pieces: &mut Vec<Option<S>, A>,
 ) -> Result<(), SreError>
     ensures ok { (t : Tree) → Whole (words_of (code_of req.entry)) t → IfOk result (λ _.
-        bounds.new.used_up ≡ false → map (option_map S.text) pieces.new.items
+        bounds.new.limit_exceeded ≡ false → map (option_map S.text) pieces.new.items
         ≡ map (option_map S.text) pieces.old.items
         ++ pieces_and_groups (S.text (string_of req.entry)) groups (start_of req.entry) (end_of req.entry)
         (first_of bounds.old.most (walk (asked_of req.entry) t))) }
-    ensures used { IfOk result (λ _. bounds.new.used_up ≡ true → bounds.new.turns ≡ Some 0) }
-    ensures turns { IfOk result (λ _. AreLeft bounds.old.turns bounds.new.turns) }
-    ensures lasts { Outlast (asked_of req.entry) (code_of req.entry) bounds.old.turns
-        → IfOk result (λ _. bounds.new.used_up ≡ false) }
+    ensures used { IfOk result (λ _. bounds.new.limit_exceeded ≡ true → bounds.new.steps ≡ Some 0) }
+    ensures steps { IfOk result (λ _. AreLeft bounds.old.steps bounds.new.steps) }
+    ensures lasts { Outlast (asked_of req.entry) (code_of req.entry) bounds.old.steps
+        → IfOk result (λ _. bounds.new.limit_exceeded ≡ false) }
     ensures refused { OnErr result Refused }
 {
-    bounds.used_up = false;
+    bounds.limit_exceeded = false;
     let mut walk = SearchIter::new(req, State::new(alloc));
     add_pieces_and_groups(&mut walk, bounds, groups, pieces)
 }
 
-/// The pieces of a window between its matches and, behind each but the last, the texts of the match's groups, as
-/// Python's `split` gives them for a pattern with groups: `None` for one that took no part. `groups` is how many the
-/// pattern has.
+/// Returns the pieces of the range between its matches, as Python's `split` does for a pattern with groups. Each piece
+/// but the last is followed by the texts of the match's groups 1 to `groups`, `None` for one that did not participate.
+/// `groups` should be the number of groups in the pattern.
 ///
 /// ```
-/// // The words of `(,)|;`.
+/// // Bytecode of `(,)|;`.
 /// let words = [7, 9, 17, 0, 16, 44, 17, 1, 15, 7, 5, 16, 59, 15, 2, 0, 1];
 /// let code = Code::check(alloc, &words, &uni)?;
-/// let pieces = split_groups(alloc, Request::whole("é,b;c", code), 1)?;
+/// let pieces = split_groups(alloc, &Request::whole("é,b;c", code), 1)?;
 /// assert!(pieces.as_slice() == [Some("é"), Some(","), Some("b"), None, Some("c")].as_slice());
 /// ```
 ///
 /// # Errors
 ///
-/// [`SreError::Memory`], where a growth was refused.
+/// [`SreError::Memory`] if an allocation failed.
 pub fn split_groups<S: Text, A: Allocator + Copy>(
     alloc: A,
-    req: Request<'_, S>,
+    req: &Request<'_, S>,
     groups: usize,
 ) -> Result<Vec<Option<S>, A>, SreError>
-    ensures ok { (t : Tree) → Whole (words_of (code_of req.entry)) t → IfOk result (λ pieces.
+    ensures ok { (t : Tree) → Whole (words_of (code_of req.now)) t → IfOk result (λ pieces.
         map (option_map S.text) pieces.items
-        ≡ pieces_and_groups (S.text (string_of req.entry)) groups (start_of req.entry) (end_of req.entry)
-        (walk (asked_of req.entry) t)) }
+        ≡ pieces_and_groups (S.text (string_of req.now)) groups (start_of req.now) (end_of req.now)
+        (walk (asked_of req.now) t)) }
     ensures refused { OnErr result Refused }
 {
     let mut pieces = Vec::new(alloc);
     let mut bounds = Bounds::none();
-    add_all_with_groups(alloc, req, &mut bounds, groups, &mut pieces)?;
+    add_all_with_groups(alloc, copied(req), &mut bounds, groups, &mut pieces)?;
     Ok(pieces)
 }
 
-/// The same within bounds, as `split_bounded` does without groups.
+/// `split_groups` within bounds: splits only at the first `bounds.most` matches. Returns `None` if the step limit is
+/// exceeded.
 ///
 /// # Errors
 ///
-/// [`SreError::Memory`], where a growth was refused.
+/// [`SreError::Memory`] if an allocation failed.
 pub fn split_groups_bounded<S: Text, A: Allocator + Copy>(
     alloc: A,
-    req: Request<'_, S>,
+    req: &Request<'_, S>,
     groups: usize,
     bounds: &mut Bounds,
 ) -> Result<Option<Vec<Option<S>, A>>, SreError>
-    ensures ok { (t : Tree) → Whole (words_of (code_of req.entry)) t → IfOk result (λ told. IfSome told (λ pieces.
+    ensures ok { (t : Tree) → Whole (words_of (code_of req.now)) t → IfOk result (λ told. IfSome told (λ pieces.
         map (option_map S.text) pieces.items
-        ≡ pieces_and_groups (S.text (string_of req.entry)) groups (start_of req.entry) (end_of req.entry)
-        (first_of bounds.old.most (walk (asked_of req.entry) t)))) }
-    ensures used { IfOk result (λ told. told ≡ None → bounds.new.turns ≡ Some 0) }
-    ensures turns { IfOk result (λ _. AreLeft bounds.old.turns bounds.new.turns) }
-    ensures lasts { Outlast (asked_of req.entry) (code_of req.entry) bounds.old.turns → IfOk result IsSome }
-    ensures unlimited { bounds.old.turns ≡ None → IfOk result IsSome }
+        ≡ pieces_and_groups (S.text (string_of req.now)) groups (start_of req.now) (end_of req.now)
+        (first_of bounds.old.most (walk (asked_of req.now) t)))) }
+    ensures used { IfOk result (λ told. told ≡ None → bounds.new.steps ≡ Some 0) }
+    ensures steps { IfOk result (λ _. AreLeft bounds.old.steps bounds.new.steps) }
+    ensures lasts { Outlast (asked_of req.now) (code_of req.now) bounds.old.steps → IfOk result IsSome }
+    ensures unlimited { bounds.old.steps ≡ None → IfOk result IsSome }
     ensures refused { OnErr result Refused }
 {
     let mut pieces = Vec::new(alloc);
-    add_all_with_groups(alloc, req, bounds, groups, &mut pieces)?;
-    if bounds.used_up {
+    add_all_with_groups(alloc, copied(req), bounds, groups, &mut pieces)?;
+    if bounds.limit_exceeded {
         Ok(None)
     } else {
         Ok(Some(pieces))

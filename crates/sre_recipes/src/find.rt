@@ -1,4 +1,4 @@
-//! The text of one match, and those of all.
+//! The text of one match, and the texts of all matches.
 
 ghost use Rattle.std.specs.Prelude.{◌≡◌, ◌≤◌, ◌++◌, ◌∷◌, [], true, false, None, Some, map, slice_range};
 ghost use Rattle.std.specs.Prelude.{is_some, IsSome, IfSome, IfOk, OnErr};
@@ -21,6 +21,16 @@ use crate::texts::Text;
 use sre_engine::{Request, SearchIter, SreError, State, StrDrive};
 use std::alloc::Allocator;
 
+// The same request by value, as the engine's calls take it. It allocates nothing.
+pub(crate) fn copied<'a, S: StrDrive>(req: &Request<'a, S>) -> Request<'a, S>
+    ensures { result ≡ req.now }
+{
+    let Ok(req) = req.clone() else {
+        unreachable!();
+    };
+    req
+}
+
 // Appends the text of a match.
 fn add_text<S: Text, A: Allocator>(
     all: &mut Vec<S, A>,
@@ -39,21 +49,21 @@ fn add_text<S: Text, A: Allocator>(
     Ok(())
 }
 
-// Appends the texts of the matches that are left of a walk.
+// Appends the texts of the remaining matches of an iteration.
 fn add_texts<S: Text, A: Allocator + Copy>(
     walk: &mut SearchIter<'_, S, A>,
     bounds: &mut Bounds,
     all: &mut Vec<S, A>,
 ) -> Result<(), SreError>
-    requires { bounds.old.used_up ≡ false }
+    requires { bounds.old.limit_exceeded ≡ false }
     ensures ok { (t : Tree) → Whole (words_of (code_of (request_of walk.old))) t → IfOk result (λ _.
-        bounds.new.used_up ≡ false → map S.text all.new.items
+        bounds.new.limit_exceeded ≡ false → map S.text all.new.items
         ≡ map S.text all.old.items
         ++ map (slice_of (S.text (string_of (request_of walk.old))))
         (first_of bounds.old.most (left_of walk.old t))) }
-    ensures used { IfOk result (λ _. bounds.new.used_up ≡ true → bounds.new.turns ≡ Some 0) }
-    ensures turns { IfOk result (λ _. AreLeft bounds.old.turns bounds.new.turns) }
-    ensures lasts { OutlastRest walk.old bounds.old.turns → IfOk result (λ _. bounds.new.used_up ≡ false) }
+    ensures used { IfOk result (λ _. bounds.new.limit_exceeded ≡ true → bounds.new.steps ≡ Some 0) }
+    ensures steps { IfOk result (λ _. AreLeft bounds.old.steps bounds.new.steps) }
+    ensures lasts { OutlastRest walk.old bounds.old.steps → IfOk result (λ _. bounds.new.limit_exceeded ≡ false) }
     ensures refused { OnErr result Refused }
 {
     let text = walk.req().string();
@@ -71,86 +81,86 @@ fn add_all_texts<S: Text, A: Allocator + Copy>(
     all: &mut Vec<S, A>,
 ) -> Result<(), SreError>
     ensures ok { (t : Tree) → Whole (words_of (code_of req.entry)) t → IfOk result (λ _.
-        bounds.new.used_up ≡ false → map S.text all.new.items
+        bounds.new.limit_exceeded ≡ false → map S.text all.new.items
         ≡ map S.text all.old.items
         ++ map (slice_of (S.text (string_of req.entry))) (first_of bounds.old.most (walk (asked_of req.entry) t))) }
-    ensures used { IfOk result (λ _. bounds.new.used_up ≡ true → bounds.new.turns ≡ Some 0) }
-    ensures turns { IfOk result (λ _. AreLeft bounds.old.turns bounds.new.turns) }
-    ensures lasts { Outlast (asked_of req.entry) (code_of req.entry) bounds.old.turns
-        → IfOk result (λ _. bounds.new.used_up ≡ false) }
+    ensures used { IfOk result (λ _. bounds.new.limit_exceeded ≡ true → bounds.new.steps ≡ Some 0) }
+    ensures steps { IfOk result (λ _. AreLeft bounds.old.steps bounds.new.steps) }
+    ensures lasts { Outlast (asked_of req.entry) (code_of req.entry) bounds.old.steps
+        → IfOk result (λ _. bounds.new.limit_exceeded ≡ false) }
     ensures refused { OnErr result Refused }
 {
-    bounds.used_up = false;
+    bounds.limit_exceeded = false;
     let mut walk = SearchIter::new(req, State::new(alloc));
     add_texts(&mut walk, bounds, all)
 }
 
-/// The texts of all matches of a window, in order, as Python's `findall` gives them for a pattern without groups.
+/// Returns the texts of all matches in the range, in order, as Python's `findall` does for a pattern without groups.
 ///
 /// ```
-/// // The words of `a`.
+/// // Bytecode of `a`.
 /// let code = Code::check(alloc, &[16, 97, 1], &uni)?;
-/// let all = find_all(alloc, Request::whole("éaba", code))?;
+/// let all = find_all(alloc, &Request::whole("éaba", code))?;
 /// assert!(all.as_slice() == ["a", "a"].as_slice());
 /// ```
 ///
 /// # Errors
 ///
-/// [`SreError::Memory`], where a growth was refused.
+/// [`SreError::Memory`] if an allocation failed.
 pub fn find_all<S: Text, A: Allocator + Copy>(
     alloc: A,
-    req: Request<'_, S>,
+    req: &Request<'_, S>,
 ) -> Result<Vec<S, A>, SreError>
-    ensures ok { (t : Tree) → Whole (words_of (code_of req.entry)) t → IfOk result (λ all.
+    ensures ok { (t : Tree) → Whole (words_of (code_of req.now)) t → IfOk result (λ all.
         map S.text all.items
-        ≡ map (slice_of (S.text (string_of req.entry))) (walk (asked_of req.entry) t)) }
+        ≡ map (slice_of (S.text (string_of req.now))) (walk (asked_of req.now) t)) }
     ensures refused { OnErr result Refused }
 {
     let mut all = Vec::new(alloc);
     let mut bounds = Bounds::none();
-    add_all_texts(alloc, req, &mut bounds, &mut all)?;
+    add_all_texts(alloc, copied(req), &mut bounds, &mut all)?;
     Ok(all)
 }
 
-/// The same within bounds: the texts of the first matches, or `None` where the turns were used up before they were
-/// known.
+/// `find_all` within bounds: returns the texts of the first `bounds.most` matches, or `None` if the step limit is
+/// exceeded.
 ///
 /// ```
-/// // The words of `a`.
+/// // Bytecode of `a`.
 /// let code = Code::check(alloc, &[16, 97, 1], &uni)?;
 /// let whole = Request::whole("éaba", code);
-/// if let Some(one) = find_bounded(alloc, whole, &mut Bounds::first(1))? {
+/// if let Some(one) = find_bounded(alloc, &whole, &mut Bounds::first(1))? {
 ///     assert!(one.as_slice() == ["a"].as_slice());
 /// }
 /// ```
 ///
 /// # Errors
 ///
-/// [`SreError::Memory`], where a growth was refused.
+/// [`SreError::Memory`] if an allocation failed.
 pub fn find_bounded<S: Text, A: Allocator + Copy>(
     alloc: A,
-    req: Request<'_, S>,
+    req: &Request<'_, S>,
     bounds: &mut Bounds,
 ) -> Result<Option<Vec<S, A>>, SreError>
-    ensures ok { (t : Tree) → Whole (words_of (code_of req.entry)) t → IfOk result (λ told. IfSome told (λ all.
+    ensures ok { (t : Tree) → Whole (words_of (code_of req.now)) t → IfOk result (λ told. IfSome told (λ all.
         map S.text all.items
-        ≡ map (slice_of (S.text (string_of req.entry))) (first_of bounds.old.most (walk (asked_of req.entry) t)))) }
-    ensures used { IfOk result (λ told. told ≡ None → bounds.new.turns ≡ Some 0) }
-    ensures turns { IfOk result (λ _. AreLeft bounds.old.turns bounds.new.turns) }
-    ensures lasts { Outlast (asked_of req.entry) (code_of req.entry) bounds.old.turns → IfOk result IsSome }
-    ensures unlimited { bounds.old.turns ≡ None → IfOk result IsSome }
+        ≡ map (slice_of (S.text (string_of req.now))) (first_of bounds.old.most (walk (asked_of req.now) t)))) }
+    ensures used { IfOk result (λ told. told ≡ None → bounds.new.steps ≡ Some 0) }
+    ensures steps { IfOk result (λ _. AreLeft bounds.old.steps bounds.new.steps) }
+    ensures lasts { Outlast (asked_of req.now) (code_of req.now) bounds.old.steps → IfOk result IsSome }
+    ensures unlimited { bounds.old.steps ≡ None → IfOk result IsSome }
     ensures refused { OnErr result Refused }
 {
     let mut all = Vec::new(alloc);
-    add_all_texts(alloc, req, bounds, &mut all)?;
-    if bounds.used_up {
+    add_all_texts(alloc, copied(req), bounds, &mut all)?;
+    if bounds.limit_exceeded {
         Ok(None)
     } else {
         Ok(Some(all))
     }
 }
 
-// The text of the match that a state shows, where one was found.
+// The text of the state's match if one was found.
 fn text_if<S: Text, A: Allocator + Copy>(found: bool, text: S, state: &State<A>) -> Option<S>
     requires stands { found ≡ true → S.stands text state.now.cursor state.now.cursor.position }
     requires forward { found ≡ true → state.now.start ≤ state.now.cursor.position }
@@ -165,11 +175,12 @@ fn text_if<S: Text, A: Allocator + Copy>(found: bool, text: S, state: &State<A>)
     }
 }
 
-/// Matches at the window's start, as `State::pymatch`: the text of the match, which the state then shows.
+/// Matches at the start of the range, as `State::pymatch` does. Returns the text of the match, which the state then
+/// shows, or `None` if there is none.
 ///
 /// # Errors
 ///
-/// [`SreError::Memory`], where a growth was refused.
+/// [`SreError::Memory`] if an allocation failed.
 pub fn match_text<S: Text, A: Allocator + Copy>(
     req: &Request<'_, S>,
     state: &mut State<A>,
@@ -183,74 +194,76 @@ pub fn match_text<S: Text, A: Allocator + Copy>(
     ensures forward { IfOk result (λ text. IsSome text → state.new.start ≤ state.new.cursor.position) }
     ensures refused { OnErr result Refused }
 {
-    let _words = req.pattern_codes().words(); // which have a tree
+    let _words = req.pattern_codes().words(); // has a tree
     let found = state.pymatch(req)?;
     Ok(text_if(found, req.string(), state))
 }
 
-/// Searches the window, as `State::search`: the text of the match of the least start, which the state then shows.
+/// Searches the range, as `State::search` does. Returns the text of the match with the least start, which the state
+/// then shows, or `None` if there is none.
 ///
 /// # Errors
 ///
-/// [`SreError::Memory`], where a growth was refused.
+/// [`SreError::Memory`] if an allocation failed.
 pub fn search_text<S: Text, A: Allocator + Copy>(
-    req: Request<'_, S>,
+    req: &Request<'_, S>,
     state: &mut State<A>,
 ) -> Result<Option<S>, SreError>
-    ensures answer { (t : Tree) → Whole (words_of (code_of req.entry)) t
-        → IfOk result (λ text. answer_of (is_some text) state.new ≡ found (asked_of req.entry) t) }
+    ensures answer { (t : Tree) → Whole (words_of (code_of req.now)) t
+        → IfOk result (λ text. answer_of (is_some text) state.new ≡ found (asked_of req.now) t) }
     ensures text { IfOk result (λ text. IfSome text (λ s. S.text s
-        ≡ slice_range (S.text (string_of req.entry)) state.new.start state.new.cursor.position)) }
+        ≡ slice_range (S.text (string_of req.now)) state.new.start state.new.cursor.position)) }
     ensures stands { IfOk result (λ text. IsSome text
-        → S.stands (string_of req.entry) state.new.cursor state.new.cursor.position) }
+        → S.stands (string_of req.now) state.new.cursor state.new.cursor.position) }
     ensures forward { IfOk result (λ text. IsSome text → state.new.start ≤ state.new.cursor.position) }
     ensures refused { OnErr result Refused }
 {
-    let _words = req.pattern_codes().words(); // which have a tree
+    let _words = req.pattern_codes().words(); // has a tree
     let text = req.string();
-    let found = state.search(req)?;
+    let found = state.search(copied(req))?;
     Ok(text_if(found, text, state))
 }
 
-/// Whether a window has a match, as `State::search` finds it; a text of any type.
+/// Returns whether the range has a match, for a text of any type.
 ///
 /// ```
-/// // The words of `b`.
+/// // Bytecode of `b`.
 /// let code = Code::check(alloc, &[16, 98, 1], &uni)?;
-/// assert!(is_match(alloc, Request::whole("abc", code))?);
+/// assert!(is_match(alloc, &Request::whole("abc", code))?);
 /// ```
 ///
 /// # Errors
 ///
-/// [`SreError::Memory`], where a growth was refused.
+/// [`SreError::Memory`] if an allocation failed.
 pub fn is_match<S: StrDrive, A: Allocator + Copy>(
     alloc: A,
-    req: Request<'_, S>,
+    req: &Request<'_, S>,
 ) -> Result<bool, SreError>
-    ensures ok { (t : Tree) → Whole (words_of (code_of req.entry)) t
-        → IfOk result (λ b. b ≡ is_some (found (asked_of req.entry) t)) }
+    ensures ok { (t : Tree) → Whole (words_of (code_of req.now)) t
+        → IfOk result (λ b. b ≡ is_some (found (asked_of req.now) t)) }
     ensures refused { OnErr result Refused }
 {
     let mut state = State::new(alloc);
-    state.search(req)
+    state.search(copied(req))
 }
 
-/// Matches the whole window, as Python's `fullmatch`: whether a match goes from the window's start to its end, which
-/// the state then shows; a text of any type. The request's own `match_all` does not matter.
+/// Returns whether a match goes from the start of the range to its end, as Python's `fullmatch` does, for a text of any
+/// type. The state then shows the match. The call ignores the request's `match_all`.
 ///
 /// # Errors
 ///
-/// [`SreError::Memory`], where a growth was refused.
+/// [`SreError::Memory`] if an allocation failed.
 pub fn full_match<S: StrDrive, A: Allocator + Copy>(
-    mut req: Request<'_, S>,
+    req: &Request<'_, S>,
     state: &mut State<A>,
 ) -> Result<bool, SreError>
-    ensures answer { (t : Tree) → Whole (words_of (code_of req.entry)) t
-        → IfOk result (λ b. answer_of b state.new ≡ matched (to_the_end (asked_of req.entry)) t) }
-    ensures cursor { IfOk result (λ b. b ≡ true → stands_in req.entry state.new.cursor state.new.cursor.position) }
-    ensures span { IfOk result (λ b. b ≡ true → Spans (start_of req.entry) (end_of req.entry) state.new) }
+    ensures answer { (t : Tree) → Whole (words_of (code_of req.now)) t
+        → IfOk result (λ b. answer_of b state.new ≡ matched (to_the_end (asked_of req.now)) t) }
+    ensures cursor { IfOk result (λ b. b ≡ true → stands_in req.now state.new.cursor state.new.cursor.position) }
+    ensures span { IfOk result (λ b. b ≡ true → Spans (start_of req.now) (end_of req.now) state.new) }
     ensures refused { OnErr result Refused }
 {
+    let mut req = copied(req);
     req.set_match_all(true);
     state.pymatch(&req)
 }

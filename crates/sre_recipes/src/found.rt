@@ -1,4 +1,4 @@
-//! The texts of all matches, one after the other, by a finder.
+//! An iterator over the texts of all matches, with a prefilter.
 
 ghost use Rattle.std.specs.Prelude.{◌≡◌, ◌<◌, false, IfSome};
 ghost use Rattle.sre_engine.specs.Requests.{start_of, code_of, stands_in};
@@ -10,16 +10,18 @@ use sre_engine::{Request, SreError, State, StrDrive, StringCursor};
 use sre_finder::{Haystack, SpanFinder, SpanIter};
 use std::alloc::Allocator;
 
-/// The texts of a window's matches, in the order of `find_all`. Where the finder's automata tell spans, no machine is
-/// run; where they tell starts, it is run from those alone.
+/// Iterator over the texts of a range's matches, in the order of `find_all`. If the finder's DFAs return spans, the
+/// machine is not run. If they return candidate starts only, the machine is run from those starts alone.
+///
+/// An item is an error only if an allocation failed. It ends the iteration.
 pub struct FoundTexts<'c, 'a, S: StrDrive, A: Allocator + Copy> {
     walk: SpanIter<'c, 'a, S, A>,
-    // where what is asked next starts
+    // the start of the next request
     cursor: StringCursor,
     ghost here: { ∥ (stands_in (request_of walk) cursor (start_of (request_of walk))) ∥₁ },
 }
 
-// By hand, so that whoever lets the walk go calls this.
+// Custom `Drop`, so that callers contain one call instead of the drop of each field.
 impl<'c, 'a, S: StrDrive, A: Allocator + Copy> Drop for FoundTexts<'c, 'a, S, A> {
     fn drop(self) {
         let FoundTexts { walk, cursor: _ } = self;
@@ -30,11 +32,11 @@ impl<'c, 'a, S: StrDrive, A: Allocator + Copy> Drop for FoundTexts<'c, 'a, S, A>
 impl<'c, 'a, S: Text + Haystack, A: Allocator + Copy> FoundTexts<'c, 'a, S, A> {
     ghost use Rattle.sre_recipes.specs.FoundTexts.{walk_of, NextText};
 
-    /// The walk over the texts that a finder's code matches in a request's window. The state serves the steps of which
-    /// the automata tell no span.
+    /// Starts an iteration over the texts of the matches in the request's range. The state is used for the steps for
+    /// which the DFAs return no span.
     ///
     /// ```
-    /// // The words of `a`.
+    /// // Bytecode of `a`.
     /// let code = Code::check(alloc, &[16, 97, 1], &uni)?;
     /// let finder = SpanFinder::new(alloc, code, Encoding::Utf8);
     /// let mut texts = FoundTexts::new(finder, Request::whole("éab", code), State::new(alloc));
@@ -56,7 +58,7 @@ impl<'c, 'a, S: Text + Haystack, A: Allocator + Copy> FoundTexts<'c, 'a, S, A> {
         }
     }
 
-    // The next item.
+    // Returns the text of the next match.
     fn next_text(&mut self) -> Option<Result<S, SreError>>
         ensures gives { NextText self.old result self.new }
         ensures falls { IfSome result (λ _. most_spans (walk_of self.new) < most_spans (walk_of self.old)) }
@@ -77,14 +79,15 @@ impl<'c, 'a, S: Text + Haystack, A: Allocator + Copy> FoundTexts<'c, 'a, S, A> {
 impl<'c, 'a, S: StrDrive, A: Allocator + Copy> FoundTexts<'c, 'a, S, A> {
     ghost use Rattle.sre_recipes.specs.FoundTexts.{walk_of};
 
-    /// What is asked next: the texts still to come are those of its matches, until the walk has ended.
+    /// Returns the request of the remaining range. Until the iteration has ended, the remaining items are the texts of
+    /// its matches.
     pub fn req(&self) -> &Request<'a, S>
         ensures { result.now ≡ request_of (walk_of self.now) }
     {
         self.walk.req()
     }
 
-    /// The finder, for another text.
+    /// Drops the iteration and returns the finder, for use with another text.
     pub fn into_finder(self) -> SpanFinder<'c>
         ensures { result.code ≡ code_of (request_of (walk_of self.entry)) }
     {

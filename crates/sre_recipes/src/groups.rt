@@ -1,4 +1,4 @@
-//! A match with its groups, by their numbers.
+//! Matches with the texts of their groups.
 
 ghost use Rattle.std.specs.Prelude.{◌≡◌, ◌≤◌, ◌+◌, ◌^◌, ◌++◌, ◌∷◌, [], true, false, None, Some, length, map};
 ghost use Rattle.std.specs.Prelude.{slice_index_or, IfOk, IfSome, OnErr, IsSome};
@@ -18,32 +18,34 @@ ghost use Rattle.sre_recipes.specs.Limits.{OutlastRest};
 ghost use Rattle.sre_recipes.specs.Bounded.{first_of, AreLeft, Outlast};
 
 use crate::bounds::{Bounds, next_bounded};
-use crate::find::{match_text, search_text};
+use crate::find::{copied, match_text, search_text};
 use crate::slice::group_text;
 use crate::texts::Text;
 use sre_engine::{Request, SearchIter, SreError, State};
 use std::alloc::Allocator;
 
-/// A match and its groups as Python counts them: number 0 is the match, number 1 the first group.
+/// A match with its groups. They are numbered as in Python: 0 is the match and 1 the first group.
 #[derive(Drop)]
 #[derive_where(Debug; S)]
 pub struct CapturesOf<S, A: Allocator> {
-    /// The text of each, up to the last group that took part; `None` where one before it took none.
+    /// The text of the match, then of each group up to the last that participated. `None` for an earlier group that did
+    /// not.
     pub groups: Vec<Option<S>, A>,
 }
 
-/// Those of a text that is a `&str`.
+/// The match and groups of a `&str`.
 pub type Captures<'t, A> = CapturesOf<&'t str, A>;
 
 impl<S: Copy, A: Allocator> CapturesOf<S, A> {
-    /// How many there are: the match, and the groups up to the last that took part.
+    /// Returns 1 plus the number of the last group that participated. Later groups of the pattern are not counted.
     pub fn len(&self) -> usize
         ensures { result ≡ length self.now.groups.items }
     {
         self.groups.as_slice().len()
     }
 
-    /// The text of a group by its number, 0 for the match; `None` where it took no part, or there is no such group.
+    /// Returns the text of a group, or of the match for number 0. `None` if the group did not participate, or does not
+    /// exist.
     pub fn get(&self, number: usize) -> Option<S>
         ensures { result ≡ slice_index_or self.now.groups.items number None }
     {
@@ -56,7 +58,7 @@ impl<S: Copy, A: Allocator> CapturesOf<S, A> {
     }
 }
 
-// Appends the texts of so many groups of the match that a state shows, from a number on.
+// Appends the texts of `several` groups of the state's match, from the number `first` on.
 pub(crate) fn add_groups<S: Text, A: Allocator + Copy>(
     groups: &mut Vec<Option<S>, A>,
     text: S,
@@ -78,7 +80,7 @@ pub(crate) fn add_groups<S: Text, A: Allocator + Copy>(
     Ok(())
 }
 
-// The match that a state shows, with its groups.
+// The state's match with its groups.
 pub(crate) fn shown_captures<S: Text, A: Allocator + Copy>(
     alloc: A,
     text: S,
@@ -94,19 +96,20 @@ pub(crate) fn shown_captures<S: Text, A: Allocator + Copy>(
     Ok(CapturesOf { groups })
 }
 
-/// Searches the window, as `State::search`: the match of the least start and its groups, which the state then shows.
+/// Searches the range, as `State::search` does. Returns the match with the least start and its groups, or `None` if
+/// there is none. The state then shows the match.
 ///
 /// # Errors
 ///
-/// [`SreError::Memory`], where a growth was refused.
+/// [`SreError::Memory`] if an allocation failed.
 pub fn search_captures<S: Text, A: Allocator + Copy>(
     alloc: A,
-    req: Request<'_, S>,
+    req: &Request<'_, S>,
     state: &mut State<A>,
 ) -> Result<Option<CapturesOf<S, A>>, SreError>
-    ensures ok { (t : Tree) → Whole (words_of (code_of req.entry)) t → IfOk result (λ all.
+    ensures ok { (t : Tree) → Whole (words_of (code_of req.now)) t → IfOk result (λ all.
         option_map (captures_shown S.text) all
-        ≡ option_map (captured (S.text (string_of req.entry))) (found (asked_of req.entry) t)) }
+        ≡ option_map (captured (S.text (string_of req.now))) (found (asked_of req.now) t)) }
     ensures refused { OnErr result Refused }
 {
     let text = req.string();
@@ -116,11 +119,12 @@ pub fn search_captures<S: Text, A: Allocator + Copy>(
     }
 }
 
-/// Matches at the window's start, as `State::pymatch`: the match and its groups, which the state then shows.
+/// Matches at the start of the range, as `State::pymatch` does. Returns the match and its groups, or `None` if there is
+/// none. The state then shows the match.
 ///
 /// # Errors
 ///
-/// [`SreError::Memory`], where a growth was refused.
+/// [`SreError::Memory`] if an allocation failed.
 pub fn match_captures<S: Text, A: Allocator + Copy>(
     alloc: A,
     req: &Request<'_, S>,
@@ -137,7 +141,7 @@ pub fn match_captures<S: Text, A: Allocator + Copy>(
     }
 }
 
-// Appends the match that a state shows, with its groups.
+// Appends the state's match with its groups.
 fn add_captures<S: Text, A: Allocator + Copy>(
     alloc: A,
     all: &mut Vec<CapturesOf<S, A>, A>,
@@ -154,22 +158,22 @@ fn add_captures<S: Text, A: Allocator + Copy>(
     Ok(())
 }
 
-// Appends the matches that are left of a walk, with their groups.
+// Appends the remaining matches of an iteration, with their groups.
 fn add_each<S: Text, A: Allocator + Copy>(
     alloc: A,
     walk: &mut SearchIter<'_, S, A>,
     bounds: &mut Bounds,
     all: &mut Vec<CapturesOf<S, A>, A>,
 ) -> Result<(), SreError>
-    requires { bounds.old.used_up ≡ false }
+    requires { bounds.old.limit_exceeded ≡ false }
     ensures ok { (t : Tree) → Whole (words_of (code_of (request_of walk.old))) t → IfOk result (λ _.
-        bounds.new.used_up ≡ false → map (captures_shown S.text) all.new.items
+        bounds.new.limit_exceeded ≡ false → map (captures_shown S.text) all.new.items
         ≡ map (captures_shown S.text) all.old.items
         ++ map (captured (S.text (string_of (request_of walk.old))))
         (first_of bounds.old.most (left_of walk.old t))) }
-    ensures used { IfOk result (λ _. bounds.new.used_up ≡ true → bounds.new.turns ≡ Some 0) }
-    ensures turns { IfOk result (λ _. AreLeft bounds.old.turns bounds.new.turns) }
-    ensures lasts { OutlastRest walk.old bounds.old.turns → IfOk result (λ _. bounds.new.used_up ≡ false) }
+    ensures used { IfOk result (λ _. bounds.new.limit_exceeded ≡ true → bounds.new.steps ≡ Some 0) }
+    ensures steps { IfOk result (λ _. AreLeft bounds.old.steps bounds.new.steps) }
+    ensures lasts { OutlastRest walk.old bounds.old.steps → IfOk result (λ _. bounds.new.limit_exceeded ≡ false) }
     ensures refused { OnErr result Refused }
 {
     let text = walk.req().string();
@@ -179,7 +183,7 @@ fn add_each<S: Text, A: Allocator + Copy>(
     Ok(())
 }
 
-// Appends the matches of a window, with their groups.
+// Appends the matches of a range, with their groups.
 fn add_all_captures<S: Text, A: Allocator + Copy>(
     alloc: A,
     req: Request<'_, S>,
@@ -187,71 +191,71 @@ fn add_all_captures<S: Text, A: Allocator + Copy>(
     all: &mut Vec<CapturesOf<S, A>, A>,
 ) -> Result<(), SreError>
     ensures ok { (t : Tree) → Whole (words_of (code_of req.entry)) t → IfOk result (λ _.
-        bounds.new.used_up ≡ false → map (captures_shown S.text) all.new.items
+        bounds.new.limit_exceeded ≡ false → map (captures_shown S.text) all.new.items
         ≡ map (captures_shown S.text) all.old.items
         ++ map (captured (S.text (string_of req.entry))) (first_of bounds.old.most (walk (asked_of req.entry) t))) }
-    ensures used { IfOk result (λ _. bounds.new.used_up ≡ true → bounds.new.turns ≡ Some 0) }
-    ensures turns { IfOk result (λ _. AreLeft bounds.old.turns bounds.new.turns) }
-    ensures lasts { Outlast (asked_of req.entry) (code_of req.entry) bounds.old.turns
-        → IfOk result (λ _. bounds.new.used_up ≡ false) }
+    ensures used { IfOk result (λ _. bounds.new.limit_exceeded ≡ true → bounds.new.steps ≡ Some 0) }
+    ensures steps { IfOk result (λ _. AreLeft bounds.old.steps bounds.new.steps) }
+    ensures lasts { Outlast (asked_of req.entry) (code_of req.entry) bounds.old.steps
+        → IfOk result (λ _. bounds.new.limit_exceeded ≡ false) }
     ensures refused { OnErr result Refused }
 {
-    bounds.used_up = false;
+    bounds.limit_exceeded = false;
     let mut walk = SearchIter::new(req, State::new(alloc));
     add_each(alloc, &mut walk, bounds, all)
 }
 
-/// All matches of a window with their groups, in order, as Python's `finditer` gives them.
+/// Returns all matches in the range with their groups, in order, as Python's `finditer` does.
 ///
 /// ```
-/// // The words of `(a)|b`.
+/// // Bytecode of `(a)|b`.
 /// let words = [7, 9, 17, 0, 16, 97, 17, 1, 15, 7, 5, 16, 98, 15, 2, 0, 1];
 /// let code = Code::check(alloc, &words, &uni)?;
-/// for found in &all_captures(alloc, Request::whole("éab", code))? {
+/// for found in &all_captures(alloc, &Request::whole("éab", code))? {
 ///     println!(rt; "{:?}", (found.get(0), found.get(1)))?; // (Some("a"), Some("a")), and (Some("b"), None)
 /// }
 /// ```
 ///
 /// # Errors
 ///
-/// [`SreError::Memory`], where a growth was refused.
+/// [`SreError::Memory`] if an allocation failed.
 pub fn all_captures<S: Text, A: Allocator + Copy>(
     alloc: A,
-    req: Request<'_, S>,
+    req: &Request<'_, S>,
 ) -> Result<Vec<CapturesOf<S, A>, A>, SreError>
-    ensures ok { (t : Tree) → Whole (words_of (code_of req.entry)) t → IfOk result (λ all.
+    ensures ok { (t : Tree) → Whole (words_of (code_of req.now)) t → IfOk result (λ all.
         map (captures_shown S.text) all.items
-        ≡ map (captured (S.text (string_of req.entry))) (walk (asked_of req.entry) t)) }
+        ≡ map (captured (S.text (string_of req.now))) (walk (asked_of req.now) t)) }
     ensures refused { OnErr result Refused }
 {
     let mut all = Vec::new(alloc);
     let mut bounds = Bounds::none();
-    add_all_captures(alloc, req, &mut bounds, &mut all)?;
+    add_all_captures(alloc, copied(req), &mut bounds, &mut all)?;
     Ok(all)
 }
 
-/// The same within bounds: the first matches, or `None` where the turns were used up before they were known.
+/// `all_captures` within bounds: returns the first `bounds.most` matches, or `None` if the step limit is exceeded.
 ///
 /// # Errors
 ///
-/// [`SreError::Memory`], where a growth was refused.
+/// [`SreError::Memory`] if an allocation failed.
 pub fn captures_bounded<S: Text, A: Allocator + Copy>(
     alloc: A,
-    req: Request<'_, S>,
+    req: &Request<'_, S>,
     bounds: &mut Bounds,
 ) -> Result<Option<Vec<CapturesOf<S, A>, A>>, SreError>
-    ensures ok { (t : Tree) → Whole (words_of (code_of req.entry)) t → IfOk result (λ told. IfSome told (λ all.
+    ensures ok { (t : Tree) → Whole (words_of (code_of req.now)) t → IfOk result (λ told. IfSome told (λ all.
         map (captures_shown S.text) all.items
-        ≡ map (captured (S.text (string_of req.entry))) (first_of bounds.old.most (walk (asked_of req.entry) t)))) }
-    ensures used { IfOk result (λ told. told ≡ None → bounds.new.turns ≡ Some 0) }
-    ensures turns { IfOk result (λ _. AreLeft bounds.old.turns bounds.new.turns) }
-    ensures lasts { Outlast (asked_of req.entry) (code_of req.entry) bounds.old.turns → IfOk result IsSome }
-    ensures unlimited { bounds.old.turns ≡ None → IfOk result IsSome }
+        ≡ map (captured (S.text (string_of req.now))) (first_of bounds.old.most (walk (asked_of req.now) t)))) }
+    ensures used { IfOk result (λ told. told ≡ None → bounds.new.steps ≡ Some 0) }
+    ensures steps { IfOk result (λ _. AreLeft bounds.old.steps bounds.new.steps) }
+    ensures lasts { Outlast (asked_of req.now) (code_of req.now) bounds.old.steps → IfOk result IsSome }
+    ensures unlimited { bounds.old.steps ≡ None → IfOk result IsSome }
     ensures refused { OnErr result Refused }
 {
     let mut all = Vec::new(alloc);
-    add_all_captures(alloc, req, bounds, &mut all)?;
-    if bounds.used_up {
+    add_all_captures(alloc, copied(req), bounds, &mut all)?;
+    if bounds.limit_exceeded {
         Ok(None)
     } else {
         Ok(Some(all))

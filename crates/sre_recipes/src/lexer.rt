@@ -1,4 +1,4 @@
-//! Tokens: matches that begin where the one before ends.
+//! Tokens: matches each of which begins where the previous one ends.
 
 ghost use Rattle.std.specs.Prelude.{◌≡◌, ◌<◌, ◌++◌, map, nat_eq, IfOk, OnErr, MatchOption, IsSome};
 ghost use Rattle.sre_engine.specs.Tree.{Tree};
@@ -13,22 +13,24 @@ ghost use Rattle.sre_recipes.specs.Lexed.{token_matches, reached, lexeme_of, lex
 ghost use Rattle.sre_recipes.specs.Spans.{IsSpan, StandsAt};
 ghost use Rattle.sre_recipes.specs.Adjoining.{adjoining, unless_empty, Adjoins, NoneAdjoins};
 
+use crate::find::copied;
 use crate::span::{Span, next_span};
 use crate::texts::Text;
 use sre_engine::{Request, SearchIter, SreError, State, StrDrive, StringCursor};
 use std::alloc::Allocator;
 
-/// A token: the group that was closed last, counted from 1, or -1 where there is none, and its text.
+/// A token: its kind and its text. The kind is the number of the group that was closed last, counted from 1, or -1 if
+/// no group was closed.
 #[derive(Clone, Copy, PartialEq, Eq, Debug)]
 pub struct TokenOf<S> {
     pub kind: isize,
     pub text: S,
 }
 
-/// One of a text that is a `&str`.
+/// A token of a `&str`.
 pub type Token<'t> = TokenOf<&'t str>;
 
-/// The tokens that a window begins with, and a cursor that stands behind the last of them.
+/// The tokens at the start of a range, and the cursor after the last token.
 #[derive(Drop)]
 #[derive_where(Debug; S)]
 pub struct TokensOf<S, A: Allocator> {
@@ -36,10 +38,10 @@ pub struct TokensOf<S, A: Allocator> {
     pub end: StringCursor,
 }
 
-/// Those of a text that is a `&str`.
+/// The tokens of a `&str`.
 pub type Tokens<'t, A> = TokensOf<&'t str, A>;
 
-// A match as a token.
+// Converts a match to a token.
 fn token_of<S: Text, A: Allocator + Copy>(text: S, state: &State<A>, span: &Span) -> TokenOf<S>
     requires { IsSpan (S.stands text) state.now span.now.start span.now.end }
     ensures { lexeme_shown S.text result ≡ lexeme_of (S.text text) (match_shown state.now) }
@@ -50,14 +52,14 @@ fn token_of<S: Text, A: Allocator + Copy>(text: S, state: &State<A>, span: &Span
     }
 }
 
-// Whether a match begins where a cursor stands.
+// Whether a match begins at a cursor.
 fn begins_at(span: &Span, end: &StringCursor) -> bool
     ensures { result ≡ nat_eq span.now.start.position end.now.position }
 {
     span.start.position() == end.position()
 }
 
-// The next match of a walk, where it begins at a cursor.
+// The next match if it begins at the cursor `end`, else `None`.
 fn next_adjoining<S: Text, A: Allocator + Copy>(
     walk: &mut SearchIter<'_, S, A>,
     end: &StringCursor,
@@ -77,7 +79,7 @@ fn next_adjoining<S: Text, A: Allocator + Copy>(
     Ok(Some(span))
 }
 
-// Appends a match that begins where the tokens end, unless it is empty.
+// Appends a match as a token and moves the end past it. An empty match is skipped.
 fn add_token<S: Text, A: Allocator + Copy>(
     all: &mut TokensOf<S, A>,
     text: S,
@@ -100,7 +102,7 @@ fn add_token<S: Text, A: Allocator + Copy>(
     Ok(())
 }
 
-// Appends the matches that are left of a walk, as far as each begins where the one before ends.
+// Appends tokens until the iteration ends or a match does not begin where the previous one ended.
 fn add_tokens<S: Text, A: Allocator + Copy>(
     walk: &mut SearchIter<'_, S, A>,
     all: &mut TokensOf<S, A>,
@@ -123,7 +125,7 @@ fn add_tokens<S: Text, A: Allocator + Copy>(
     Ok(())
 }
 
-// Appends the matches of a window, as far as each begins where the one before ends.
+// Appends the tokens at the start of a range.
 fn add_all_tokens<S: Text, A: Allocator + Copy>(
     alloc: A,
     req: Request<'_, S>,
@@ -144,32 +146,32 @@ fn add_all_tokens<S: Text, A: Allocator + Copy>(
     add_tokens(&mut walk, all)
 }
 
-/// The tokens that a window begins with: each is the first match that is not empty where the one before ends, as
-/// Python's `match` finds it there. No token begins where `end` stands; they are the whole window exactly where that is
-/// the window's end.
+/// Returns the tokens at the start of the range. Each is the first match path that is not empty at the position where
+/// the previous token ends. `end` is the first position at which no token begins. It is the end of the range exactly if
+/// the tokens cover the range.
 ///
-/// The code is a branch of groups, one for each kind of token. The search for a token that is not there goes on to the
-/// next match in the window.
+/// The pattern should be a branch of groups, one for each kind of token. Where no token begins, the search runs on to
+/// the next match in the range, which can cost time up to the range's end.
 ///
 /// # Errors
 ///
-/// [`SreError::Memory`], where a growth was refused.
+/// [`SreError::Memory`] if an allocation failed.
 pub fn tokens_of<S: Text, A: Allocator + Copy>(
     alloc: A,
-    req: Request<'_, S>,
+    req: &Request<'_, S>,
 ) -> Result<TokensOf<S, A>, SreError>
-    ensures ok { (t : Tree) → Whole (words_of (code_of req.entry)) t → IfOk result (λ all.
+    ensures ok { (t : Tree) → Whole (words_of (code_of req.now)) t → IfOk result (λ all.
         map (lexeme_shown S.text) all.tokens.items
-        ≡ map (lexeme_of (S.text (string_of req.entry))) (token_matches (asked_of req.entry) t)) }
-    ensures end { (t : Tree) → Whole (words_of (code_of req.entry)) t → IfOk result (λ all.
-        S.stands (string_of req.entry) all.end
-        (reached (start_of req.entry) (token_matches (asked_of req.entry) t))) }
+        ≡ map (lexeme_of (S.text (string_of req.now))) (token_matches (asked_of req.now) t)) }
+    ensures end { (t : Tree) → Whole (words_of (code_of req.now)) t → IfOk result (λ all.
+        S.stands (string_of req.now) all.end
+        (reached (start_of req.now) (token_matches (asked_of req.now) t))) }
     ensures refused { OnErr result Refused }
 {
     let mut all = TokensOf {
         tokens: Vec::new(alloc),
         end: req.string().create_cursor(req.start()),
     };
-    add_all_tokens(alloc, req, &mut all)?;
+    add_all_tokens(alloc, copied(req), &mut all)?;
     Ok(all)
 }

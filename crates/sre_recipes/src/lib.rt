@@ -1,21 +1,20 @@
-//! What is written first over a regex engine: the text of a match and of its groups, the texts of all matches, the
-//! pieces between them, a text with its matches replaced, and tokens.
+//! Recipes over the regex engine: the texts of matches and groups, splitting, replacement and tokens.
 //!
-//! The text is a `&str` or a `&[u8]`, or any other that is a [`Text`]. All that is given are slices of it, but for what
-//! is replaced, which is a `String` or a `Vec<u8>`. No call walks from the text's start for each match: a match's text
-//! is reached from the cursor at its end.
+//! The text is a `&str`, a `&[u8]` or your own type that implements [`Text`]. Results are slices of it; only
+//! replacement allocates a new `String` or `Vec<u8>`. No call scans from the text's start for each match: it moves the
+//! cursor back from the match's end.
 //!
 //! ```
-//! // The words of `(a)|b`.
+//! // Bytecode of `(a)|b`.
 //! let uni = UniTable::ascii(alloc);
 //! let words = [7, 9, 17, 0, 16, 97, 17, 1, 15, 7, 5, 16, 98, 15, 2, 0, 1];
 //! let code = Code::check(alloc, &words, &uni)?;
 //! let whole = Request::whole("xaéb", code);
-//! assert!(find_all(alloc, whole)?.as_slice() == ["a", "b"].as_slice());
-//! assert!(split(alloc, whole)?.as_slice() == ["x", "é", ""].as_slice());
+//! assert!(find_all(alloc, &whole)?.as_slice() == ["a", "b"].as_slice());
+//! assert!(split(alloc, &whole)?.as_slice() == ["x", "é", ""].as_slice());
 //! let template = [Piece::Text("<"), Piece::Group(1), Piece::Text(">")];
-//! assert!(replace_all(alloc, whole, &template)?.as_str() == "x<a>é<>");
-//! assert!(is_match(alloc, whole)? && all_captures(alloc, whole)?.len() == 2);
+//! assert!(replace_all(alloc, &whole, &template)?.as_str() == "x<a>é<>");
+//! assert!(is_match(alloc, &whole)? && all_captures(alloc, &whole)?.len() == 2);
 //! ```
 #![tactic(auto)]
 

@@ -1,4 +1,4 @@
-//! A text with its matches replaced.
+//! Replacement of all matches by a template.
 
 ghost use Rattle.std.specs.Prelude.{◌≡◌, ◌≤◌, ◌++◌, true, false, None, Some, slice_range};
 ghost use Rattle.std.specs.Prelude.{IfOk, IfSome, IsSome, OnErr};
@@ -18,28 +18,29 @@ ghost use Rattle.sre_recipes.specs.Limits.{OutlastRest};
 ghost use Rattle.sre_recipes.specs.Bounded.{first_of, AreLeft, Outlast};
 
 use crate::bounds::{Bounds, next_bounded};
+use crate::find::copied;
 use crate::slice::{group_text, up_to};
 use crate::span::Span;
 use crate::texts::Text;
 use sre_engine::{Request, SearchIter, SreError, State, StrDrive, StringCursor};
 use std::alloc::Allocator;
 
-/// A piece of a template: what it writes in place of a match.
+/// A piece of a replacement template.
 #[derive(Clone, Copy, PartialEq, Eq, Debug)]
 pub enum PieceOf<S> {
-    /// A text as it stands.
+    /// This text, literally.
     Text(S),
-    /// The match.
+    /// The text of the match.
     Match,
-    /// A group as Python counts, where number 0 is the match and number 1 the first group; nothing where it took no
-    /// part.
+    /// The text of a group, empty if the group did not participate or does not exist. Groups are numbered as in Python:
+    /// 0 is the match and 1 the first group.
     Group(usize),
 }
 
-/// One for a text that is a `&str`.
+/// A piece for a `&str`.
 pub type Piece<'a> = PieceOf<&'a str>;
 
-// The text that a piece stands for.
+// The text that a piece inserts.
 fn piece_text<S: Text, A: Allocator + Copy>(
     text: S,
     state: &State<A>,
@@ -59,7 +60,7 @@ fn piece_text<S: Text, A: Allocator + Copy>(
     }
 }
 
-// Appends what a piece stands for.
+// Appends the text that a piece inserts.
 fn append_piece<S: Text, A: Allocator + Copy>(
     output: &mut Vec<u8, A>,
     text: S,
@@ -78,7 +79,7 @@ fn append_piece<S: Text, A: Allocator + Copy>(
     piece_text(text, state, span, piece).append_to(output)
 }
 
-// Appends what a template makes of the match that a state shows.
+// Appends the expansion of a template for the state's match.
 fn append_replacement<S: Text, A: Allocator + Copy>(
     output: &mut Vec<u8, A>,
     text: S,
@@ -100,8 +101,7 @@ fn append_replacement<S: Text, A: Allocator + Copy>(
     Ok(())
 }
 
-// Appends the text from a cursor to a match and what a template makes of the match, behind which the cursor then
-// stands.
+// Appends the text from a cursor to a match, then the expansion of the template. Moves the cursor to the match's end.
 fn append_match<S: Text, A: Allocator + Copy>(
     output: &mut Vec<u8, A>,
     text: S,
@@ -128,25 +128,25 @@ fn append_match<S: Text, A: Allocator + Copy>(
     Ok(())
 }
 
-// Appends the rest of a window in which each match that is left of a walk is replaced.
+// Appends the remaining range, with each remaining match of an iteration replaced.
 fn append_replaced<S: Text, A: Allocator + Copy>(
     walk: &mut SearchIter<'_, S, A>,
     bounds: &mut Bounds,
     template: &[PieceOf<S>],
     output: &mut Vec<u8, A>,
 ) -> Result<(), SreError>
-    requires going { bounds.old.used_up ≡ false }
+    requires going { bounds.old.limit_exceeded ≡ false }
     requires written { S.IsText output.old.items }
     ensures ok { (t : Tree) → Whole (words_of (code_of (request_of walk.old))) t → IfOk result (λ _.
-        bounds.new.used_up ≡ false → S.characters output.new.items
+        bounds.new.limit_exceeded ≡ false → S.characters output.new.items
         ≡ S.characters output.old.items
         ++ replaced (S.text (string_of (request_of walk.old)))
         (written S.text (S.text (string_of (request_of walk.old))) template.now) (start_of (request_of walk.old))
         (end_of (request_of walk.old)) (first_of bounds.old.most (left_of walk.old t))) }
     ensures written { IfOk result (λ _. S.IsText output.new.items) }
-    ensures used { IfOk result (λ _. bounds.new.used_up ≡ true → bounds.new.turns ≡ Some 0) }
-    ensures turns { IfOk result (λ _. AreLeft bounds.old.turns bounds.new.turns) }
-    ensures lasts { OutlastRest walk.old bounds.old.turns → IfOk result (λ _. bounds.new.used_up ≡ false) }
+    ensures used { IfOk result (λ _. bounds.new.limit_exceeded ≡ true → bounds.new.steps ≡ Some 0) }
+    ensures steps { IfOk result (λ _. AreLeft bounds.old.steps bounds.new.steps) }
+    ensures lasts { OutlastRest walk.old bounds.old.steps → IfOk result (λ _. bounds.new.limit_exceeded ≡ false) }
     ensures refused { OnErr result Refused }
 {
     let (text, stop) = (walk.req().string(), walk.req().end());
@@ -158,7 +158,7 @@ fn append_replaced<S: Text, A: Allocator + Copy>(
     Ok(())
 }
 
-// Appends the text of a window in which each match is replaced.
+// Appends the text of a range, with each match replaced.
 fn append_all<S: Text, A: Allocator + Copy>(
     alloc: A,
     req: Request<'_, S>,
@@ -168,23 +168,23 @@ fn append_all<S: Text, A: Allocator + Copy>(
 ) -> Result<(), SreError>
     requires { S.IsText output.old.items }
     ensures ok { (t : Tree) → Whole (words_of (code_of req.entry)) t → IfOk result (λ _.
-        bounds.new.used_up ≡ false → S.characters output.new.items
+        bounds.new.limit_exceeded ≡ false → S.characters output.new.items
         ≡ S.characters output.old.items
         ++ replaced (S.text (string_of req.entry)) (written S.text (S.text (string_of req.entry)) template.now)
         (start_of req.entry) (end_of req.entry) (first_of bounds.old.most (walk (asked_of req.entry) t))) }
     ensures written { IfOk result (λ _. S.IsText output.new.items) }
-    ensures used { IfOk result (λ _. bounds.new.used_up ≡ true → bounds.new.turns ≡ Some 0) }
-    ensures turns { IfOk result (λ _. AreLeft bounds.old.turns bounds.new.turns) }
-    ensures lasts { Outlast (asked_of req.entry) (code_of req.entry) bounds.old.turns
-        → IfOk result (λ _. bounds.new.used_up ≡ false) }
+    ensures used { IfOk result (λ _. bounds.new.limit_exceeded ≡ true → bounds.new.steps ≡ Some 0) }
+    ensures steps { IfOk result (λ _. AreLeft bounds.old.steps bounds.new.steps) }
+    ensures lasts { Outlast (asked_of req.entry) (code_of req.entry) bounds.old.steps
+        → IfOk result (λ _. bounds.new.limit_exceeded ≡ false) }
     ensures refused { OnErr result Refused }
 {
-    bounds.used_up = false;
+    bounds.limit_exceeded = false;
     let mut walk = SearchIter::new(req, State::new(alloc));
     append_replaced(&mut walk, bounds, template, output)
 }
 
-// The text of a window in which each match is replaced.
+// The text of a range of a `&str`, with each match replaced.
 fn replaced_text<'t, A: Allocator + Copy>(
     alloc: A,
     req: Request<'_, &'t str>,
@@ -192,14 +192,14 @@ fn replaced_text<'t, A: Allocator + Copy>(
     template: &[Piece<'t>],
 ) -> Result<String<A>, SreError>
     ensures ok { (t : Tree) → Whole (words_of (code_of req.entry)) t → IfOk result (λ new.
-        bounds.new.used_up ≡ false → chars (string_bytes new)
+        bounds.new.limit_exceeded ≡ false → chars (string_bytes new)
         ≡ replaced (chars (string_of req.entry).now)
         (written (λ s. chars s.now) (chars (string_of req.entry).now) template.now)
         (start_of req.entry) (end_of req.entry) (first_of bounds.old.most (walk (asked_of req.entry) t))) }
-    ensures used { IfOk result (λ _. bounds.new.used_up ≡ true → bounds.new.turns ≡ Some 0) }
-    ensures turns { IfOk result (λ _. AreLeft bounds.old.turns bounds.new.turns) }
-    ensures lasts { Outlast (asked_of req.entry) (code_of req.entry) bounds.old.turns
-        → IfOk result (λ _. bounds.new.used_up ≡ false) }
+    ensures used { IfOk result (λ _. bounds.new.limit_exceeded ≡ true → bounds.new.steps ≡ Some 0) }
+    ensures steps { IfOk result (λ _. AreLeft bounds.old.steps bounds.new.steps) }
+    ensures lasts { Outlast (asked_of req.entry) (code_of req.entry) bounds.old.steps
+        → IfOk result (λ _. bounds.new.limit_exceeded ≡ false) }
     ensures refused { OnErr result Refused }
 {
     let mut output = Vec::new(alloc);
@@ -207,7 +207,7 @@ fn replaced_text<'t, A: Allocator + Copy>(
     Ok(String::from_utf8(output).unwrap())
 }
 
-// The same of bytes.
+// The same for bytes.
 fn replaced_bytes<'t, A: Allocator + Copy>(
     alloc: A,
     req: Request<'_, &'t [u8]>,
@@ -215,13 +215,13 @@ fn replaced_bytes<'t, A: Allocator + Copy>(
     template: &[PieceOf<&'t [u8]>],
 ) -> Result<Vec<u8, A>, SreError>
     ensures ok { (t : Tree) → Whole (words_of (code_of req.entry)) t → IfOk result (λ new.
-        bounds.new.used_up ≡ false → new.items
+        bounds.new.limit_exceeded ≡ false → new.items
         ≡ replaced (string_of req.entry).now (written (λ s. s.now) (string_of req.entry).now template.now)
         (start_of req.entry) (end_of req.entry) (first_of bounds.old.most (walk (asked_of req.entry) t))) }
-    ensures used { IfOk result (λ _. bounds.new.used_up ≡ true → bounds.new.turns ≡ Some 0) }
-    ensures turns { IfOk result (λ _. AreLeft bounds.old.turns bounds.new.turns) }
-    ensures lasts { Outlast (asked_of req.entry) (code_of req.entry) bounds.old.turns
-        → IfOk result (λ _. bounds.new.used_up ≡ false) }
+    ensures used { IfOk result (λ _. bounds.new.limit_exceeded ≡ true → bounds.new.steps ≡ Some 0) }
+    ensures steps { IfOk result (λ _. AreLeft bounds.old.steps bounds.new.steps) }
+    ensures lasts { Outlast (asked_of req.entry) (code_of req.entry) bounds.old.steps
+        → IfOk result (λ _. bounds.new.limit_exceeded ≡ false) }
     ensures refused { OnErr result Refused }
 {
     let mut output = Vec::new(alloc);
@@ -229,128 +229,128 @@ fn replaced_bytes<'t, A: Allocator + Copy>(
     Ok(output)
 }
 
-/// The text of a window in which each match is replaced by what a template makes of it, as Python's `sub` replaces:
-/// empty matches, too.
+/// Returns the text of the range with each match replaced by the expansion of a template, as Python's `sub` does. Empty
+/// matches are replaced, too. Text outside the range is not included.
 ///
 /// ```
-/// // The words of `(a)`.
+/// // Bytecode of `(a)`.
 /// let code = Code::check(alloc, &[17, 0, 16, 97, 17, 1, 1], &uni)?;
 /// let template = [Piece::Text("<"), Piece::Group(1), Piece::Text(">")];
-/// let new = replace_all(alloc, Request::whole("éab", code), &template)?;
+/// let new = replace_all(alloc, &Request::whole("éab", code), &template)?;
 /// assert!(new.as_str() == "é<a>b");
 /// ```
 ///
 /// # Errors
 ///
-/// [`SreError::Memory`], where a growth was refused.
+/// [`SreError::Memory`] if an allocation failed.
 pub fn replace_all<A: Allocator + Copy>(
     alloc: A,
-    req: Request<'_, &str>,
+    req: &Request<'_, &str>,
     template: &[Piece<'_>],
 ) -> Result<String<A>, SreError>
-    ensures ok { (t : Tree) → Whole (words_of (code_of req.entry)) t → IfOk result (λ new.
+    ensures ok { (t : Tree) → Whole (words_of (code_of req.now)) t → IfOk result (λ new.
         chars (string_bytes new)
-        ≡ replaced (chars (string_of req.entry).now)
-        (written (λ s. chars s.now) (chars (string_of req.entry).now) template.now)
-        (start_of req.entry) (end_of req.entry) (walk (asked_of req.entry) t)) }
+        ≡ replaced (chars (string_of req.now).now)
+        (written (λ s. chars s.now) (chars (string_of req.now).now) template.now)
+        (start_of req.now) (end_of req.now) (walk (asked_of req.now) t)) }
     ensures refused { OnErr result Refused }
 {
     let mut bounds = Bounds::none();
-    replaced_text(alloc, req, &mut bounds, &*template)
+    replaced_text(alloc, copied(req), &mut bounds, &*template)
 }
 
-/// The same within bounds: the first matches alone are replaced, as with Python's `count`; or `None` where the turns
-/// were used up before they were known.
+/// `replace_all` within bounds: replaces only the first `bounds.most` matches, as Python's `sub` does with `count`.
+/// Returns `None` if the step limit is exceeded.
 ///
 /// ```
-/// // The words of `a`.
+/// // Bytecode of `a`.
 /// let code = Code::check(alloc, &[16, 97, 1], &uni)?;
 /// let whole = Request::whole("aéa", code);
-/// if let Some(new) = replace_bounded(alloc, whole, &mut Bounds::first(1), &[Piece::Text("b")])? {
+/// if let Some(new) = replace_bounded(alloc, &whole, &mut Bounds::first(1), &[Piece::Text("b")])? {
 ///     assert!(new.as_str() == "béa");
 /// }
 /// ```
 ///
 /// # Errors
 ///
-/// [`SreError::Memory`], where a growth was refused.
+/// [`SreError::Memory`] if an allocation failed.
 pub fn replace_bounded<A: Allocator + Copy>(
     alloc: A,
-    req: Request<'_, &str>,
+    req: &Request<'_, &str>,
     bounds: &mut Bounds,
     template: &[Piece<'_>],
 ) -> Result<Option<String<A>>, SreError>
-    ensures ok { (t : Tree) → Whole (words_of (code_of req.entry)) t → IfOk result (λ told. IfSome told (λ new.
+    ensures ok { (t : Tree) → Whole (words_of (code_of req.now)) t → IfOk result (λ told. IfSome told (λ new.
         chars (string_bytes new)
-        ≡ replaced (chars (string_of req.entry).now)
-        (written (λ s. chars s.now) (chars (string_of req.entry).now) template.now)
-        (start_of req.entry) (end_of req.entry) (first_of bounds.old.most (walk (asked_of req.entry) t)))) }
-    ensures used { IfOk result (λ told. told ≡ None → bounds.new.turns ≡ Some 0) }
-    ensures turns { IfOk result (λ _. AreLeft bounds.old.turns bounds.new.turns) }
-    ensures lasts { Outlast (asked_of req.entry) (code_of req.entry) bounds.old.turns → IfOk result IsSome }
-    ensures unlimited { bounds.old.turns ≡ None → IfOk result IsSome }
+        ≡ replaced (chars (string_of req.now).now)
+        (written (λ s. chars s.now) (chars (string_of req.now).now) template.now)
+        (start_of req.now) (end_of req.now) (first_of bounds.old.most (walk (asked_of req.now) t)))) }
+    ensures used { IfOk result (λ told. told ≡ None → bounds.new.steps ≡ Some 0) }
+    ensures steps { IfOk result (λ _. AreLeft bounds.old.steps bounds.new.steps) }
+    ensures lasts { Outlast (asked_of req.now) (code_of req.now) bounds.old.steps → IfOk result IsSome }
+    ensures unlimited { bounds.old.steps ≡ None → IfOk result IsSome }
     ensures refused { OnErr result Refused }
 {
-    let new = replaced_text(alloc, req, bounds, &*template)?;
-    if bounds.used_up {
+    let new = replaced_text(alloc, copied(req), bounds, &*template)?;
+    if bounds.limit_exceeded {
         Ok(None)
     } else {
         Ok(Some(new))
     }
 }
 
-/// As `replace_all`, over bytes.
+/// `replace_all` for bytes.
 ///
 /// ```
-/// // The words of `(a)`.
+/// // Bytecode of `(a)`.
 /// let code = Code::check(alloc, &[17, 0, 16, 97, 17, 1, 1], &uni)?;
 /// let text = b"\xffab".as_slice();
 /// let template = [PieceOf::Text(b"<".as_slice()), PieceOf::Group(1)];
-/// let new = replace_all_bytes(alloc, Request::whole(text, code), &template)?;
+/// let new = replace_all_bytes(alloc, &Request::whole(text, code), &template)?;
 /// assert!(new.as_slice() == b"\xff<ab".as_slice());
 /// ```
 ///
 /// # Errors
 ///
-/// [`SreError::Memory`], where a growth was refused.
+/// [`SreError::Memory`] if an allocation failed.
 pub fn replace_all_bytes<A: Allocator + Copy>(
     alloc: A,
-    req: Request<'_, &[u8]>,
+    req: &Request<'_, &[u8]>,
     template: &[PieceOf<&[u8]>],
 ) -> Result<Vec<u8, A>, SreError>
-    ensures ok { (t : Tree) → Whole (words_of (code_of req.entry)) t → IfOk result (λ new.
+    ensures ok { (t : Tree) → Whole (words_of (code_of req.now)) t → IfOk result (λ new.
         new.items
-        ≡ replaced (string_of req.entry).now (written (λ s. s.now) (string_of req.entry).now template.now)
-        (start_of req.entry) (end_of req.entry) (walk (asked_of req.entry) t)) }
+        ≡ replaced (string_of req.now).now (written (λ s. s.now) (string_of req.now).now template.now)
+        (start_of req.now) (end_of req.now) (walk (asked_of req.now) t)) }
     ensures refused { OnErr result Refused }
 {
     let mut bounds = Bounds::none();
-    replaced_bytes(alloc, req, &mut bounds, &*template)
+    replaced_bytes(alloc, copied(req), &mut bounds, &*template)
 }
 
-/// As `replace_bounded`, over bytes.
+/// `replace_bounded` for bytes.
 ///
 /// # Errors
 ///
-/// [`SreError::Memory`], where a growth was refused.
+/// [`SreError::Memory`] if an allocation failed.
 pub fn replace_bounded_bytes<A: Allocator + Copy>(
     alloc: A,
-    req: Request<'_, &[u8]>,
+    req: &Request<'_, &[u8]>,
     bounds: &mut Bounds,
     template: &[PieceOf<&[u8]>],
 ) -> Result<Option<Vec<u8, A>>, SreError>
-    ensures ok { (t : Tree) → Whole (words_of (code_of req.entry)) t → IfOk result (λ told. IfSome told (λ new.
+    ensures ok { (t : Tree) → Whole (words_of (code_of req.now)) t → IfOk result (λ told. IfSome told (λ new.
         new.items
-        ≡ replaced (string_of req.entry).now (written (λ s. s.now) (string_of req.entry).now template.now)
-        (start_of req.entry) (end_of req.entry) (first_of bounds.old.most (walk (asked_of req.entry) t)))) }
-    ensures used { IfOk result (λ told. told ≡ None → bounds.new.turns ≡ Some 0) }
-    ensures turns { IfOk result (λ _. AreLeft bounds.old.turns bounds.new.turns) }
-    ensures lasts { Outlast (asked_of req.entry) (code_of req.entry) bounds.old.turns → IfOk result IsSome }
-    ensures unlimited { bounds.old.turns ≡ None → IfOk result IsSome }
+        ≡ replaced (string_of req.now).now (written (λ s. s.now) (string_of req.now).now template.now)
+        (start_of req.now) (end_of req.now) (first_of bounds.old.most (walk (asked_of req.now) t)))) }
+    ensures used { IfOk result (λ told. told ≡ None → bounds.new.steps ≡ Some 0) }
+    ensures steps { IfOk result (λ _. AreLeft bounds.old.steps bounds.new.steps) }
+    ensures lasts { Outlast (asked_of req.now) (code_of req.now) bounds.old.steps → IfOk result IsSome }
+    ensures unlimited { bounds.old.steps ≡ None → IfOk result IsSome }
     ensures refused { OnErr result Refused }
 {
-    let new = replaced_bytes(alloc, req, bounds, &*template)?;
-    if bounds.used_up {
+    let new = replaced_bytes(alloc, copied(req), bounds, &*template)?;
+    if bounds.limit_exceeded {
         Ok(None)
     } else {
         Ok(Some(new))

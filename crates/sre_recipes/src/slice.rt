@@ -1,4 +1,4 @@
-//! The text of a match and of its groups, reached from the cursor at the match's end.
+//! The texts of a match and of its groups, reached from the cursor at the match's end.
 
 ghost use Rattle.std.specs.Prelude.{◌≡◌, ◌+◌, ◌<◌, ◌≤◌, length, slice_range, MatchOption};
 ghost use Rattle.std.specs.Option.{option_map};
@@ -10,7 +10,7 @@ use crate::texts::Text;
 use sre_engine::{State, StrDrive, StringCursor};
 use std::alloc::Allocator;
 
-// The text from a cursor to a position.
+// The slice from a cursor to a position at or after it.
 pub(crate) fn up_to<S: Text>(text: S, start: &StringCursor, position: usize) -> S
     requires start { S.stands text start.now start.now.position }
     requires forward { start.now.position ≤ position }
@@ -21,7 +21,7 @@ pub(crate) fn up_to<S: Text>(text: S, start: &StringCursor, position: usize) -> 
     text.between(start, &end)
 }
 
-// The cursor at a position, reached from another cursor, where the text has so many characters.
+// Moves a cursor to a position, in either direction. `None` if the text ends before that position.
 fn moved_to<S: Text>(text: S, from: &StringCursor, position: usize) -> Option<StringCursor>
     requires { S.stands text from.now from.now.position }
     ensures { MatchOption result (length (S.text text) < position)
@@ -40,8 +40,8 @@ fn moved_to<S: Text>(text: S, from: &StringCursor, position: usize) -> Option<St
     Some(cursor)
 }
 
-/// The text of the match that a state shows. `search_text` and `match_text` leave such a state, and so does a walk with
-/// each match; the text is the one that was asked.
+/// Returns the text of the state's match. The state must show a match in `text`, as it does after `search_text`,
+/// `match_text` or an item of an iteration over that text.
 pub fn matched_text<S: Text, A: Allocator + Copy>(text: S, state: &State<A>) -> S
     requires stands { S.stands text state.now.cursor state.now.cursor.position }
     requires forward { state.now.start ≤ state.now.cursor.position }
@@ -51,11 +51,11 @@ pub fn matched_text<S: Text, A: Allocator + Copy>(text: S, state: &State<A>) -> 
     text.between(&span.start, &span.end)
 }
 
-/// Where the match that a state shows starts, in a text of any type: `position()` counts characters, and `offset()`
-/// bytes. Where it ends is the state's own `cursor()`.
+/// Returns the cursor at the start of the state's match, for a text of any type. `position()` counts characters and
+/// `offset()` counts bytes. `State::cursor` is the cursor at the match's end.
 ///
 /// ```
-/// // The words of `b`, in `éb`.
+/// // Bytecode of `b`, in `éb`.
 /// let start = match_start(text, &state);
 /// assert!(start.position() == 1 && start.offset() == 2);
 /// ```
@@ -70,7 +70,8 @@ pub fn match_start<S: StrDrive, A: Allocator + Copy>(text: S, state: &State<A>) 
     start
 }
 
-// The text of the group of marks 2 `group` and 2 `group` + 1, where they are set, in order, in the text.
+// The text of the group with capture slots 2 `group` and 2 `group` + 1. `None` if one of them is not set, they are out
+// of order, or the second is beyond the text's end.
 fn marked_text<S: Text, A: Allocator + Copy>(text: S, state: &State<A>, group: usize) -> Option<S>
     requires { S.stands text state.now.cursor state.now.cursor.position }
     ensures { option_map S.text result ≡ group_of (S.text text) state.now.marks group }
@@ -86,7 +87,7 @@ fn marked_text<S: Text, A: Allocator + Copy>(text: S, state: &State<A>, group: u
     Some(text.between(&start, &end))
 }
 
-// The text of the match that a state shows; none where its start were behind its end.
+// The text of the state's match. If the state's start is after its end, the empty text.
 fn whole_text<S: Text, A: Allocator + Copy>(text: S, state: &State<A>) -> S
     requires { S.stands text state.now.cursor state.now.cursor.position }
     ensures { S.text result ≡ slice_of (S.text text) (match_shown state.now) }
@@ -98,13 +99,14 @@ fn whole_text<S: Text, A: Allocator + Copy>(text: S, state: &State<A>) -> S
     }
 }
 
-/// The text of a group of the match that a state shows, as Python counts: number 0 is the match itself, number 1 the
-/// first group. `None` where the group took no part. A group of a look may lie before the match, or behind it.
+/// Returns the text of a group of the state's match. Groups are numbered as in Python: 0 is the match itself and 1 the
+/// first group. `None` if the group did not participate, or does not exist. A group inside a lookaround can be before
+/// or after the match.
 ///
-/// **`Marks::get` counts otherwise**: its number 0 is the first group.
+/// **`Marks::get` numbers groups differently**: its number 0 is the first group.
 ///
 /// ```
-/// // The words of `(\w)=(\w)`, in `x=y`.
+/// // Bytecode of `(\w)=(\w)`, in `x=y`.
 /// assert!(group_text(text, &state, 0) == Some("x=y"));
 /// assert!(group_text(text, &state, 2) == Some("y"));
 /// ```

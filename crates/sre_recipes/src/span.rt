@@ -1,4 +1,4 @@
-//! Where the matches of a walk start and end.
+//! Start and end cursors of the matches of an iteration.
 
 ghost use Rattle.std.specs.Prelude.{◌≡◌, ◌+◌, ◌<◌, ◌≤◌, length, IfOk, OnErr, MatchOption, IsSome};
 ghost use Rattle.sre_engine.specs.Requests.{string_of};
@@ -9,14 +9,14 @@ ghost use Rattle.sre_recipes.specs.Spans.{IsSpan};
 use sre_engine::{SearchIter, SreError, State, StrDrive, StringCursor};
 use std::alloc::Allocator;
 
-/// Where a match starts and ends.
+/// The cursors at the start and the end of a match.
 #[derive(Clone, Copy)]
 pub(crate) struct Span {
     pub start: StringCursor,
     pub end: StringCursor,
 }
 
-// The cursor at a position that is not behind another cursor, reached from that one.
+// Moves a cursor back to an earlier position, or to its own.
 pub(crate) fn back_to<S: StrDrive>(text: S, from: &StringCursor, position: usize) -> StringCursor
     requires at { S.stands text from.now from.now.position }
     requires before { position ≤ from.now.position }
@@ -28,7 +28,7 @@ pub(crate) fn back_to<S: StrDrive>(text: S, from: &StringCursor, position: usize
     cursor
 }
 
-// The cursor so many characters behind another one.
+// Moves a cursor forward by a number of characters.
 pub(crate) fn on_by<S: StrDrive>(text: S, from: &StringCursor, several: usize) -> StringCursor
     requires at { S.stands text from.now from.now.position }
     requires within { from.now.position + several ≤ length (S.text text) }
@@ -40,7 +40,7 @@ pub(crate) fn on_by<S: StrDrive>(text: S, from: &StringCursor, several: usize) -
     cursor
 }
 
-// Where the match that a state shows starts and ends: its start is reached from its end.
+// The span of the state's match. The start is reached backwards from the end.
 pub(crate) fn span_of<S: StrDrive, A: Allocator + Copy>(text: S, state: &State<A>) -> Span
     requires stands { S.stands text state.now.cursor state.now.cursor.position }
     requires forward { state.now.start ≤ state.now.cursor.position }
@@ -51,7 +51,7 @@ pub(crate) fn span_of<S: StrDrive, A: Allocator + Copy>(text: S, state: &State<A
     Span { start, end }
 }
 
-// The next match of a walk.
+// The span of the next match, or `None` at the end of the iteration.
 pub(crate) fn next_span<S: StrDrive, A: Allocator + Copy>(
     walk: &mut SearchIter<'_, S, A>,
 ) -> Result<Option<Span>, SreError>

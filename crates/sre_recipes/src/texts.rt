@@ -1,4 +1,4 @@
-//! Texts that recipes cut: bytes, and UTF-8.
+//! The texts that recipes work on: bytes and UTF-8.
 
 ghost use Rattle.std.specs.Prelude.{◌≡◌, ◌++◌, ◌≤◌, ℕ, List, [], length, true, false, ◌<◌, slice_range, ⊤, IfOk, OnErr};
 ghost use Rattle.std.specs.Str.{chars, IsUtf8};
@@ -8,27 +8,31 @@ ghost use Rattle.sre_growth.specs.Refusal.{Refused};
 use sre_engine::{SreError, StrDrive, StringCursor};
 use std::alloc::Allocator;
 
-/// A text that recipes can cut, and append to bytes.
+/// A text that recipes can slice and copy to a byte buffer.
 pub trait Text: StrDrive {
-    // Whether bytes are a text of this type, and the characters of such bytes.
+    // Whether bytes encode a text of this type, and the characters that they encode.
     ghost IsText: { List ℕ → Type 0 };
 
     ghost characters: { List ℕ → List ℕ };
 
-    /// The text from one cursor to another.
+    /// Returns the slice of the text from one cursor to another.
     fn between(&self, start: &StringCursor, end: &StringCursor) -> Self
         requires start { Self.stands self.now start.now start.now.position }
         requires end { Self.stands self.now end.now end.now.position }
         requires forward { start.now.position ≤ end.now.position }
         ensures { Self.text result ≡ slice_range (Self.text self.now) start.now.position end.now.position };
 
-    /// Whether a cursor stands at the text's end.
+    /// Returns whether a cursor is at the end of the text.
     fn is_end(&self, cursor: &StringCursor) -> bool
         requires { Self.stands self.now cursor.now cursor.now.position }
         ensures end { result ≡ true → cursor.now.position ≡ length (Self.text self.now) }
         ensures before { result ≡ false → cursor.now.position < length (Self.text self.now) };
 
-    /// Appends the text to bytes that are one.
+    /// Appends the text's bytes to a buffer that already encodes a text of this type, perhaps an empty one.
+    ///
+    /// # Errors
+    ///
+    /// [`SreError::Memory`] if an allocation failed.
     fn append_to<A: Allocator>(&self, output: &mut Vec<u8, A>) -> Result<(), SreError>
         requires { IsText output.old.items }
         ensures ok { IfOk result (λ _.
@@ -36,26 +40,30 @@ pub trait Text: StrDrive {
         ensures written { IfOk result (λ _. IsText output.new.items) }
         ensures refused { OnErr result Refused };
 
-    // No bytes are a text of no characters.
+    // The empty list of bytes encodes the empty text.
     ghost none: { IsText [] };
 
     ghost none_characters: { characters [] ≡ [] };
 }
 
-/// A text of which a new one can be made of bytes, and what that is.
+/// A text whose replacements have an owned type: `String` for `&str`, `Vec<u8>` for `&[u8]`.
 pub trait Rewritten: Text {
-    /// A text that owns its bytes.
+    /// The owned text.
     type New: Drop;
 
-    // The characters of one.
+    // The characters of an owned text.
     ghost shown: { Self.New → List ℕ };
 
-    /// The new text of bytes that are one.
+    /// Converts a buffer that encodes a text of this type to an owned text.
     fn from_output(output: Vec<u8>) -> Self::New
         requires { Self.IsText output.items }
         ensures { shown result ≡ Self.characters output.items };
 
-    /// Appends a new text to bytes that are one.
+    /// Appends the bytes of an owned text to a buffer that encodes a text of this type.
+    ///
+    /// # Errors
+    ///
+    /// [`SreError::Memory`] if an allocation failed.
     fn append_new(new: &Self::New, output: &mut Vec<u8>) -> Result<(), SreError>
         requires { Self.IsText output.old.items }
         ensures ok { IfOk result (λ _.
@@ -64,7 +72,7 @@ pub trait Rewritten: Text {
         ensures refused { OnErr result Refused };
 }
 
-// The text from one cursor to another.
+// The slice of a `str` from one cursor to another.
 fn cut<'t>(text: &'t str, start: &StringCursor, end: &StringCursor) -> &'t str
     requires start { StandsInText text.now start.now start.now.position }
     requires end { StandsInText text.now end.now end.now.position }
@@ -74,7 +82,7 @@ fn cut<'t>(text: &'t str, start: &StringCursor, end: &StringCursor) -> &'t str
     &text[start.offset()..end.offset()]
 }
 
-// Whether a cursor stands at a text's end.
+// Whether a cursor is at the end of a `str`.
 fn at_end(text: &str, cursor: &StringCursor) -> bool
     requires { StandsInText text.now cursor.now cursor.now.position }
     ensures end { result ≡ true → cursor.now.position ≡ length (chars text.now) }
@@ -83,7 +91,7 @@ fn at_end(text: &str, cursor: &StringCursor) -> bool
     cursor.offset() == text.len()
 }
 
-// Appends bytes.
+// Appends bytes one by one with `sre_growth`, whose errors prove that an allocation failed.
 fn append_bytes<A: Allocator>(output: &mut Vec<u8, A>, bytes: &[u8]) -> Result<(), SreError>
     ensures ok { IfOk result (λ _. output.new.items ≡ output.old.items ++ bytes.now) }
     ensures refused { OnErr result Refused }
@@ -94,7 +102,7 @@ fn append_bytes<A: Allocator>(output: &mut Vec<u8, A>, bytes: &[u8]) -> Result<(
     Ok(())
 }
 
-// Appends a text to a text.
+// Appends a `str` to UTF-8.
 fn append_text<A: Allocator>(output: &mut Vec<u8, A>, text: &str) -> Result<(), SreError>
     requires { IsUtf8 output.old.items }
     ensures ok { IfOk result (λ _. chars output.new.items ≡ chars output.old.items ++ chars text.now) }

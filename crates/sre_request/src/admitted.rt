@@ -1,9 +1,9 @@
-//! [`Admitted`]: what a place of the words admits.
+//! [`Admitted`]: the FIRST sets of an address.
 
 use sre_code::ascii_set::AsciiSet;
 
-/// What a place of the words admits: the ASCII characters that may come next where an instruction stands there, and
-/// where alternatives begin there by a length word.
+/// The FIRST sets of an address of the bytecode, in ASCII: of the instruction there, and of the alternatives from there
+/// on, if the address is that of an alternative's length word.
 #[derive(Clone, Copy)]
 pub struct Admitted {
     pub instruction: AsciiSet,

@@ -1,4 +1,4 @@
-//! What is asked of a search: a text, a window of it, a code, two flags and a rule.
+//! [`Request`]: a text, a range of it, a code, two flags and a rule.
 #![tactic(auto)]
 
 mod admitted;

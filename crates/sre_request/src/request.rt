@@ -1,4 +1,4 @@
-//! [`Request`]: what is asked of a search, part by part.
+//! [`Request`]: the parts of a match or a search.
 
 ghost use Rattle.std.specs.Prelude.{⊤, ◌≡◌, ◌+◌, ◌^◌, ◌≤◌, length};
 ghost use Rattle.sre_code.specs.Codes.{items_of};
@@ -10,10 +10,10 @@ use sre_chars::string::StrDrive;
 use sre_code::Code;
 use std::alloc::AllocError;
 
-/// A text, a window of it, a code, two flags and the rule for non-boundaries on nothing. Positions count characters.
+/// A text, a range of it, a code, two flags, and the rule for `\B` in a range that ends at 0. Positions count
+/// characters.
 ///
-/// It may carry a list of what the places of its code admit, which changes no answer: a search goes by it where it is
-/// there.
+/// It may carry the FIRST sets of its code's addresses. A search uses them to skip work, and they change no answer.
 pub struct Request<'a, S: StrDrive> {
     string: S,
     start: usize,
@@ -44,9 +44,8 @@ impl<'a, S: StrDrive> Request<'a, S> {
     ghost use Rattle.sre_request.specs.Requests.{string_of, start_of, end_of, code_of, match_all_of, must_advance_of};
     ghost use Rattle.sre_request.specs.Requests.{empty_rule_of, asked_of, admitted_of, carrying};
 
-    /// A request over the window from `start` to `end` of a text: `end` is held at the number of characters, and
-    /// `start` at `end`. `must_advance` is not set, and no
-    /// non-boundary is on nothing.
+    /// A request over the range from `start` to `end` of a text. `end` is reduced to the number of characters, then
+    /// `start` to `end`. `must_advance` is not set, and the rule is `EmptyRule::Never`.
     pub fn new(
         string: S,
         start: usize,
@@ -75,11 +74,11 @@ impl<'a, S: StrDrive> Request<'a, S> {
         }
     }
 
-    /// A request over all of a text, by which a match may end anywhere in it. `must_advance` is not set, and no
-    /// non-boundary is on nothing.
+    /// A request over a whole text; a match may end anywhere in it. `must_advance` is not set, and the rule is
+    /// `EmptyRule::Never`.
     ///
     /// ```
-    /// // The words of `a`.
+    /// // The bytecode of `a`.
     /// let req = Request::whole("éa", code);
     /// assert!(req.start() == 0 && req.end() == 2 && !req.match_all());
     /// ```
@@ -97,7 +96,7 @@ impl<'a, S: StrDrive> Request<'a, S> {
         req
     }
 
-    // The same request: a generic function cannot copy one as a whole.
+    // A copy, field by field: a generic function cannot copy a request as a whole.
     #[inline(always)]
     pub(crate) fn copied(&self) -> Request<'a, S>
         ensures { result ≡ self.now }
@@ -105,8 +104,8 @@ impl<'a, S: StrDrive> Request<'a, S> {
         self.with_admitted(self.admitted)
     }
 
-    /// The same request, with a list of what the places of its code admit in place of the one that it carried:
-    /// `admitted_by_place` of `sre_engine` tells it. It asks the same, and its answer is the same.
+    /// The same request with another list of FIRST sets, as `admitted_by_place` of `sre_engine` computes it. The answer
+    /// is the same.
     #[inline(always)]
     pub fn with_admitted<'b>(&self, admitted: &'b [Admitted]) -> Request<'b, S>
     where
@@ -127,7 +126,7 @@ impl<'a, S: StrDrive> Request<'a, S> {
         }
     }
 
-    /// The list that it carries: what each place of its code admits. Of places behind its end nothing is told.
+    /// The FIRST sets by address of its code. For addresses past the end of the list nothing is known.
     #[inline(always)]
     pub fn admitted(&self) -> &'a [Admitted]
         ensures same { result.now ≡ admitted_of self.now }
@@ -144,7 +143,7 @@ impl<'a, S: StrDrive> Request<'a, S> {
         self.string
     }
 
-    /// The position at which the window starts; it is at most the window's end.
+    /// The position at which the range starts, at most its end.
     #[inline(always)]
     pub fn start(&self) -> usize
         ensures value { result ≡ start_of self.now }
@@ -153,8 +152,8 @@ impl<'a, S: StrDrive> Request<'a, S> {
         self.start
     }
 
-    /// The position at which the window ends: characters from it on are not seen.
-    /// It is at most the number of the text's characters, and so below 2^63.
+    /// The position at which the range ends: the search does not see the characters from there on. It is at most the
+    /// number of characters of the text, and below 2^63.
     #[inline(always)]
     pub fn end(&self) -> usize
         ensures value { result ≡ end_of self.now }
@@ -172,7 +171,7 @@ impl<'a, S: StrDrive> Request<'a, S> {
         self.pattern_codes
     }
 
-    /// Whether a match has to end at the window's end.
+    /// Whether a match must end at the end of the range.
     #[inline(always)]
     pub fn match_all(&self) -> bool
         ensures { result ≡ match_all_of self.now }
@@ -180,7 +179,7 @@ impl<'a, S: StrDrive> Request<'a, S> {
         self.match_all
     }
 
-    /// Whether an empty match at the window's start is refused.
+    /// Whether an empty match at the start of the range does not count.
     #[inline(always)]
     pub fn must_advance(&self) -> bool
         ensures { result ≡ must_advance_of self.now }
@@ -188,7 +187,7 @@ impl<'a, S: StrDrive> Request<'a, S> {
         self.must_advance
     }
 
-    /// Sets whether an empty match at the window's start is refused.
+    /// Sets whether an empty match at the start of the range does not count.
     pub fn set_must_advance(&mut self, must_advance: bool)
         ensures asked { asked_of self.new ≡ record (asked_of self.old) { must_advance = must_advance } }
         ensures string { string_of self.new ≡ string_of self.old }
@@ -197,7 +196,7 @@ impl<'a, S: StrDrive> Request<'a, S> {
         self.must_advance = must_advance;
     }
 
-    /// Sets whether a match has to end at the window's end.
+    /// Sets whether a match must end at the end of the range.
     pub fn set_match_all(&mut self, match_all: bool)
         ensures asked { asked_of self.new ≡ record (asked_of self.old) { match_all = match_all } }
         ensures string { string_of self.new ≡ string_of self.old }
@@ -206,7 +205,7 @@ impl<'a, S: StrDrive> Request<'a, S> {
         self.match_all = match_all;
     }
 
-    /// Whether a non-boundary is on nothing.
+    /// Whether `\B` matches at position 0 of a range that ends there.
     #[inline(always)]
     pub fn empty_rule(&self) -> EmptyRule
         ensures { result ≡ empty_rule_of self.now }
@@ -214,7 +213,7 @@ impl<'a, S: StrDrive> Request<'a, S> {
         self.empty_rule
     }
 
-    /// Sets whether a non-boundary is on nothing.
+    /// Sets whether `\B` matches at position 0 of a range that ends there.
     pub fn set_empty_rule(&mut self, empty_rule: EmptyRule)
         ensures asked { asked_of self.new ≡ record (asked_of self.old) { empty_rule = empty_rule } }
         ensures string { string_of self.new ≡ string_of self.old }
@@ -223,7 +222,7 @@ impl<'a, S: StrDrive> Request<'a, S> {
         self.empty_rule = empty_rule;
     }
 
-    /// Moves the window's start, up to its end. It looks at no character.
+    /// Moves the start of the range, up to its end. It reads no character.
     pub fn set_start(&mut self, start: usize)
         requires { start ≤ end_of self.old }
         ensures asked { asked_of self.new ≡ record (asked_of self.old) { start = start } }
@@ -233,7 +232,7 @@ impl<'a, S: StrDrive> Request<'a, S> {
         self.start = start;
     }
 
-    /// Moves the window, whose ends are held as `new` holds them.
+    /// Sets the range, with both ends reduced as `new` reduces them.
     pub fn set_window(&mut self, start: usize, end: usize)
         ensures asked { let held = min end (length (S.text (string_of self.old))) in
             asked_of self.new ≡ record (asked_of self.old) { start = min start held; end = held } }

@@ -1,4 +1,4 @@
--- What an instruction admits, from what is admitted where it goes on: one turn, whatever the role.
+-- What an instruction admits, from what is admitted where it goes on: one step, whatever the role.
 -- Branches leave alternatives of which nothing comes by this; nothing in this crate rests on it.
 use Rattle.std.proofs.Common.{◌≡◌, ℕ, ◌+◌, ◌-◌, ◌<◌, ◌&&◌, ◌||◌, Bool, true, false, cond, nat_eq, nat_lt, List, []}
 use Rattle.std.proofs.Common.{◌∷◌, Option, Some, None, refl, sym, ◌∙◌, ap, subst, arith}
@@ -18,7 +18,7 @@ use Rattle.sre_model.specs.Roles.{ToCheckGroup, ToNothing, role}
 use Rattle.sre_model.specs.Standing.{TestStands}
 use Rattle.sre_turns.specs.declared.Frame.{Frame}
 use Rattle.sre_turns.specs.declared.Region.TheVariants.{AtomicGroup, Ahead, NotAhead, Owed, Further}
-use Rattle.sre_turns.specs.declared.Point.TheVariants.{Instruction, Alternatives, Shorter, Longer, Again}
+use Rattle.sre_turns.specs.declared.Point.TheVariants.{Instruction, Shorter, Longer, Again}
 use Rattle.sre_turns.specs.declared.Point.{Point}
 use Rattle.sre_turns.specs.Moves.{Spot, spot_at, into_region, Move, Stop, End, Go, Split, Enter, closing_move}
 use Rattle.sre_turns.specs.MovesInRuns.{onward_turn, run_turn}
@@ -28,17 +28,17 @@ use Rattle.sre_turns.specs.MovesInRegions.{look}
 use Rattle.sre_turns.specs.MovesAtReferences.{condition_place}
 use Rattle.sre_turns.specs.Machine.{InRole, Moves, Runs, turns, Comes, stops, goes, splits, enters}
 use Rattle.sre_turns.specs.Admitting.{IsOutside, NextOutside, AdmitsOnly, TestsOnly, HasAll, RepeatsOnly}
-use Rattle.sre_turns.specs.Admitting.{LeadsOnly, AlternativesOnly}
+use Rattle.sre_turns.specs.Admitting.{LeadsOnly}
 use Rattle.sre_model.proofs.Families.{until_role}
 use Rattle.sre_model.proofs.Longest.{run_none}
 use Rattle.sre_model.proofs.Words.{word_of, same_opcode}
 
--- a turn after which nothing comes
+-- a step after which nothing comes
 module _ (ws : List ℕ) (s : Subject) where
   abbrev Barren : Spot → Type 0
   Barren x = (os : List Way) (n : ℕ) → Runs ws s x os n → os ≡ []
 
-  -- where no region is entered
+  -- where no atomic scope is entered
   abbrev BarrenOnto : Move → Type 0
   BarrenOnto Stop = ⊤
   BarrenOnto End = ⊥
@@ -80,7 +80,7 @@ module _ (ws : List ℕ) (s : Subject) where
   order_barren Greedy body end h k = (h, k)
   order_barren Lazy body end h k = (k, h)
 
--- where a character outside a set comes next, or the window ends
+-- where a character outside a set comes next, or the range ends
 module _ (ws : List ℕ) (s : Subject) (set : ℕ → Bool) (p : ℕ) (o : NextOutside s set p) where
   admitted_nowhere : {X : Type 0} → HasAll set → X
   admitted_nowhere h =
@@ -252,7 +252,7 @@ module _ (ws : List ℕ) (s : Subject) (set : ℕ → Bool) (p : ℕ) (o : NextO
       ap (λ z. role z) (same_opcode ws u k.0 (until_opcode order) k.1 w) ∙ until_role order in
       until_after i u order outer m a h e (subst (λ f. InRole ws s f u x a) same k.2))
 
-  -- a turn of an instruction
+  -- a step of an instruction
   role_barren : (f : Role) (i : ℕ) (fs : List Frame) (m : Marks) (a : Move) → LeadsOnly ws set f i
       → InRole ws s f i (spot_at (Instruction i) fs p m) a → BarrenAfter ws s a
   role_barren ToFail i fs m a h k = subst (BarrenAfter ws s) (sym k) tt
@@ -301,21 +301,6 @@ leads_admit ws i o set w h = record {
       let same : role k.0 ≡ role o = ap (λ z. role z) (same_opcode ws i k.0 o k.1 w) in
       role_barren ws s set p out (role o) i fs m a h
       (subst (λ f. InRole ws s f i (spot_at (Instruction i) fs p m) a) same k.2));
-}
-
--- and alternatives what each of them admits
-pub alternatives_admit : (ws : List ℕ) (q : ℕ) (set : ℕ → Bool) → AlternativesOnly ws q set
-    → AdmitsOnly ws (Alternatives q) set
-alternatives_admit ws q set h = record {
-  none = λ s p out fs m.
-      barren_turn ws s (spot_at (Alternatives q) fs p m) (λ a k.
-      let value : word ws q ≡ k.value = word_of ws q k.value k.there in
-      subst (BarrenAfter ws s) (sym k.is)
-      (cond_barren ws s (nat_eq k.value 0) Stop _ (λ e. tt) (λ e.
-      let some : 0 < word ws q = grind (arith, nat_tests) in (
-        (h.first some).none s p out fs m,
-        subst (λ v. Barren ws s (spot_at (Alternatives (q + v)) fs p m)) value ((h.others some).none s p out fs m),
-      ))));
 }
 
 -- a set with every ASCII character is right anywhere

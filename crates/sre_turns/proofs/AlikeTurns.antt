@@ -18,8 +18,7 @@ use Rattle.sre_model.specs.Roles.{ToCheckGroup, ToNothing, role}
 use Rattle.sre_turns.specs.declared.Frame.{Frame}
 use Rattle.sre_turns.specs.declared.Region.TheVariants.{AtomicGroup, Ahead, NotAhead, Owed, Further}
 use Rattle.sre_turns.specs.declared.Region.{Region}
-use Rattle.sre_turns.specs.declared.Point.TheVariants.{Instruction, Alternatives, Shorter, Longer, Inside, Again, Tried}
-use Rattle.sre_turns.specs.declared.Point.TheVariants.{TriedAgain}
+use Rattle.sre_turns.specs.declared.Point.TheVariants.{Instruction, Alternatives, Shorter, Longer, Again}
 use Rattle.sre_turns.specs.declared.Point.{Point}
 use Rattle.sre_turns.specs.Moves.{Spot, spot_at, to_point, to_place, into_region, Move, Stop, End, Go, Split, Enter}
 use Rattle.sre_turns.specs.Moves.{closing_move, AlternativesMove}
@@ -746,10 +745,8 @@ module _ (root base : ℕ → Type 0) (rooted : (k : ℕ) → root k → base k)
   point-alike (Alternatives q) v marks h k = alternatives-alike q v marks h k
   point-alike (Shorter t c) v marks h k = shorter-alike t c v marks h k
   point-alike (Longer i c) v marks h k = longer-alike i c v marks h k
-  point-alike (Inside g) v marks h k = absurd k
   point-alike Again v marks h k = possessive-alike v marks h k
-  point-alike (Tried i) v marks h k = absurd k
-  point-alike TriedAgain v marks h k = absurd k
+  point-alike pt v marks h k = absurd k
 
 -- alike spots make alike turns
 pub turns-alike : (root base : ℕ → Type 0) → ((k : ℕ) → root k → base k) → (ws : List ℕ) (a : PlacesAsk)

@@ -31,8 +31,6 @@ module _ (base : ℕ → Type 0) (ws : List ℕ) (a b : PlacesAsk) (less : IsNar
   still_both i j h = (still i h.0, still j h.1)
 
   pub still_asks : (f : Role) (i : ℕ) → AsksAt base ws a own f i → AsksAt base ws b own f i
-  still_asks ToFail i h = tt
-  still_asks ToEnd i h = tt
   still_asks (ToTest kind) i h = record { each = λ j t s. still j (h.each j t s) }
   still_asks ToCheckPosition i h = still (i + 2) h
   still_asks ToMark i h = record { each = λ v w k l. h.each v w k (less.instruction (i + 2) k l) }
@@ -46,7 +44,7 @@ module _ (base : ℕ → Type 0) (ws : List ℕ) (a b : PlacesAsk) (less : IsNar
   still_asks (ToLook sign) i h = still_both (skip ws (i + 1)) (i + 3) h
   still_asks ToRefer i h = (h.0, still (i + 2) h.1)
   still_asks ToCheckGroup i h = (h.0, still_both (i + 1 + word ws (i + 2)) (i + 3) h.1)
-  still_asks ToNothing i h = tt
+  still_asks f i h = tt
 
   pub alternatives_still_ask : (q : ℕ) → AlternativesAsk ws a own q → AlternativesAsk ws b own q
   alternatives_still_ask q h = record {

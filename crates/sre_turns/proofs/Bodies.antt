@@ -59,13 +59,7 @@ module _ (ws : List ℕ) where
   -- no mark is set at a point
   abbrev Markless : Point → Type 0
   Markless (Instruction i) = (o : SreOpcode) → Opcode ws i o → sets (role o) ≡ false
-  Markless (Alternatives q) = ⊤
-  Markless (Shorter t k) = ⊤
-  Markless (Longer i n) = ⊤
-  Markless (Inside g) = ⊤
-  Markless Again = ⊤
-  Markless (Tried i) = ⊤
-  Markless TriedAgain = ⊤
+  Markless pt = ⊤
 
   -- by the role that is known to be there
   markless_role : (i : ℕ) (o : Role) → HasRole ws i o → sets o ≡ false → Markless (Instruction i)

@@ -1,5 +1,5 @@
--- Where the body of a region ends: each instruction that is tried inside has that end as its first outcome, so has each
--- spot that is alike, and at such a spot the machine may go to the end at once.
+-- Where the body of an atomic scope ends: each instruction that is tried inside has that end as its first outcome, so
+-- has each configuration that is alike, and at such a configuration the machine may go to the end at once.
 -- The memory of where bodies end rests on these laws.
 use Rattle.std.proofs.Common.{◌≡◌, ℕ, ◌+◌, ◌≤◌, true, List, [], ◌∷◌, ◌++◌, refl, sym, ap, ◌∙◌, subst}
 use Rattle.std.proofs.Common.{inl, inr, ◌⊎◌, arith}
@@ -42,7 +42,7 @@ first_stops q m n (w ∷ os) (v ∷ us) h a e =
     let stop : w.stop ≡ q = ap (λ (x : Way). x.stop) same in
     rw (sym h.0 ∙ stop, a.0) refl
 
--- a spot of which something came that begins with an end, under marks that are alike, where marks stay
+-- a configuration of which something came that begins with an end, under marks that are alike, where marks stay
 pub ends_again : (r : Run) (q : ℕ) (l m : Marks) (x : Spot) → MarksStay r x → MarksAlike r.words m x.marks
     → CameToEnd r q l x → EndsAt r m x q
 ends_again r q l m x stay one came = record {
@@ -51,7 +51,7 @@ ends_again r q l m x stay one came = record {
       (marked_come r.words r.subject m h one other came.runs d).0 (stay.same y us k h d) came.begins;
 }
 
--- what waits inside a region for outcomes waits for all that begin with the same
+-- what waits inside an atomic scope for outcomes waits for all that begin with the same
 pub inside_waits : (r : Run) (cs : List Choice) (xs ys : List Way) {all : List Way} {u k : ℕ} → is_inside cs ≡ true
     → first xs ≡ first ys → Waits r cs u xs all k → Waits r cs u ys all k
 inside_waits r [] xs ys inside h wt = absurd (true≢false (sym inside))
@@ -64,7 +64,7 @@ inside_waits r (Trying pt fs c m ∷ cs) xs ys inside h (tried {os = os} there p
     tried there placed d most (subst (λ b. SameFruit r b os ys) (sym inside) (here_ ∙ h))
     (inside_waits r cs xs ys inside h wt)
 
--- each instruction that is tried in the innermost region comes first to what the machine is to come to first
+-- each instruction that is tried in the innermost atomic scope comes first to what the machine is to come to first
 tried_first : (r : Run) (cs : List Choice) (q : ℕ) (m : Marks) (xs : List Way) {all : List Way} {u k : ℕ}
     → is_inside cs ≡ true → first xs ≡ here q m → Waits r cs u xs all k → EachOpen (CameToEnd r q m) cs
 tried_first r [] q m xs inside h wt = tt
@@ -81,26 +81,26 @@ tried_first r (Trying pt fs c l ∷ cs) q m xs inside h (tried {n = n} {os = os}
       tried_first r cs q m xs inside h wt,
     )
 
--- so where the body of the innermost region ends at a cursor, each comes first to that end
+-- so where the body of the innermost atomic scope ends at a cursor, each comes first to that end
 pub tried_come : (r : Run) (all : List Way) (limit : Limit) (c : StringCursor) (b : BoardValue)
     → is_inside b.choices ≡ true → Ends r all limit c b → EachOpen (CameToEnd r c.position b.marks) b.choices
 tried_come r all limit c b inside e =
     tried_first r b.choices c.position b.marks (here c.position b.marks) inside refl e.waits
 
--- and lies in that body, where no region of the words sets a mark
+-- and lies in that body, where no atomic scope of the words sets a capture slot
 tried_confined : (ws : List ℕ) (cs : List Choice) → is_inside cs ≡ true → AllConfined ws cs → EachOpen (Confined ws) cs
 tried_confined ws [] inside h = tt
 tried_confined ws (Else pt fs c m ∷ cs) inside h = tried_confined ws cs inside h.1
 tried_confined ws (Keep g fs c m ∷ cs) inside h = tt
 tried_confined ws (Trying pt fs c m ∷ cs) inside h = (h.0 inside, tried_confined ws cs inside h.1)
 
--- what holds of some spots by two things that hold of each
+-- what holds of some configurations by two things that hold of each
 each_by : (P Q R : Spot → Type 0) → ((x : Spot) → P x → Q x → R x) → (xs : List Spot) → AllByRecursion P xs
     → AllByRecursion Q xs → AllByRecursion R xs
 each_by P Q R f [] h k = tt
 each_by P Q R f (x ∷ xs) h k = (f x h.0 k.0, each_by P Q R f xs h.1 k.1)
 
--- where marks stay, those of the end are those of the spot
+-- where marks stay, those of the end are those of the configuration
 end_marks : (r : Run) (q : ℕ) (l : Marks) (x : Spot) → MarksStay r x → CameToEnd r q l x → l ≡ x.marks
 end_marks r q l x stay came =
     first_marks came.outcomes came.begins (stay.same x came.outcomes came.turns (alike_itself r.words x) came.runs)
@@ -110,7 +110,8 @@ end_marks r q l x stay came =
     first_marks (w ∷ os) e h =
         let same : w ≡ record { stop = q; marks = l } = cc in sym (ap (λ (v : Way). v.marks) same) ∙ h.0
 
--- so there each ends at that cursor, and so does each spot that is alike, under marks that are alike to the board's
+-- so there each ends at that cursor, and so does each configuration that is alike, under marks that are alike to the
+-- backtrack stack's
 pub tried_end : (r : Run) → MarklessRegions r.words → (m : Marks) (all : List Way) (limit : Limit) (c : StringCursor)
     (b : BoardValue) → MarksAlike r.words m b.marks → is_inside b.choices ≡ true → Ends r all limit c b
     → EachOpen (λ (x : Spot). EndsAt r m x c.position) b.choices
@@ -123,7 +124,7 @@ tried_end r none m all limit c b alike inside e =
     (open_spots b.choices) (tried_come r all limit c b inside e)
     (tried_confined r.words b.choices inside (e.confined none).each)
 
--- of two turns at least, if anything comes of it
+-- of two steps at least, if anything comes of it
 two_turns : {ws : List ℕ} {s : Subject} {x : Spot} {os : List Way} {n : ℕ} → Runs ws s x os n → (os ≡ []) ⊎ (2 ≤ n)
 two_turns {ws} {s} (turns mv h d) = go d
   where
@@ -142,7 +143,7 @@ ended_turns {os = os} {n = n} q m h d = go (two_turns d)
     go (inl e) = let none : [] ≡ here q m = rw e at h in absurd (cc)
     go (inr l) = l
 
--- what is inside a region that is known to end at a cursor is left for that end at once
+-- what is inside an atomic scope that is known to end at a cursor is left for that end at once
 pub end_taken : (r : Run) (pt : Point) (c c' : StringCursor) (b : BoardValue) (m : Marks) → is_inside b.choices ≡ true
     → MarksAlike r.words m b.marks → r.stands c' c'.position
     → EndsAt r m (spot pt c b) c'.position
@@ -165,7 +166,7 @@ end_taken r pt c c' b m inside alike there known all limit g =
             let f = g.fares pl code.0 code.1 in
             record {
               at = first_ends r pl limit.start b.choices x c'.position b.marks g.now f.here g.runs begins;
-              fares = place_ended r pl limit _ x b.choices (run_place r x g.runs) (omega arith) f;
+              fares = place_ended r pl limit _ x b.choices (run_place r x g.runs) (omega arith) f inside;
             };
         confined = λ none. (g.confined none).others;
       },

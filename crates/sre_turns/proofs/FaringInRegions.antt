@@ -1,7 +1,7 @@
--- What is left of the potential where a region is left, in a search over words whose turns are counted: the choices
--- above it go, with what is tried inside.
--- The law that a search takes few turns (`enough` of sre_engine) rests on this.
-use Rattle.std.proofs.Common.{◌≡◌, ℕ, ◌+◌, ◌≤◌, length, List, [], ◌∷◌, drop, true, refl, sym, ap, ◌∙◌}
+-- What is left of the potential where an atomic scope is left, in a search over words whose steps are counted: the
+-- choices above it go, with what is tried inside.
+-- The law that a search takes few steps (`enough` of sre_engine) rests on this.
+use Rattle.std.proofs.Common.{◌≡◌, ℕ, ◌≤◌, length, List, [], ◌∷◌, drop, true, refl, sym, ap, ◌∙◌}
 use Rattle.std.proofs.Common.{◌++◌, subst, arith}
 use Rattle.std.proofs.lemmas.Bool.{true≢false}
 use Rattle.sre_chars.specs.declared.string.StringCursor.{StringCursor}
@@ -11,19 +11,20 @@ use Rattle.sre_turns.specs.Attempts.{Attempt}
 use Rattle.sre_turns.specs.Board.{Choice, Else, Keep, Trying, from_region}
 use Rattle.sre_turns.specs.Limits.{Limit, earlier, without_open, Reopens, Settling, Fares, FaresAt, FaresBack}
 use Rattle.sre_turns.specs.Fruit.{is_inside}
-use Rattle.sre_turns.specs.Limits.{FaresEnd, EndsIn, share_of, behind_share, waiting, tried_spots, open_attempts}
-use Rattle.sre_turns.specs.Moves.{Spot, spot_at}
-use Rattle.sre_turns.specs.Potential.{potential, potential_of, held}
+use Rattle.sre_turns.specs.Limits.{FaresEnd, EndsIn, end_share, waiting, tried_spots, open_attempts}
+use Rattle.sre_turns.specs.Moves.{spot_at}
+use Rattle.sre_turns.specs.Prices.{price}
 use Rattle.sre_turns.specs.OpenMarks.{open_spots}
 use Rattle.sre_turns.specs.Settled.{Counted}
 use Rattle.sre_turns.specs.Straight.{point_behind}
 use Rattle.sre_turns.specs.declared.Frame.{Frame}
 use Rattle.sre_turns.specs.declared.Point.TheVariants.{Instruction}
 use Rattle.sre_turns.specs.declared.Region.{Region}
-use Rattle.sre_turns.specs.declared.Region.TheVariants.{AtomicGroup, Ahead, NotAhead, Owed, Further}
-use Rattle.sre_turns.proofs.Faring.{IsPlace, fares_earlier, some_potential, share_spent}
+use Rattle.sre_turns.specs.declared.Region.TheVariants.{Further}
+use Rattle.sre_turns.proofs.Faring.{fares_earlier}
+use Rattle.sre_turns.proofs.PriceMoves.{behind_covered}
 
--- above the innermost region there are choices that are settled, and what is tried
+-- above the innermost atomic scope there are choices that are settled, and what is tried
 module _ (r : Run) (pl : Counted r) (start : ℕ) (rest : List Choice) (g : Region) (fs : List Frame) (c : StringCursor)
     (m : Marks) where
   abbrev kept : List Choice
@@ -51,10 +52,10 @@ module _ (r : Run) (pl : Counted r) (start : ℕ) (rest : List Choice) (g : Regi
   cut_tried (Trying pt fs c m ∷ cs) e = cut_tried cs e
 
   pub cut_share : (cs : List Choice) (n : ℕ) → from_region cs ≡ kept
-      → behind_share r.words n cs ≡ share_of r.words n g
+      → end_share n cs ≡ 0
   cut_share [] n e = absurd (cc)
   cut_share (Else pt fs c m ∷ cs) n e = cut_share cs n e
-  cut_share (Keep h gs d j ∷ cs) n e = ap (λ x. behind_share r.words n x) e
+  cut_share (Keep h gs d j ∷ cs) n e = refl
   cut_share (Trying pt fs c m ∷ cs) n e = cut_share cs n e
 
   pub cut_ends : (cs : List Choice) (p : ℕ) → from_region cs ≡ kept → EndsIn r cs p → EndsIn r kept p
@@ -78,12 +79,12 @@ cut_fares r pl limit p cs rest {g} {fs} {c} {m} e f = record {
       arith,
       f.fares.left,
       cut_waiting r pl limit.start rest g fs c m cs e,
-      cut_share r pl limit.start rest g fs c m cs 2 e,
+      cut_share r pl limit.start rest g fs c m cs 1 e,
     );
   };
 }
 
--- what is tried in a region is the newest of all that is tried
+-- what is tried in an atomic scope is the newest of all that is tried
 pub opened_first : (cs : List Choice) → is_inside cs ≡ true
     → tried_spots cs ≡ open_attempts cs ++ drop (length (open_spots cs)) (tried_spots cs)
 opened_first [] e = absurd (true≢false (sym e))
@@ -93,73 +94,51 @@ opened_first (Trying pt fs c m ∷ cs) e =
     let x : Attempt = record { inside = true; spot = spot_at pt fs c.position m } in
     rw e (ap (λ (xs : List Attempt). x ∷ xs) (opened_first cs e))
 
--- where no region is in progress no share of one is needed
-outside_share : (ws : List ℕ) (n : ℕ) (cs : List Choice) → from_region cs ≡ [] → behind_share ws n cs ≡ n
-outside_share ws n [] e = refl
-outside_share ws n (Else pt fs c m ∷ cs) e = outside_share ws n cs e
-outside_share ws n (Keep g fs c m ∷ cs) e = absurd (cc)
-outside_share ws n (Trying pt fs c m ∷ cs) e = outside_share ws n cs e
+-- where no atomic scope is in progress an end may be refused
+outside_share : (n : ℕ) (cs : List Choice) → from_region cs ≡ [] → end_share n cs ≡ n
+outside_share n [] e = refl
+outside_share n (Else pt fs c m ∷ cs) e = outside_share n cs e
+outside_share n (Keep g fs c m ∷ cs) e = absurd (cc)
+outside_share n (Trying pt fs c m ∷ cs) e = outside_share n cs e
 
--- an end that is not accepted is gone back from, where no region is in progress
+-- the machine backtracks from an end that is not accepted, where no atomic scope is in progress
 pub end_refused : (r : Run) (pl : Counted r) (limit : Limit) (p : ℕ) (cs : List Choice) → from_region cs ≡ []
     → FaresEnd r pl limit p cs → FaresBack r pl (earlier limit) cs
 end_refused r pl limit p cs e f =
-    fares_earlier r pl limit cs (behind_share r.words 0 cs) (behind_share r.words 2 cs)
-    (omega (arith, outside_share r.words 0 cs e, outside_share r.words 2 cs e)) f.fares
-
--- behind a region a turn is made, for which there is enough
-place_behind : (g : Region) → IsPlace (point_behind g)
-place_behind (AtomicGroup t) = tt
-place_behind (Ahead t) = tt
-place_behind (NotAhead t) = tt
-place_behind Owed = tt
-place_behind (Further t) = tt
-
-behind_paid : (ws : List ℕ) (e k q : ℕ) (g : Region)
-    → potential ws e (point_behind g) q + 1 ≤ share_of ws k g + held ws g
-behind_paid ws e k q (AtomicGroup t) = omega arith
-behind_paid ws e k q (Ahead t) = omega arith
-behind_paid ws e k q (NotAhead t) = omega arith
-behind_paid ws e k q Owed = omega arith
-behind_paid ws e k q (Further t) = omega arith
+    fares_earlier r pl limit cs 0 (end_share 1 cs) (omega (arith, outside_share 1 cs e)) f.fares
 
 module _ (r : Run) (pl : Counted r) (limit : Limit) (g : Region) (fs : List Frame) (d : StringCursor) (m : Marks)
-    (rest : List Choice) (k : ℕ) (f : Fares r pl limit (share_of r.words k g) (Keep g fs d m ∷ rest)) where
+    (rest : List Choice) (f : Fares r pl limit 0 (Keep g fs d m ∷ rest)) where
   abbrev reopens : Reopens r pl limit.start g fs d.position rest
   reopens = f.settled.0
 
   -- the machine goes on behind it
   pub region_on : (q : ℕ) (n : Marks) → d.position ≤ q → q ≤ r.subject.end
-      → FaresAt r pl (earlier limit) (potential r.words r.subject.end (point_behind g) q)
+      → FaresAt r pl (earlier limit) (price r.words r.subject.end (point_behind g) q)
       (spot_at (point_behind g) fs q n) rest
   region_on q n l e = record {
     here = reopens.behind q n l e;
     fares = record {
       settled = f.settled.1;
       trying = f.trying;
-      left = omega (arith, f.left, behind_paid r.words r.subject.end k q g);
+      left = omega (arith, f.left, behind_covered r.words r.subject.end q g);
     };
   }
 
-  -- or goes back
+  -- or backtracks
   pub region_off : FaresBack r pl (earlier limit) rest
-  region_off =
-      let x : Spot = spot_at (point_behind g) fs d.position m in
-      let some = some_potential r.words r.subject.end x.point x.position (place_behind g) in
-      let l = share_spent r pl limit.start rest x 0 (potential_of r.words r.subject.end x)
-      (reopens.behind d.position m (omega arith) reopens.inside) (place_behind g) (omega (arith, some)) (omega arith) in
-      record {
-        settled = f.settled.1;
-        trying = f.trying;
-        left = omega (arith, l, f.left, behind_paid r.words r.subject.end k d.position g);
-      }
+  region_off = record {
+    settled = f.settled.1;
+    trying = f.trying;
+    left = omega (arith, f.left, behind_covered r.words r.subject.end d.position g);
+  }
 
 -- a possessive loop is left of which a further body has no outcome
 pub loop_left : (r : Run) (pl : Counted r) (limit : Limit) (t : ℕ) (fs : List Frame) (d : StringCursor) (m : Marks)
-    (rest : List Choice) (k : ℕ) → Fares r pl limit (share_of r.words k (Further t)) (Keep (Further t) fs d m ∷ rest)
-    → (n : Marks) → FaresAt r pl (earlier limit) (potential r.words r.subject.end (Instruction t) d.position)
+    (rest : List Choice) → Fares r pl limit 0 (Keep (Further t) fs d m ∷ rest)
+    → (n : Marks) → FaresAt r pl (earlier limit) (price r.words r.subject.end (Instruction t) d.position)
     (spot_at (Instruction t) (drop 1 fs) d.position n) rest
-loop_left r pl limit t fs d m rest k f n = record {
+loop_left r pl limit t fs d m rest f n = record {
   here = f.settled.0.without t n refl;
   fares = record { settled = f.settled.1; trying = f.trying; left = omega (arith, f.left) };
 }

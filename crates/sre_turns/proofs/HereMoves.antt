@@ -1,6 +1,6 @@
--- Where the machine stands in a search over words whose turns are counted, each turn leads to where it may stand: a
--- region that is entered is entered at the body that it has, and behind it one goes on where one may stand, too.
--- The law that a search takes few turns (`enough` of sre_engine) rests on this.
+-- Where the machine stands in a search over words whose steps are counted, each step leads to where it may stand: an
+-- atomic scope that is entered is entered at the body that it has, and behind it one goes on where one may stand, too.
+-- The law that a search takes few steps (`enough` of sre_engine) rests on this.
 use Rattle.std.proofs.Common.{◌≡◌, ℕ, ◌+◌, ◌-◌, ◌≤◌, true, false, List, [], ◌∷◌, length, drop, refl, sym, subst}
 use Rattle.std.proofs.Common.{arith}
 use Rattle.std.specs.Bool.{⊤}
@@ -12,7 +12,6 @@ use Rattle.sre_model.specs.Marks.{Marks}
 use Rattle.sre_model.specs.LooksBehind.{backs}
 use Rattle.sre_model.specs.Regions.{forks, has_forked_region}
 use Rattle.sre_model.specs.Runs.{Run}
-use Rattle.sre_model.proofs.Words.{opcode_within}
 use Rattle.sre_turns.specs.Alike.{least_from}
 use Rattle.sre_turns.specs.Board.{Choice, Else, Keep, Trying}
 use Rattle.sre_turns.specs.Fruit.{is_inside}
@@ -21,19 +20,18 @@ use Rattle.sre_turns.specs.Machine.{Moves}
 use Rattle.sre_turns.specs.Moves.{Spot, spot_at, Move, Stop, End, Go, Split, Enter}
 use Rattle.sre_turns.specs.Nested.{repeats, LiesIn, Passed, AllBegunBy, ClosesAt, LeadsTo}
 use Rattle.sre_turns.specs.Settled.{Counted, SettledIn}
-use Rattle.sre_turns.specs.Straight.{tail_of, is_possessive, point_behind, goes_behind, BodyOf, IsBodyIn, InBody}
+use Rattle.sre_turns.specs.Straight.{point_behind, goes_behind, BodyOf, IsBodyIn, InBody}
 use Rattle.sre_turns.specs.declared.Frame.{Frame}
 use Rattle.sre_turns.specs.declared.Point.TheVariants.{Instruction}
 use Rattle.sre_turns.specs.declared.Point.{Point}
 use Rattle.sre_turns.specs.declared.Region.TheVariants.{AtomicGroup, Ahead, NotAhead, Owed, Further}
 use Rattle.sre_turns.specs.declared.Region.{Region}
 use Rattle.sre_turns.proofs.NestedMoves.{begins, body_moves}
-use Rattle.sre_turns.proofs.NestedPlaces.{lies_within}
 use Rattle.sre_turns.proofs.Onward.{Reaches, Reaching, point_reaches, all_later, least_position}
 use Rattle.sre_turns.proofs.SettledMoves.{settled_moves}
 use Rattle.sre_turns.proofs.Straight.{StraightPoint, body_straight, GoesBack, counted_entry, point_entered}
 
--- what is told of where a turn leads
+-- what is told of where a step leads
 abbrev pub OntoHere : (r : Run) → Counted r → ℕ → List Choice → Spot → Move → Type 0
 OntoHere r pl start cs x Stop = ⊤
 OntoHere r pl start cs x End = EndsIn r cs x.position
@@ -42,7 +40,7 @@ OntoHere r pl start cs x (Split y z) = HereIn r pl start cs y × HereIn r pl sta
 OntoHere r pl start cs x (Enter g y z) =
     Reopens r pl start g y.frames y.position cs × InBody r pl start g y.position z
 
--- behind a region, under the loops under which it was entered, or where a possessive loop is left
+-- behind an atomic scope, under the loops under which it was entered, or where a possessive loop is left
 closes_behind : (P : Point → List ℕ → Type 0) (g : Region) (fs : List Frame) → ClosesAt P g fs
     → P (point_behind g) (repeats fs)
 closes_behind P (AtomicGroup t) fs h = h
@@ -55,7 +53,7 @@ closes_without : (P : Point → List ℕ → Type 0) (g : Region) (fs : List Fra
     → P (Instruction t) (repeats (drop 1 fs))
 closes_without P g fs t e h = (subst (λ k. ClosesAt P k fs) e h).1
 
--- nothing comes back from behind a region
+-- nothing comes back from behind an atomic scope
 behind_from : (g : Region) (q : ℕ) → least_from (point_behind g) q ≡ q
 behind_from (AtomicGroup t) q = refl
 behind_from (Ahead t) q = refl
@@ -63,7 +61,7 @@ behind_from (NotAhead t) q = refl
 behind_from Owed q = refl
 behind_from (Further t) q = refl
 
--- where the loops of a spot began before, those without the innermost did
+-- where the loops of a configuration began before, those without the innermost did
 all_begun_without : (p : ℕ) (fs : List Frame) → AllBegunBy p fs → AllBegunBy p (drop 1 fs)
 all_begun_without p [] h = tt
 all_begun_without p (f ∷ fs) h = h.1
@@ -95,7 +93,7 @@ abbrev last : Run → ℕ
 last r = length r.words - 1
 
 module _ (r : Run) (pl : Counted r) (start : ℕ) where
-  -- a region is entered from a spot in the words of the tree, in its window
+  -- an atomic scope is entered from a configuration in the words of the tree, in its range
   module _ (x : Spot) (lies : LiesIn r.words 0 (last r) pl.tree pl.whole.0 [] x.point (repeats x.frames))
       (inside : x.position ≤ r.subject.end) (g : Region) (y z : Spot)
       (h : Moves r.words r.subject x (Enter g y z)) where
@@ -106,13 +104,10 @@ module _ (r : Run) (pl : Counted r) (start : ℕ) where
     y_inside = far.0.inside inside
 
     -- at its body
-    in_body : (tail : ℕ) (b : BodyOf r.words (IsBodyIn pl.tree) tail) → (is_possessive g ≡ false → tail_of g ≡ tail)
-        → z.point ≡ Instruction b.start → start + backs b.tree ≤ z.position + backs pl.tree
-        → InBody r pl start g y.position z
-    in_body tail b is first from = record {
-      tail = tail;
+    in_body : (b : BodyOf r.words (IsBodyIn pl.tree)) → z.point ≡ Instruction b.start
+        → start + backs b.tree ≤ z.position + backs pl.tree → InBody r pl start g y.position z
+    in_body b first from = record {
       body = b;
-      tail_is = is;
       here = subst (λ fs. LiesIn r.words b.start b.end b.tree b.reads [] z.point (repeats fs)) (sym far.2)
           (subst (λ pt. LiesIn r.words b.start b.end b.tree b.reads [] pt []) (sym first)
           (begins r.words b.start b.end b.tree b.reads []));
@@ -123,7 +118,7 @@ module _ (r : Run) (pl : Counted r) (start : ℕ) where
       behind = far.3;
     }
 
-    -- the same in the words of some tree, the whole or a body, whose looks go back no further than it may
+    -- the same in the words of some tree, the whole or a body, whose lookbehinds go back no further than it may
     entered_counted : (i j : ℕ) (t : Tree) (reads : Reads r.words i j t) → Opcode r.words j opcode.SUCCESS
         → LiesIn r.words i j t reads [] x.point (repeats x.frames)
         → (has_forked_region t ≡ true → has_forked_region pl.tree ≡ true)
@@ -133,9 +128,9 @@ module _ (r : Run) (pl : Counted r) (start : ℕ) where
         point_entered r.words (IsBodyIn pl.tree) (GoesBack (backs t)) r.subject x.point x.frames x.position x.marks g
         y z (counted_entry pl.tree r.words i j t reads ends forked x.point (repeats x.frames) here) h in
         let near = least_position x.point x.position in
-        in_body at.tail at.body at.tail_is at.first (omega (arith, from, near, at.far, at.is))
+        in_body at.body at.first (omega (arith, from, near, at.far, at.is))
 
-  -- where no region is in progress
+  -- where no atomic scope is in progress
   outside_moves : (x : Spot) (mv : Move) → SettledIn r pl start x → Moves r.words r.subject x mv
       → OntoHere r pl start [] x mv
   outside_moves x Stop d h = tt
@@ -167,7 +162,7 @@ module _ (r : Run) (pl : Counted r) (start : ℕ) where
         at,
       )
 
-  -- where a turn at a position leads in the body of a region
+  -- where a step at a position leads in the body of an atomic scope
   abbrev pub InsideOnto : Region → ℕ → ℕ → Move → Type 0
   InsideOnto g entered p Stop = ⊤
   InsideOnto g entered p End = (goes_behind g ≡ true → entered ≤ p) × (p ≤ r.subject.end)
@@ -181,9 +176,9 @@ module _ (r : Run) (pl : Counted r) (start : ℕ) where
       → InBody r pl start g entered (spot_at (Instruction t) (drop 1 y.frames) y.position m))
       × InBody r pl start k y.position z
 
-  -- in the body of a region
+  -- in the body of an atomic scope
   module _ (g : Region) (entered : ℕ) (x : Spot) (b : InBody r pl start g entered x) where
-    abbrev body : BodyOf r.words (IsBodyIn pl.tree) b.tail
+    abbrev body : BodyOf r.words (IsBodyIn pl.tree)
     body = b.body
 
     -- it does not come back before where it was entered, nor before the start
@@ -193,9 +188,7 @@ module _ (r : Run) (pl : Counted r) (start : ℕ) where
         (least_from y.point y.position) y.frames
         → InBody r pl start g entered y
     stays y here lies k = record {
-      tail = b.tail;
       body = body;
-      tail_is = b.tail_is;
       here = here;
       lies = lies;
       passed = k.begun b.passed;
@@ -212,7 +205,7 @@ module _ (r : Run) (pl : Counted r) (start : ℕ) where
         → LeadsTo (λ pt ks. LiesIn r.words 0 (last r) pl.tree pl.whole.0 [] pt ks) mv
     onto_whole mv h = leads r x 0 (last r) pl.tree pl.whole.0 pl.whole.1 b.lies mv h
 
-    -- a region inside of it
+    -- an atomic scope inside of it
     entered_here : (k : Region) (y z : Spot) → Moves r.words r.subject x (Enter k y z)
         → InBody r pl start k y.position z
     entered_here k y z h =
@@ -253,18 +246,7 @@ module _ (r : Run) (pl : Counted r) (start : ℕ) where
           at,
         )
 
-    -- a potential there is enough for what is behind the region
-    pub body_potential : (i : ℕ) → x.point ≡ Instruction i → is_possessive g ≡ false
-        → (i + 1 ≤ tail_of g) × (tail_of g ≤ length r.words)
-    body_potential i at alone =
-        let lies = subst (λ pt. LiesIn r.words body.start body.end body.tree body.reads [] pt (repeats x.frames)) at
-        b.here in
-        let near = lies_within r.words i body.start body.end body.tree body.reads [] (repeats x.frames) lies in
-        let end = opcode_within r.words body.end opcode.SUCCESS body.ends in
-        let tail = b.tail_is alone in
-        (omega (arith, near, body.behind, tail), omega (arith, end, body.behind, tail))
-
-    -- it is settled, too, from as far before the start as looks go back
+    -- it is settled, too, from as far before the start as lookbehinds go back
     pub body_settled : SettledIn r pl (start - backs pl.tree) x
     body_settled = record {
       lies = b.lies;
@@ -273,7 +255,7 @@ module _ (r : Run) (pl : Counted r) (start : ℕ) where
       from = let l = b.from in omega (arith, l);
     }
 
-    -- where it forks, a region of the whole does
+    -- where it forks, an atomic scope of the whole does
     pub forked_region : (StraightPoint r.words x.point → ⊥) → forks body.tree ≡ true
     forked_region forked = go (forks body.tree) refl
       where
@@ -290,7 +272,7 @@ module _ (r : Run) (pl : Counted r) (start : ℕ) where
     without = λ t m e. on (spot_at (Instruction t) (drop 1 fs) p m) (o.without t m e);
   }
 
-  -- where each turn leads
+  -- where each step leads
   pub here_moves : (cs : List Choice) (x : Spot) (mv : Move) → HereIn r pl start cs x → Moves r.words r.subject x mv
       → OntoHere r pl start cs x mv
   here_moves [] x mv h m = outside_moves x mv h m
@@ -319,7 +301,7 @@ module _ (r : Run) (pl : Counted r) (start : ℕ) where
       go (Split y z) on = on
       go (Enter f y z) on = (record { inside = on.0; behind = on.1; without = on.2 }, on.3)
 
-  -- whether a region is in progress or not, it is settled from as far before the start as looks go back
+  -- whether an atomic scope is in progress or not, it is settled from as far before the start as lookbehinds go back
   pub here_settled : (cs : List Choice) (x : Spot) → HereIn r pl start cs x → SettledIn r pl (start - backs pl.tree) x
   here_settled [] x h = record {
     lies = h.lies;
@@ -331,7 +313,7 @@ module _ (r : Run) (pl : Counted r) (start : ℕ) where
   here_settled (Keep g fs c m ∷ cs) x h = body_settled g c.position x h
   here_settled (Trying pt fs c m ∷ cs) x h = here_settled cs x h
 
-  -- where it forks in a region, a region of the tree does
+  -- where it forks in an atomic scope, an atomic scope of the tree does
   pub here_forked : (cs : List Choice) (x : Spot) → HereIn r pl start cs x → (StraightPoint r.words x.point → ⊥)
       → is_inside cs ≡ true → has_forked_region pl.tree ≡ true
   here_forked [] x h forked inside = absurd (true≢false (sym inside))
@@ -339,15 +321,8 @@ module _ (r : Run) (pl : Counted r) (start : ℕ) where
   here_forked (Keep g fs c m ∷ cs) x h forked inside = h.body.is.0 (forked_region g c.position x h forked)
   here_forked (Trying pt fs c m ∷ cs) x h forked inside = here_forked cs x h forked inside
 
-  -- in any case it lies in the words of the tree
-  pub here_lies : (cs : List Choice) (x : Spot) → HereIn r pl start cs x
-      → LiesIn r.words 0 (last r) pl.tree pl.whole.0 [] x.point (repeats x.frames)
-  here_lies [] x h = h.lies
-  here_lies (Else pt fs c m ∷ cs) x h = here_lies cs x h
-  here_lies (Keep g fs c m ∷ cs) x h = h.lies
-  here_lies (Trying pt fs c m ∷ cs) x h = here_lies cs x h
-
-  -- where one spot may stand another does that lies in the words wherever the first does, and is within its reach
+  -- where one configuration may stand another does that lies in the words wherever the first does, and is within its
+  -- reach
   pub here_reached : (cs : List Choice) (x y : Spot)
       → ((i j : ℕ) (t : Tree) (reads : Reads r.words i j t)
       → LiesIn r.words i j t reads [] x.point (repeats x.frames)
@@ -367,7 +342,7 @@ module _ (r : Run) (pl : Counted r) (start : ℕ) where
       (lies 0 (last r) pl.tree pl.whole.0 h.lies) k
   here_reached (Trying pt fs c m ∷ cs) x y lies k h = here_reached cs x y lies k h
 
-  -- an instruction to which a turn leads, at another position within reach
+  -- an instruction to which a step leads, at another position within reach
   module _ (x z : Spot) (j p q : ℕ) (fs : List Frame) (m : Marks)
       (h : Moves r.words r.subject x (Split (spot_at (Instruction j) fs p m) z)) where
     abbrev there : ℕ → Spot

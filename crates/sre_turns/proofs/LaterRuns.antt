@@ -1,13 +1,12 @@
--- The ends that are left of a lazy run without a greatest count are those of the same run from later on. So what was
--- saved of it before failures were kept goes on as that run, which is looked up and tried like any other instruction.
+-- The ends that are left of a lazy repeat without a greatest count are those of the same repeat from later on. So what
+-- was saved of it before failures were memoized goes on as that repeat, which is looked up and tried like any other
+-- instruction.
 use Rattle.std.proofs.Common.{◌≡◌, ℕ, ◌+◌, ◌-◌, ◌<◌, ◌≤◌, ◌⊎◌, inl, inr, true, List, [], ◌∷◌, refl}
-use Rattle.std.proofs.Common.{arith, ap, nat_eq}
-use Rattle.std.proofs.Math.Nat.{mul-le-mul_right}
-use Rattle.std.proofs.lemmas.Bool.Decides.{nat_tests}
+use Rattle.std.proofs.Common.{arith, ap}
 use Rattle.sre_chars.specs.declared.constants.SreOpcode.TheVariants as opcode
 use Rattle.sre_chars.specs.declared.string.StringCursor.{StringCursor}
 use Rattle.sre_model.specs.Tree.{Tree, Empty, Then, Item, Fail, One, At, Mark, Branch, Loop, Run, PossessiveLoop}
-use Rattle.sre_model.specs.Tree.{Atomic, Look, Reference, Exists, ExistsElse, Trees, Only, Or}
+use Rattle.sre_model.specs.Tree.{LazyRun, Atomic, Look, Reference, Exists, ExistsElse, Trees, Only, Or}
 use Rattle.sre_model.specs.Marks.{Marks}
 use Rattle.sre_model.specs.Subject.{passes}
 use Rattle.sre_model.specs.Ways.{Way, unlimited}
@@ -15,14 +14,14 @@ use Rattle.sre_model.specs.Grammar.{word, skip, Word, Opcode, Reads, Operands, R
 use Rattle.sre_model.specs.Runs as runs
 use Rattle.sre_model.specs.Standing.{HasTest}
 use Rattle.sre_model.proofs.Bounds.{passes-below}
-use Rattle.sre_model.proofs.Words.{word_of}
 use Rattle.sre_turns.specs.Board.{Choice}
 use Rattle.sre_turns.specs.Limits.{Limit, HereIn, FaresBoth}
 use Rattle.sre_turns.specs.Machine.{GoesBoth}
 use Rattle.sre_turns.specs.Moves.{Spot, spot_at}
 use Rattle.sre_turns.specs.Bodies.{IsConfined}
 use Rattle.sre_turns.specs.Nested.{IsAt, LiesIn, LiesInItem, LiesInBranch, repeats}
-use Rattle.sre_turns.specs.Potential.{path, potential_of, more_ends}
+use Rattle.sre_turns.specs.Prices.{price_of}
+use Rattle.sre_turns.proofs.PriceMoves.{later_run_covered}
 use Rattle.sre_turns.specs.RunEnds.{AllPass}
 use Rattle.sre_turns.specs.Settled.{Counted}
 use Rattle.sre_turns.specs.declared.Frame.{Frame}
@@ -32,7 +31,7 @@ use Rattle.sre_turns.proofs.HereMoves.{here_reached}
 use Rattle.sre_turns.proofs.LazyRunEnds.{longer_run}
 use Rattle.sre_turns.proofs.Onward.{all_later}
 
--- where the longer counts of a run lie in the words of a tree, its instruction does
+-- where the longer counts of a repeat lie in the words of a tree, its instruction does
 mutual
   lies : (ws : List ℕ) (i j : ℕ) (t : Tree) (r : Reads ws i j t) (js : List ℕ) (at n : ℕ) (ks : List ℕ)
       → LiesIn ws i j t r js (Longer at n) ks → LiesIn ws i j t r js (Instruction at) ks
@@ -83,8 +82,8 @@ mutual
     | inr (inr y) ↦ inr (inr (lies_in_branch ws (skip ws q) j ts r.2 js at n ks y))
   ]
 
--- a lazy run without a greatest count, of which the longer counts behind n characters wait at a position, where one
--- more character passes; and the same run from a later position, where its first end is theirs
+-- a lazy repeat without a greatest count, of which the longer counts behind n characters wait at a position, where one
+-- more character passes; and the same repeat from a later position, where its first end is theirs
 module _ (r : runs.Run) (i low v : ℕ) (fs : List Frame) (m : Marks) (w : Opcode r.words i opcode.MIN_REPEAT_ONE)
     (there : HasTest r.words (i + 4)) (wv : Word r.words (i + 1) v) (wl : Word r.words (i + 2) low)
     (wh : Word r.words (i + 3) unlimited) (n p q : ℕ) (e : q + low ≡ p + 1) (later : p ≤ q)
@@ -112,16 +111,10 @@ module _ (r : runs.Run) (i low v : ℕ) (fs : List Frame) (m : Marks) (w : Opcod
   later_confined ks l = let b = l.0 in (b, lies r.words b.start b.end b.tree b.reads [] i n ks l.1)
 
   -- what waits has enough left for it
-  enough : potential_of r.words r.subject.end anew ≤ potential_of r.words r.subject.end counts
-  enough =
-      let all_ends : nat_eq (word r.words (i + 3)) unlimited ≡ true =
-      grind (arith, nat_tests, word_of r.words (i + 3) unlimited wh) in
-      let ends : more_ends r.words r.subject.end i n p ≡ r.subject.end - p = rw all_ends refl in
-      let one : 1 ≤ more_ends r.words r.subject.end i n p = omega (arith, ends, near) in
-      let most = mul-le-mul_right (path r.words) one in
-      omega (arith, most)
+  enough : price_of r.words r.subject.end anew ≤ price_of r.words r.subject.end counts
+  enough = later_run_covered r.words r.subject.end i n p opcode.MIN_REPEAT_ONE LazyRun w refl
 
-  -- the second of two spots may be that run in place of what waited
+  -- the second of two configurations may be that repeat instead of what waited
   pub later_goes : (all : List Way) (limit : Limit) (first : Spot) (c : StringCursor) (cs : List Choice)
       → GoesBoth r all limit first counts c cs → GoesBoth r all limit first anew c cs
   later_goes all limit first c cs g = record {

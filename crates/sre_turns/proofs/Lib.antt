@@ -2,7 +2,6 @@ pub mod Asked
 pub mod OneTurn
 pub mod Moving
 pub mod FirstOutcomes
-pub mod PotentialMoves
 pub mod SettledMoves
 pub mod Faring
 pub mod Placed
@@ -30,7 +29,6 @@ pub mod NestedPlaces
 pub mod NestedPositions
 pub mod NestedSlots
 pub mod NestedPoints
-pub mod NestedCounts
 pub mod AlikeLoops
 pub mod AlikeTurns
 pub mod SameComes
@@ -54,3 +52,8 @@ pub mod HereMoves
 pub mod BodyStops
 pub mod FaringInRegions
 pub mod Strides
+pub mod Steps
+pub mod PriceMoves
+pub mod TreePrices
+pub mod TreeCosts
+pub mod GrantedTolls

@@ -1,4 +1,4 @@
--- A turn of the machine, whatever the opcode: what it comes to, and that the accepted outcomes begin as they did.
+-- A step of the machine, whatever the opcode: what it comes to, and that the accepted outcomes begin as they did.
 use Rattle.std.proofs.Common.{◌≡◌, ℕ, suc, ◌+◌, ◌<◌, ◌≤◌, List, [], ◌∷◌, ◌++◌, length, refl, sym, ap, ◌∙◌, subst}
 use Rattle.std.proofs.Common.{arith, true}
 use Rattle.std.proofs.lemmas.List.{append-nil}
@@ -15,8 +15,9 @@ use Rattle.sre_turns.specs.declared.Point.TheVariants.{Instruction, Alternatives
 use Rattle.sre_turns.specs.declared.Point.TheVariants.{TriedAgain}
 use Rattle.sre_turns.specs.declared.Point.{Point}
 use Rattle.sre_turns.specs.Moves.{Spot, spot_at, Move, Stop, End, Go, Split, Enter, TestMove}
-use Rattle.sre_turns.specs.Limits.{Limit, earlier, raised, pool, tolls_of, CodeAt, FaresAt}
-use Rattle.sre_turns.specs.Potential.{potential_of, units}
+use Rattle.sre_turns.specs.Limits.{Limit, earlier, raised, pool, CodeAt, FaresAt}
+use Rattle.sre_turns.specs.Prices.{price_of, toll, toll_by, split_toll}
+use Rattle.sre_turns.specs.Lying.{repeats}
 use Rattle.sre_turns.specs.Settled.{Counted}
 use Rattle.sre_turns.specs.Confining.{StandsConfined}
 use Rattle.sre_turns.proofs.Confining.{turn_confined, goes_confined, splits_confined, first_confined, first_left}
@@ -48,7 +49,7 @@ in_role {ws} {s} {i} {p} {n} {fs} {m} o f e w (turns mv h d) = (
       (ap (λ z. role z) (same_opcode ws i h.0 o h.1 w) ∙ e) h.2,
 )
 
--- a turn at an instruction whose role is known
+-- a step at an instruction whose role is known
 pub at_instruction : {ws : List ℕ} {s : Subject} {i : ℕ} {x : Spot} {mv : Move} (o : SreOpcode) (f : Role)
     → role o ≡ f → Opcode ws i o → InRole ws s f i x mv → MovesAt ws s (Instruction i) x mv
 at_instruction {ws} {s} {i} {x} {mv} o f e w h = (o, w, subst (λ z. InRole ws s z i x mv) (sym e) h)
@@ -63,7 +64,7 @@ pub at_test : {ws : List ℕ} {s : Subject} {i : ℕ} {x : Spot} {mv : Move} (o 
     → Opcode ws i o → TestMove ws s i x mv → MovesAt ws s (Instruction i) x mv
 at_test o e w h = let k = some_test o e in at_instruction o (ToTest k.0) k.1 w h
 
--- there are outcomes, perhaps none, of a spot
+-- there are outcomes, perhaps none, of a configuration
 pub record CanRun (ws : List ℕ) (s : Subject) (x : Spot) : Type 0 where
   pub outcomes : List Way
   pub turns : ℕ
@@ -83,7 +84,7 @@ run_goes {ws} {s} {x} y h d = go (comes (Go y) h d)
     go : {os : List Way} {n : ℕ} → Comes ws s x (Go y) os n → CanRun ws s y
     go (goes e) = record { outcomes = _; turns = _; runs = e }
 
--- what comes of a turn that goes to another spot comes of that spot, in fewer turns
+-- what comes of a step that goes to another configuration comes of that configuration, in fewer steps
 pub run_on : {ws : List ℕ} {s : Subject} {x : Spot} {os : List Way} {n : ℕ} (y : Spot) → Moves ws s x (Go y)
     → Runs ws s x os n → (k : ℕ) × (k ≤ n) × Runs ws s y os k
 run_on {ws} {s} {x} y h d = go (comes (Go y) h d)
@@ -91,7 +92,7 @@ run_on {ws} {s} {x} y h d = go (comes (Go y) h d)
     go : {os : List Way} {n : ℕ} → Comes ws s x (Go y) os n → (k : ℕ) × (k ≤ n) × Runs ws s y os k
     go (goes {n = k} e) = (k, omega arith, e)
 
--- nothing comes of a turn that goes to where nothing comes
+-- nothing comes of a step that goes to where nothing comes
 pub nothing_after : {ws : List ℕ} {s : Subject} {x : Spot} {os : List Way} {n : ℕ} (y : Spot) → Moves ws s x (Go y)
     → ((os : List Way) (n : ℕ) → Runs ws s y os n → os ≡ []) → Runs ws s x os n → os ≡ []
 nothing_after {ws} {s} {x} y h no_ d = go (comes (Go y) h d)
@@ -106,7 +107,7 @@ run_splits {ws} {s} {x} y z h d = go (comes (Split y z) h d)
     go : {os : List Way} {n : ℕ} → Comes ws s x (Split y z) os n → CanRun ws s y × CanRun ws s z
     go (splits e f) = (record { outcomes = _; turns = _; runs = e }, record { outcomes = _; turns = _; runs = f })
 
--- a spot on a board, at a cursor that stands
+-- a configuration on a backtrack stack, at a cursor that stands
 pub has_run : (r : Run) (pt : Point) (fs : List Frame) (m : Marks) (c : StringCursor) → r.stands c c.position
     → CanRun r.words r.subject (spot_at pt fs c.position m) → HasRun r pt c
 has_run r pt fs m c there x =
@@ -130,7 +131,7 @@ reached_within r i c x = go x.runs
         → i < length r.words
     go (turns mv h d) = opcode_within r.words i h.0 h.1
 
--- what waits for so many turns waits for fewer
+-- what waits for so many steps waits for fewer
 pub sooner : {r : Run} {cs : List Choice} {now all : List Way} {k : ℕ} (u v : ℕ) → v ≤ u → Waits r cs u now all k
     → Waits r cs v now all k
 sooner u v l (outermost begins) = outermost begins
@@ -140,7 +141,7 @@ sooner u v l (kept {pt = pt} {n = n} there placed d wt) =
     kept {pt = pt} there placed d (sooner (u + n) (v + n) (omega arith) wt)
 sooner u v l (tried there placed d most same wt) = tried there placed d (omega arith) same (sooner u v l wt)
 
--- what is come to is gone on with, for nothing
+-- what is reached is executed, for nothing
 pub arrived : {r : Run} {all : List Way} {limit : Limit} {pt : Point} {c : StringCursor} {b : BoardValue}
     → FreeOfToll pt → Arrives r all limit pt c b → Goes r all limit pt c b
 arrived {r} {all} {limit} {pt} {c} {b} free g = record {
@@ -157,28 +158,22 @@ arrived {r} {all} {limit} {pt} {c} {b} free g = record {
       record {
         here = f.here;
         fares =
-            fares_less r pl limit b.choices (pool r.words r.subject.end o pt c.position) _
-            (omega (arith, free.same r.words r.subject.end c.position o)) f.fares;
+            fares_less r pl limit b.choices (pool r.words r.subject.end o pt (repeats b.frames) c.position) _
+            (omega (arith, free.same r.words r.subject.end c.position o (repeats b.frames))) f.fares;
       };
   confined = g.confined;
 }
 
--- a point has the tolls of its opcode, whichever of them is read
-same_tolls : (ws : List ℕ) (e : ℕ) (pt : Point) (o p : SreOpcode) → CodeAt ws pt o → CodeAt ws pt p
-    → tolls_of ws e o pt ≡ tolls_of ws e p pt
-same_tolls ws e (Instruction i) o p w v = ap (λ q. units ws e i (role q)) (same_opcode ws i o p w v)
-same_tolls ws e (Alternatives q) o p w v = refl
-same_tolls ws e (Shorter t k) o p w v = refl
-same_tolls ws e (Longer i n) o p w v = refl
-same_tolls ws e (Inside g) o p w v = refl
-same_tolls ws e Again o p w v = refl
-same_tolls ws e (Tried i) o p w v = refl
-same_tolls ws e TriedAgain o p w v = refl
+-- a point has the credits of its opcode, whichever of them is read
+same_tolls : (ws : List ℕ) (e : ℕ) (pt : Point) (ks : List ℕ) (o p : SreOpcode) → CodeAt ws pt o → CodeAt ws pt p
+    → toll ws e o pt ks ≡ toll ws e p pt ks
+same_tolls ws e (Instruction i) ks o p w v = ap (λ q. toll_by ws e i ks (role q)) (same_opcode ws i o p w v)
+same_tolls ws e pt ks o p w v = refl
 
--- a point is gone on with, for its tolls
+-- a point is executed, for its credits
 pub arrived_at : {r : Run} {all : List Way} {limit : Limit} {pt : Point} {c : StringCursor} {b : BoardValue}
     (o : SreOpcode) → CodeAt r.words pt o → Arrives r all limit pt c b
-    → Goes r all (raised (tolls_of r.words r.subject.end o pt) limit) pt c b
+    → Goes r all (raised (toll r.words r.subject.end o pt (repeats b.frames)) limit) pt c b
 arrived_at {r} {all} {limit} {pt} {c} {b} o w g = record {
   now = g.now;
   turns = g.turns;
@@ -190,14 +185,15 @@ arrived_at {r} {all} {limit} {pt} {c} {b} o w g = record {
   within = g.within;
   fares = λ pl o' w'.
       let x : Spot = spot pt c b in
-      subst (λ k. FaresAt r pl (raised k limit) (pool r.words r.subject.end o' pt c.position) x b.choices)
-      (same_tolls r.words r.subject.end pt o' o w' w) (with_tolls r pl limit x b.choices o' (g.fares pl o' w'));
+      let ks : List ℕ = repeats b.frames in
+      subst (λ k. FaresAt r pl (raised k limit) (pool r.words r.subject.end o' pt ks c.position) x b.choices)
+      (same_tolls r.words r.subject.end pt ks o' o w' w) (with_tolls r pl limit x b.choices o' (g.fares pl o' w'));
   confined = g.confined;
 }
 
--- or for one toll alone
+-- or for those of a repeat that is split
 pub arrived_once : {r : Run} {all : List Way} {limit : Limit} {pt : Point} {c : StringCursor} {b : BoardValue}
-    → Arrives r all limit pt c b → Tries r all (raised 1 limit) pt c b
+    → Arrives r all limit pt c b → Tries r all (raised (split_toll r.words pt) limit) pt c b
 arrived_once {r} {all} {limit} {pt} {c} {b} g = record {
   now = g.now;
   turns = g.turns;
@@ -211,7 +207,7 @@ arrived_once {r} {all} {limit} {pt} {c} {b} g = record {
   confined = g.confined;
 }
 
--- what one turn keeps
+-- what one step keeps
 module _ (r : Run) (pt : Point) (c : StringCursor) (b : BoardValue) where
   pub turn_stops : Moves r.words r.subject (spot pt c b) Stop → (all : List Way) (limit : Limit)
       → Goes r all limit pt c b
@@ -272,7 +268,7 @@ module _ (r : Run) (pt : Point) (c : StringCursor) (b : BoardValue) where
           waits = subst (λ x. Waits r x (n' + 1) os all k) (sym e) (sooner (suc n' + 0) (n' + 1) (omega arith) wt);
           within = omega arith;
           fares = λ pl o w.
-              subst (λ x. FaresAt r pl (earlier limit) (potential_of r.words r.subject.end (spot pt' c' b'))
+              subst (λ x. FaresAt r pl (earlier limit) (price_of r.words r.subject.end (spot pt' c' b'))
               (spot pt' c' b') x) (sym e)
               (turn_leaves r pl limit b.choices (spot pt c b) (Go (spot pt' c' b')) h (g.fares pl));
           confined = λ none.
@@ -281,7 +277,7 @@ module _ (r : Run) (pt : Point) (c : StringCursor) (b : BoardValue) where
         },
       )
 
-  -- two spots come of it, at another cursor perhaps
+  -- two configurations come of it, at another cursor perhaps
   pub turn_splits : (y z : Spot) (c' : StringCursor) → Moves r.words r.subject (spot pt c b) (Split y z)
       → r.stands c' c'.position → y.marks ≡ b.marks → z.marks ≡ b.marks → (all : List Way) (limit : Limit)
       → Goes r all limit pt c b → GoesBoth r all limit y z c' b.choices
@@ -307,7 +303,7 @@ module _ (r : Run) (pt : Point) (c : StringCursor) (b : BoardValue) where
             splits_confined r.words r.subject (spot pt c b) y z b.choices h (g.confined none);
       }
 
--- of two spots, the first comes to nothing
+-- of two configurations, the first comes to nothing
 pub both_pass : (r : Run) (i : ℕ) (second : Point) (c : StringCursor) (b : BoardValue) → FreeOfToll second
     → Refuses r i c.position → (all : List Way) (limit : Limit)
     → GoesBoth r all limit (spot (Instruction i) c b) (spot second c b) c b.choices
@@ -336,13 +332,13 @@ pub both_skips : (r : Run) (pt : Point) (start : StringCursor) (i : ℕ) (second
 both_skips r pt start i second c free none s b all limit g =
     both_pass r i second c b free none all limit (s.skips b all limit g)
 
--- what a point comes to without a turn comes to two
+-- what a point comes to without a step comes to two
 pub skips_then : (r : Run) (pt pt' first second : Point) (c c' c'' : StringCursor) → Skips r pt c pt' c'
     → SkipsBoth r pt' c' first second c'' → SkipsBoth r pt c first second c''
 skips_then r pt pt' first second c c' c'' skips s =
     record { runs = s.runs; others = s.others; skips = λ b all limit g. s.skips b all limit (skips b all limit g) }
 
--- the second waits on the board, and the machine goes on at the first
+-- the second waits on the backtrack stack, and the machine goes on at the first
 pub both_wait : (r : Run) (i : ℕ) (z : Spot) (c : StringCursor) (b b' : BoardValue) (cs : List Choice)
     → z.position ≡ c.position → b'.choices ≡ Else z.point z.frames c z.marks ∷ cs → (all : List Way) (limit : Limit)
     → GoesBoth r all limit (spot (Instruction i) c b') z c cs → Later r all limit (next.At i c) b'
@@ -364,7 +360,7 @@ both_wait r i z c b b' cs same_place eb all limit g =
         within = omega (arith, g.within);
         fares = λ pl o w.
             let x : Spot = spot (Instruction i) c b' in
-            subst (λ xs. FaresAt r pl (earlier limit) (potential_of r.words r.subject.end x) x xs) (sym eb)
+            subst (λ xs. FaresAt r pl (earlier limit) (price_of r.words r.subject.end x) x xs) (sym eb)
             (first_waits r pl limit x z cs (g.fares pl) c same_place);
         confined = λ none.
             subst (λ xs. StandsConfined r.words (spot (Instruction i) c b') xs) (sym eb)
@@ -380,7 +376,7 @@ both_other r i second c b b' eb all limit g =
     subst (λ x. Later r all limit (next.At i c) x) (sym eb)
     (both_wait r i (spot second c b) c b waiting b.choices refl refl all limit g)
 
--- the second is any point; nobody stands inside a region
+-- the second is any point; nobody stands inside an atomic scope
 pub both_choose : (r : Run) (i : ℕ) (second : Point) (c : StringCursor) (b b' : BoardValue)
     → b' ≡ record b { choices = choice second b.frames c b.marks ∷ b.choices } → (all : List Way) (limit : Limit)
     → GoesBoth r all limit (spot (Instruction i) c b) (spot second c b) c b.choices → Later r all limit (next.At i c) b'
@@ -402,11 +398,11 @@ both_choose r i TriedAgain c b b' eb all limit g = absurd (nowhere g.others)
     nowhere : {os : List Way} {n : ℕ} → Runs r.words r.subject (spot TriedAgain c b) os n → ⊥
     nowhere (turns mv m d) = absurd m
 
--- a spot of which nothing comes
+-- a configuration of which nothing comes
 abbrev pub Barren : Run → Spot → Type 0
 Barren r x = (os : List Way) (n : ℕ) → Runs r.words r.subject x os n → os ≡ []
 
--- nothing comes of the first of two spots, or of the second: the machine goes on at the other
+-- nothing comes of the first of two configurations, or of the second: the machine goes on at the other
 pub both_second : (r : Run) (y : Spot) (i : ℕ) (c : StringCursor) (b : BoardValue) (cs : List Choice) → Barren r y
     → b.choices ≡ cs → (all : List Way) (limit : Limit) → GoesBoth r all limit y (spot (Instruction i) c b) c cs
     → Later r all limit (next.At i c) b
@@ -426,7 +422,7 @@ both_second r y i c b cs none e all limit g =
         within = omega (arith, g.within);
         fares = λ pl o w.
             let x : Spot = spot (Instruction i) c b in
-            subst (λ xs. FaresAt r pl (earlier limit) (potential_of r.words r.subject.end x) x xs) (sym e)
+            subst (λ xs. FaresAt r pl (earlier limit) (price_of r.words r.subject.end x) x xs) (sym e)
             (second_alone r pl limit y x cs (g.fares pl));
         confined = λ none.
             subst (λ xs. StandsConfined r.words (spot (Instruction i) c b) xs) (sym e)
@@ -453,7 +449,7 @@ both_first r z i c b cs none e all limit g =
         within = omega (arith, g.within);
         fares = λ pl o w.
             let x : Spot = spot (Instruction i) c b in
-            subst (λ xs. FaresAt r pl (earlier limit) (potential_of r.words r.subject.end x) x xs) (sym e)
+            subst (λ xs. FaresAt r pl (earlier limit) (price_of r.words r.subject.end x) x xs) (sym e)
             (first_alone r pl limit x z cs (g.fares pl));
         confined = λ none.
             subst (λ xs. StandsConfined r.words (spot (Instruction i) c b) xs) (sym e)
@@ -461,13 +457,13 @@ both_first r z i c b cs none e all limit g =
       },
     )
 
--- where the second can make no turn but the last
+-- where the second can make no step but the last
 pub both_last : (r : Run) (i : ℕ) (z : Spot) (c : StringCursor) (b : BoardValue) → Moves r.words r.subject z Stop
     → (all : List Way) (limit : Limit) → GoesBoth r all limit (spot (Instruction i) c b) z c b.choices
     → Later r all limit (next.At i c) b
 both_last r i z c b none = both_first r z i c b b.choices (λ os n x. run_nothing none x) refl
 
--- each run takes a turn
+-- each run takes a step
 pub some_turns : {ws : List ℕ} {s : Subject} {x : Spot} {os : List Way} {n : ℕ} → Runs ws s x os n → 1 ≤ n
 some_turns {ws} {s} (turns mv h d) = go d
   where
@@ -478,7 +474,7 @@ some_turns {ws} {s} (turns mv h d) = go d
     go (splits e f) = omega arith
     go (enters lies e f) = omega arith
 
--- of a spot that splits, where nothing comes of the first
+-- of a configuration that splits, where nothing comes of the first
 pub run_second : {ws : List ℕ} {s : Subject} {x : Spot} {os : List Way} {n : ℕ} (y z : Spot) → Moves ws s x (Split y z)
     → ((os : List Way) (n : ℕ) → Runs ws s y os n → os ≡ []) → Runs ws s x os n
     → (k : ℕ) × (k ≤ n) × Runs ws s z os k
@@ -491,7 +487,7 @@ run_second {ws} {s} {x} y z h none d = go (comes (Split y z) h d)
       subst (λ o. Runs ws s z o n₂) (sym (ap (λ o. o ++ os₂) (none os₁ n₁ e))) f,
     )
 
--- nothing comes of a point: the machine goes back
+-- nothing comes of a point: the machine backtracks
 pub exhausted_back : (r : Run) (pt : Point) (c : StringCursor) (b : BoardValue) → Exhausted r pt c.position
     → (all : List Way) (limit : Limit) → Goes r all limit pt c b → Later r all limit next.Back b
 exhausted_back r pt c b none all limit g = (
@@ -509,7 +505,7 @@ exhausted_back r pt c b none all limit g = (
 
 module _ (r : Run) (pt pt' : Point) (c c' : StringCursor) (on : Continues r pt c pt' c') where
   continues_fares : (pl : Counted r) (limit : Limit) (b : BoardValue) (n k : ℕ)
-      → potential_of r.words r.subject.end (spot pt c b) ≤ n → k ≤ potential_of r.words r.subject.end (spot pt' c' b)
+      → price_of r.words r.subject.end (spot pt c b) ≤ n → k ≤ price_of r.words r.subject.end (spot pt' c' b)
       → FaresAt r pl limit n (spot pt c b) b.choices → FaresAt r pl limit k (spot pt' c' b) b.choices
   continues_fares pl limit b n k l m f =
       let x = on.fares pl limit.start b.choices b.frames b.marks f.here in
@@ -534,8 +530,9 @@ module _ (r : Run) (pt pt' : Point) (c c' : StringCursor) (on : Continues r pt c
         within = omega (arith, g.within, x.1);
         fares = λ pl o w.
             let old = run_code r (spot pt c b) g.runs in
-            continues_fares pl limit b _ _ (omega (arith, free.same r.words r.subject.end c.position old.0))
-            (omega (arith, free'.same r.words r.subject.end c'.position o)) (g.fares pl old.0 old.1);
+            let ks : List ℕ = repeats b.frames in
+            continues_fares pl limit b _ _ (omega (arith, free.same r.words r.subject.end c.position old.0 ks))
+            (omega (arith, free'.same r.words r.subject.end c'.position o ks)) (g.fares pl old.0 old.1);
         confined = λ none. continues_confined b (g.confined none);
       }
 
@@ -627,7 +624,7 @@ pub both_exhausted : (r : Run) (i : ℕ) (pt : Point) (c : StringCursor) (b : Bo
 both_exhausted r i pt c b none =
     both_first r (spot pt c b) i c b b.choices (λ os n d. none b.frames b.marks os n d) refl
 
--- a region is entered: what comes of it waits on the board, and the machine goes on at its body
+-- an atomic scope is entered: what comes of it waits on the backtrack stack, and the machine goes on at its body
 pub turn_enters : (r : Run) (pt : Point) (fs : List Frame) (j : ℕ) (g : Region) (c c' : StringCursor)
     (b b' : BoardValue)
     → Moves r.words r.subject (spot pt c b) (Enter g (spot_at pt fs c.position b.marks) (spot (Instruction j) c' b'))
@@ -659,7 +656,7 @@ turn_enters r pt fs j g c c' b b' h there e em all limit st = go (comes (Enter g
             waits = later;
             within = omega arith;
             fares = λ pl o w.
-                subst (λ x. FaresAt r pl (earlier limit) (potential_of r.words r.subject.end z) z x) (sym e)
+                subst (λ x. FaresAt r pl (earlier limit) (price_of r.words r.subject.end z) z x) (sym e)
                 (turn_leaves r pl limit b.choices (spot pt c b) (Enter g y z) h (st.fares pl) c refl);
             confined = λ none.
                 let f = turn_confined r.words r.subject (spot pt c b) (Enter g y z) b.choices h (st.confined none) in
@@ -668,7 +665,7 @@ turn_enters r pt fs j g c c' b b' h there e em all limit st = go (comes (Enter g
           },
         )
 
--- of a region that has an outcome, the other choices inside it do not matter
+-- of an atomic scope that has an outcome, the other choices inside it do not matter
 pub cut_waits : (r : Run) (cs rest : List Choice) (g : Region) (fs : List Frame) (c : StringCursor) (m : Marks)
     (w : Way) (ws all : List Way) (k : ℕ)
     → from_region cs ≡ Keep g fs c m ∷ rest → Waits r cs 0 (w ∷ ws) all k

@@ -1,6 +1,6 @@
--- At one place of the words of a tree the same point stands, under the same loops, always: an instruction, or a
+-- At one address of the words of a tree the same point stands, under the same loops, always: an instruction, or a
 -- possessive loop at that of its first operand.
--- The law that a search takes few turns (`enough` of sre_engine) rests on this.
+-- The law that a search takes few steps (`enough` of sre_engine) rests on this.
 use Rattle.std.proofs.Common.{◌≡◌, ℕ, ◌+◌, ◌-◌, ◌<◌, ◌≤◌, inl, inr, List, [], ◌∷◌, length, refl}
 use Rattle.std.proofs.lemmas.Bool.{true≢false}
 use Rattle.std.proofs.Common.{true, false, ap, Option, Some, None, sym, ◌∙◌, subst, arith}
@@ -41,14 +41,14 @@ at_place : (i p : ℕ) (js : List ℕ) (pt : Point) (ks : List ℕ) → p ≡ i 
     → IsAt (Instruction p) js pt ks
 at_place i p js pt ks e y = subst (λ n. IsAt (Instruction n) js pt ks) (sym e) y
 
--- the place of a point within the words of a tree; at both ends an instruction stands, under the loops outside
+-- the address of a point within the words of a tree; at both ends an instruction stands, under the loops outside
 record Edges (i j : ℕ) (js : List ℕ) (p : ℕ) (pt : Point) (ks : List ℕ) : Type 0 where
   from : i ≤ p
   to : p ≤ j
   first : p ≡ i → IsAt (Instruction p) js pt ks
   last : p ≡ j → IsAt (Instruction p) js pt ks
 
--- a place behind the opcode of an item
+-- an address behind the opcode of an item
 record Behind (i j : ℕ) (js : List ℕ) (p : ℕ) (pt : Point) (ks : List ℕ) : Type 0 where
   from : i < p
   to : p ≤ j
@@ -148,12 +148,7 @@ module _ (ws : List ℕ) (p : ℕ) where
         let long = alternative_long ws q j (Or t ts) r in
         (omega (arith, b.0), b.1)
 
-  -- a place in the words of a tree stands no further than their end
-  pub lies_within : (i j : ℕ) (t : Tree) (r : Reads ws i j t) (js ks : List ℕ) → LiesIn ws i j t r js (Instruction p) ks
-      → p ≤ j
-  lies_within i j t r js ks y = let b = edges i j t r js (Instruction p) ks refl y in omega (arith, b.to)
-
-  -- two points of one place
+  -- two points of one address
   module _ (pt qt : Point) (ks ls : List ℕ) (h : place_under pt ks ≡ Some p) (k : place_under qt ls ≡ Some p) where
     abbrev Same : Type 0
     Same = (pt ≡ qt) × (ks ≡ ls)
@@ -246,14 +241,14 @@ module _ (ws : List ℕ) (p : ℕ) where
       same_among q j (Or t ts) r js (inr (inr y)) (inr (inr z)) =
           same_among (skip ws q) j ts r.2 js y z
 
--- so two spots of one place stand at the same point, under the same loops
+-- so two configurations of one address stand at the same point, under the same loops
 pub same_station : (ws : List ℕ) (t : Tree) (w : WholeItems ws t) (p : ℕ) (x y : Spot)
     → place_of x ≡ Some p → place_of y ≡ Some p → Lies ws t w x → Lies ws t w y
     → (x.point ≡ y.point) × (repeats x.frames ≡ repeats y.frames)
 same_station ws t w p x y h k a b =
     same_in ws p x.point y.point (repeats x.frames) (repeats y.frames) h k 0 (length ws - 1) t w.0 [] a b
 
--- points of one place, of which both are possessive loops or none is
+-- points of one address, of which both are possessive loops or none is
 none_there : (p : ℕ) → ◌≡◌ {A = Option ℕ} None (Some p) → ⊥
 none_there p e = cc e
 
@@ -263,13 +258,8 @@ same_point (Instruction i) qt ks ls p h k e = go qt k e
   where
     go : (qt : Point) → place_under qt ls ≡ Some p → false ≡ is_again qt → Instruction i ≡ qt
     go (Instruction j) k e = ap (λ n. Instruction n) (same_number (h ∙ sym k))
-    go (Alternatives q) k e = absurd (none_there p k)
-    go (Shorter t n) k e = absurd (none_there p k)
-    go (Longer j n) k e = absurd (none_there p k)
-    go (Inside g) k e = absurd (none_there p k)
     go Again k e = absurd (true≢false (sym e))
-    go (Tried j) k e = absurd (none_there p k)
-    go TriedAgain k e = absurd (none_there p k)
+    go pt k e = absurd (none_there p k)
 same_point (Alternatives q) qt ks ls p h k e = absurd (none_there p h)
 same_point (Shorter t n) qt ks ls p h k e = absurd (none_there p h)
 same_point (Longer i n) qt ks ls p h k e = absurd (none_there p h)
@@ -277,24 +267,12 @@ same_point (Inside g) qt ks ls p h k e = absurd (none_there p h)
 same_point Again qt ks ls p h k e = go qt e
   where
     go : (qt : Point) → true ≡ is_again qt → Again ≡ qt
-    go (Instruction j) e = absurd (true≢false e)
-    go (Alternatives q) e = absurd (true≢false e)
-    go (Shorter t n) e = absurd (true≢false e)
-    go (Longer j n) e = absurd (true≢false e)
-    go (Inside g) e = absurd (true≢false e)
     go Again e = refl
-    go (Tried j) e = absurd (true≢false e)
-    go TriedAgain e = absurd (true≢false e)
+    go pt e = absurd (true≢false e)
 same_point (Tried i) qt ks ls p h k e = absurd (none_there p h)
 same_point TriedAgain qt ks ls p h k e = absurd (none_there p h)
 
--- nothing comes back before a point that has a place
+-- nothing comes back before a point that has an address
 pub placed_from : (pt : Point) (ks : List ℕ) (p q : ℕ) → place_under pt ks ≡ Some p → least_from pt q ≡ q
-placed_from (Instruction i) ks p q h = refl
-placed_from (Alternatives n) ks p q h = refl
 placed_from (Shorter t n) ks p q h = absurd (none_there p h)
-placed_from (Longer i n) ks p q h = refl
-placed_from (Inside g) ks p q h = refl
-placed_from Again ks p q h = refl
-placed_from (Tried i) ks p q h = refl
-placed_from TriedAgain ks p q h = refl
+placed_from pt ks p q h = refl

@@ -27,10 +27,6 @@ same_start : (ws : List ℕ) (i k j : ℕ) (t : Tree) → AreWords ws → j ≤ 
 same_start ws i k j t v l r q =
     omega (arith, (read_tree t ws i j v r l).ends, (read_tree t ws k j v q l).ends)
 
-pub lies_first : (ws : List ℕ) (t : Tree) (w : WholeItems ws t) (p : ℕ) (m : Marks)
-    → Lies ws t w (spot_at (Instruction 0) [] p m)
-lies_first ws t w p m = begins ws 0 (length ws - 1) t w.0 []
-
 pub lies_behind : (ws : List ℕ) (t : Tree) (w : WholeItems ws t) (n p : ℕ) (m : Marks) → AreWords ws
     → ReadsBehind ws n t → Lies ws t w (spot_at (Instruction (2 * n)) [] p m)
 lies_behind ws t w n p m v r =

@@ -1,9 +1,10 @@
--- A run without a greatest count, turn by turn: what comes of it is what comes of the run that begins one character
--- later, and of its own first end; of a possessive one, of one of the two. While failures are kept the machine goes by
--- that, so that each end is tried once, from wherever the run is come to. Such a turn has two ways to go on at most, so
--- one toll alone pays for it.
+-- A repeat without a greatest count, step by step: what comes of it is what comes of the repeat that begins one
+-- character later, and of its own first end; of a possessive one, of one of the two. While failures are memoized the
+-- machine goes by that, so that each end is tried once, from wherever the repeat is reached. Such a step has two ways
+-- to go on at most, so the credits of one step pay for it.
 use Rattle.std.proofs.Common.{◌≡◌, ℕ, suc, ◌+◌, ◌-◌, ◌<◌, ◌≤◌, false, List, ◌∷◌, ◌++◌, refl, sym, ap, ◌∙◌}
 use Rattle.std.proofs.Common.{subst, arith, append-nil}
+use Rattle.sre_chars.specs.declared.constants.SreOpcode.{SreOpcode}
 use Rattle.sre_chars.specs.declared.constants.SreOpcode.TheVariants as opcode
 use Rattle.sre_chars.specs.declared.string.StringCursor.{StringCursor}
 use Rattle.sre_model.specs.Subject.{Subject, passes}
@@ -13,11 +14,15 @@ use Rattle.sre_model.specs.Runs.{Run}
 use Rattle.sre_model.specs.Standing.{HasTest}
 use Rattle.sre_model.proofs.Bounds.{passes-below}
 use Rattle.sre_turns.specs.Board.{Choice, Else, BoardValue}
-use Rattle.sre_turns.specs.Limits.{Limit, earlier, grant, HereIn, Fares, FaresAt, FaresBoth, Splitting}
+use Rattle.sre_turns.specs.Limits.{Limit, earlier, HereIn, Fares, FaresAt, FaresBoth, Splitting}
 use Rattle.sre_turns.specs.Machine.{Moves, Runs, Comes, splits, Tries, GoesBoth, Later, Waits, otherwise, spot}
 use Rattle.sre_turns.specs.Moves.{Spot, spot_at, Stop, Split}
 use Rattle.sre_turns.specs.MovesInRuns.{RunOperands}
-use Rattle.sre_turns.specs.Potential.{potential_of}
+use Rattle.sre_turns.specs.Prices.{price_of, end_price, split_toll, steps}
+use Rattle.sre_model.specs.Tree.{RunKind, GreedyRun, LazyRun, PossessiveRun}
+use Rattle.sre_model.specs.Roles.{ToRun, role}
+use Rattle.sre_turns.proofs.PriceMoves.{split_is}
+use Rattle.sre_model.proofs.Words.{word_of}
 use Rattle.sre_turns.specs.RunEnds.{AllPass}
 use Rattle.sre_turns.specs.Settled.{Counted}
 use Rattle.sre_turns.specs.declared.Frame.{Frame}
@@ -40,7 +45,7 @@ use Rattle.sre_turns.proofs.StepsInPossessiveRuns.{over_stretch, goes_onward}
 further_on : (s : Subject) (p q : ℕ) (fs : List Frame) → p ≤ q → q ≤ s.end → Reaches s p p fs q q fs
 further_on s p q fs l e = record { onward = l; inside = λ _. e; begun = λ past. all_later p q fs l past }
 
--- an instruction is tried that can make no turn but the last
+-- an instruction is tried that can make no step but the last
 tries_nothing : (r : Run) (i : ℕ) (c : StringCursor) (b : BoardValue)
     → Moves r.words r.subject (spot (Instruction i) c b) Stop → (all : List Way) (limit : Limit)
     → Tries r all limit (Instruction i) c b → Later r all limit next.Back b
@@ -59,12 +64,20 @@ tries_nothing r i c b none all limit g = (
   },
 )
 
--- two spots come of one that is tried, and the second can make no turn but the last: the machine goes on at the first
+-- the credits for a repeat that is split pay for its first end
+split_end : (r : Run) (i v : ℕ) (o : SreOpcode) (kind : RunKind) → Word r.words (i + 1) v → Opcode r.words i o
+    → role o ≡ ToRun kind → steps r.words (i + 1 + v) + 2 ≡ split_toll r.words (Instruction i)
+split_end r i v o kind wv w is =
+    ap (λ k. steps r.words (i + 1 + k) + 2) (sym (word_of r.words (i + 1) v wv)) ∙ sym (split_is r.words i o kind w is)
+
+-- two configurations come of one that is tried, and the second can make no step but the last: the machine goes on at
+-- the first
 tries_first : (r : Run) (i j : ℕ) (z : Spot) (c d : StringCursor) (b : BoardValue)
     → Moves r.words r.subject (spot (Instruction i) c b) (Split (spot (Instruction j) d b) z)
-    → Moves r.words r.subject z Stop → r.stands d d.position → (all : List Way) (limit : Limit)
+    → Moves r.words r.subject z Stop → steps r.words j + 2 ≡ split_toll r.words (Instruction i)
+    → r.stands d d.position → (all : List Way) (limit : Limit)
     → Tries r all limit (Instruction i) c b → Later r all limit (next.At j d) b
-tries_first r i j z c d b mv none stands all limit g = go (comes (Split y z) mv g.runs) g.waits g.within
+tries_first r i j z c d b mv none tail stands all limit g = go (comes (Split y z) mv g.runs) g.waits g.within
   where
     x : Spot
     x = spot (Instruction i) c b
@@ -73,7 +86,7 @@ tries_first r i j z c d b mv none stands all limit g = go (comes (Split y z) mv 
     y = spot (Instruction j) d b
 
     first_fares : (pl : Counted r)
-        → FaresAt r pl (earlier limit) (potential_of r.words r.subject.end y) y b.choices
+        → FaresAt r pl (earlier limit) (price_of r.words r.subject.end y) y b.choices
     first_fares pl =
         let code = run_code r x g.runs in
         let f = g.fares pl code.0 code.1 in
@@ -107,10 +120,10 @@ tries_first r i j z c d b mv none stands all limit g = go (comes (Split y z) mv 
           },
         )
 
--- two spots that are come to by a turn of which so much is left
+-- two configurations that are reached by a step of which so much is left
 pub both_fare : (r : Run) (pl : Counted r) (limit : Limit) (n : ℕ) (x y : Spot) (cs : List Choice)
     → HereIn r pl limit.start cs x → HereIn r pl limit.start cs y
-    → potential_of r.words r.subject.end x + potential_of r.words r.subject.end y + 2 ≤ n
+    → price_of r.words r.subject.end x + price_of r.words r.subject.end y + 2 ≤ n
     → Fares r pl limit n cs → FaresBoth r pl limit x y cs
 both_fare r pl limit n x y cs first second l f = record {
   first = first;
@@ -118,7 +131,7 @@ both_fare r pl limit n x y cs first second l f = record {
   fares = fares_less r pl limit cs _ n l f;
 }
 
--- a greedy run without a greatest count
+-- a greedy repeat without a greatest count
 module _ (r : Run) (i low v : ℕ) (w : Opcode r.words i opcode.REPEAT_ONE) (there : HasTest r.words (i + 4))
     (wv : Word r.words (i + 1) v) (wl : Word r.words (i + 2) low) (wh : Word r.words (i + 3) unlimited)
     (c : StringCursor) (b : BoardValue) where
@@ -126,11 +139,11 @@ module _ (r : Run) (i low v : ℕ) (w : Opcode r.words i opcode.REPEAT_ONE) (the
   abbrev tail_at : ℕ → Spot
   tail_at q = spot_at (Instruction (i + 1 + v)) b.frames q b.marks
 
-  -- the run at a position
+  -- the repeat at a position
   abbrev run_at : ℕ → Spot
   run_at q = spot_at (Instruction i) b.frames q b.marks
 
-  -- its turn where more than its least count passes
+  -- its step where more than its least count passes
   greedy_moves : AllPass r.subject there.test c.position (c.position + low + 1)
       → Moves r.words r.subject (run_at c.position)
       (Split (tail_at (c.position + longest_run r.subject there.test unlimited c.position))
@@ -141,9 +154,9 @@ module _ (r : Run) (i low v : ℕ) (w : Opcode r.words i opcode.REPEAT_ONE) (the
       run_moves r i low v b.frames b.marks w there wv wl wh c.position
       (longest_run r.subject there.test unlimited c.position) refl (omega (arith, reaches))
 
-  -- one toll pays for the run from the next character on, and for its own first end
+  -- the credits pay for the repeat from the next character on, and for its own first end
   greedy_fare : (pl : Counted r) (limit : Limit) → AllPass r.subject there.test c.position (c.position + low + 1)
-      → FaresAt r pl limit (potential_of r.words r.subject.end (run_at c.position) + grant r.words)
+      → FaresAt r pl limit (price_of r.words r.subject.end (run_at c.position) + split_toll r.words (Instruction i))
       (run_at c.position) b.choices
       → FaresBoth r pl limit (run_at (c.position + 1)) (tail_at (c.position + low)) b.choices
   greedy_fare pl limit all_pass f =
@@ -158,8 +171,7 @@ module _ (r : Run) (i low v : ℕ) (w : Opcode r.words i opcode.REPEAT_ONE) (the
       (here_first r pl limit.start (run_at c.position) rest (i + 1 + v) far (c.position + low) b.frames b.marks
       (greedy_moves all_pass) b.choices
       (further_on r.subject c.position (c.position + low) b.frames (omega arith) (omega (arith, inside))) f.here)
-      (omega arith)
-      f.fares
+      (omega (arith, split_end r i v opcode.REPEAT_ONE GreedyRun wv w refl)) f.fares
 
   -- where more than its least count passes, these two come of it
   pub greedy_both : (d : StringCursor) → AllPass r.subject there.test c.position (c.position + low + 1)
@@ -199,7 +211,8 @@ module _ (r : Run) (i low v : ℕ) (w : Opcode r.words i opcode.REPEAT_ONE) (the
       let mv = run_only_moves r i low v b.frames b.marks w there wv wl wh c.position all_pass stopped in
       tries_first r i (i + 1 + v) z c d b
       (subst (λ q. Moves r.words r.subject (run_at c.position) (Split (tail_at q) z)) (sym e) mv)
-      (shorter_stop r (i + 1 + v) (low - low) (c.position + low) b.frames b.marks (omega arith)) stands all limit g
+      (shorter_stop r (i + 1 + v) (low - low) (c.position + low) b.frames b.marks (omega arith))
+      (split_end r i v opcode.REPEAT_ONE GreedyRun wv w refl) stands all limit g
 
   -- where less passes it has none
   pub greedy_short : run_length r.subject there.test low c.position < low
@@ -215,13 +228,13 @@ module _ (r : Run) (i low v : ℕ) (w : Opcode r.words i opcode.MIN_REPEAT_ONE) 
   abbrev tail_of : ℕ → Spot
   tail_of q = spot_at (Instruction (i + 1 + v)) b.frames q b.marks
 
-  -- the run at a position
+  -- the repeat at a position
   abbrev lazy_at : ℕ → Spot
   lazy_at q = spot_at (Instruction i) b.frames q b.marks
 
-  -- one toll pays for its own first end, and for the run from the next character on
+  -- the credits pay for its own first end, and for the repeat from the next character on
   lazy_fare : (pl : Counted r) (limit : Limit) → AllPass r.subject there.test c.position (c.position + low + 1)
-      → FaresAt r pl limit (potential_of r.words r.subject.end (lazy_at c.position) + grant r.words)
+      → FaresAt r pl limit (price_of r.words r.subject.end (lazy_at c.position) + split_toll r.words (Instruction i))
       (lazy_at c.position) b.choices
       → FaresBoth r pl limit (tail_of (c.position + low)) (lazy_at (c.position + 1)) b.choices
   lazy_fare pl limit all_pass f =
@@ -236,7 +249,7 @@ module _ (r : Run) (i low v : ℕ) (w : Opcode r.words i opcode.MIN_REPEAT_ONE) 
       (further_on r.subject c.position (c.position + low) b.frames (omega arith) (omega (arith, inside))) f.here)
       (here_reached r pl limit.start b.choices (lazy_at c.position) (lazy_at (c.position + 1)) (λ a z t reads y. y)
       (further_on r.subject c.position (c.position + 1) b.frames (omega arith) (omega (arith, inside))) f.here)
-      (omega arith)
+      (omega (arith, split_end r i v opcode.MIN_REPEAT_ONE LazyRun wv w refl))
       f.fares
 
   -- where more than its least count passes, these two come of it
@@ -279,8 +292,8 @@ module _ (r : Run) (i low v : ℕ) (w : Opcode r.words i opcode.MIN_REPEAT_ONE) 
       let mv = lazy_moves r i low v b.frames b.marks w there wv wl wh c.position all_pass in
       tries_first r i (i + 1 + v) z c d b
       (subst (λ q. Moves r.words r.subject (lazy_at c.position) (Split (tail_of q) z)) (sym e) mv)
-      (longer_stops r i low v b.frames b.marks w there wv wl wh low (c.position + low) past stopped) stands all limit
-      g
+      (longer_stops r i low v b.frames b.marks w there wv wl wh low (c.position + low) past stopped)
+      (split_end r i v opcode.MIN_REPEAT_ONE LazyRun wv w refl) stands all limit g
 
   -- where less passes it has none
   pub lazy_short : run_length r.subject there.test low c.position < low
@@ -295,13 +308,16 @@ module _ (r : Run) (i low : ℕ) (w : Opcode r.words i opcode.POSSESSIVE_REPEAT_
   possessive_operands : RunOperands r.words i low unlimited there.end there.test
   possessive_operands = record { lowest = wl; highest = wh; stands = there.stands }
 
-  -- where more than its least count passes, it comes to the run from the next character on
+  ends : split_toll r.words (Instruction i) ≡ end_price r.words i
+  ends = split_is r.words i opcode.POSSESSIVE_REPEAT_ONE PossessiveRun w refl
+
+  -- where more than its least count passes, it comes to the repeat from the next character on
   pub possessive_on : (d : StringCursor) → AllPass r.subject there.test c.position (c.position + low + 1)
       → d.position ≡ c.position + 1 → r.stands d d.position → (all : List Way) (limit : Limit)
       → Tries r all limit (Instruction i) c b → Later r all limit (next.At i d) b
   possessive_on d all_pass e stands =
-      goes_onward r i low there.end there.test w possessive_operands c d b stands Splitting (λ j. omega arith) all_pass
-      e
+      goes_onward r i low there.end there.test w possessive_operands c d b stands Splitting
+      (omega (arith, ends), omega (arith, ends)) all_pass e
 
   -- where no more passes, to its tail
   pub possessive_only : (d : StringCursor) → AllPass r.subject there.test c.position (c.position + low)
@@ -310,7 +326,8 @@ module _ (r : Run) (i low : ℕ) (w : Opcode r.words i opcode.POSSESSIVE_REPEAT_
       → Later r all limit (next.At (skip r.words (i + 1)) d) b
   possessive_only d all_pass stopped e stands =
       let same : c.position + low ≡ c.position + low + 0 = omega arith in
-      over_stretch r i low there.end there.test w possessive_operands c d b stands Splitting (λ j. omega arith) 0
+      over_stretch r i low there.end there.test w possessive_operands c d b stands Splitting
+      (omega (arith, ends), omega (arith, ends)) 0
       (λ q from to. all_pass q from (omega (arith, to)))
       (subst (λ q. passes r.subject there.test q ≡ false) same stopped) (omega (arith, e))
 
@@ -322,7 +339,7 @@ module _ (r : Run) (i low : ℕ) (w : Opcode r.words i opcode.POSSESSIVE_REPEAT_
       (onward_stops r.words r.subject i low there.end there.test b.frames b.marks w possessive_operands c.position
       short) all limit g
 
--- the second of two spots waits at a cursor of its own, and the machine goes on at the first
+-- the second of two configurations waits at a cursor of its own, and the machine goes on at the first
 pub both_wait_there : (r : Run) (i : ℕ) (z : Spot) (c d : StringCursor) (b b' : BoardValue) (cs : List Choice)
     → z.position ≡ d.position → r.stands d d.position → b'.choices ≡ Else z.point z.frames d z.marks ∷ cs
     → (all : List Way) (limit : Limit)
@@ -345,7 +362,7 @@ both_wait_there r i z c d b b' cs same_place stands eb all limit g =
         within = omega (arith, g.within);
         fares = λ pl o w.
             let x : Spot = spot (Instruction i) c b' in
-            subst (λ xs. FaresAt r pl (earlier limit) (potential_of r.words r.subject.end x) x xs) (sym eb)
+            subst (λ xs. FaresAt r pl (earlier limit) (price_of r.words r.subject.end x) x xs) (sym eb)
             (first_waits r pl limit x z cs (g.fares pl) d same_place);
         confined = λ none.
             subst (λ xs. StandsConfined r.words (spot (Instruction i) c b') xs) (sym eb)

@@ -4,8 +4,7 @@ use Rattle.sre_model.specs.Tree.{Test, Order, RunKind, Sign}
 use Rattle.sre_model.specs.Subject.{Subject}
 use Rattle.sre_model.specs.Ways.{Way}
 use Rattle.sre_model.specs.Grammar.{Word, skip}
-use Rattle.sre_turns.specs.declared.Point.TheVariants.{Instruction, Alternatives, Shorter, Longer, Inside, Again, Tried}
-use Rattle.sre_turns.specs.declared.Point.TheVariants.{TriedAgain}
+use Rattle.sre_turns.specs.declared.Point.TheVariants.{Instruction, Alternatives, Shorter, Longer, Again}
 use Rattle.sre_turns.specs.declared.Point.{Point}
 use Rattle.sre_turns.specs.Moves.{Spot, Move, TestMove, AtMove, MarkMove}
 use Rattle.sre_turns.specs.Moves.{AlternativesMove}
@@ -14,9 +13,9 @@ use Rattle.sre_turns.specs.MovesInLoops.{UntilMove, AgainMove}
 use Rattle.sre_turns.specs.MovesInRegions.{LookMove}
 use Rattle.sre_turns.specs.MovesAtReferences.{ReferenceMove, ConditionMove}
 use Rattle.sre_turns.specs.Machine.{InRole, Moves, MovesAt, Runs, turns, Comes}
-use Rattle.sre_model.specs.Roles.{Role, ToFail, ToEnd, ToTest, ToCheckPosition, ToMark, ToBranch, ToJump, ToRun}
+use Rattle.sre_model.specs.Roles.{Role, ToTest, ToCheckPosition, ToMark, ToJump, ToRun}
 use Rattle.sre_model.specs.Roles.{ToRepeat}
-use Rattle.sre_model.specs.Roles.{ToLoop, ToRepeatPossessively, ToGroupAtomically, ToLook, ToRefer, ToCheckGroup}
+use Rattle.sre_model.specs.Roles.{ToLoop, ToGroupAtomically, ToLook, ToRefer, ToCheckGroup}
 use Rattle.sre_model.specs.Roles.{ToNothing, role}
 use Rattle.sre_model.proofs.Words.{same_word, same_opcode, same_at}
 use Rattle.sre_model.proofs.Unique.{test_same, same_reference_fold}
@@ -104,22 +103,19 @@ same_condition ws i x a b h k = h.is ∙ rw (same_word ws (i + 1) h.number k.num
 
 same_in : (ws : List ℕ) (s : Subject) (f : Role) (i : ℕ) (x : Spot) (a b : Move) → InRole ws s f i x a
     → InRole ws s f i x b → a ≡ b
-same_in ws s ToFail i x a b h k = h ∙ sym k
-same_in ws s ToEnd i x a b h k = h ∙ sym k
 same_in ws s (ToTest kind) i x a b h k = same_test ws s i x a b h k
 same_in ws s ToCheckPosition i x a b h k = same_at_code ws s i x a b h k
 same_in ws s ToMark i x a b h k = same_mark ws i x a b h k
-same_in ws s ToBranch i x a b h k = h ∙ sym k
 same_in ws s ToJump i x a b h k = h.is ∙ sym k.is
 same_in ws s (ToRun kind) i x a b h k = same_run ws s kind i x a b h k
 same_in ws s ToRepeat i x a b h k = h.is ∙ sym k.is
 same_in ws s (ToLoop o) i x a b h k = same_until ws o i x a b h k
-same_in ws s ToRepeatPossessively i x a b h k = h ∙ sym k
 same_in ws s ToGroupAtomically i x a b h k = h.is ∙ sym k.is
 same_in ws s (ToLook g) i x a b h k = same_look ws g i x a b h k
 same_in ws s ToRefer i x a b h k = same_reference ws s i x a b h k
 same_in ws s ToCheckGroup i x a b h k = same_condition ws i x a b h k
 same_in ws s ToNothing i x a b h k = absurd h
+same_in ws s f i x a b h k = h ∙ sym k
 
 -- a turn is determined
 pub moves_same : (ws : List ℕ) (s : Subject) (pt : Point) (x : Spot) (a b : Move) → MovesAt ws s pt x a
@@ -130,10 +126,8 @@ moves_same ws s (Instruction i) x a b h k =
 moves_same ws s (Alternatives q) x a b h k = same_alternatives ws q x a b h k
 moves_same ws s (Shorter t n) x a b h k = h.is ∙ sym k.is
 moves_same ws s (Longer i n) x a b h k = same_longer ws s i n x a b h k
-moves_same ws s (Inside g) x a b h k = absurd h
 moves_same ws s Again x a b h k = same_again ws x a b h k
-moves_same ws s (Tried i) x a b h k = absurd h
-moves_same ws s TriedAgain x a b h k = absurd h
+moves_same ws s pt x a b h k = absurd h
 
 -- so what comes of a spot comes of the one turn there
 pub comes : {ws : List ℕ} {s : Subject} {x : Spot} {os : List Way} {n : ℕ} (mv : Move) → Moves ws s x mv

@@ -13,9 +13,9 @@ use Rattle.sre_model.specs.Marks.{Marks, group}
 use Rattle.sre_model.specs.Subject.{Subject, passes, holds_at, same_folded}
 use Rattle.sre_model.specs.Ways.{Way, unlimited, may_repeat, longest_run, run_length}
 use Rattle.sre_model.specs.Grammar.{skip}
-use Rattle.sre_model.specs.Roles.{Role, ToFail, ToEnd, ToTest, ToCheckPosition, ToMark, ToBranch, ToJump, ToRun}
+use Rattle.sre_model.specs.Roles.{Role, ToFail, ToEnd, ToTest, ToCheckPosition, ToBranch, ToRun}
 use Rattle.sre_model.specs.Roles.{ToRepeat, ToLoop, ToRepeatPossessively, ToGroupAtomically, ToLook, ToRefer}
-use Rattle.sre_model.specs.Roles.{ToCheckGroup, ToNothing, role}
+use Rattle.sre_model.specs.Roles.{ToNothing, role}
 use Rattle.sre_turns.specs.declared.Frame.{Frame}
 use Rattle.sre_turns.specs.declared.Region.TheVariants.{AtomicGroup, Ahead, NotAhead, Owed, Further}
 use Rattle.sre_turns.specs.declared.Region.{Region}
@@ -223,9 +223,7 @@ module _ (ws : List ℕ) (s : Subject) (i p : ℕ) (fs : List Frame) (m : Marks)
       (λ e. on s p p fs (p + 1) (p + 1) (omega arith) (λ l. omega (arith, passes-below s h.test p e))) (λ e. tt))
   role_reaches ToCheckPosition a h =
       subst Leading (sym h.is) (cond_reaches s p p fs (holds_at s h.code p) _ Stop (λ e. here) (λ e. tt))
-  role_reaches ToMark a h = subst Leading (sym h.is) here
   role_reaches ToBranch a h = subst Leading (sym h) here
-  role_reaches ToJump a h = subst Leading (sym h.is) here
   role_reaches (ToRun kind) a h = subst Leading (sym h.is) (run_reaches kind (skip ws (i + 1)) h.low h.high h.test)
   role_reaches ToRepeat a h = subst Leading (sym h.is) (deeper i)
   role_reaches (ToLoop o) a h = subst Leading (sym h.is) (until_reaches h.frame h.outer h.inside o h.low h.high)
@@ -233,8 +231,8 @@ module _ (ws : List ℕ) (s : Subject) (i p : ℕ) (fs : List Frame) (m : Marks)
   role_reaches ToGroupAtomically a h = subst Leading (sym h.is) (here, λ l. l, refl, λ e. omega arith)
   role_reaches (ToLook sign) a h = subst Leading (sym h.is) (look_reaches sign (skip ws (i + 1)) h.back)
   role_reaches ToRefer a h = subst Leading (sym h.is) (reference_reaches h.fold h.number (i + 2))
-  role_reaches ToCheckGroup a h = subst Leading (sym h.is) here
   role_reaches ToNothing a h = absurd h
+  role_reaches f a h = subst Leading (sym h.is) here
 
 -- a turn at any point
 module _ (ws : List ℕ) (s : Subject) (fs : List Frame) (p : ℕ) (m : Marks) where
@@ -333,13 +331,7 @@ onward-less p q (Enter g x y) l h = (omega (arith, l, h.0), λ stays. omega (ari
 
 pub least_position : (pt : Point) (p : ℕ) → least_from pt p ≤ p
 least_position (Instruction i) p = omega arith
-least_position (Alternatives q) p = omega arith
-least_position (Shorter t k) p = omega arith
-least_position (Longer i n) p = omega arith
-least_position (Inside g) p = omega arith
-least_position Again p = omega arith
-least_position (Tried i) p = omega arith
-least_position TriedAgain p = omega arith
+least_position pt p = omega arith
 
 -- so the outcomes of a spot end no earlier, and in the window
 module _ (ws : List ℕ) (s : Subject) where

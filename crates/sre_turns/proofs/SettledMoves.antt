@@ -1,5 +1,5 @@
--- In words whose turns are counted each turn of a settled spot leads to settled spots, but for the body of a region.
--- The law that a search takes few turns (`enough` of sre_engine) rests on this.
+-- In words whose steps are counted each step of a settled configuration leads to settled configurations, but for the
+-- body of an atomic scope. The law that a search takes few steps (`enough` of sre_engine) rests on this.
 use Rattle.std.proofs.Common.{ℕ, ◌*◌, ◌≤◌, List, []}
 use Rattle.std.specs.Bool.{⊤}
 use Rattle.sre_model.specs.Tree.{Tree}
@@ -17,9 +17,9 @@ use Rattle.sre_turns.specs.Settled.{Settled}
 use Rattle.sre_turns.proofs.Onward.{Onward, onward-less, point-onward}
 use Rattle.sre_turns.proofs.NestedMoves.{lies_moves}
 use Rattle.sre_turns.proofs.NestedPositions.{passed_moves, window_moves}
-use Rattle.sre_turns.proofs.NestedStarts.{lies_first, lies_behind}
+use Rattle.sre_turns.proofs.NestedStarts.{lies_behind}
 
--- each spot to which a turn leads outside of the regions that it enters is one of some kind
+-- each configuration to which a step leads outside of the atomic scopes that it enters is one of some kind
 abbrev pub OntoOutside : (Spot → Type 0) → Move → Type 0
 OntoOutside P Stop = ⊤
 OntoOutside P End = ⊤
@@ -27,7 +27,7 @@ OntoOutside P (Go y) = P y
 OntoOutside P (Split y z) = P y × P z
 OntoOutside P (Enter g y z) = ⊤
 
--- what each turn keeps
+-- what each step keeps
 module _ (ws : List ℕ) (s : Subject) (t : Tree) (w : WholeItems ws t) (start : ℕ) where
   all_kept : (mv : Move) → Leads ws s (Lies ws t w) mv → Leads ws s Passed mv → Leads ws s (InWindow s) mv
       → Onward start mv → OntoOutside (Settled ws s t w start) mv
@@ -49,10 +49,6 @@ module _ (ws : List ℕ) (s : Subject) (t : Tree) (w : WholeItems ws t) (start :
       (point-onward ws s x.point x.frames x.position x.marks mv h))
 
   -- where a run begins
-  pub settled_first : (p : ℕ) (m : Marks) → start ≤ p → p ≤ s.end
-      → Settled ws s t w start (spot_at (Instruction 0) [] p m)
-  settled_first p m l k = record { lies = lies_first ws t w p m; passed = tt; inside = k; from = l }
-
   pub settled_behind : (n p : ℕ) (m : Marks) → AreWords ws → ReadsBehind ws n t → start ≤ p → p ≤ s.end
       → Settled ws s t w start (spot_at (Instruction (2 * n)) [] p m)
   settled_behind n p m v r l k =

@@ -19,7 +19,7 @@ use Rattle.sre_turns.specs.declared.Point.TheVariants.{Instruction}
 use Rattle.sre_turns.specs.Limits.{Limit}
 use Rattle.sre_turns.specs.Moves.{spot_at}
 use Rattle.sre_turns.specs.MovesAtReferences.{MayAsk}
-use Rattle.sre_turns.specs.Potential.{potential}
+use Rattle.sre_turns.specs.Prices.{price}
 use Rattle.sre_turns.specs.Settled.{Counted, SettledIn}
 use Rattle.sre_turns.proofs.FaringInRegions.{end_refused}
 use Rattle.sre_turns.specs.Machine.{Waits, outermost, otherwise, tried, Arrives, Ends, Stands, Later}
@@ -62,7 +62,7 @@ behind_asks ws n t w g e l k = (
       subst (λ x. (asked_from x ≤ g) × (g ≤ asked_to x)) (items_same ws t u w w') (from, to),
 )
 
--- a region behind some items is one of the whole
+-- an atomic scope behind some items is one of the whole
 behind_markless : (n : ℕ) (t : Tree) → marks_in_regions t ≡ false → marks_in_regions (behind_items n t) ≡ false
 behind_markless zero t e = e
 behind_markless (suc n) Empty e = e
@@ -72,18 +72,18 @@ behind_markless (suc n) (Then x rest) e =
 pub behind_has : (ws : List ℕ) (n : ℕ) (t : Tree) → WholeItems ws t → PartOf ws (behind_items n t)
 behind_has ws n t w = (λ g e l k. behind_asks ws n t w g e l k, λ markless. behind_markless n t (markless.none t w))
 
--- the limit of a run of a tree from a place and a cursor, in a window from a start on
+-- the limit of a run of a tree from an address and a cursor, in a range from a start on
 abbrev pub first_limit : Run → ℕ → Tree → StringCursor → ℕ → Limit
 first_limit r i t c start = record {
   turns = cost r.subject t ending c.position no_marks;
   taken = 0;
-  granted = potential r.words r.subject.end (Instruction i) c.position;
+  granted = price r.words r.subject.end (Instruction i) c.position;
   tolls = 0;
   trying = [];
   start = start;
 }
 
--- a run from a cursor and a place has the accepted ways of the tree whose words are those from there on
+-- a run from a cursor and an address has the accepted ways of the tree whose words are those from there on
 pub started : (r : Run) (i : ℕ) (t : Tree) (c : StringCursor) (b : BoardValue) (start : ℕ) → AreWords r.words
     → PartOf r.words t
     → Reads r.words i (length r.words - 1) t → Opcode r.words (length r.words - 1) opcode.SUCCESS
@@ -116,11 +116,11 @@ refused_fruit : (r : Run) (os : List Way) (w : Way) (now : List Way) → r.accep
     → SameFruit r false os (w ∷ now) → SameFruit r false os now
 refused_fruit r os w now e h = rw e at h
 
--- what waits outside all regions is not inside one
+-- what waits outside all atomic scopes is not inside one
 pub none_inside : (cs : List Choice) → from_region cs ≡ [] → is_inside cs ≡ false
 none_inside cs e = ap (λ (rest : List Choice). elim rest [ [] ↦ false | (c ∷ others) ↦ true ]) e
 
--- outside all regions the first outcome, if it is accepted, is the first of all
+-- outside all atomic scopes the first outcome, if it is accepted, is the first of all
 first_waits : (r : Run) (cs : List Choice) (w : Way) (rest : List Way) {all : List Way} {u k : ℕ} → from_region cs ≡ []
     → r.accepts w ≡ true → Waits r cs u (w ∷ rest) all k → (others : List Way) × (all ≡ w ∷ others)
 first_waits r [] w rest {all = all} none y (outermost begins) =

@@ -1,4 +1,4 @@
--- Turns at tests, positions, marks, jumps, and at the ends of a region.
+-- Steps at tests, positions, marks, jumps, and at the ends of an atomic scope.
 use Rattle.std.proofs.Common.{◌≡◌, ◌≢◌, ℕ, ◌+◌, ◌<◌, ◌≤◌, Bool, true, false, nat_eq, nat_lt, ◌&&◌, List, length, refl}
 use Rattle.std.proofs.Common.{sym, ap, ◌∙◌, subst, arith}
 use Rattle.std.proofs.lemmas.Bool.Decides.{nat_tests}
@@ -18,6 +18,7 @@ use Rattle.sre_turns.specs.declared.Frame.{Frame}
 use Rattle.sre_turns.specs.declared.Point.TheVariants.{Instruction}
 use Rattle.sre_turns.specs.Moves.{spot_at, Go}
 use Rattle.sre_turns.specs.Limits.{Limit}
+use Rattle.sre_turns.specs.Lying.{repeats}
 use Rattle.sre_turns.specs.Machine.{Moves, Goes, Later, HasRun, Refuses, Demands, Continues}
 use Rattle.sre_model.specs.Runs.{Run}
 use Rattle.sre_model.specs.Standing.{TestStands, HasTest}
@@ -169,7 +170,7 @@ jump_continues r i v c w wv stands = record {
       (record { there = word_within r.words (i + 1) v wv; is = rw (word_of r.words (i + 1) v wv) refl }));
 }
 
--- a LITERAL that is not the character, or that stands at the window's end
+-- a LITERAL that is not the character, or that stands at the range's end
 pub literal_there : (ws : List ℕ) (i v : ℕ) → Opcode ws i opcode.LITERAL → Word ws (i + 1) v
     → TestStands ws i (i + 2) (Literal Plain v)
 literal_there ws i v w wv = record { code = w; operands = (wv, refl) }
@@ -212,7 +213,7 @@ module _ (r : Run) (i ch : ℕ) (o : SreOpcode) (takes : Bool) (c : StringCursor
           is = rw (passes_as_read ∙ y, moved_on, ends there.end there.test there.stands) refl;
         })) d;
     fares = λ pl start cs fs m h. next_less r pl start cs (spot_at (Instruction i) fs c.position m)
-        (spot_at (Instruction end) fs after.position m) o w (test_pool r i c.position o f)
+        (spot_at (Instruction end) fs after.position m) o w (test_pool r i c.position o (repeats fs) f)
         (at_test o f w (record {
           end = there.end;
           test = there.test;
@@ -255,7 +256,7 @@ mark_run r i c w x =
     (run_goes (spot_at (Instruction (i + 2)) x.frames c.position after)
     (mark_moves r i c.position h.number x.frames x.marks w h.there) x.runs)
 
--- a character that is read, inside the window or not, and is another one than a literal's
+-- a character that is read, inside the range or not, and is another one than a literal's
 pub other_character : (s : Subject) (v ch p : ℕ) → ch ≡ char_at s p → ch ≢ v → passes s (Literal Plain v) p ≡ false
 other_character s v ch p e unlike =
     and_never (nat_lt p s.end) (nat_eq v (char_at s p)) (other v (char_at s p) (λ x. unlike (e ∙ sym x)))

@@ -1,26 +1,28 @@
--- Turns at a loop: its REPEAT, and the MAX_UNTIL or MIN_UNTIL that ends a body.
-use Rattle.std.proofs.Common.{◌≡◌, ℕ, ◌+◌, ◌*◌, ◌<◌, ◌≤◌, true, false, nat_lt, List, ◌∷◌, length, drop, Some, refl}
+-- Steps at a loop: its REPEAT, and the MAX_UNTIL or MIN_UNTIL that ends a body.
+use Rattle.std.proofs.Common.{◌≡◌, ℕ, ◌+◌, ◌<◌, ◌≤◌, true, false, nat_lt, List, ◌∷◌, length, drop, Some, refl}
 use Rattle.std.proofs.Common.{sym, ap, ◌∙◌, subst, arith}
 use Rattle.std.proofs.lemmas.Bool.Decides.{nat_tests}
 use Rattle.sre_chars.specs.declared.constants.SreOpcode.TheVariants as opcode
 use Rattle.sre_chars.specs.declared.string.StringCursor.{StringCursor}
 use Rattle.sre_model.specs.Tree.{Order, Greedy, Lazy}
 use Rattle.sre_model.specs.Ways.{Way, may_repeat}
-use Rattle.sre_model.specs.Grammar.{Word, Opcode, until_opcode}
+use Rattle.sre_model.specs.Grammar.{Word, Opcode, until_opcode, skip}
 use Rattle.sre_turns.specs.Board.{Else, BoardValue}
 use Rattle.sre_turns.specs.declared.Frame.{Frame}
 use Rattle.sre_turns.specs.declared.Point.TheVariants.{Instruction}
 use Rattle.sre_turns.specs.Moves.{Spot, Move, Go}
 use Rattle.sre_turns.specs.MovesInLoops.{first_frame, next_frame, at_body, behind, in_order, until_move}
-use Rattle.sre_turns.specs.Limits.{Limit, earlier, grant}
+use Rattle.sre_turns.specs.Limits.{Limit, earlier, share, Going}
 use Rattle.sre_turns.specs.Machine.{Moves, Goes, Later, spot, HasRun, IsAt, Refuses, with_loop}
 use Rattle.sre_model.specs.Runs.{Run}
 use Rattle.sre_turns.specs.declared.Next.{Next}
 use Rattle.sre_model.specs.Roles.{ToRepeat, ToLoop, role}
-use Rattle.sre_turns.specs.Potential.{units}
+use Rattle.sre_turns.specs.Prices.{steps, toll, toll_by, loop_toll}
+use Rattle.sre_turns.proofs.Steps.{some_steps}
+use Rattle.sre_turns.specs.Lying.{repeats}
 use Rattle.sre_model.proofs.Families.{until_role}
 use Rattle.sre_turns.specs.declared.Next.TheVariants as next
-use Rattle.sre_model.proofs.Words.{same_opcode, word_of, word_within, opcode_within}
+use Rattle.sre_model.proofs.Words.{same_opcode, word_of, word_within}
 use Rattle.sre_turns.proofs.Moving.{in_role, at_instruction, has_run, run_goes, run_splits, turn_goes, turn_splits}
 use Rattle.sre_turns.proofs.Moving.{both_wait, both_first, both_second, sooner}
 use Rattle.sre_turns.proofs.GoingBack.{later_again}
@@ -45,7 +47,7 @@ repeat_begun r i v c b w wv x =
     (record { there = word_within r.words (i + 1) v wv; is = rw (word_of r.words (i + 1) v wv) refl })) x.runs in
     record { outcomes = y.outcomes; turns = y.turns; stands = x.stands; placed = x.placed; runs = y.runs }
 
--- a turn at the end of a greedy loop, taken in the same turn
+-- a step at the end of a greedy loop, taken in the same step
 pub repeat_further : (r : Run) (i v : ℕ) (c : StringCursor) (b b' : BoardValue) (n : Next)
     → Opcode r.words i opcode.REPEAT → Word r.words (i + 1) v → Opcode r.words (i + 1 + v) opcode.MAX_UNTIL
     → ((all : List Way) (limit : Limit) → Goes r all limit (Instruction (i + 1 + v)) c (with_loop (first_frame i) b)
@@ -66,8 +68,16 @@ repeat_further r i v c b b' n w wv we h all limit g =
       within = at.within;
       fares = λ pl o x.
           let f = at.fares pl o x in
-          let one = ap (λ q. units r.words r.subject.end (i + 1 + v) (role q) * grant r.words)
+          let ks : List ℕ = i ∷ repeats b.frames in
+          let one : toll r.words r.subject.end o (Instruction (i + 1 + v)) ks ≡ loop_toll r.words ks (i + 1 + v) =
+          ap (λ q. toll_by r.words r.subject.end (i + 1 + v) ks (role q))
           (same_opcode r.words (i + 1 + v) o opcode.MAX_UNTIL x we) in
+          let there : steps r.words (skip r.words (i + 1)) + loop_toll r.words ks (skip r.words (i + 1))
+          ≡ steps r.words (i + 1 + v) + loop_toll r.words ks (i + 1 + v) =
+          ap (λ k. steps r.words (i + 1 + k) + loop_toll r.words ks (i + 1 + k)) (word_of r.words (i + 1) v wv) in
+          let had : share Going r.words r.subject.end opcode.REPEAT (spot (Instruction i) c b)
+          ≡ steps r.words i + (steps r.words (skip r.words (i + 1)) + loop_toll r.words ks (skip r.words (i + 1))) =
+          refl in
           record {
             here = f.here;
             fares = record {
@@ -77,7 +87,9 @@ repeat_further r i v c b b' n w wv we h all limit g =
                   omega (
                     arith,
                     (g.fares pl opcode.REPEAT w).fares.left,
-                    opcode_within r.words i opcode.REPEAT w,
+                    some_steps r.words i,
+                    had,
+                    there,
                     one,
                   );
             };
@@ -159,7 +171,7 @@ until_done r o u low high c b b' f h l no_ eb all limit g =
     (until_at r o u low high c b f (Go (spot (Instruction (u + 1)) c left)) h (rw (beyond, no_) refl))
     g.stands g.placed refl all limit g)
 
--- else there are two spots, in order
+-- else there are two configurations, in order
 abbrev pub body_spot : ℕ → StringCursor → BoardValue → Frame → Spot
 body_spot u c b f = at_body f (Some c.position) (drop 1 b.frames) (spot (Instruction u) c b)
 
@@ -224,7 +236,7 @@ until_alone r Lazy u low high c b b' f h l y no_ eb all limit g =
     (turn_splits r (Instruction u) c b _ _ c (until_splits r Lazy u low high c b f h l y) g.stands refl refl all
     limit g))
 
--- the other waits on the board
+-- the other waits on the backtrack stack
 pub until_greedy : (r : Run) (u low high : ℕ) (c : StringCursor) (b b' : BoardValue) (f : Frame)
     → InLoop r Greedy u low high b f → low ≤ f.count → may_repeat high f.count f.last c.position ≡ true
     → b' ≡ record b {
@@ -272,7 +284,7 @@ pub lazy_board : (b left entered saved again : BoardValue) (f g : Frame) (i : �
     }
 lazy_board b left entered saved again f g i c el ee es ea eg = rw (ea, es, ee, el, eg) refl
 
--- the same of a loop that was taken off the board
+-- the same of a loop that was taken off the backtrack stack
 pub taken_off : (b left : BoardValue) (f : Frame) → left ≡ record b { frames = drop 1 b.frames }
     → b.frames ≡ f ∷ drop 1 b.frames → with_loop f left ≡ b
 taken_off b left f el inside = rw (el, ← inside) refl

@@ -1,6 +1,6 @@
--- Turns at a possessive run of one test. One without a greatest count goes on turn by turn; the machine may go over all
--- these turns at once.
-use Rattle.std.proofs.Common.{◌≡◌, ℕ, ◌+◌, ◌-◌, ◌*◌, ◌<◌, ◌≤◌, Bool, true, false, nat_eq, nat_lt, List, length}
+-- Steps at a possessive repeat of one test. One without a greatest count goes on step by step; the machine may go over
+-- all these steps at once.
+use Rattle.std.proofs.Common.{◌≡◌, ℕ, ◌+◌, ◌-◌, ◌<◌, ◌≤◌, Bool, true, false, nat_eq, nat_lt, List}
 use Rattle.std.proofs.Common.{refl, sym, subst, arith}
 use Rattle.std.proofs.lemmas.Bool.Decides.{nat_tests}
 use Rattle.sre_chars.specs.declared.constants.SreOpcode.{SreOpcode}
@@ -15,6 +15,8 @@ use Rattle.sre_model.specs.Runs.{Run}
 use Rattle.sre_turns.specs.Board.{BoardValue}
 use Rattle.sre_turns.specs.Confining.{StandsConfined}
 use Rattle.sre_turns.specs.Limits.{Limit, Stage, share, Going, spare, HereIn}
+use Rattle.sre_turns.specs.Prices.{steps}
+use Rattle.sre_turns.proofs.Steps.{some_steps}
 use Rattle.sre_turns.specs.Machine.{Moves, Runs, Comes, goes, Goes, GoesWith, Later, spot}
 use Rattle.sre_turns.specs.Moves.{Spot, spot_at, Stop, Go}
 use Rattle.sre_turns.specs.MovesInRuns.{RunOperands}
@@ -31,14 +33,14 @@ use Rattle.sre_turns.proofs.PossessiveRunEnds.{longest_lacks, longest_stretch, o
 use Rattle.sre_turns.proofs.PossessiveRunEnds.{stretch_keeps, stretch_over}
 use Rattle.sre_turns.proofs.StepsInRuns.{CountsRun, stands_of}
 
--- what each turn that goes to another spot keeps is so of y where it is so of x, and what comes of x comes of y, in
--- fewer turns
+-- what each step that goes to another configuration keeps is so of y where it is so of x, and what comes of x comes of
+-- y, in fewer steps
 pub record ComesTo (r : Run) (x y : Spot) : Type 1 where
   pub keeps : (P : Spot → Type 0) → ((x y : Spot) → Moves r.words r.subject x (Go y) → P x → P y) → P x → P y
   pub runs : (os : List Way) (n : ℕ) → Runs r.words r.subject x os n
       → (k : ℕ) × (k + 1 ≤ n) × Runs r.words r.subject y os k
 
--- so it is behind one such turn
+-- so it is behind one such step
 one_turn : (r : Run) (x y : Spot) → Moves r.words r.subject x (Go y) → ComesTo r x y
 one_turn r x y mv = record { keeps = λ P keeps. keeps x y mv; runs = λ os n d. go (comes (Go y) mv d) }
   where
@@ -48,8 +50,7 @@ one_turn r x y mv = record { keeps = λ P keeps. keeps x y mv; runs = λ os n d.
 
 -- and the machine may go there at once, if it has enough for an instruction there
 pub comes_at_once : (stage : Stage) (r : Run) (i j : ℕ) (c d : StringCursor) (b : BoardValue) (o : SreOpcode)
-    → Opcode r.words i o
-    → 2 * (length r.words - j) + 3 + 1 ≤ share stage r.words r.subject.end o (spot (Instruction i) c b)
+    → Opcode r.words i o → steps r.words j + 1 ≤ share stage r.words r.subject.end o (spot (Instruction i) c b)
     → ComesTo r (spot (Instruction i) c b) (spot (Instruction j) d b) → r.stands d d.position
     → (all : List Way) (limit : Limit) → GoesWith stage r all limit (Instruction i) c b
     → Later r all limit (next.At j d) b
@@ -78,15 +79,16 @@ comes_at_once stage r i j c d b o w enough on stands all limit g =
       },
     )
 
--- a possessive run without a greatest count
+-- a possessive repeat without a greatest count
 module _ (r : Run) (i low end : ℕ) (t : Test) (w : Opcode r.words i opcode.POSSESSIVE_REPEAT_ONE)
     (o : RunOperands r.words i low unlimited end t) (c d : StringCursor) (b : BoardValue)
     (stands : r.stands d d.position) where
-  -- one toll pays for the way to an instruction
+  -- what it has pays for the way to itself, and to its tail
+  abbrev has : Stage → ℕ
+  has stage = share stage r.words r.subject.end opcode.POSSESSIVE_REPEAT_ONE (spot (Instruction i) c b)
+
   abbrev pays : (stage : Stage) → Type 0
-  pays stage =
-      (j : ℕ) → 2 * (length r.words - j) + 3 + 1
-      ≤ share stage r.words r.subject.end opcode.POSSESSIVE_REPEAT_ONE (spot (Instruction i) c b)
+  pays stage = (steps r.words i + 1 ≤ has stage) × (steps r.words (skip r.words (i + 1)) + 1 ≤ has stage)
 
   -- over so many characters more than its least count, behind which no more pass, it comes to its tail
   pub over_stretch : (stage : Stage) → pays stage → (more : ℕ)
@@ -95,7 +97,7 @@ module _ (r : Run) (i low end : ℕ) (t : Test) (w : Opcode r.words i opcode.POS
       → GoesWith stage r all limit (Instruction i) c b → Later r all limit (next.At (skip r.words (i + 1)) d) b
   over_stretch stage enough more all_pass stopped there =
       let tail : ℕ = skip r.words (i + 1) in
-      comes_at_once stage r i tail c d b opcode.POSSESSIVE_REPEAT_ONE w (enough tail)
+      comes_at_once stage r i tail c d b opcode.POSSESSIVE_REPEAT_ONE w enough.1
       (subst (λ q. ComesTo r (spot (Instruction i) c b) (spot_at (Instruction tail) b.frames q b.marks)) (sym there)
       (record {
         keeps = λ P keeps x.
@@ -114,7 +116,7 @@ module _ (r : Run) (i low end : ℕ) (t : Test) (w : Opcode r.words i opcode.POS
       subst (λ q. Moves r.words r.subject (spot (Instruction i) c b)
       (Go (spot_at (Instruction i) b.frames q b.marks))) (sym there)
       (onward_goes r.words r.subject i low end t b.frames b.marks w o c.position all_pass) in
-      comes_at_once stage r i i c d b opcode.POSSESSIVE_REPEAT_ONE w (enough i)
+      comes_at_once stage r i i c d b opcode.POSSESSIVE_REPEAT_ONE w enough.0
       (one_turn r (spot (Instruction i) c b) (spot (Instruction i) d b) mv) stands
 
 -- POSSESSIVE_REPEAT_ONE, gone over at once
@@ -169,7 +171,9 @@ module _ (r : Run) (i tail low high count : ℕ) (c : StringCursor) (b : BoardVa
           let more : ℕ = longest_run r.subject t unlimited c.position - low in
           let all_of_it = longest_stretch r.subject t low c.position (omega (arith, x.1, l)) in
           subst (λ j. Later r all limit (next.At j after) b) (sym o.leads)
-          (over_stretch r i low o.test.end t w x.0 c after b there Going (λ j. omega arith) more all_of_it.0 all_of_it.1
+          (over_stretch r i low o.test.end t w x.0 c after b there Going
+          (omega (arith, some_steps r.words (skip r.words (i + 1))), omega (arith, some_steps r.words i)) more
+          all_of_it.0 all_of_it.1
           (omega (arith, moved_on, x.1, l)) all limit g)
       go false y =
           let enough : nat_lt count low ≡ false = grind (arith, nat_tests) in

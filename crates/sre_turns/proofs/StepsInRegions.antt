@@ -1,4 +1,4 @@
--- Turns at a region: ATOMIC_GROUP, the looks, and the end of a body.
+-- Steps at an atomic scope: ATOMIC_GROUP, the lookarounds, and the end of a body.
 use Rattle.std.proofs.Common.{◌≡◌, ℕ, ◌+◌, ◌-◌, ◌<◌, ◌≤◌, true, false, nat_lt, List, [], ◌∷◌, length, drop, refl, sym}
 use Rattle.std.proofs.Common.{suc, subst, arith}
 use Rattle.std.proofs.lemmas.Bool.Decides.{nat_tests}
@@ -25,7 +25,7 @@ use Rattle.sre_turns.specs.Settled.{Counted}
 use Rattle.sre_turns.proofs.Confining.{region_confined}
 use Rattle.sre_turns.proofs.FaringInRegions.{cut_fares, region_on, region_off, loop_left}
 use Rattle.sre_turns.specs.Limits.{Limit, earlier, without_open, FaresAt, FaresBack, FaresEnd}
-use Rattle.sre_turns.specs.Potential.{potential, potential_of}
+use Rattle.sre_turns.specs.Prices.{price, price_of}
 use Rattle.sre_turns.specs.Machine.{Moves, Runs, Comes, stops, goes, Waits, kept, Goes, Arrives, Placed, Ends}
 use Rattle.sre_model.specs.Runs.{Run}
 use Rattle.sre_turns.specs.Machine.{Later, spot, HasRun, after_outcome, without_outcome, without_loop}
@@ -40,7 +40,7 @@ pub atomic_operand : (r : Run) (i : ℕ) (c : StringCursor) → Opcode r.words i
     → HasRun r (Instruction i) c → i + 1 < length r.words
 atomic_operand r i c w x = (in_role opcode.ATOMIC_GROUP ToGroupAtomically refl w x.runs).1.there
 
--- a region is entered at a cursor, and the loops are put aside
+-- an atomic scope is entered at a cursor, and the loops are put aside
 abbrev pub entered : Region → StringCursor → BoardValue → BoardValue
 entered g c b = record b { frames = []; choices = Keep g b.frames c b.marks ∷ b.choices }
 
@@ -64,7 +64,7 @@ look_operand r sign i c w x =
     let h = (in_role (look_opcode sign) (ToLook sign) (look_role sign) w x.runs).1 in
     word_within r.words (i + 2) h.back h.there
 
--- what is at a look
+-- what is at a lookaround
 pub record AtLook (r : Run) (sign : Sign) (i v back : ℕ) : Type 0 where
   pub code : Opcode r.words i (look_opcode sign)
   pub leads : Word r.words (i + 1) v
@@ -108,9 +108,9 @@ look_step r sign i v back c c' b b' h l place there eb all limit g =
     (turn_enters r (Instruction i) b.frames (i + 3) region c c' b (entered region c b) move there refl refl all
     limit g)
 
--- a body has an outcome at a cursor: what comes of the region that is cut
+-- a body has an outcome at a cursor: what comes of the atomic scope that is cut
 module _ (r : Run) (c d : StringCursor) (b b' : BoardValue) where
-  -- where it goes on, and what waits, as the region told it
+  -- where it goes on, and what waits, as the atomic scope told it
   abbrev Closing : Region → Type 0
   Closing g = MarklessRegions r.words
       → ClosesAt (ConfinedInside r.words (is_inside b'.choices)) g b'.frames × AllConfined r.words b'.choices
@@ -139,7 +139,7 @@ module _ (r : Run) (c d : StringCursor) (b b' : BoardValue) where
 
   -- it goes on at a cursor
   ends_go : {all : List Way} (limit : Limit) (pt : Point) (at : StringCursor)
-      → ((pl : Counted r) → FaresAt r pl (earlier limit) (potential_of r.words r.subject.end (spot pt at b'))
+      → ((pl : Counted r) → FaresAt r pl (earlier limit) (price_of r.words r.subject.end (spot pt at b'))
       (spot pt at b') b'.choices)
       → (MarklessRegions r.words → StandsConfined r.words (spot pt at b') b'.choices)
       → r.stands at at.position → Placed r.subject b.marks → b'.marks ≡ b.marks
@@ -165,16 +165,16 @@ module _ (r : Run) (c d : StringCursor) (b b' : BoardValue) where
         },
       )
 
-  -- what is left where the region is in progress, and where its body ends
+  -- what is left where the atomic scope is in progress, and where its body ends
   abbrev Ending : Limit → Region → Marks → Type 0
   Ending limit g m = (pl : Counted r) → FaresEnd r pl limit c.position (Keep g b'.frames d m ∷ b'.choices)
 
-  -- it goes on behind the region from a position
+  -- it goes on behind the atomic scope from a position
   ends_on : (limit : Limit) (g : Region) (m : Marks) → Ending limit g m → (pl : Counted r) (q : ℕ) → d.position ≤ q
       → q ≤ r.subject.end
-      → FaresAt r pl (earlier limit) (potential r.words r.subject.end (point_behind g) q)
+      → FaresAt r pl (earlier limit) (price r.words r.subject.end (point_behind g) q)
       (spot_at (point_behind g) b'.frames q b'.marks) b'.choices
-  ends_on limit g m left pl q = region_on r pl limit g b'.frames d m b'.choices 2 (left pl).fares q b'.marks
+  ends_on limit g m left pl q = region_on r pl limit g b'.frames d m b'.choices (left pl).fares q b'.marks
 
   region_ends : (g : Region) → Closing g → (m : Marks) (us all : List Way) (limit : Limit) (j later : ℕ)
       → Ending limit g m → b'.marks ≡ b.marks → r.stands c c.position → Placed r.subject b.marks
@@ -189,7 +189,7 @@ module _ (r : Run) (c d : StringCursor) (b b' : BoardValue) where
       (λ pl. ends_on limit (Ahead t) m left pl d.position (omega arith) (left pl).fares.settled.0.inside)
       (λ none. goes_on (lies none)) at placed em f wt (omega arith) l k
   region_ends (NotAhead t) lies m us all limit j later left em there placed (kept at _ f wt) l k =
-      ends_stop limit (λ pl. region_off r pl limit (NotAhead t) b'.frames d m b'.choices 2 (left pl).fares)
+      ends_stop limit (λ pl. region_off r pl limit (NotAhead t) b'.frames d m b'.choices (left pl).fares)
       (λ none. record { each = (lies none).1 }) f wt (omega arith) l k
   region_ends Owed lies m us all limit j later left em there placed (kept at _ f wt) l k =
       ends_go limit Again c (λ pl. ends_on limit Owed m left pl c.position ((left pl).at.0 refl) (left pl).at.1)
@@ -228,7 +228,7 @@ module _ (r : Run) (c : StringCursor) (b' : BoardValue) where
   )
 
   back_go : {all : List Way} (limit : Limit) (t : ℕ) (fs : List Frame)
-      → ((pl : Counted r) → FaresAt r pl (earlier limit) (potential r.words r.subject.end (Instruction t) c.position)
+      → ((pl : Counted r) → FaresAt r pl (earlier limit) (price r.words r.subject.end (Instruction t) c.position)
       (spot_at (Instruction t) fs c.position b'.marks) b'.choices)
       → (MarklessRegions r.words
       → ConfinedInside r.words (is_inside b'.choices) (Instruction t) (repeats fs) × AllConfined r.words b'.choices)
@@ -253,13 +253,13 @@ module _ (r : Run) (c : StringCursor) (b' : BoardValue) where
     },
   )
 
-  -- what is left where the region is in progress
+  -- what is left where the atomic scope is in progress
   abbrev Going : Limit → Region → Type 0
   Going limit g = (pl : Counted r) → FaresBack r pl limit (Keep g b'.frames c b'.marks ∷ b'.choices)
 
   back_off : (limit : Limit) (g : Region) → Going limit g → (pl : Counted r)
       → FaresBack r pl (earlier limit) b'.choices
-  back_off limit g left pl = region_off r pl limit g b'.frames c b'.marks b'.choices 0 (left pl)
+  back_off limit g left pl = region_off r pl limit g b'.frames c b'.marks b'.choices (left pl)
 
   pub region_back : (g : Region)
       → (MarklessRegions r.words → AllConfined r.words (Keep g b'.frames c b'.marks ∷ b'.choices))
@@ -272,12 +272,12 @@ module _ (r : Run) (c : StringCursor) (b' : BoardValue) where
       back_stop limit (back_off limit (Ahead t) left) (λ none. record { each = (lies none).1 }) f wt l
   region_back (NotAhead t) lies all limit k left (kept at placed f wt) l =
       back_go limit t b'.frames
-      (λ pl. region_on r pl limit (NotAhead t) b'.frames c b'.marks b'.choices 0 (left pl) c.position b'.marks
+      (λ pl. region_on r pl limit (NotAhead t) b'.frames c b'.marks b'.choices (left pl) c.position b'.marks
       (omega arith) (left pl).settled.0.inside)
       lies at placed f wt l
   region_back Owed lies all limit k left (kept at _ f wt) l =
       back_stop limit (back_off limit Owed left) (λ none. record { each = (lies none).1 }) f wt l
   region_back (Further t) lies all limit k left (kept at placed f wt) l =
       back_go limit t (drop 1 b'.frames)
-      (λ pl. loop_left r pl limit t b'.frames c b'.marks b'.choices 0 (left pl) b'.marks)
+      (λ pl. loop_left r pl limit t b'.frames c b'.marks b'.choices (left pl) b'.marks)
       (λ none. ((lies none).0.1, (lies none).1)) at placed f wt l

@@ -1,6 +1,6 @@
--- At no point of a body that does not fork the machine has more than one way to go on. Where a region is entered, it
--- has a body, of which is told what its tree tells.
--- The law that a search takes few turns (`enough` of sre_engine) rests on this.
+-- At no point of a body that does not fork the machine has more than one way to go on. Where an atomic scope is
+-- entered, it has a body, of which is told what its tree tells.
+-- The law that a search takes few steps (`enough` of sre_engine) rests on this.
 use Rattle.std.proofs.Common.{◌≡◌, ℕ, ◌+◌, ◌-◌, ◌≤◌, ◌⊎◌, inl, inr, Bool, true, false, ◌||◌, cond, nat_lt}
 use Rattle.std.proofs.Common.{List, [], ◌∷◌, Option, Some, refl, sym, ap, ◌∙◌, subst, arith}
 use Rattle.std.specs.Bool.{⊤}
@@ -21,22 +21,20 @@ use Rattle.sre_model.specs.Roles.{ToGroupAtomically, ToLook}
 use Rattle.sre_model.specs.Roles.{role}
 use Rattle.sre_model.proofs.Families.{HasRole, item_role, item_here}
 use Rattle.sre_model.proofs.Foldings.{paired, tree_paired}
-use Rattle.sre_model.proofs.Places.{reads_within}
 use Rattle.sre_model.proofs.Words.{same_opcode, word_of}
 use Rattle.sre_turns.specs.declared.Frame.{Frame}
 use Rattle.sre_turns.specs.declared.Region.TheVariants.{AtomicGroup, Ahead, NotAhead, Owed, Further}
 use Rattle.sre_turns.specs.declared.Region.{Region}
-use Rattle.sre_turns.specs.declared.Point.TheVariants.{Instruction, Alternatives, Shorter, Longer, Inside, Again, Tried}
-use Rattle.sre_turns.specs.declared.Point.TheVariants.{TriedAgain}
+use Rattle.sre_turns.specs.declared.Point.TheVariants.{Instruction, Alternatives, Shorter, Longer, Again}
 use Rattle.sre_turns.specs.declared.Point.{Point}
 use Rattle.sre_turns.specs.Moves.{Spot, spot_at, into_region, Go, Enter, closing_move}
 use Rattle.sre_turns.specs.MovesInRegions.{look, LookMove}
 use Rattle.sre_turns.specs.MovesInLoops.{behind, enter_body, AgainMove}
 use Rattle.sre_turns.specs.Machine.{InRole, MovesAt}
 use Rattle.sre_turns.specs.Nested.{repeats, LiesIn}
-use Rattle.sre_turns.specs.Straight.{forking, ForksAt, tail_of, is_possessive, BodyOf, IsBodyIn}
+use Rattle.sre_turns.specs.Straight.{forking, ForksAt, BodyOf, IsBodyIn}
 use Rattle.sre_turns.proofs.NestedPoints.{HoldsInGood, tree_holds}
-use Rattle.sre_turns.proofs.PotentialMoves.{enters, entry_role, entry_point}
+use Rattle.sre_turns.proofs.PriceMoves.{enters, step_covered}
 
 item_straight : (a : Item) → of_item by_forks a ≡ false → forking (item_role a) ≡ false
 item_straight (Branch ts) e = absurd (true≢false e)
@@ -56,13 +54,7 @@ module _ (ws : List ℕ) where
   -- an instruction that does not fork is at a point
   abbrev pub StraightPoint : Point → Type 0
   StraightPoint (Instruction i) = (o : SreOpcode) → Opcode ws i o → forking (role o) ≡ false
-  StraightPoint (Alternatives q) = ⊥
-  StraightPoint (Shorter t k) = ⊥
-  StraightPoint (Longer i n) = ⊥
-  StraightPoint (Inside g) = ⊥
-  StraightPoint Again = ⊥
-  StraightPoint (Tried i) = ⊥
-  StraightPoint TriedAgain = ⊥
+  StraightPoint pt = ⊥
 
   -- by the role that is known to be there
   straight_role : (i : ℕ) (f : Role) → HasRole ws i f → forking f ≡ false → StraightPoint (Instruction i)
@@ -85,7 +77,7 @@ module _ (ws : List ℕ) where
     again = λ i j low high body r e js. true≢false e;
   }
 
-  pub body_straight : {P : Tree → Type 0} {t : ℕ} (b : BodyOf ws P t) → forks b.tree ≡ false → (pt : Point)
+  pub body_straight : {P : Tree → Type 0} (b : BodyOf ws P) → forks b.tree ≡ false → (pt : Point)
       (ks : List ℕ) → LiesIn ws b.start b.end b.tree b.reads [] pt ks → StraightPoint pt
   body_straight b straight pt ks y =
       tree_holds ws by_forks (λ a. a ≡ false) (λ at js. StraightPoint at) straight_in b.start b.end b.tree b.reads [] pt
@@ -96,12 +88,12 @@ module _ (ws : List ℕ) where
 pub forks_never : (ws : List ℕ) (i : ℕ) → ForksAt ws i → StraightPoint ws (Instruction i) → ⊥
 forks_never ws i f q = true≢false (sym f.forks ∙ q f.code f.there)
 
--- where a region is entered at i, its body begins behind the operands, and is of some kind; and so it is as one that is
--- entered so far back
+-- where an atomic scope is entered at i, its body begins behind the operands, and is of some kind; and so it is as one
+-- that is entered so far back
 pub record EntryAt (ws : List ℕ) (P : Tree → Type 0) (Q : ℕ → Tree → Type 0) (i : ℕ) (f : Role) : Type 0 where
-  pub atomic : f ≡ ToGroupAtomically → (b : BodyOf ws P (skip ws (i + 1))) × (b.start ≡ i + 2) × Q 0 b.tree
+  pub atomic : f ≡ ToGroupAtomically → (b : BodyOf ws P) × (b.start ≡ i + 2) × Q 0 b.tree
   pub look : (sign : Sign) → f ≡ ToLook sign
-      → (b : BodyOf ws P (skip ws (i + 1))) × (b.start ≡ i + 3) × Q (word ws (i + 2)) b.tree
+      → (b : BodyOf ws P) × (b.start ≡ i + 3) × Q (word ws (i + 2)) b.tree
 
 no_entry : (ws : List ℕ) (P : Tree → Type 0) (Q : ℕ → Tree → Type 0) (i : ℕ) (f : Role) → enters f ≡ false
     → EntryAt ws P Q i f
@@ -110,7 +102,7 @@ no_entry ws P Q i f none = record {
   look = λ sign e. absurd (true≢false (ap enters (sym e) ∙ none));
 }
 
--- a value of trees tells of which kind the bodies of their regions are
+-- a value of trees tells of which kind the bodies of their atomic scopes are
 pub record TellsBodies {V : Type 0} (f : Folding V) (Good : V → Type 0) (P : Tree → Type 0) (Q : ℕ → Tree → Type 0)
     : Type 0 where
   pub first : (a b : V) → Good (f.both a b) → Good a
@@ -125,18 +117,13 @@ pub record TellsBodies {V : Type 0} (f : Folding V) (Good : V → Type 0) (P : T
 module _ (ws : List ℕ) (P : Tree → Type 0) (Q : ℕ → Tree → Type 0) where
   -- a body of a loop begins behind its operands, where the loop is
   abbrev LoopsBody : ℕ → Type 0
-  LoopsBody q = (b : BodyOf ws P (skip ws (q + 1) + 1)) × (b.start ≡ q + 4) × Q 0 b.tree
+  LoopsBody q = (b : BodyOf ws P) × (b.start ≡ q + 4) × Q 0 b.tree
 
   -- the same at a point under loops: the body of a possessive loop begins behind its operands
   abbrev pub Entry : Point → List ℕ → Type 0
   Entry (Instruction i) ks = (o : SreOpcode) → Opcode ws i o → EntryAt ws P Q i (role o)
-  Entry (Alternatives q) ks = ⊤
-  Entry (Shorter t k) ks = ⊤
-  Entry (Longer i n) ks = ⊤
-  Entry (Inside g) ks = ⊤
   Entry Again ks = (q : ℕ) (qs : List ℕ) → ks ≡ q ∷ qs → LoopsBody q
-  Entry (Tried i) ks = ⊤
-  Entry TriedAgain ks = ⊤
+  Entry pt ks = ⊤
 
   entry_role_at : (i : ℕ) (f : Role) → HasRole ws i f → EntryAt ws P Q i f → (ks : List ℕ) → Entry (Instruction i) ks
   entry_role_at i f h e ks o v =
@@ -146,7 +133,6 @@ module _ (ws : List ℕ) (P : Tree → Type 0) (Q : ℕ → Tree → Type 0) whe
   module _ {V : Type 0} (f : Folding V) (Good : V → Type 0) (tells : TellsBodies f Good P Q) where
     item_entry : (i j : ℕ) (a : Item) → ReadsItem ws i j a → Good (of_item f a) → EntryAt ws P Q i (item_role a)
     item_entry i j (Atomic body) r g =
-        let far = reads_within body ws (i + 2) (j - 1) r.1.1 in
         let is = tells.atomic body g in
         record {
           atomic = λ _. (
@@ -157,7 +143,6 @@ module _ (ws : List ℕ) (P : Tree → Type 0) (Q : ℕ → Tree → Type 0) whe
               reads = r.1.1;
               ends = r.1.2;
               is = is.0;
-              behind = sym r.1.0 ∙ omega (arith, far);
             },
             refl,
             is.1,
@@ -165,7 +150,6 @@ module _ (ws : List ℕ) (P : Tree → Type 0) (Q : ℕ → Tree → Type 0) whe
           look = λ sign same. absurd (cc);
         }
     item_entry i j (Look sign back body) r g =
-        let far = reads_within body ws (i + 3) (j - 1) r.1.2 in
         let is = tells.look sign back body g in
         let goes : word ws (i + 2) ≡ back = word_of ws (i + 2) back r.1.1 in
         record {
@@ -178,7 +162,6 @@ module _ (ws : List ℕ) (P : Tree → Type 0) (Q : ℕ → Tree → Type 0) whe
               reads = r.1.2;
               ends = r.1.3;
               is = is.0;
-              behind = sym r.1.0 ∙ omega (arith, far);
             },
             refl,
             subst (λ n. Q n body) (sym goes) is.1,
@@ -200,7 +183,6 @@ module _ (ws : List ℕ) (P : Tree → Type 0) (Q : ℕ → Tree → Type 0) whe
             reads = r.3;
             ends = r.4;
             is = is.0;
-            behind = refl;
           },
           refl,
           is.1,
@@ -229,11 +211,11 @@ module _ (ws : List ℕ) (P : Tree → Type 0) (Q : ℕ → Tree → Type 0) whe
         (entry_role_at j ToEnd (record { code = opcode.SUCCESS; there = w; begins = refl })
         (no_entry ws P Q j ToEnd refl) []) y
 
--- a body that is entered so far back, with what its looks may go back from there, is within a bound
+-- a body that is entered so far back, with what its lookbehinds may go back from there, is within a bound
 abbrev pub GoesBack : ℕ → ℕ → Tree → Type 0
 GoesBack n back body = back + backs body ≤ n
 
--- what is told of regions and looks
+-- what is told of atomic scopes and lookarounds
 abbrev all_told : Folding (Bool × ℕ)
 all_told = paired by_forked_regions by_backs
 
@@ -248,7 +230,7 @@ or_right : (a b : Bool) → b ≡ true → (a || b) ≡ true
 or_right true b e = refl
 or_right false b e = e
 
--- bodies in a tree whose regions are counted, and whose looks go back so far at most, are such, too
+-- bodies in a tree whose atomic scopes are counted, and whose lookbehinds go back so far at most, are such, too
 module _ (whole : Tree) (n : ℕ) where
   abbrev Good : Bool × ℕ → Type 0
   Good a = (a.0 ≡ true → has_forked_region whole ≡ true) × (a.1 ≤ n)
@@ -284,12 +266,11 @@ counted_entry whole ws i j t r w f pt ks y =
     (counted_tells whole (backs t)) i j t r w
     (subst (Good whole (backs t)) (sym (tree_told t)) (f, omega arith)) pt ks y
 
--- a region is entered at its body's first word, and no further back from its spot than its body is told to be
+-- an atomic scope is entered at its body's first word, and no further back from its configuration than its body is told
+-- to be
 pub record Entered (ws : List ℕ) (P : Tree → Type 0) (Q : ℕ → Tree → Type 0) (p : ℕ) (g : Region) (z : Spot)
     : Type 0 where
-  pub tail : ℕ
-  pub body : BodyOf ws P tail
-  pub tail_is : is_possessive g ≡ false → tail_of g ≡ tail
+  pub body : BodyOf ws P
   pub first : z.point ≡ Instruction body.start
   pub back : ℕ
   pub is : Q back body.tree
@@ -305,25 +286,22 @@ module _ (ws : List ℕ) (P : Tree → Type 0) (Q : ℕ → Tree → Type 0) (s 
   abbrev there : Spot
   there = spot_at (Instruction i) fs p m
 
-  entered_as : (h : Region) (q back j tail : ℕ) → (is_possessive h ≡ false → tail_of h ≡ tail)
-      → (b : BodyOf ws P tail) → b.start ≡ j → Q back b.tree → p ≤ q + back
+  entered_as : (h : Region) (q back j : ℕ) (b : BodyOf ws P) → b.start ≡ j → Q back b.tree → p ≤ q + back
       → Enter g y z ≡ Enter h there (into_region there j q) → Entered ws P Q p g z
-  entered_as h q back j tail ends b first is far same =
+  entered_as h q back j b first is far same =
       let region : h ≡ g = cc in
       let at : z ≡ into_region there j q = cc in
       let position : z.position ≡ q = ap (λ x. x.position) at in
       subst (λ k. Entered ws P Q p k z) region
       (record {
-        tail = tail;
         body = b;
-        tail_is = ends;
         first = ap (λ x. x.point) at ∙ ap (λ n. Instruction n) (sym first);
         back = back;
         is = is;
         far = omega (arith, position, far);
       })
 
-  look_enters : (sign : Sign) (b : BodyOf ws P (skip ws (i + 1))) → b.start ≡ i + 3
+  look_enters : (sign : Sign) (b : BodyOf ws P) → b.start ≡ i + 3
       → Q (word ws (i + 2)) b.tree → LookMove ws sign i there (Enter g y z) → Entered ws P Q p g z
   look_enters sign b first told h = go sign (nat_lt p h.back) h.is
     where
@@ -337,20 +315,19 @@ module _ (ws : List ℕ) (P : Tree → Type 0) (Q : ℕ → Tree → Type 0) (s 
       go Positive true same = absurd (cc)
       go Negative true same = absurd (cc)
       go Positive false same =
-          entered_as (Ahead (skip ws (i + 1))) (p - h.back) h.back (i + 3) _ (λ e. refl) b first is (omega arith) same
+          entered_as (Ahead (skip ws (i + 1))) (p - h.back) h.back (i + 3) b first is (omega arith) same
       go Negative false same =
-          entered_as (NotAhead (skip ws (i + 1))) (p - h.back) h.back (i + 3) _ (λ e. refl) b first is (omega arith)
-          same
+          entered_as (NotAhead (skip ws (i + 1))) (p - h.back) h.back (i + 3) b first is (omega arith) same
 
   pub entered : Entry ws P Q (Instruction i) (repeats fs) → MovesAt ws s (Instruction i) there (Enter g y z)
       → Entered ws P Q p g z
-  entered entry h = go (entering (role h.0) (entry_role ws s i p fs m h.0 g y z h.1 h))
+  entered entry h = go (entering (role h.0) (step_covered ws s (Instruction i) fs p m h.0 (Enter g y z) h.1 h).0)
     where
       go : (role h.0 ≡ ToGroupAtomically) ⊎ ((sign : Sign) × (role h.0 ≡ ToLook sign)) → Entered ws P Q p g z
       go (inl e) =
           let b = (entry h.0 h.1).atomic e in
           let k = subst (λ f. InRole ws s f i there (Enter g y z)) e h.2 in
-          entered_as (AtomicGroup (skip ws (i + 1))) p 0 (i + 2) _ (λ e. refl) b.0 b.1 b.2 (omega arith) k.is
+          entered_as (AtomicGroup (skip ws (i + 1))) p 0 (i + 2) b.0 b.1 b.2 (omega arith) k.is
       go (inr e) =
           let b = (entry h.0 h.1).look e.0 e.1 in
           look_enters e.0 b.0 b.1 b.2 (subst (λ f. InRole ws s f i there (Enter g y z)) e.1 h.2)
@@ -361,16 +338,14 @@ module _ (ws : List ℕ) (P : Tree → Type 0) (Q : ℕ → Tree → Type 0) (s 
   abbrev at_loop : Spot
   at_loop = spot_at Again fs p m
 
-  body_entered : (f : Frame) (h : Region) (last : Option ℕ) (outer : List Frame) → is_possessive h ≡ true
-      → LoopsBody ws P Q f.repeat → Enter g y z ≡ enter_body h f last outer at_loop → Entered ws P Q p g z
-  body_entered f h last outer possessive b same =
+  body_entered : (f : Frame) (h : Region) (last : Option ℕ) (outer : List Frame) → LoopsBody ws P Q f.repeat
+      → Enter g y z ≡ enter_body h f last outer at_loop → Entered ws P Q p g z
+  body_entered f h last outer b same =
       let region : h ≡ g = cc in
       let at : z ≡ into_region at_loop (f.repeat + 4) p = cc in
       subst (λ k. Entered ws P Q p k z) region
       (record {
-        tail = skip ws (f.repeat + 1) + 1;
         body = b.0;
-        tail_is = λ e. absurd (true≢false (sym possessive ∙ e));
         first = ap (λ x. x.point) at ∙ ap (λ n. Instruction n) (sym b.1);
         back = 0;
         is = b.2;
@@ -387,9 +362,9 @@ module _ (ws : List ℕ) (P : Tree → Type 0) (Q : ℕ → Tree → Type 0) (s 
           ≡ cond owed (enter_body Owed h.frame h.frame.last h.outer at_loop)
           (cond more (enter_body (Further (skip ws (h.frame.repeat + 1) + 1)) h.frame (Some p) h.outer at_loop)
           (Go (behind (skip ws (h.frame.repeat + 1)) h.outer at_loop))) → Entered ws P Q p g z
-      go true more same = body_entered h.frame Owed h.frame.last h.outer refl b same
+      go true more same = body_entered h.frame Owed h.frame.last h.outer b same
       go false true same =
-          body_entered h.frame (Further (skip ws (h.frame.repeat + 1) + 1)) (Some p) h.outer refl b same
+          body_entered h.frame (Further (skip ws (h.frame.repeat + 1) + 1)) (Some p) h.outer b same
       go false false same = absurd (cc)
 
 -- and at no other point
@@ -399,12 +374,10 @@ pub point_entered : (ws : List ℕ) (P : Tree → Type 0) (Q : ℕ → Tree → 
     → Entered ws P Q p g z
 point_entered ws P Q s (Instruction i) fs p m g y z e h = entered ws P Q s i p fs m g y z e h
 point_entered ws P Q s (Alternatives q) fs p m g y z e h =
-    absurd (entry_point ws s (Alternatives q) fs p m g y z (λ k e. absurd (cc)) (λ e. absurd (cc)) h)
+    absurd (true≢false (sym (step_covered ws s (Alternatives q) fs p m opcode.FAILURE (Enter g y z) tt h).0))
 point_entered ws P Q s (Shorter t k) fs p m g y z e h =
-    absurd (entry_point ws s (Shorter t k) fs p m g y z (λ n e. absurd (cc)) (λ e. absurd (cc)) h)
+    absurd (true≢false (sym (step_covered ws s (Shorter t k) fs p m opcode.FAILURE (Enter g y z) tt h).0))
 point_entered ws P Q s (Longer i n) fs p m g y z e h =
-    absurd (entry_point ws s (Longer i n) fs p m g y z (λ k e. absurd (cc)) (λ e. absurd (cc)) h)
-point_entered ws P Q s (Inside k) fs p m g y z e h = absurd h
+    absurd (true≢false (sym (step_covered ws s (Longer i n) fs p m opcode.FAILURE (Enter g y z) tt h).0))
 point_entered ws P Q s Again fs p m g y z e h = again_entered ws P Q s p fs m g y z e h
-point_entered ws P Q s (Tried i) fs p m g y z e h = absurd h
-point_entered ws P Q s TriedAgain fs p m g y z e h = absurd h
+point_entered ws P Q s pt fs p m g y z e h = absurd h

@@ -1,4 +1,4 @@
--- Bodies of a loop that are one character each, gone over in one turn.
+-- Bodies of a loop that are one character each, gone over in one step.
 use Rattle.std.proofs.Common.{◌≡◌, ℕ, ◌+◌, ◌<◌, ◌≤◌, ◌⊎◌, inl, inr, Bool, true, false, nat_eq, nat_lt, ◌++◌, List, []}
 use Rattle.std.proofs.Common.{◌∷◌, Some, refl, sym, ap}
 use Rattle.std.proofs.Common.{◌∙◌, subst, arith}
@@ -17,7 +17,9 @@ use Rattle.sre_model.specs.Roles.{begins_test}
 use Rattle.sre_model.specs.Standing.{HasTest, TestStands}
 use Rattle.sre_model.specs.Ways.{Way, unlimited}
 use Rattle.sre_turns.specs.Board.{BoardValue}
-use Rattle.sre_turns.specs.Limits.{Limit}
+use Rattle.sre_turns.specs.Limits.{Limit, Fares}
+use Rattle.sre_turns.specs.Prices.{price, toll}
+use Rattle.sre_turns.specs.Lying.{repeats}
 use Rattle.sre_turns.specs.Machine.{Moves, Runs, Comes, splits, Goes, HasRun, IsAt, Exhausted, Refuses, Continues}
 use Rattle.sre_turns.specs.Machine.{Demands}
 use Rattle.sre_turns.specs.Machine.{with_loop, spot}
@@ -36,7 +38,7 @@ use Rattle.sre_turns.proofs.StepsAtItems.{test_misses, test_continues, jump_cont
 use Rattle.sre_turns.proofs.StepsInBranches.{branch_moves, alternatives_move, alternatives_pass, alternatives_exhausted}
 use Rattle.sre_turns.proofs.StepsInLoops.{InLoop, body_spot, end_spot, until_splits, until_runs}
 
--- of a spot that splits, where nothing comes of the second
+-- of a configuration that splits, where nothing comes of the second
 run_first : {ws : List ℕ} {s : Subject} {x : Spot} {os : List Way} {n : ℕ} (y z : Spot) → Moves ws s x (Split y z)
     → ((os : List Way) (n : ℕ) → Runs ws s z os n → os ≡ []) → Runs ws s x os n
     → (k : ℕ) × (k ≤ n) × Runs ws s y os k
@@ -194,7 +196,7 @@ strides_none r u c f there = record {
   };
 }
 
--- the machine stands there still, and its turn is under way
+-- the machine stands there still, and its step is under way
 module _ (r : Run) (u : ℕ) (c c' : StringCursor) (f f' : Frame) (s : Strides r u f c f' c') where
   pub strides_at : (b : BoardValue) → IsAt r (Instruction u) c (with_loop f b)
       → IsAt r (Instruction u) c' (with_loop f' b)
@@ -223,7 +225,10 @@ module _ (r : Run) (u : ℕ) (c c' : StringCursor) (f f' : Frame) (s : Strides r
             let old = g.fares pl o w in
             record {
               here = y.here pl limit.start b.choices old.here;
-              fares = old.fares;
+              fares =
+                  subst (λ q. Fares r pl limit (price r.words r.subject.end (Instruction u) c'.position
+                  + toll r.words r.subject.end o (Instruction u) (q ∷ repeats b.frames)) b.choices) (sym s.same)
+                  old.fares;
             };
         confined = λ none.
             let old = g.confined none in

@@ -1,5 +1,5 @@
 -- An instruction or a possessive loop that is tried: a mark waits below all that comes of it, and where that mark is
--- come to again, nothing came of it, and nothing will.
+-- reached again, nothing came of it, and nothing will.
 use Rattle.std.proofs.Common.{◌≡◌, ℕ, ◌+◌, ◌≤◌, Bool, List, [], ◌∷◌, drop, ap, refl, sym, subst, arith}
 use Rattle.sre_chars.specs.declared.string.StringCursor.{StringCursor}
 use Rattle.sre_model.specs.Marks.{Marks}
@@ -19,7 +19,7 @@ use Rattle.sre_turns.specs.Alike.{Alike, LoopsAlike, least_from}
 use Rattle.sre_turns.specs.Hopeless.{Hopeless, AcceptsByStop, MarksServe}
 use Rattle.sre_turns.proofs.FirstOutcomes.{first_none}
 use Rattle.sre_turns.proofs.Hopeless.{hopeless_again, fruitless_waits, fruitless_none}
-use Rattle.sre_turns.specs.Potential.{potential_of}
+use Rattle.sre_turns.specs.Prices.{price_of}
 use Rattle.sre_turns.proofs.Moving.{sooner, some_turns}
 use Rattle.sre_turns.proofs.Faring.{run_code, run_place, place_left}
 
@@ -53,21 +53,21 @@ tried_with stage none r pt c b b' e all limit g =
           let f = g.confined none in record { here = f.here; others = record { each = (f.here, f.others.each) } };
     })
 
--- so it is where its turn is under way
+-- so it is where its step is under way
 pub trying_goes : (r : Run) (pt : Point) (c : StringCursor) (b b' : BoardValue)
     → b' ≡ record b { choices = Trying pt b.frames c b.marks ∷ b.choices }
     → (all : List Way) (limit : Limit) → Goes r all limit pt c b
     → Goes r all (with_tried (attempt b.choices (spot pt c b)) limit) pt c b'
 trying_goes r pt c b b' e all limit g = tried_with Going refl r pt c b b' e all limit g
 
--- and where one toll alone was granted
+-- and where the credits for one split were granted
 pub trying_tries : (r : Run) (pt : Point) (c : StringCursor) (b b' : BoardValue)
     → b' ≡ record b { choices = Trying pt b.frames c b.marks ∷ b.choices }
     → (all : List Way) (limit : Limit) → Tries r all limit pt c b
     → Tries r all (with_tried (attempt b.choices (spot pt c b)) limit) pt c b'
 trying_tries r pt c b b' e all limit g = tried_with Splitting refl r pt c b b' e all limit g
 
--- the mark is come to: what waited below it still waits
+-- the mark is reached: what waited below it still waits
 pub tried_waits : (r : Run) (pt : Point) (c : StringCursor) (b b' : BoardValue)
     → b.choices ≡ Trying pt b'.frames c b'.marks ∷ b'.choices → (all : List Way) (limit : Limit) → Backs r all limit b
     → Backs r all (without_tried limit) b'
@@ -92,7 +92,7 @@ tried_waits r pt c b b' e all limit g = go (subst (λ x. Waits r x 0 [] all g.la
       confined = λ none. record { each = (subst (λ x. ChoicesConfined r.words x) e (g.confined none)).each.1 };
     }
 
--- what comes of a spot, which is nothing
+-- what comes of a configuration, which is nothing
 pub record CameToNothing (r : Run) (inside : Bool) (x : Spot) : Type 0 where
   pub outcomes : List Way
   pub turns : ℕ
@@ -129,7 +129,7 @@ tried_hopeless r told pt c b b' m serves e all limit g =
     came_hopeless r told (is_inside b'.choices) m (spot pt c b') serves
     (tried_came r pt c b b' e all limit g)
 
--- a spot is alike to itself
+-- a configuration is alike to itself
 loops_itself : (ws : List ℕ) (p : ℕ) (fs : List Frame) → LoopsAlike ws p fs fs
 loops_itself ws p [] = tt
 loops_itself ws p (f ∷ fs) =
@@ -157,7 +157,7 @@ hopeless_left r pt c b m serves hopeless all limit g =
         within = omega (arith, some_turns g.runs, g.within);
         fares = λ pl.
             let code = run_code r x g.runs in
-            place_left r pl limit (potential_of r.words r.subject.end x) x b.choices (run_place r x g.runs)
+            place_left r pl limit (price_of r.words r.subject.end x) x b.choices (run_place r x g.runs)
             (omega arith) (g.fares pl code.0 code.1);
         confined = λ none. (g.confined none).others;
       },

@@ -73,8 +73,3 @@ LeadsOnly ws set ToRefer i = HasAll set
 LeadsOnly ws set ToCheckGroup i =
     AdmitsOnly ws (Instruction (i + 3)) set × AdmitsOnly ws (Instruction (i + 1 + word ws (i + 2))) set
 LeadsOnly ws set ToNothing i = ⊤
-
--- the same of the alternatives from a length word at q on
-pub record AlternativesOnly (ws : List ℕ) (q : ℕ) (set : ℕ → Bool) : Type 0 where
-  pub first : 0 < word ws q → AdmitsOnly ws (Instruction (q + 1)) set
-  pub others : 0 < word ws q → AdmitsOnly ws (Alternatives (skip ws q)) set

@@ -13,7 +13,6 @@ pub mod Turning
 pub mod Alike
 pub mod AskedPlaces
 pub mod Nested
-pub mod Potential
 pub mod Straight
 pub mod Settled
 pub mod Limits
@@ -26,3 +25,4 @@ pub mod OpenMarks
 pub mod BodyEnds
 pub mod Admitting
 pub mod Strides
+pub mod Prices

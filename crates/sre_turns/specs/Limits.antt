@@ -1,7 +1,8 @@
--- What a run may still take: turns, and in a search over words whose turns are counted a potential, which goes down
--- with each turn, and up by tolls where an instruction that may branch is gone on with.
+-- What a run may still take: steps, and in a search over words whose steps are counted a potential, which goes down
+-- with each step, and up by credits where an instruction that may branch is executed.
 -- Words of the machine's contracts; what sre_engine makes public does not rest on it.
-use Rattle.std.specs.Prelude.{⊤, ℕ, ◌+◌, ◌-◌, ◌*◌, ◌≤◌, ◌≡◌, List, [], ◌∷◌, drop, length, map, true}
+use Rattle.std.specs.Prelude.{⊤, ℕ, ◌+◌, ◌-◌, ◌≤◌, ◌≡◌, Bool, true, false, List, [], ◌∷◌, drop}
+use Rattle.std.specs.Prelude.{length, map}
 use Rattle.sre_chars.specs.declared.constants.SreOpcode.{SreOpcode}
 use Rattle.sre_model.specs.Grammar.{Opcode}
 use Rattle.sre_model.specs.Roles.{role}
@@ -13,16 +14,17 @@ use Rattle.sre_turns.specs.OpenMarks.{open_spots}
 use Rattle.sre_turns.specs.declared.Point.TheVariants.{Instruction, Again}
 use Rattle.sre_turns.specs.declared.Point.{Point}
 use Rattle.sre_turns.specs.Moves.{Spot, spot_at}
-use Rattle.sre_turns.specs.Potential.{path, potential, potential_of, units, held}
+use Rattle.sre_turns.specs.Prices.{price, price_of, toll, split_toll, aside}
+use Rattle.sre_turns.specs.Lying.{repeats}
 use Rattle.sre_turns.specs.Settled.{Counted, SettledIn}
-use Rattle.sre_turns.specs.Straight.{InBody, point_behind, goes_behind}
+use Rattle.sre_turns.specs.Straight.{InBody, forking, point_behind, goes_behind}
 use Rattle.sre_turns.specs.declared.Frame.{Frame}
 use Rattle.sre_turns.specs.declared.Region.{Region}
-use Rattle.sre_turns.specs.declared.Region.TheVariants.{AtomicGroup, Ahead, NotAhead, Owed, Further}
+use Rattle.sre_turns.specs.declared.Region.TheVariants.{Further}
 use Rattle.sre_model.specs.Marks.{Marks}
 
--- how many turns are left; how many were taken, with how much potential at first, and how often a toll was granted;
--- what is tried, newest first; and where the window begins
+-- how many steps are left; how many were taken, with how many at first, and how many were granted as credits; what is
+-- tried, newest first; and where the range begins
 pub record Limit : Type 0 where
   pub turns : ℕ
   pub taken : ℕ
@@ -31,15 +33,11 @@ pub record Limit : Type 0 where
   pub trying : List Attempt
   pub start : ℕ
 
--- the same a turn later
+-- the same a step later
 abbrev pub earlier : Limit → Limit
 earlier l = record l { turns = l.turns - 1; taken = l.taken + 1 }
 
--- what a toll that is granted is worth: two ways to go on. It does not depend on the text
-abbrev pub grant : List ℕ → ℕ
-grant ws = 2 * path ws
-
--- the same with so many tolls more
+-- the same with credits of so many steps more
 abbrev pub raised : ℕ → Limit → Limit
 raised n l = record l { tolls = l.tolls + n }
 
@@ -55,11 +53,11 @@ without_newest n l = record l { trying = drop n l.trying }
 abbrev pub without_tried : Limit → Limit
 without_tried l = without_newest 1 l
 
--- the same where the innermost region of what waits is left, and nothing is tried inside any more
+-- the same where the innermost atomic scope of what waits is left, and nothing is tried inside any more
 abbrev pub without_open : List Choice → Limit → Limit
 without_open cs l = without_newest (length (open_spots cs)) l
 
--- a limit to which more was granted, perhaps, in the same turn
+-- a limit to which more was granted, perhaps, in the same step
 pub record Grants (limit more : Limit) : Type 0 where
   pub turns : limit.turns ≡ more.turns
   pub taken : limit.taken ≡ more.taken
@@ -75,7 +73,7 @@ pub record Wider (limit more : Limit) : Type 0 where
   pub trying : limit.trying ≡ more.trying
   pub start : limit.start ≡ more.start
 
--- what is tried at a spot, above what waits
+-- what is tried at a configuration, above what waits
 abbrev pub attempt : List Choice → Spot → Attempt
 attempt cs x = record { inside = is_inside cs; spot = x }
 
@@ -86,26 +84,26 @@ tried_spots (Else pt fs c m ∷ cs) = tried_spots cs
 tried_spots (Keep g fs c m ∷ cs) = tried_spots cs
 tried_spots (Trying pt fs c m ∷ cs) = attempt cs (spot_at pt fs c.position m) ∷ tried_spots cs
 
--- what is tried in the innermost region
+-- what is tried in the innermost atomic scope
 abbrev pub open_attempts : List Choice → List Attempt
 open_attempts cs = map (λ (x : Spot). record { inside = true; spot = x }) (open_spots cs)
 
--- the potential of what waits: each choice takes a turn more, and a region has what was put aside for it
+-- the potential of what waits: each choice takes a step more, and an atomic scope has what was put aside for it
 abbrev pub waiting : List ℕ → ℕ → List Choice → ℕ
 waiting ws e [] = 0
-waiting ws e (Else pt fs c m ∷ cs) = potential ws e pt c.position + 1 + waiting ws e cs
-waiting ws e (Keep g fs c m ∷ cs) = held ws g + waiting ws e cs
+waiting ws e (Else pt fs c m ∷ cs) = price ws e pt c.position + 1 + waiting ws e cs
+waiting ws e (Keep g fs c m ∷ cs) = aside ws g + waiting ws e cs
 waiting ws e (Trying pt fs c m ∷ cs) = waiting ws e cs
 
--- where the machine stands: in the body of the innermost region, if one is in progress, else where it is settled
+-- where the machine stands: in the body of the innermost atomic scope, if one is in progress, else where it is settled
 abbrev pub HereIn : (r : Run) → Counted r → ℕ → List Choice → Spot → Type 0
 HereIn r pl start [] x = SettledIn r pl start x
 HereIn r pl start (Else pt fs c m ∷ cs) x = HereIn r pl start cs x
 HereIn r pl start (Keep g fs c m ∷ cs) x = InBody r pl start g c.position x
 HereIn r pl start (Trying pt fs c m ∷ cs) x = HereIn r pl start cs x
 
--- where it goes on behind a region that was entered at a position, no earlier than there; and a possessive loop of
--- which a further body has no outcome is left there
+-- where it goes on behind an atomic scope that was entered at a position, no earlier than there; and a possessive loop
+-- of which a further body has no outcome is left there
 pub record Reopens (r : Run) (pl : Counted r) (start : ℕ) (g : Region) (fs : List Frame) (p : ℕ) (cs : List Choice)
     : Type 0 where
   pub inside : p ≤ r.subject.end
@@ -114,7 +112,7 @@ pub record Reopens (r : Run) (pl : Counted r) (start : ℕ) (g : Region) (fs : L
   pub without :
       (t : ℕ) (m : Marks) → g ≡ Further t → HereIn r pl start cs (spot_at (Instruction t) (drop 1 fs) p m)
 
--- what waits: each choice where the machine may stand, and each region in the body of the one before
+-- what waits: each choice where the machine may stand, and each atomic scope in the body of the one before
 abbrev pub Settling : (r : Run) → Counted r → ℕ → List Choice → Type 0
 Settling r pl start [] = ⊤
 Settling r pl start (Else pt fs c m ∷ cs) =
@@ -128,9 +126,9 @@ pub record Fares (r : Run) (pl : Counted r) (limit : Limit) (n : ℕ) (cs : List
   pub settled : Settling r pl limit.start cs
   pub trying : tried_spots cs ≡ limit.trying
   pub left : n + waiting r.words r.subject.end cs + limit.taken
-      ≤ limit.granted + limit.tolls * grant r.words
+      ≤ limit.granted + limit.tolls
 
--- and the machine stands at a spot
+-- and the machine stands at a configuration
 pub record FaresAt (r : Run) (pl : Counted r) (limit : Limit) (n : ℕ) (x : Spot) (cs : List Choice) : Type 0 where
   pub here : HereIn r pl limit.start cs x
   pub fares : Fares r pl limit n cs
@@ -139,69 +137,59 @@ pub record FaresAt (r : Run) (pl : Counted r) (limit : Limit) (n : ℕ) (x : Spo
 pub record FaresBoth (r : Run) (pl : Counted r) (limit : Limit) (x y : Spot) (cs : List Choice) : Type 0 where
   pub first : HereIn r pl limit.start cs x
   pub second : HereIn r pl limit.start cs y
-  pub fares : Fares r pl limit (potential_of r.words r.subject.end x + potential_of r.words r.subject.end y + 2) cs
+  pub fares : Fares r pl limit (price_of r.words r.subject.end x + price_of r.words r.subject.end y + 2) cs
 
--- what the place behind a region needs, and a turn to come there; a possessive loop has that put aside
-abbrev pub share_of : List ℕ → ℕ → Region → ℕ
-share_of ws n (AtomicGroup t) = 2 * (length ws - t) + 3 + 1
-share_of ws n (Ahead t) = 2 * (length ws - t) + 3 + 1
-share_of ws n (NotAhead t) = 2 * (length ws - t) + 3 + 1
-share_of ws n Owed = n
-share_of ws n (Further t) = n
+-- an end outside of all atomic scopes may be refused by a step more
+abbrev pub end_share : ℕ → List Choice → ℕ
+end_share n [] = n
+end_share n (Else pt fs c m ∷ cs) = end_share n cs
+end_share n (Keep g fs c m ∷ cs) = 0
+end_share n (Trying pt fs c m ∷ cs) = end_share n cs
 
--- the same of the innermost region, or so much outside of all
-abbrev pub behind_share : List ℕ → ℕ → List Choice → ℕ
-behind_share ws n [] = n
-behind_share ws n (Else pt fs c m ∷ cs) = behind_share ws n cs
-behind_share ws n (Keep g fs c m ∷ cs) = share_of ws n g
-behind_share ws n (Trying pt fs c m ∷ cs) = behind_share ws n cs
-
--- the innermost region ends at a position
+-- the innermost atomic scope ends at a position
 abbrev pub EndsIn : Run → List Choice → ℕ → Type 0
 EndsIn r [] p = ⊤
 EndsIn r (Else pt fs c m ∷ cs) p = EndsIn r cs p
 EndsIn r (Keep g fs c m ∷ cs) p = (goes_behind g ≡ true → c.position ≤ p) × (p ≤ r.subject.end)
 EndsIn r (Trying pt fs c m ∷ cs) p = EndsIn r cs p
 
--- what is left where the machine goes back, and where the innermost region, or the whole, ends
+-- what is left where the machine backtracks, and where the innermost atomic scope, or the whole, ends
 abbrev pub FaresBack : (r : Run) → Counted r → Limit → List Choice → Type 0
-FaresBack r pl limit cs = Fares r pl limit (behind_share r.words 0 cs) cs
+FaresBack r pl limit cs = Fares r pl limit 0 cs
 
 pub record FaresEnd (r : Run) (pl : Counted r) (limit : Limit) (p : ℕ) (cs : List Choice) : Type 0 where
   pub at : EndsIn r cs p
-  pub fares : Fares r pl limit (behind_share r.words 2 cs) cs
+  pub fares : Fares r pl limit (end_share 1 cs) cs
 
 -- the opcode of an instruction
 abbrev pub CodeAt : List ℕ → Point → SreOpcode → Type 0
 CodeAt ws (Instruction i) o = Opcode ws i o
 CodeAt ws pt o = ⊤
 
--- how many tolls a point brings: an instruction those of its opcode, and a possessive loop one
-abbrev pub tolls_of : List ℕ → ℕ → SreOpcode → Point → ℕ
-tolls_of ws e o (Instruction i) = units ws e i (role o)
-tolls_of ws e o Again = 1
-tolls_of ws e o pt = 0
+-- whether a point has credits: where the machine may have more than one way to go on
+abbrev pub has_toll : SreOpcode → Point → Bool
+has_toll o (Instruction i) = forking (role o)
+has_toll o Again = true
+has_toll o pt = false
 
--- a potential, with the tolls where an instruction or a possessive loop is gone on with
-abbrev pub pool : List ℕ → ℕ → SreOpcode → Point → ℕ → ℕ
-pool ws e o (Instruction i) p = potential ws e (Instruction i) p + units ws e i (role o) * grant ws
-pool ws e o Again p = potential ws e Again p + grant ws
-pool ws e o pt p = potential ws e pt p
+-- a price, with the credits where an instruction or a possessive loop is executed, under loops at those addresses
+abbrev pub pool : List ℕ → ℕ → SreOpcode → Point → List ℕ → ℕ → ℕ
+pool ws e o pt ks p = price ws e pt p + toll ws e o pt ks
 
--- a spot is come to, or gone on with: with the tolls of its opcode, or with one alone
+-- a configuration is reached, or executed: with the credits of its opcode, or with that of a repeat that is split
 pub data Stage : Type 0 where
   Coming : Stage
   Going : Stage
   Splitting : Stage
 
--- how many turns what waits has to spare beyond those that come of the spot
+-- how many steps what waits has to spare beyond those that come of the configuration
 abbrev pub spare : Stage → ℕ
 spare Coming = 1
 spare Going = 0
 spare Splitting = 0
 
--- what the spot has
+-- what the configuration has
 abbrev pub share : Stage → List ℕ → ℕ → SreOpcode → Spot → ℕ
-share Coming ws e o x = potential_of ws e x
-share Going ws e o x = pool ws e o x.point x.position
-share Splitting ws e o x = potential_of ws e x + grant ws
+share Coming ws e o x = price_of ws e x
+share Going ws e o x = pool ws e o x.point (repeats x.frames) x.position
+share Splitting ws e o x = price_of ws e x + split_toll ws x.point

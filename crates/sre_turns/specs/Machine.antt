@@ -1,4 +1,4 @@
--- The machine: what standing at a point of the words means, and what a turn keeps.
+-- The machine: what standing at a point of the words means, and what a step keeps.
 -- Words of the machine's contracts; what sre_engine makes public does not rest on it.
 use Rattle.std.specs.Prelude.{⊤, ℕ, suc, ◌+◌, ◌≡◌, ◌<◌, ◌≤◌, Bool, false, List, [], ◌∷◌, ◌++◌, drop, length}
 use Rattle.std.specs.Prelude.{Option, Some, None}
@@ -25,7 +25,7 @@ use Rattle.sre_turns.specs.declared.Point.TheVariants.{Instruction, Again}
 use Rattle.sre_turns.specs.declared.Point.{Point}
 use Rattle.sre_turns.specs.Moves.{Spot, spot_at, closing_move}
 pub use Rattle.sre_turns.specs.Turning.{InRole, MovesAt, Moves, Runs, turns, Comes, stops, ends, goes, splits, enters}
-use Rattle.sre_turns.specs.Potential.{potential_of}
+use Rattle.sre_turns.specs.Prices.{price_of}
 use Rattle.sre_turns.specs.Settled.{Counted}
 use Rattle.sre_turns.specs.Limits.{Limit, earlier, without_open, Stage, Coming, Going, Splitting, spare, share, CodeAt}
 use Rattle.sre_turns.specs.Limits.{HereIn, FaresAt, FaresBoth, FaresBack, FaresEnd}
@@ -36,9 +36,9 @@ use Rattle.sre_turns.specs.declared.Next.TheVariants as next
 pub record Placed (s : Subject) (m : Marks) : Type 0 where
   pub at : (n p : ℕ) → mark_at m n ≡ Some p → p ≤ length s.text
 
--- what the accepted outcomes of the whole begin with, and the turns to come, where the innermost region has the
--- outcomes now, and where so many turns, as those of Runs are counted, may still come before what waits is come to: a
--- mark waits for no more than the turns of what is tried. Nothing is said of later outcomes, so that what waits twice
+-- what the accepted outcomes of the whole begin with, and the steps to come, where the innermost atomic scope has the
+-- outcomes now, and where so many steps, as those of Runs are counted, may still come before what waits is reached: a
+-- mark waits for no more than the steps of what is tried. Nothing is said of later outcomes, so that what waits twice
 -- may go
 pub data Waits (r : Run) : List Choice → ℕ → List Way → List Way → ℕ → Type 0 where
   outermost : {u : ℕ} {now all : List Way} → first all ≡ first (filter r.accepts now) → Waits r [] u now all 0
@@ -63,8 +63,8 @@ pub data Waits (r : Run) : List Choice → ℕ → List Way → List Way → ℕ
 abbrev pub spot : Point → StringCursor → BoardValue → Spot
 spot pt c b = spot_at pt b.frames c.position b.marks
 
--- the machine is at a point and a cursor: all begins as the accepted outcomes do, at most limit turns are left, and
--- what waits on the board has at least so many turns to spare beyond those that come of the point
+-- the machine is at a point and a cursor: all begins as the accepted outcomes do, at most limit steps are left, and
+-- what waits on the backtrack stack has at least so many steps to spare beyond those that come of the point
 pub record GoesWith (stage : Stage) (r : Run) (all : List Way) (limit : Limit) (pt : Point) (c : StringCursor)
     (b : BoardValue)
     : Type 0 where
@@ -80,19 +80,19 @@ pub record GoesWith (stage : Stage) (r : Run) (all : List Way) (limit : Limit) (
       → FaresAt r pl limit (share stage r.words r.subject.end o (spot pt c b)) (spot pt c b) b.choices
   pub confined : MarklessRegions r.words → StandsConfined r.words (spot pt c b) b.choices
 
--- its turn is under way: a mark for it may wait already
+-- its step is under way: a mark for it may wait already
 abbrev pub Goes : Run → List Way → Limit → Point → StringCursor → BoardValue → Type 0
 Goes r all limit pt c b = GoesWith Going r all limit pt c b
 
--- it is come to: each mark that waits has turns for what came before it
+-- it is reached: each mark that waits has steps for what came before it
 abbrev pub Arrives : Run → List Way → Limit → Point → StringCursor → BoardValue → Type 0
 Arrives r all limit pt c b = GoesWith Coming r all limit pt c b
 
--- its turn is under way, for one toll alone, whatever the opcode is
+-- its step is under way, with the credits of a repeat that is split, whatever the opcode is
 abbrev pub Tries : Run → List Way → Limit → Point → StringCursor → BoardValue → Type 0
 Tries r all limit pt c b = GoesWith Splitting r all limit pt c b
 
--- the same at two spots, the outcomes of the one before those of the other
+-- the same at two configurations, the outcomes of the one before those of the other
 pub record GoesBoth (r : Run) (all : List Way) (limit : Limit) (first second : Spot) (c : StringCursor)
     (cs : List Choice) : Type 0 where
   pub now : List Way
@@ -110,7 +110,7 @@ pub record GoesBoth (r : Run) (all : List Way) (limit : Limit) (first second : S
   pub fares : (pl : Counted r) → FaresBoth r pl limit first second cs
   pub confined : MarklessRegions r.words → BothConfined r.words first second cs
 
--- the innermost region has no more outcomes
+-- the innermost atomic scope has no more outcomes
 pub record Backs (r : Run) (all : List Way) (limit : Limit) (b : BoardValue) : Type 0 where
   pub later : ℕ
   pub waits : Waits r b.choices 0 [] all later
@@ -118,7 +118,7 @@ pub record Backs (r : Run) (all : List Way) (limit : Limit) (b : BoardValue) : T
   pub fares : (pl : Counted r) → FaresBack r pl limit b.choices
   pub confined : MarklessRegions r.words → ChoicesConfined r.words b.choices
 
--- the innermost region ends at a cursor
+-- the innermost atomic scope ends at a cursor
 pub record Ends (r : Run) (all : List Way) (limit : Limit) (c : StringCursor) (b : BoardValue) : Type 0 where
   pub later : ℕ
   pub stands : r.stands c c.position
@@ -134,17 +134,17 @@ Stands r all limit (next.Again c) b = Arrives r all limit Again c b
 Stands r all limit next.Back b = Backs r all limit b
 Stands r all limit (next.Done c) b = Ends r all limit c b
 
--- one turn later, the accepted outcomes beginning as they did
+-- one step later, the accepted outcomes beginning as they did
 abbrev pub Later : Run → List Way → Limit → Next → BoardValue → Type 0
 Later r all limit n b = (1 ≤ limit.turns) × Stands r all (earlier limit) n b
 
--- within so many turns, whatever was granted
+-- within so many steps, whatever was granted
 pub record StandsWithin (r : Run) (all : List Way) (turns : ℕ) (n : Next) (b : BoardValue) : Type 0 where
   pub limit : Limit
   pub turns_left : limit.turns ≡ turns
   pub stands : Stands r all limit n b
 
--- a turn at a point
+-- a step at a point
 abbrev pub Advances : Run → Point → StringCursor → BoardValue → Next → BoardValue → Type 0
 Advances r pt c old n new = (all : List Way) (limit : Limit) → Goes r all limit pt c old → Later r all limit n new
 
@@ -154,12 +154,12 @@ Chooses r first second c old n new =
     (all : List Way) (limit : Limit) → GoesBoth r all limit (spot first c old) (spot second c old) c old.choices
     → Later r all limit n new
 
--- the same where a region ends, inside of which nothing is tried any more
+-- the same where an atomic scope ends, inside of which nothing is tried any more
 abbrev pub Closes : Run → StringCursor → BoardValue → Next → BoardValue → Type 0
 Closes r c old n new =
     (all : List Way) (limit : Limit) → Ends r all limit c old → Later r all (without_open old.choices limit) n new
 
--- what comes of a region that was entered at d, where its body has an outcome at c
+-- what comes of an atomic scope that was entered at d, where its body has an outcome at c
 abbrev pub after_outcome : Region → StringCursor → StringCursor → Next
 after_outcome (AtomicGroup t) c d = next.At t c
 after_outcome (Ahead t) c d = next.At t d
@@ -175,7 +175,7 @@ without_outcome (NotAhead t) c = next.At t c
 without_outcome Owed c = next.Back
 without_outcome (Further t) c = next.At t c
 
--- a loop is on the board
+-- a loop is on the backtrack stack
 abbrev pub with_loop : Frame → BoardValue → BoardValue
 with_loop f b = record b { frames = f ∷ b.frames }
 
@@ -193,7 +193,7 @@ pub record HasRun (r : Run) (pt : Point) (c : StringCursor) : Type 0 where
   pub stands : r.stands c c.position
   pub runs : Runs r.words r.subject (spot_at pt frames c.position marks) outcomes turns
 
--- the same on a board
+-- the same on a backtrack stack
 pub record IsAt (r : Run) (pt : Point) (c : StringCursor) (b : BoardValue) : Type 0 where
   pub outcomes : List Way
   pub turns : ℕ
@@ -201,13 +201,13 @@ pub record IsAt (r : Run) (pt : Point) (c : StringCursor) (b : BoardValue) : Typ
   pub placed : Placed r.subject b.marks
   pub runs : Runs r.words r.subject (spot pt c b) outcomes turns
 
--- the machine goes back, whatever the outcomes are
+-- the machine backtracks, whatever the outcomes are
 pub record IsBack (r : Run) (b : BoardValue) : Type 0 where
   pub all : List Way
   pub limit : Limit
   pub backs : Backs r all limit b
 
--- what a point comes to without a turn, on any board
+-- what a point comes to without a step, on any backtrack stack
 abbrev pub Skips : Run → Point → StringCursor → Point → StringCursor → Type 0
 Skips r pt c pt' c' =
     (b : BoardValue) (all : List Way) (limit : Limit) → Goes r all limit pt c b → Goes r all limit pt' c' b
@@ -258,8 +258,8 @@ pub record Excludes (ws : List ℕ) (i : ℕ) (wanted : Option ℕ) : Type 0 whe
   pub known : wanted ≡ Some character
   pub each : (table : Table) (j : ℕ) (t : Test) → TestStands ws i j t → holds table t character ≡ false
 
--- what comes of one point and cursor comes of another, in no more turns, and with no more potential; and where the
--- machine may stand at the one, it may at the other
+-- what comes of one point and cursor comes of another, in no more steps, and at no higher price; and where the machine
+-- may stand at the one, it may at the other
 pub record Continues (r : Run) (pt : Point) (c : StringCursor) (pt' : Point) (c' : StringCursor) : Type 0 where
   pub stands : r.stands c' c'.position
   pub runs : (fs : List Frame) (m : Marks) (os : List Way) (n : ℕ)
@@ -268,11 +268,11 @@ pub record Continues (r : Run) (pt : Point) (c : StringCursor) (pt' : Point) (c'
   pub fares : (pl : Counted r) (start : ℕ) (cs : List Choice) (fs : List Frame) (m : Marks)
       → HereIn r pl start cs (spot_at pt fs c.position m)
       → HereIn r pl start cs (spot_at pt' fs c'.position m)
-      × (potential_of r.words r.subject.end (spot_at pt' fs c'.position m)
-      ≤ potential_of r.words r.subject.end (spot_at pt fs c.position m))
+      × (price_of r.words r.subject.end (spot_at pt' fs c'.position m)
+      ≤ price_of r.words r.subject.end (spot_at pt fs c.position m))
   pub confines : (fs : List Frame) → IsConfined r.words pt (repeats fs) → IsConfined r.words pt' (repeats fs)
 
--- the character at a cursor inside the window, and the cursor behind it
+-- the character at a cursor inside the range, and the cursor behind it
 pub record IsRead (r : Run) (c : StringCursor) (ch : ℕ) (after : StringCursor) : Type 0 where
   pub inside : c.position < r.subject.end
   pub character : ch ≡ char_at r.subject c.position

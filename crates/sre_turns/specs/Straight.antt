@@ -1,4 +1,4 @@
--- Bodies of regions, where the machine stands in one, and where it has one way to go on at most.
+-- Bodies of atomic scopes, where the machine stands in one, and where it has one way to go on at most.
 -- Words of the machine's contracts; what sre_engine makes public does not rest on it.
 use Rattle.std.specs.Prelude.{ℕ, ◌+◌, ◌≡◌, ◌≤◌, Bool, true, false, List, []}
 use Rattle.sre_chars.specs.declared.constants.SreOpcode.{SreOpcode}
@@ -28,29 +28,13 @@ forking (ToLoop o) = true
 forking ToRepeatPossessively = true
 forking _ = false
 
--- such an instruction is at a place
+-- such an instruction is at an address
 pub record ForksAt (ws : List ℕ) (i : ℕ) : Type 0 where
   pub code : SreOpcode
   pub there : Opcode ws i code
   pub forks : forking (role code) ≡ true
 
--- where one goes on behind a region; a body of a possessive loop that is owed has no place behind it
-abbrev pub tail_of : Region → ℕ
-tail_of (AtomicGroup t) = t
-tail_of (Ahead t) = t
-tail_of (NotAhead t) = t
-tail_of Owed = 0
-tail_of (Further t) = t
-
--- whether a region is a body of a possessive loop
-abbrev pub is_possessive : Region → Bool
-is_possessive (AtomicGroup t) = false
-is_possessive (Ahead t) = false
-is_possessive (NotAhead t) = false
-is_possessive Owed = true
-is_possessive (Further t) = true
-
--- where one goes on behind a region: behind a body of a possessive loop at the loop
+-- where one goes on behind an atomic scope: behind a body of a possessive loop at the loop
 abbrev pub point_behind : Region → Point
 point_behind (AtomicGroup t) = Instruction t
 point_behind (Ahead t) = Instruction t
@@ -58,7 +42,7 @@ point_behind (NotAhead t) = Instruction t
 point_behind Owed = Again
 point_behind (Further t) = Again
 
--- whether a region is gone on from where its body ends
+-- whether an atomic scope is gone on from where its body ends
 abbrev pub goes_behind : Region → Bool
 goes_behind (AtomicGroup t) = true
 goes_behind (Ahead t) = false
@@ -66,28 +50,25 @@ goes_behind (NotAhead t) = false
 goes_behind Owed = true
 goes_behind (Further t) = true
 
--- the body of a region of some kind: its words, the SUCCESS behind them, and where one goes on behind that
-pub record BodyOf (ws : List ℕ) (P : Tree → Type 0) (t : ℕ) : Type 0 where
+-- the body of an atomic scope of some kind: its words, and the SUCCESS behind them
+pub record BodyOf (ws : List ℕ) (P : Tree → Type 0) : Type 0 where
   pub start : ℕ
   pub end : ℕ
   pub tree : Tree
   pub reads : Reads ws start end tree
   pub ends : Opcode ws end opcode.SUCCESS
   pub is : P tree
-  pub behind : t ≡ end + 1
 
--- where a body forks a region of the whole does, and where a region of the body does
+-- where a body forks an atomic scope of the whole does, and where an atomic scope of the body does
 abbrev pub IsBodyIn : Tree → Tree → Type 0
 IsBodyIn whole body =
     (forks body ≡ true → has_forked_region whole ≡ true)
     × (has_forked_region body ≡ true → has_forked_region whole ≡ true)
 
--- a spot stands in the body of a region that was entered at a position. It is no further back than the looks of the
--- whole may go from the start, and as much further on as those of the body may still go back
+-- a configuration stands in the body of an atomic scope that was entered at a position. It is no further back than the
+-- lookarounds of the whole may go from the start, and as much further on as those of the body may still go back
 pub record InBody (r : Run) (pl : Counted r) (start : ℕ) (g : Region) (entered : ℕ) (x : Spot) : Type 0 where
-  pub tail : ℕ
-  pub body : BodyOf r.words (IsBodyIn pl.tree) tail
-  pub tail_is : is_possessive g ≡ false → tail_of g ≡ tail
+  pub body : BodyOf r.words (IsBodyIn pl.tree)
   pub here : LiesIn r.words body.start body.end body.tree body.reads [] x.point (repeats x.frames)
   pub lies : Lies r.words pl.tree pl.whole x
   pub passed : Passed x

@@ -1,51 +1,52 @@
-//! What a machine over a code's words does, turn by turn, and that it comes to the code's ways.
+//! What a machine over the bytecode does step by step, and that it finds the match paths of the code.
 //!
-//! `specs/` has where the machine can stand and what one turn makes of that; `proofs/` that the words of a tree have
-//! the tree's ways, and what each turn keeps. The machine's code is proved against these; here stand only the few types
-//! that both speak of.
+//! `specs/` defines the machine's states and what one step does to them. `proofs/` shows that the bytecode of a tree
+//! has the tree's match paths, and what each step preserves. The machine is proved against these. This file has only
+//! the few types that both use.
 #![tactic(auto)]
 
 use sre_chars::string::StringCursor;
 
-/// A region whose body is in progress, by the place behind it where one is gone on there.
+/// An atomic scope whose body is in progress, with the address after it if the machine continues there.
 #[derive(Clone, Copy, PartialEq, Eq, Debug)]
 pub enum Region {
     /// An atomic group.
     AtomicGroup(usize),
-    /// A look whose body must match.
+    /// A positive lookaround.
     Ahead(usize),
-    /// A look whose body must not match.
+    /// A negative lookaround.
     NotAhead(usize),
-    /// A body of a possessive loop that is owed below its least count.
+    /// A body of a possessive loop within its least count.
     Owed,
     /// A body of a possessive loop beyond its least count.
     Further(usize),
 }
 
-/// Where the machine can go on. Places count words.
+/// Where the machine can continue. Addresses count words.
 #[derive(Clone, Copy, PartialEq, Eq, Debug)]
 pub enum Point {
-    /// At an instruction's place.
+    /// At an instruction's address.
     Instruction(usize),
-    /// At the place of an alternative's length word.
+    /// At the address of an alternative's length word.
     Alternatives(usize),
-    /// With the counts of a run that are shorter than the one at the cursor: the run's tail, and how many they are.
+    /// With the counts of a repeat that are shorter than the one at the cursor: the tail's address, and their number.
     Shorter(usize, usize),
-    /// With the counts of a lazy run that are longer than the one at the cursor: the run's place, and that count.
+    /// With the counts of a lazy repeat that are longer than the one at the cursor: the repeat's address, and that
+    /// count.
     Longer(usize, usize),
-    /// Behind a region whose body is in progress.
+    /// After an atomic scope whose body is in progress.
     Inside(Region),
     /// At the innermost loop, a possessive one, before a body or its end.
     Again,
-    /// Behind all that comes of an instruction that is tried, by its place. Nobody goes on there: where it is come to,
-    /// nothing came of the instruction.
+    /// The marker below the choices of an instruction that is being tried, with its address. The machine never
+    /// continues there: when the marker is popped, the instruction has failed.
     Tried(usize),
-    /// The same of the innermost loop, a possessive one, that is tried before a body or its end.
+    /// The marker of the innermost loop, a possessive one, that is being tried before a body or its end.
     TriedAgain,
 }
 
-/// A loop in progress: the place of its REPEAT, its bodies so far, held at 4294967295,
-/// and the position at which the last one beyond the least count began.
+/// A loop in progress: the address of its REPEAT, the number of its bodies so far, which saturates at 4294967295, and
+/// the position at which the last one beyond the least count began.
 #[derive(Clone, Copy)]
 pub struct Frame {
     pub repeat: usize,
@@ -53,8 +54,8 @@ pub struct Frame {
     pub last: Option<usize>,
 }
 
-/// What comes after a turn: an instruction, a body or the end of a possessive loop, the newest choice,
-/// or the end of the innermost region.
+/// What follows a step: an instruction, a body or the end of a possessive loop, the newest choice, or the end of the
+/// innermost atomic scope.
 #[derive(Clone, Copy)]
 pub enum Next {
     At(usize, StringCursor),

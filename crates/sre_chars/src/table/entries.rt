@@ -1,12 +1,12 @@
-//! The lists of a table: those that it keeps itself, and those that a caller lends it.
+//! The lists of a table, owned or lent.
 
 ghost use Rattle.std.specs.Prelude.{◌≡◌, ℕ, map, nat_le};
 ghost use Rattle.std.specs.List.Sorted.{IsNonDecreasingBy};
 ghost use Rattle.sre_chars.specs.Tables.{last_up_to};
 ghost use Rattle.sre_chars.specs.Lists.{entries_in};
 
-/// An entry of a list that a caller keeps: (from, to) of a map of cases, or (low, high) of a range, both ends of which
-/// belong to it. It lies in memory as a struct of C does.
+/// An entry of a lent list: (from, to) of a case map, or (low, high) of a range with both ends included. It has the
+/// layout of the same struct in C.
 #[repr(C)]
 #[derive(Clone, Copy, PartialEq, Eq, Debug)]
 pub struct UniPair {
@@ -14,12 +14,12 @@ pub struct UniPair {
     pub high: u32,
 }
 
-/// What can be an entry of a list.
+/// A type of entries.
 pub trait Entry: Copy {
     // Its two numbers.
     ghost pair: { Self → ℕ × ℕ };
 
-    /// Its two numbers.
+    /// Its two numbers, from or low first.
     fn pair(self) -> (u32, u32)
         ensures { result ≡ pair self };
 }
@@ -50,7 +50,7 @@ pub enum Entries<'t> {
 }
 
 impl<'t> Entries<'t> {
-    /// The last entry that begins at a character or below.
+    /// The last entry whose first number is at most `ch`.
     pub fn last_up_to(&self, ch: u32) -> Option<(u32, u32)>
         requires { IsNonDecreasingBy (λ e. e.0) (entries_in self.now) }
         ensures { result ≡ last_up_to (entries_in self.now) ch }
@@ -62,7 +62,7 @@ impl<'t> Entries<'t> {
     }
 }
 
-// The last of some entries that begins at a character or below.
+// The last entry whose first number is at most `ch`.
 fn last_up_to<E: Entry>(entries: &[E], ch: u32) -> Option<(u32, u32)>
     requires { IsNonDecreasingBy (λ e. (E.pair e).0) entries.now }
     ensures { result ≡ last_up_to (map E.pair entries.now) ch }

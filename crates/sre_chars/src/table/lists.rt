@@ -1,7 +1,7 @@
-//! The three lists of a table: those of a caller, and those of std.
+//! The lists of a table: those of a caller, and those of std.
 //!
-//! A caller's lists are checked whole before any memory is asked for. std's are written in rising
-//! order, so that they have no fault.
+//! A caller's lists are checked before any memory is allocated. Those of std are written in order, so they have no
+//! fault.
 
 ghost use Rattle.std.specs.Prelude.{◌≡◌, true, IsTrue, None, Some, IfSome, IfNone, map};
 ghost use Rattle.std.specs.Prelude.{IfOk, OnOk, IfErr, OnErr, IsOkUnless};
@@ -23,14 +23,14 @@ pub struct Lists<A: Allocator + Copy> {
     pub alnum: Vec<(u32, u32), A>,
 }
 
-// The case that a character is taken to.
+// The case to which a character is mapped.
 #[derive(Clone, Copy)]
 enum Case {
     Lower,
     Upper,
 }
 
-/// Copies three lists, once they are known to have no fault.
+/// Copies of three lists, after a check that they have no fault.
 pub fn checked_lists<A: Allocator + Copy>(
     alloc: A,
     lower: &[(u32, u32)],
@@ -54,7 +54,7 @@ pub fn checked_lists<A: Allocator + Copy>(
     })
 }
 
-/// Copies ranges, once they are known to have no fault.
+/// A copy of ranges, after a check that they have no fault.
 pub fn checked_ranges<A: Allocator>(
     alloc: A,
     ranges: &[(u32, u32)],
@@ -69,7 +69,7 @@ pub fn checked_ranges<A: Allocator>(
     Ok(sre_growth::from_slice(alloc, ranges)?)
 }
 
-/// Refuses four lists that a caller lends by their first fault.
+/// Checks four lists that a caller lends. The error is their first fault.
 pub fn check_lent(
     lower: &[UniPair],
     upper: &[UniPair],
@@ -86,7 +86,7 @@ pub fn check_lent(
     check(Listing::Ranges, digits)
 }
 
-/// The lists of std: both ways into the other case, and its alphanumerics, past ASCII.
+/// The lists of std past ASCII: both case maps, and the alphanumerics.
 pub fn std_lists<A: Allocator + Copy>(alloc: A) -> Result<Lists<A>, UniError>
     ensures lawful { IfOk result (λ lists.
         table_fault (table_of lists.lower.items lists.upper.items lists.alnum.items) ≡ None) }
@@ -100,7 +100,7 @@ pub fn std_lists<A: Allocator + Copy>(alloc: A) -> Result<Lists<A>, UniError>
     })
 }
 
-// Refuses a list by its first fault.
+// Checks a list. The error is its first fault.
 fn check<E: Entry>(kind: Listing, entries: &[E]) -> Result<(), UniError>
     ensures lawful { OnOk result (list_fault kind 0 (map E.pair entries.now) ≡ None) }
     ensures refused { IfErr result (λ error. list_fault kind 0 (map E.pair entries.now) ≡ Some error) }
@@ -116,7 +116,7 @@ fn check<E: Entry>(kind: Listing, entries: &[E]) -> Result<(), UniError>
     Ok(())
 }
 
-// What is wrong with an entry, where the numbers below `next` are taken up.
+// The fault of an entry, if it has one; numbers below `next` are taken by earlier entries.
 fn entry_fault(kind: Listing, next: u32, entry: (u32, u32)) -> Option<UniError>
     ensures { result ≡ entry_fault kind next entry }
 {
@@ -133,7 +133,7 @@ fn entry_fault(kind: Listing, next: u32, entry: (u32, u32)) -> Option<UniError>
     }
 }
 
-// The last number that an entry takes up.
+// The greatest number that an entry takes.
 fn last_of(kind: Listing, entry: (u32, u32)) -> u32
     ensures { result ≡ last_of kind entry }
 {
@@ -143,7 +143,7 @@ fn last_of(kind: Listing, entry: (u32, u32)) -> u32
     }
 }
 
-// Whether an entry is of scalar values alone, a range of those between its ends too.
+// Whether both numbers of an entry are scalar values, and for a range all those between, too.
 fn is_scalar_entry(kind: Listing, entry: (u32, u32)) -> bool
     ensures { result ≡ is_scalar_entry kind entry }
 {
@@ -154,14 +154,14 @@ fn is_scalar_entry(kind: Listing, entry: (u32, u32)) -> bool
     }
 }
 
-// Whether Unicode gives the number to a character.
+// Whether a number is a Unicode scalar value.
 fn is_scalar(ch: u32) -> bool
     ensures { result ≡ is_scalar ch }
 {
     matches!(ch, 0..=0xD7FF | 0xE000..=0x10FFFF)
 }
 
-// The characters past ASCII that std changes, with what it changes them to.
+// The characters past ASCII that std maps to another one, with that one.
 fn std_map<A: Allocator>(alloc: A, case: Case) -> Result<Vec<(u32, u32), A>, UniError>
     ensures lawful { IfOk result (λ entries. list_fault Listing.Map 0 entries.items ≡ None) }
     ensures refused { IsOkUnless result UniError.Memory }
@@ -179,7 +179,7 @@ fn std_map<A: Allocator>(alloc: A, case: Case) -> Result<Vec<(u32, u32), A>, Uni
     Ok(entries)
 }
 
-// The first character that std takes a character to.
+// The first character to which std maps a character.
 fn in_case(case: Case, ch: char) -> char
     ensures scalar { is_scalar result ≡ true }
 {
@@ -190,7 +190,7 @@ fn in_case(case: Case, ch: char) -> char
     changed.next().unwrap_or(ch)
 }
 
-// The runs of characters past ASCII that std calls alphanumeric.
+// The ranges of characters past ASCII that std calls alphanumeric.
 fn std_ranges<A: Allocator>(alloc: A) -> Result<Vec<(u32, u32), A>, UniError>
     ensures lawful { IfOk result (λ ranges. list_fault Listing.Ranges 0 ranges.items ≡ None) }
     ensures refused { IsOkUnless result UniError.Memory }
@@ -212,7 +212,7 @@ fn std_ranges<A: Allocator>(alloc: A) -> Result<Vec<(u32, u32), A>, UniError>
     Ok(ranges)
 }
 
-// A run with one number more, or a run of that number alone.
+// A range with one more number, or the range of that number alone.
 fn extended(run: Option<(u32, u32)>, code: u32) -> (u32, u32)
     ensures alone { IfNone run (result ≡ (code, code)) }
     ensures longer { IfSome run (λ range. result ≡ (range.0, code)) }

@@ -1,5 +1,5 @@
-//! From which group on the items ask for groups, and up to which: a scan from one instruction to the next, into each
-//! body, as that of the runs' counts.
+//! The least and the greatest group that the items refer to: a scan from one instruction to the next, into each body,
+//! as in `run_counts`.
 
 ghost use Rattle.std.specs.Prelude.{◌≡◌, Option, min};
 ghost use Rattle.sre_model.specs.Tree.{Tree};
@@ -15,15 +15,15 @@ use sre_chars::constants::SreOpcode;
 /// No group: no pattern has so many.
 pub const NO_GROUP: u32 = u32::MAX;
 
-/// The first and the last of the groups that are asked for.
+/// The least and the greatest group that the items refer to.
 #[derive(Clone, Copy)]
 pub struct AskedGroups {
     pub from: u32,
     pub to: u32,
 }
 
-/// Where the instruction behind the one at this place stands, and to which group the reference at this place is, if it
-/// is one; none where a condition is there.
+/// The address of the instruction after the one at `place`, and the group to which the back-reference at `place`
+/// refers, if it is one. `None` for a conditional.
 fn next_asking(words: &[u32], place: usize) -> Option<(usize, Option<u32>)>
     ensures { AskingAt words.now place result }
 {
@@ -44,9 +44,8 @@ fn next_asking(words: &[u32], place: usize) -> Option<(usize, Option<u32>)>
     }
 }
 
-/// Which groups the items ask for, which have SUCCESS as the last word. No reference among them is to a group before
-/// the first one, or to one behind the last. Where a condition is among them they are the group 0 and no group, and
-/// where they have neither, no group and the group 0.
+/// The groups that the items refer to; SUCCESS is the last word. With a conditional they are group 0 and no group. With
+/// neither a back-reference nor a conditional they are no group and group 0.
 pub fn asked(words: &[u32]) -> AskedGroups
     ensures from { (tree : Tree) → WholeItems words.now tree → result.from ≡ asked_from tree }
     ensures to { (tree : Tree) → WholeItems words.now tree → result.to ≡ min no_group (asked_to tree) }

@@ -1,6 +1,6 @@
-//! The information block at the front: `<INFO> <skip> <flags> <least width> <greatest width> ..`.
+//! The INFO block: `<INFO> <skip> <flags> <least width> <greatest width> ..`.
 //!
-//! Its skip leads behind it. What stands in it from its flags on is read for hints alone (`claims`).
+//! Its skip leads past it. What follows the skip is read only for search hints (`claims`).
 
 ghost use Rattle.sre_code.specs.Fronts.{BlockAt};
 
@@ -8,7 +8,7 @@ use crate::code::error::CodeError;
 use crate::code::words;
 use sre_chars::constants::SreOpcode;
 
-/// How many words the block has, 0 where there is none.
+/// The length of the block in words, 0 if there is none.
 pub fn length(words: &[u32]) -> Result<usize, CodeError>
     ensures { BlockAt words.now result }
 {

@@ -1,9 +1,8 @@
-//! Border lengths: of each front of a prefix, the greatest number of words, fewer than all, that it begins and ends
-//! with.
+//! Border lengths. That of a list is the length of its longest proper prefix that is also a suffix.
 //!
-//! The border of a front that is a word longer is a border of the front before, or of its border, and so on, with that
-//! word behind it. So the claimed border lengths, each of which was confirmed before it is asked, lead to the next one:
-//! in time that is linear in the words, and without memory.
+//! A border of the first `n + 1` words is a border of the first `n`, or a border of that border and so on, with the
+//! next word after it. So the claimed border lengths, each confirmed before it is used, lead to the next one: in linear
+//! time and without memory.
 
 ghost use Rattle.std.specs.Prelude.{◌≡◌, ◌+◌, ◌^◌, ◌<◌, ◌≤◌, ◌↔◌, IsTrue, IfOk, length, true};
 ghost use Rattle.sre_model.specs.Claims.{are_overlaps};
@@ -31,7 +30,7 @@ fn next_border(prefix: &[u32], overlaps: &[u32], n: usize) -> usize
     }
 }
 
-/// Whether each overlap word is the border length of its front of the prefix.
+/// Whether `overlaps` has the border length of each nonempty beginning of the prefix.
 #[tactic(auto, using(crate::proofs::Borders::overlaps_laws))]
 fn are_borders(prefix: &[u32], overlaps: &[u32]) -> bool
     requires some { 0 < length prefix.now }
@@ -49,7 +48,7 @@ fn are_borders(prefix: &[u32], overlaps: &[u32]) -> bool
     true
 }
 
-/// The same, in terms of the fronts' border lengths.
+/// The same, as the specification of search hints states it.
 #[tactic(auto, using(crate::proofs::Borders::overlaps_told))]
 pub fn are_overlaps(prefix: &[u32], overlaps: &[u32]) -> bool
     requires some { 0 < length prefix.now }
@@ -59,11 +58,11 @@ pub fn are_overlaps(prefix: &[u32], overlaps: &[u32]) -> bool
     are_borders(prefix, overlaps)
 }
 
-/// The border lengths of the fronts of some words: of the first word, of the first two, and so on.
+/// The border lengths of the first word, of the first two words, and so on, up to all.
 ///
 /// # Errors
 ///
-/// [`Refusal`], where the memory of the list was refused.
+/// [`Refusal`], if the allocation of the list failed.
 #[tactic(auto, using(crate::proofs::Borders::lengths_laws))]
 pub fn border_lengths<A: Allocator>(alloc: A, words: &[u32]) -> Result<Vec<u32, A>, Refusal>
     requires some { 0 < length words.now }

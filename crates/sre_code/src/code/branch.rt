@@ -1,5 +1,5 @@
-//! Branches: `<BRANCH>`, then alternatives `<length> <items> <JUMP> <skip>`, and 0 in place of a further length;
-//! each JUMP leads behind that 0.
+//! Branches: `<BRANCH>`, the alternatives as `<length> <items> <JUMP> <skip>`, then 0 instead of a further length. Each
+//! JUMP leads past that 0.
 
 ghost use Rattle.std.specs.Prelude.{◌≡◌};
 ghost use Rattle.sre_model.specs.Grammar.{Opcode};
@@ -10,7 +10,7 @@ use crate::code::step::{Bounds, Part, Step};
 use crate::code::words;
 use sre_chars::constants::SreOpcode;
 
-/// The bounds of the alternative whose length word is at this place.
+/// The bounds of the alternative whose length is at `place`.
 #[tactic(auto, using(crate::proofs::ReadBranches::bounds_laws))]
 fn bounds(words: &[u32], place: usize) -> Result<Bounds, CodeError>
     ensures { BoundsAt words.now place result }
@@ -26,7 +26,7 @@ fn bounds(words: &[u32], place: usize) -> Result<Bounds, CodeError>
     })
 }
 
-/// The item, which opens its first alternative.
+/// Reads the item, which opens its first alternative.
 #[tactic(auto, using(crate::proofs::ReadBranches::branch_exactly, crate::proofs::ReadBranches::branch_nowhere))]
 pub fn branch(words: &[u32], place: usize) -> Result<Step, CodeError>
     requires { Opcode words.now place SreOpcode.BRANCH }
@@ -43,7 +43,7 @@ pub fn branch(words: &[u32], place: usize) -> Result<Step, CodeError>
     })
 }
 
-/// What comes after an alternative, from the next length word on.
+/// What follows an alternative, from the next length on.
 #[tactic(auto, using(crate::proofs::ReadBranches::another_laws))]
 fn another(words: &[u32], place: usize, tail: usize, least: u32) -> Result<Step, CodeError>
     ensures { EndGives words.now place (MoreAt words.now place tail least) result }
@@ -71,7 +71,7 @@ fn another(words: &[u32], place: usize, tail: usize, least: u32) -> Result<Step,
     })
 }
 
-/// JUMP at the end of an alternative, and what comes after it.
+/// Reads the JUMP at the end of an alternative, and what follows.
 #[tactic(auto, using(crate::proofs::ReadBranches::jump_laws))]
 fn jump(
     words: &[u32],
@@ -93,7 +93,7 @@ fn jump(
     another(words, place + 2, bounds.tail, least.min(width))
 }
 
-/// The end of an alternative, if it is here.
+/// The end of an alternative, if it is at `place`.
 #[tactic(auto, using(crate::proofs::ReadBranches::alternative_inside, crate::proofs::ReadBranches::alternative_end))]
 pub fn alternative(
     words: &[u32],

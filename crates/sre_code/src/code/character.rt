@@ -54,7 +54,7 @@ fn in_set(words: &[u32], place: usize) -> Result<usize, CodeError>
     Ok(tail)
 }
 
-/// Where the test of one character ends that has this opcode.
+/// The address after the test of one character that begins at `place` with the opcode `code`.
 #[tactic(auto, using(crate::proofs::ReadCharacters::test_laws))]
 pub fn test(words: &[u32], place: usize, code: SreOpcode) -> Result<usize, CodeError>
     requires { Opcode words.now place code }

@@ -1,4 +1,4 @@
-//! The check, with its stack in memory of any kind.
+//! The check, generic in the allocator of its stack.
 
 ghost use Rattle.std.specs.Prelude.{◌≡◌, ◌≢◌, ◌≤◌, length, IfOk, IfErr, OnOk};
 ghost use Rattle.sre_model.specs.Tree.{Tree};
@@ -13,7 +13,7 @@ use crate::code::{Code, CodeError, block, claims, run_counts};
 use sre_chars::string::LentTable;
 use std::alloc::Allocator;
 
-/// What [`Code::check`] says, with the stack in memory that `alloc` gives: so a test can refuse it.
+/// As [`Code::check`], with an allocator for the stack: a test can make it fail.
 #[tactic(auto, using(crate::proofs::ReadFronts::front_laws))]
 pub fn check_in<'a, A: Allocator + Copy>(
     alloc: A,

@@ -1,6 +1,6 @@
-//! Hints: what the block claims of the items, and the items confirm.
+//! Search hints: which claims of the INFO block the items confirm.
 //!
-//! `<INFO> <skip> <flags> <least width> <greatest width>`, and behind these, as the flags say, a prefix or a set.
+//! The block is `<INFO> <skip> <flags> <least width> <greatest width>`, then a prefix or a set, as the flags say.
 
 ghost use Rattle.std.specs.Prelude.{◌≡◌, ◌≤◌};
 ghost use Rattle.sre_model.specs.Tree.{Tree};
@@ -14,7 +14,7 @@ ghost use Rattle.sre_code.specs.Hinted.{Confirmed};
 use crate::code::{Hints, first_set, prefix};
 use sre_chars::string::LentTable;
 
-/// The least width that the block claims, where the items have at least that.
+/// The least width that the block claims, if it is at most that of the items.
 fn width(words: &[u32], length: usize, least: u32) -> Option<u32>
     requires { HasBlock words.now length }
     ensures { (tree : Tree) → least ≡ width tree → result ≡ confirmed_width words.now tree }
@@ -26,7 +26,7 @@ fn width(words: &[u32], length: usize, least: u32) -> Option<u32>
     }
 }
 
-/// Whether the items behind the prefix, which go on at a place, are none, and all its literals are there to be skipped.
+/// Whether no item follows the prefix, which ends at `place`, and none of its literals need be tested again.
 #[tactic(auto, using(crate::proofs::Claimed::literal_laws))]
 fn is_literal(words: &[u32], length: usize, items: &[u32], place: usize) -> bool
     requires block { HasBlock words.now length }
@@ -37,11 +37,11 @@ fn is_literal(words: &[u32], length: usize, items: &[u32], place: usize) -> bool
     if words[2] / 2 % 2 == 0 || words[5] != words[6] {
         return false;
     }
-    let _length = items.len(); // a slice has few items, so no place overflows
+    let _length = items.len(); // bounds the length of the slice, so no address overflows
     place + 1 == items.len()
 }
 
-/// The hints, where the first words are the block and `least` is the least width of the items behind it.
+/// The confirmed hints of a code whose INFO block has `length` words, and whose items have the least width `least`.
 #[tactic(auto, using(crate::proofs::Claimed::hints_laws))]
 pub fn confirmed(words: &[u32], length: usize, uni: &LentTable, items: &[u32], least: u32) -> Hints
     requires front { Fronts words.now length }

@@ -1,6 +1,6 @@
-//! Conditions: `<GROUPREF_EXISTS> <group> <skip> <items>`, whose skip leads behind the items, and with a no part
-//! `<GROUPREF_EXISTS> <group> <skip> <items> <JUMP> <skip> <items>`, whose first skip leads to the second items and
-//! whose second one leads behind them. The first skip counts from the group's word.
+//! Conditionals. With one part: `<GROUPREF_EXISTS> <group> <skip> <items>`, whose skip leads past the items. With two:
+//! `<GROUPREF_EXISTS> <group> <skip> <items> <JUMP> <skip> <items>`. Its first skip leads to the second items, and the
+//! JUMP past them. The first skip counts from the group's word.
 
 ghost use Rattle.std.specs.Prelude.{◌≡◌, ◌+◌, ℕ, List, Ok};
 ghost use Rattle.sre_model.specs.Grammar.{Opcode};
@@ -11,7 +11,7 @@ use crate::code::step::{Part, Step};
 use crate::code::words;
 use sre_chars::constants::SreOpcode;
 
-/// The item, which opens its yes part.
+/// Reads the item, which opens its first part.
 #[tactic(auto, using(crate::proofs::ReadConditions::condition_laws))]
 pub fn condition(words: &[u32], place: usize) -> Result<Step, CodeError>
     requires { Opcode words.now place SreOpcode.GROUPREF_EXISTS }
@@ -27,7 +27,7 @@ pub fn condition(words: &[u32], place: usize) -> Result<Step, CodeError>
     })
 }
 
-/// JUMP behind a yes part of that least width, which opens the no part.
+/// Reads the JUMP after a first part of least width `width`; it opens the second part.
 #[tactic(auto, using(crate::proofs::ReadConditions::jump_exactly))]
 fn jump(words: &[u32], place: usize, tail: usize, width: u32) -> Result<Step, CodeError>
     requires opcode { Opcode words.now place SreOpcode.JUMP }
@@ -44,7 +44,7 @@ fn jump(words: &[u32], place: usize, tail: usize, width: u32) -> Result<Step, Co
     })
 }
 
-/// The end of a yes part, if it is here: a condition without a no part may pass nothing.
+/// The end of a first part, if it is at `place`. Without a second part the conditional may match nothing.
 #[tactic(auto, using(crate::proofs::ReadConditions::there_laws))]
 pub fn there(
     words: &[u32],
@@ -71,7 +71,7 @@ pub fn there(
     }
 }
 
-/// The end of a no part, if it is here.
+/// The end of a second part, if it is at `place`.
 #[tactic(auto, using(crate::proofs::ReadConditions::absent_laws))]
 pub fn absent(place: usize, end: usize, least: u32, width: u32) -> Option<Step>
     ensures { (ws : List ℕ) → Closing ws (Part.Absent end least) place width (Ok result) }

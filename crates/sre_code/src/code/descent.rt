@@ -1,4 +1,4 @@
-//! The descent into the words, with a stack of open parts.
+//! The check's single pass over the bytecode, with a stack of open parts.
 
 ghost use Rattle.sre_code.specs.Descent.{Pushes, ReadsOn, Descends};
 
@@ -7,7 +7,7 @@ use crate::code::step::{Open, Part, Reached, Step};
 use crate::code::{item, part};
 use std::alloc::Allocator;
 
-/// Puts the part that a step opens on the stack, and answers where to go on.
+/// Pushes the part that a step opens, if it opens one, and returns the address from which to read on.
 fn follow<A: Allocator>(parts: &mut Vec<Open, A>, step: Step) -> Result<Reached, CodeError>
     ensures { Pushes step parts.old.items parts.new.items result }
 {
@@ -20,7 +20,7 @@ fn follow<A: Allocator>(parts: &mut Vec<Open, A>, step: Step) -> Result<Reached,
     }
 }
 
-/// One step: the innermost part, which was taken off the stack, is closed, or an item of it is read.
+/// One step: closes the innermost part, which was popped, or reads an item of it.
 #[tactic(auto, using(crate::proofs::Descending::read_on_laws))]
 fn read_on<A: Allocator>(
     words: &[u32],
@@ -43,7 +43,7 @@ fn read_on<A: Allocator>(
     follow(parts, step)
 }
 
-/// The least width of the tree whose items are the words from `start` on, with SUCCESS as the last word.
+/// The least width of the tree whose items begin at `start`; SUCCESS is the last word.
 #[tactic(auto, using(crate::proofs::Descending::descend_laws))]
 pub fn descend<A: Allocator + Copy>(alloc: A, words: &[u32], start: usize) -> Result<u32, CodeError>
     ensures { Descends words.now start result }

@@ -1,4 +1,4 @@
-//! Why words are refused.
+//! Why the check rejects bytecode.
 
 ghost use Rattle.std.specs.Prelude.{◌≡◌, ◌≤◌};
 
@@ -6,38 +6,38 @@ use sre_growth::Refusal;
 use std::alloc::{AllocError, AllocFailed};
 use thiserror::Error;
 
-/// Why words were refused. Each cause but the first carries the place of the word at which the fault was seen, which
-/// is at most the number of words; where several causes stand, any of them may be named.
+/// Why bytecode was rejected. Each cause but `Memory` carries the address at which the fault was seen, which is at most
+/// the number of words. If several causes apply, any of them may be named.
 #[derive(Clone, Copy, PartialEq, Eq, Debug, Error)]
 pub enum CodeError {
-    /// Memory was refused. It may come before any other.
+    /// An allocation failed. It may come before any other cause.
     #[error("out of memory")]
     Memory,
-    /// The words or a part end before an item, a set, the block or the last SUCCESS is whole.
+    /// The bytecode, or a part, ends before an item, a set, the INFO block or the last SUCCESS is complete.
     #[error("Truncated {0}")]
     Truncated(usize),
-    /// A word that is no opcode's number stands where an opcode is read.
+    /// A word above 42 where an opcode is read.
     #[error("UnknownOpcode {0}")]
     UnknownOpcode(usize),
-    /// A word that is no position code's number stands after AT.
+    /// A word above 11 as the position code of an AT.
     #[error("UnknownAt {0}")]
     UnknownAt(usize),
-    /// A word that is no category code's number stands after CATEGORY.
+    /// A word above 17 as a category code.
     #[error("UnknownCategory {0}")]
     UnknownCategory(usize),
     /// A skip, a length or a JUMP leads elsewhere than its layout demands.
     #[error("BadSkip {0}")]
     BadSkip(usize),
-    /// The least count of a repeat is above its greatest.
+    /// The least count of a repeat is above its greatest count.
     #[error("BadCounts {0}")]
     BadCounts(usize),
-    /// A known opcode stands where no item of that kind may, a part has a wrong end, or a BRANCH has no alternatives.
+    /// A known opcode where no such item may be, a wrong end of a part, or a BRANCH without alternatives.
     #[error("BadItem {0}")]
     BadItem(usize),
     /// A set has another opcode, no FAILURE at its end, or a block number that is not below the block count.
     #[error("BadSet {0}")]
     BadSet(usize),
-    /// An information block is not at the front, or its skip is below 4 or leads past the last word.
+    /// An INFO block is not at address 0, or its skip is below 4 or leads past the last word.
     #[error("BadInfo {0}")]
     BadInfo(usize),
     /// There are words after the SUCCESS that ends the code.
@@ -81,7 +81,7 @@ impl CodeError {
     ghost use Rattle.sre_code.specs.Refusals.{refusal_number, place_of};
     ghost use Rattle.sre_code.specs.declared.code.error.CodeError.TheVariants.{Memory};
 
-    // The same cause, so many words further on.
+    // The same cause, at an address that is so many words further on.
     pub(super) fn moved(self, words: usize) -> CodeError
         requires { place_of self + words < 2 ^ 64 }
         ensures memory { self ≡ Memory → result ≡ Memory }
@@ -105,7 +105,7 @@ impl CodeError {
         }
     }
 
-    /// The number of this cause.
+    /// The number of this cause, from 1 (`Memory`) to 11 (`TrailingWords`).
     pub fn number(&self) -> u32
         ensures { result ≡ refusal_number self.now }
     {

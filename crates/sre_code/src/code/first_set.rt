@@ -1,7 +1,7 @@
-//! A first set: items and FAILURE, from behind the widths up to the block's end.
+//! A first set: the items of a set and FAILURE, from address 5 up to the end of the INFO block.
 //!
-//! The items have to begin, behind marks, with a literal that is in the set, or with an IN that has the very words of
-//! the set; or with a branch each alternative of which begins so.
+//! After MARK items, the code has to begin with a literal in the set, or with an IN of the same words. Or it begins
+//! with a branch whose alternatives all begin like this.
 
 ghost use Rattle.std.specs.Prelude.{◌≡◌, ◌≤◌, ◌↔◌, IsTrue, List, length, slice_range};
 ghost use Rattle.std.specs.Bool.{Decides};
@@ -22,7 +22,7 @@ use crate::operands::know_words;
 use sre_chars::constants::SreOpcode;
 use sre_chars::string::LentTable;
 
-/// The set that stands in a block, which ends at `end`, and its ASCII characters where its items tell them at once.
+/// The set in an INFO block that ends at `end`, and its ASCII members if they are known.
 #[derive(Clone, Copy)]
 pub(crate) struct BlockSet<'a> {
     words: &'a [u32],
@@ -31,7 +31,7 @@ pub(crate) struct BlockSet<'a> {
     ascii: Option<AsciiSet>,
 }
 
-/// Whether a character is a member.
+/// Whether a character is in the set.
 fn has(block: &BlockSet<'_>, character: u32) -> bool
     requires set { HasBlockSet block.now.end block.now.words.now block.now.ascii }
     ensures { (set : List SetItem) → IsSetUpTo block.now.end block.now.words.now set
@@ -45,7 +45,7 @@ fn has(block: &BlockSet<'_>, character: u32) -> bool
     members::is_member(block.words, block.uni, 5, character)
 }
 
-/// Whether some words of the items are those of the set, with its FAILURE.
+/// Whether the words from `start` to `tail` are those of the set, with its FAILURE.
 fn are_words_of_set(block: &BlockSet<'_>, items: &[u32], start: usize, tail: usize) -> bool
     requires set { HasBlockSet block.now.end block.now.words.now block.now.ascii }
     ensures { IsTrue result ↔ ((start ≤ tail) × (tail ≤ length items.now)
@@ -57,7 +57,7 @@ fn are_words_of_set(block: &BlockSet<'_>, items: &[u32], start: usize, tail: usi
     items[start..tail] == block.words[5..block.end]
 }
 
-/// Whether the test at a place takes characters of the set alone.
+/// Whether the test at `place` matches only characters of the set.
 #[tactic(auto, using(crate::proofs::FirstSets::test_laws))]
 fn is_test_in(block: &BlockSet<'_>, items: &[u32], place: usize) -> bool
     requires set { HasBlockSet block.now.end block.now.words.now block.now.ascii }
@@ -66,7 +66,7 @@ fn is_test_in(block: &BlockSet<'_>, items: &[u32], place: usize) -> bool
 {
     know_words(block.words);
     know_words(items);
-    let _length = items.len(); // a slice has few items, so no place overflows
+    let _length = items.len(); // bounds the length of the slice, so no address overflows
     let Ok(code) = words::opcode(items, place) else {
         return false;
     };
@@ -80,7 +80,7 @@ fn is_test_in(block: &BlockSet<'_>, items: &[u32], place: usize) -> bool
     }
 }
 
-/// Whether what begins at a place, behind marks, is such a test.
+/// Whether such a test follows the MARK items at `place`.
 #[tactic(auto, using(crate::proofs::FirstSets::passed_told))]
 fn begins_in(block: &BlockSet<'_>, items: &[u32], place: usize) -> bool
     requires set { HasBlockSet block.now.end block.now.words.now block.now.ascii }
@@ -91,14 +91,14 @@ fn begins_in(block: &BlockSet<'_>, items: &[u32], place: usize) -> bool
     is_test_in(block, items, behind_marks(items, place))
 }
 
-/// Whether each alternative, from the length word at a place on, begins with such a test.
+/// Whether each alternative begins with such a test, from the one whose length is at `start`.
 #[tactic(auto, using(crate::proofs::FirstSets::alternatives_laws))]
 fn each_begins_in(block: &BlockSet<'_>, items: &[u32], start: usize) -> bool
     requires set { HasBlockSet block.now.end block.now.words.now block.now.ascii }
     ensures { (set : List SetItem) → IsSetUpTo block.now.end block.now.words.now set
         → TellsEach items.now start result (EachTestIn block.now.uni.now set) }
 {
-    let _length = items.len(); // a slice has few items, so no place overflows
+    let _length = items.len(); // bounds the length of the slice, so no address overflows
     let mut place = start;
     'alternative: loop {
         let Ok(span) = words::operand(items, place) else {
@@ -114,7 +114,7 @@ fn each_begins_in(block: &BlockSet<'_>, items: &[u32], start: usize) -> bool
     }
 }
 
-/// Whether the items begin, behind marks, with such a test, or with a branch whose alternatives do.
+/// Whether such a test is at `place`, or a branch whose alternatives all begin with one.
 #[tactic(auto, using(crate::proofs::FirstSets::first_laws))]
 fn first_in(block: &BlockSet<'_>, items: &[u32], place: usize) -> bool
     requires set { HasBlockSet block.now.end block.now.words.now block.now.ascii }
@@ -124,14 +124,14 @@ fn first_in(block: &BlockSet<'_>, items: &[u32], place: usize) -> bool
     let Ok(code) = words::opcode(items, place) else {
         return false;
     };
-    let _length = items.len(); // a slice has few items, so no place overflows
+    let _length = items.len(); // bounds the length of the slice, so no address overflows
     match code {
         SreOpcode::BRANCH => each_begins_in(block, items, place + 1),
         _ => is_test_in(block, items, place),
     }
 }
 
-/// Whether the block has a set, and each match begins with a character of it.
+/// Whether the INFO block has a first set that the items confirm.
 #[tactic(auto, using(crate::proofs::FirstSets::set_laws))]
 pub fn is_confirmed(words: &[u32], end: usize, uni: &LentTable, items: &[u32]) -> bool
     requires block { HasBlock words.now end }

@@ -1,4 +1,4 @@
-//! Items: which one stands at a place, by its opcode.
+//! Items, by their opcodes.
 
 ghost use Rattle.sre_model.specs.Grammar.{Opcode, reference_opcode};
 ghost use Rattle.sre_code.specs.Reading.{FoldedAt};
@@ -48,8 +48,8 @@ fn reference(words: &[u32], place: usize) -> Result<Step, CodeError>
     })
 }
 
-/// `<REPEAT_ONE> <skip> <least count> <greatest count> <test> <SUCCESS>`,
-/// and MIN_REPEAT_ONE and POSSESSIVE_REPEAT_ONE alike
+/// `<REPEAT_ONE> <skip> <least count> <greatest count> <test> <SUCCESS>`, also with MIN_REPEAT_ONE and
+/// POSSESSIVE_REPEAT_ONE
 #[tactic(auto, using(crate::proofs::ReadRuns::run_laws))]
 fn run(words: &[u32], place: usize) -> Result<Step, CodeError>
     requires { RunAt words.now place }
@@ -75,7 +75,7 @@ fn run(words: &[u32], place: usize) -> Result<Step, CodeError>
     })
 }
 
-/// A test of one character, which has this opcode.
+/// A test of one character with the opcode `code`.
 #[tactic(auto, using(crate::proofs::ReadItems::one_exactly, crate::proofs::ReadItems::one_nowhere))]
 fn one(words: &[u32], place: usize, code: SreOpcode) -> Result<Step, CodeError>
     requires opcode { Opcode words.now place code }
@@ -88,7 +88,7 @@ fn one(words: &[u32], place: usize, code: SreOpcode) -> Result<Step, CodeError>
     })
 }
 
-/// The item at this place.
+/// Reads the item at `place`.
 #[tactic(auto, using(crate::proofs::AnyItem::item_laws))]
 pub fn item(words: &[u32], place: usize) -> Result<Step, CodeError>
     ensures { ItemGives words.now place result }

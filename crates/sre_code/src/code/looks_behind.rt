@@ -1,5 +1,5 @@
-//! How far the looks of items go back together: a scan from one instruction to the next, into each body, as that of the
-//! runs' counts.
+//! How far the lookbehinds of the items go back together: a scan from one instruction to the next, into each body, as
+//! in `run_counts`.
 
 ghost use Rattle.std.specs.Prelude.{◌≡◌, ◌<◌, ◌-◌, ◌^◌, false, length, min};
 ghost use Rattle.sre_model.specs.Tree.{Tree};
@@ -13,7 +13,7 @@ use crate::code::words;
 use crate::operands::word_or_zero;
 use sre_chars::constants::SreOpcode;
 
-/// How many characters the look at this place goes back, which has this opcode; 0 where another instruction is.
+/// The distance in characters that the lookaround at `place` goes back; 0 for another opcode.
 fn back_at(words: &[u32], place: usize, code: SreOpcode) -> u32
     requires { place < length words.now }
     ensures { result ≡ back_at code words.now place }
@@ -24,8 +24,8 @@ fn back_at(words: &[u32], place: usize, code: SreOpcode) -> u32
     }
 }
 
-/// Where the instruction behind the one at this place stands, and how many characters the look at this place goes back;
-/// none where a reference or a condition is there.
+/// The address of the instruction after the one at `place`, and how far the one at `place` goes back. `None` for a
+/// back-reference or a conditional.
 fn next_back(words: &[u32], place: usize) -> Option<(usize, u32)>
     ensures { BackAt words.now place result }
 {
@@ -38,8 +38,8 @@ fn next_back(words: &[u32], place: usize) -> Option<(usize, u32)>
     }
 }
 
-/// How many characters the looks of the items go back together, which have SUCCESS as the last word, or the greatest
-/// number where these are more. Of items with a reference or a condition nothing is told.
+/// The sum of the distances, in characters, that the lookbehinds go back, at most 2^64 - 1; SUCCESS is the last word.
+/// It means nothing if the items have a back-reference or a conditional.
 pub fn backs(words: &[u32]) -> usize
     ensures { (tree : Tree) → WholeItems words.now tree → refers tree ≡ false
         → result ≡ min (backs tree) (2 ^ 64 - 1) }

@@ -1,10 +1,11 @@
-//! Whether a region's body sets a mark.
+//! Whether an atomic scope sets a capture.
 //!
-//! A region is an atomic group, a look or a possessive loop. Behind its opcode stands a skip, which tells where the
-//! SUCCESS stands that ends its body. A first scan goes from one instruction to the next, and past each region whose
-//! body has no mark. It has no stack, so it can't go past a condition, and says yes where the items refer to groups.
-//! There a second one goes by single words. It does not know where an instruction begins, so where operands have such
-//! numbers it may see a region or a mark that is none; but it sees each that is there.
+//! An atomic scope is an atomic group, a lookaround or a possessive loop. After its opcode comes a skip, which leads to
+//! the SUCCESS that ends the body, or past it.
+//!
+//! A first scan goes from one instruction to the next, and past each scope whose body has no MARK. Without a stack it
+//! cannot pass a conditional, so it returns `true` if the items refer to groups. Then a second scan goes word by word.
+//! It may take operands for a scope or a MARK, but it misses none.
 
 ghost use Rattle.std.specs.Prelude.{◌≡◌, ◌<◌, ◌≤◌, ◌+◌, ℕ, false, length, IfSome};
 ghost use Rattle.sre_chars.specs.declared.constants.SreOpcode.TheVariants as opcode;
@@ -23,8 +24,8 @@ use crate::code::words;
 use crate::operands::word_or_zero;
 use sre_chars::constants::SreOpcode;
 
-/// Where the SUCCESS stands that ends the body of a region with this opcode, whose skip leads to `tail`; none where the
-/// opcode is no region's.
+/// The address of the SUCCESS that ends the body of a scope with this opcode, whose skip leads to `tail`. `None` if no
+/// atomic scope has this opcode.
 fn closing_place(code: SreOpcode, tail: usize) -> Option<usize>
     ensures { result ≡ closing_place (role code) tail }
 {
@@ -37,7 +38,7 @@ fn closing_place(code: SreOpcode, tail: usize) -> Option<usize>
     }
 }
 
-/// Where that SUCCESS stands, if the word at a place begins a region; 0 where it begins none.
+/// The address of that SUCCESS if the word at `place` may begin an atomic scope, else 0.
 #[tactic(auto, using(sre_model::proofs::Words::word_of))]
 fn closing_at(words: &[u32], place: usize) -> usize
     requires { place < length words.now }
@@ -56,7 +57,7 @@ fn closing_at(words: &[u32], place: usize) -> usize
     end
 }
 
-/// Whether the word at a place is the number of MARK, and the place is before `end`.
+/// Whether the word at `place` has the number of MARK, and `place` is before `end`.
 #[tactic(auto, using(sre_model::proofs::Words::word_of))]
 fn is_mark_before(words: &[u32], place: usize, end: usize) -> bool
     ensures { result ≡ false → place < end → Opcode words.now place opcode.MARK → ⊥ }
@@ -64,7 +65,7 @@ fn is_mark_before(words: &[u32], place: usize, end: usize) -> bool
     place < end && word_or_zero(words, place) == SreOpcode::MARK as u32
 }
 
-/// Whether a region of the items may set a mark, which have SUCCESS as the last word, by single words.
+/// Whether an atomic scope may set a capture, word by word; SUCCESS is the last word.
 fn may_set_marks(items: &[u32]) -> bool
     ensures { result ≡ false → (tree : Tree) → WholeItems items.now tree → marks_in_regions tree ≡ false }
 {
@@ -73,7 +74,7 @@ fn may_set_marks(items: &[u32]) -> bool
     let mut farthest = 0;
     'word: while place < last {
         farthest = farthest.max(closing_at(items, place));
-        // no body begins before the second word behind an opcode
+        // no body begins before the second word after its opcode
         if is_mark_before(items, place + 2, farthest) {
             return true;
         }
@@ -82,8 +83,8 @@ fn may_set_marks(items: &[u32]) -> bool
     false
 }
 
-/// Where the instruction behind the one at this place stands, or what is behind the region that begins here; none where
-/// that sets a mark or refers, or where a reference or a condition is here.
+/// The address of the instruction after the one at `place`, or after the atomic scope that begins there. `None` if that
+/// scope sets a capture or refers to a group, or for a back-reference or a conditional.
 fn next_unmarked(words: &[u32], place: usize) -> Option<usize>
     ensures told { UnmarkedAt words.now place result }
     ensures forward { IfSome result (λ k. place < k) }
@@ -101,7 +102,7 @@ fn next_unmarked(words: &[u32], place: usize) -> Option<usize>
     Some(end + 1)
 }
 
-/// Whether a region of the items sets a mark, which have SUCCESS as the last word, or the items refer to groups.
+/// Whether an atomic scope sets a capture, or the items refer to groups; SUCCESS is the last word.
 fn set_marks_or_refer(items: &[u32]) -> bool
     ensures { MarkedOrRefers items.now result }
 {
@@ -116,8 +117,8 @@ fn set_marks_or_refer(items: &[u32]) -> bool
     false
 }
 
-/// Whether a region of the items sets a mark, which have SUCCESS as the last word. It may say yes where none does, if
-/// the items refer to groups.
+/// Whether an atomic scope sets a capture; SUCCESS is the last word. It may be `true` without one if the items refer to
+/// groups.
 pub fn regions_set_marks(items: &[u32]) -> bool
     ensures none { result ≡ false → (tree : Tree) → WholeItems items.now tree → marks_in_regions tree ≡ false }
     ensures told { (tree : Tree) → WholeItems items.now tree → refers tree ≡ false

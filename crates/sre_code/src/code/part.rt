@@ -1,4 +1,4 @@
-//! Open parts: how each is closed, by what stands where it may end.
+//! Open parts: what closes each of them.
 
 ghost use Rattle.sre_code.specs.Steps.{Closing};
 
@@ -7,7 +7,7 @@ use crate::code::step::{Bounds, Part, Step};
 use crate::code::{branch, condition, region, repeat, words};
 use sre_chars::constants::SreOpcode;
 
-/// SUCCESS, as the last word.
+/// Reads the SUCCESS that is the last word.
 #[tactic(auto, using(crate::proofs::ClosingParts::whole_laws))]
 fn whole(words: &[u32], place: usize, width: u32) -> Result<Option<Step>, CodeError>
     ensures { Closing words.now Part.Whole place width result }
@@ -26,7 +26,8 @@ fn whole(words: &[u32], place: usize, width: u32) -> Result<Option<Step>, CodeEr
     }
 }
 
-/// What closes a part at this place, where its items have that least width; `None` where the part goes on.
+/// The step that closes the part at `place`, where its items so far have the least width `width`. `None` if the part
+/// goes on.
 pub fn close(words: &[u32], place: usize, part: Part, width: u32) -> Result<Option<Step>, CodeError>
     ensures { Closing words.now part place width result }
 {

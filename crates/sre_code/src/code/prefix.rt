@@ -1,7 +1,7 @@
-//! A prefix: `<length> <skip>`, its words, and for each of its fronts the border length.
+//! A literal prefix: `<length> <skip>`, its words, and the border length of each of its beginnings.
 //!
-//! The items have to begin with LITERAL items of its words: the first ones, as many as the skip says, one directly
-//! after the other, and the others with only MARK items before or between them.
+//! The items have to begin with LITERAL items of its words. The first ones, as many as the skip says, follow each other
+//! directly; the others have only MARK items before and between them.
 
 ghost use Rattle.std.specs.Prelude.{◌≡◌, ◌+◌, ◌*◌, ◌<◌, ◌≤◌, ◌↔◌, IsTrue, true, false, length, MatchOption, OnSome};
 ghost use Rattle.sre_model.specs.Claims.{behind_adjacent, behind_spread, behind_literals, behind_prefix};
@@ -12,7 +12,7 @@ ghost use Rattle.sre_code.specs.Prefixes.{Ends, IsLiteralAt, MarksPassed, LeftBe
 use crate::code::borders;
 use sre_chars::constants::SreOpcode;
 
-/// Whether the literal of a value is at a place.
+/// Whether a LITERAL of this value is at `place`.
 #[tactic(auto, using(crate::proofs::Prefixes::literal_there, crate::proofs::Prefixes::literal_words))]
 fn is_literal(words: &[u32], place: usize, value: u32) -> bool
     requires { place ≤ length words.now }
@@ -23,7 +23,7 @@ fn is_literal(words: &[u32], place: usize, value: u32) -> bool
         && words[place + 1] == value
 }
 
-/// Where the items go on behind the marks at a place.
+/// The address after the MARK items at `start`.
 #[tactic(auto, using(crate::proofs::Prefixes::marks_laws))]
 pub fn behind_marks(words: &[u32], start: usize) -> usize
     requires { start ≤ length words.now }
@@ -36,7 +36,7 @@ pub fn behind_marks(words: &[u32], start: usize) -> usize
     place
 }
 
-/// Where the items go on behind literals, one directly after the other, if they begin with these.
+/// The address after these literals, if the items begin with them, one directly after the other.
 #[tactic(auto, using(crate::proofs::Prefixes::adjacent_laws))]
 fn behind_adjacent(words: &[u32], literals: &[u32]) -> Option<usize>
     requires { Ends words.now }
@@ -52,7 +52,7 @@ fn behind_adjacent(words: &[u32], literals: &[u32]) -> Option<usize>
     Some(place)
 }
 
-/// Where the items go on behind literals, with only marks before or between them, if they begin with these at a place.
+/// The address after these literals, if they follow at `start`, with only MARK items before or between them.
 #[tactic(auto, using(crate::proofs::Prefixes::spread_laws))]
 fn behind_spread(words: &[u32], start: usize, literals: &[u32]) -> Option<usize>
     requires ends { Ends words.now }
@@ -70,7 +70,7 @@ fn behind_spread(words: &[u32], start: usize, literals: &[u32]) -> Option<usize>
     Some(place)
 }
 
-/// Where the items go on behind a prefix, if they begin with it.
+/// The address after the literals of a prefix, if the items begin with them.
 #[tactic(auto, using(crate::proofs::Prefixes::literals_laws))]
 fn behind_literals(words: &[u32], prefix: &[u32], skip: usize) -> Option<usize>
     requires ends { Ends words.now }
@@ -84,7 +84,7 @@ fn behind_literals(words: &[u32], prefix: &[u32], skip: usize) -> Option<usize>
     }
 }
 
-/// The words of the prefix that fills the block, if one does.
+/// The words of the prefix in the INFO block, if it has one.
 #[tactic(auto, using(crate::proofs::Claimed::prefix_laws))]
 fn prefix_words(words: &[u32], length: usize) -> Option<&[u32]>
     requires { HasBlock words.now length }
@@ -107,7 +107,7 @@ fn prefix_words(words: &[u32], length: usize) -> Option<&[u32]>
     Some(prefix)
 }
 
-/// Where the items go on behind the prefix that fills the block, if one does and they begin with it.
+/// The address after the prefix in the INFO block, if it has one and the items begin with it.
 #[tactic(auto, using(crate::proofs::Claimed::behind_laws))]
 pub fn behind(words: &[u32], length: usize, items: &[u32]) -> Option<usize>
     requires block { HasBlock words.now length }

@@ -1,6 +1,6 @@
-//! Regions: `<ATOMIC_GROUP> <skip> <items> <SUCCESS>`, and `<ASSERT> <skip> <back> <items> <SUCCESS>` and
-//! ASSERT_NOT alike; the skip leads behind the SUCCESS. `<POSSESSIVE_REPEAT> <skip> <least count> <greatest count>
-//! <items> <SUCCESS>`; its skip leads to the SUCCESS.
+//! Atomic scopes. The skip of `<ATOMIC_GROUP> <skip> <items> <SUCCESS>` and of `<ASSERT> <skip> <back> <items>
+//! <SUCCESS>`, also with ASSERT_NOT, leads past the SUCCESS. That of `<POSSESSIVE_REPEAT> <skip> <least count>
+//! <greatest count> <items> <SUCCESS>` leads to it.
 
 ghost use Rattle.std.specs.Prelude.{◌≡◌};
 ghost use Rattle.sre_model.specs.Grammar.{Opcode};
@@ -13,7 +13,7 @@ use crate::code::step::{Part, Step};
 use crate::code::words;
 use sre_chars::constants::SreOpcode;
 
-/// How far behind the opcode of a region its body begins; 0 where the opcode is no region's.
+/// The distance in words from the opcode of an atomic scope to its body; 0 for another opcode.
 pub fn body_offset(code: SreOpcode) -> usize
     ensures { result ≡ body_offset (role code) }
 {
@@ -25,7 +25,7 @@ pub fn body_offset(code: SreOpcode) -> usize
     }
 }
 
-/// The item, which opens its body.
+/// Reads the item, which opens its body.
 #[tactic(auto, using(crate::proofs::ReadRegions::atomic_group_laws))]
 pub fn atomic_group(words: &[u32], place: usize) -> Result<Step, CodeError>
     requires { Opcode words.now place SreOpcode.ATOMIC_GROUP }
@@ -44,7 +44,7 @@ pub fn atomic_group(words: &[u32], place: usize) -> Result<Step, CodeError>
     })
 }
 
-/// The item, which opens its body; that stands for its least count.
+/// Reads the item, which opens its body. The body's least width counts as often as the least count says.
 #[tactic(auto, using(crate::proofs::ReadRegions::possessive_repeat_laws))]
 pub fn possessive_repeat(words: &[u32], place: usize) -> Result<Step, CodeError>
     requires { Opcode words.now place SreOpcode.POSSESSIVE_REPEAT }
@@ -62,7 +62,7 @@ pub fn possessive_repeat(words: &[u32], place: usize) -> Result<Step, CodeError>
     })
 }
 
-/// The item, which opens its body; a look has no width.
+/// Reads the item, which opens its body. A lookaround has width 0.
 #[tactic(auto, using(crate::proofs::ReadRegions::look_laws))]
 pub fn look(words: &[u32], place: usize) -> Result<Step, CodeError>
     requires { LookAt words.now place }
@@ -81,7 +81,7 @@ pub fn look(words: &[u32], place: usize) -> Result<Step, CodeError>
     })
 }
 
-/// The end of a body, if it is here.
+/// The end of a body, if it is at `place`.
 #[tactic(auto, using(crate::proofs::ReadRegions::end_laws))]
 pub fn end(
     words: &[u32],

@@ -1,4 +1,4 @@
-//! Loops: `<REPEAT> <skip> <least count> <greatest count> <items>`, and MAX_UNTIL or MIN_UNTIL where the skip
+//! Loops: `<REPEAT> <skip> <least count> <greatest count> <items>`, then MAX_UNTIL or MIN_UNTIL, to which the skip
 //! leads.
 
 ghost use Rattle.sre_model.specs.Grammar.{Opcode};
@@ -9,7 +9,7 @@ use crate::code::step::{Part, Step};
 use crate::code::words;
 use sre_chars::constants::SreOpcode;
 
-/// The item, which opens its body.
+/// Reads the item, which opens its body.
 #[tactic(auto, using(crate::proofs::ReadBodies::repeat_laws))]
 pub fn repeat(words: &[u32], place: usize) -> Result<Step, CodeError>
     requires { Opcode words.now place SreOpcode.REPEAT }
@@ -27,7 +27,7 @@ pub fn repeat(words: &[u32], place: usize) -> Result<Step, CodeError>
     })
 }
 
-/// The end of a body, if it is here.
+/// The end of a body, if it is at `place`.
 #[tactic(auto, using(crate::proofs::ReadBodies::until_laws))]
 pub fn until(
     words: &[u32],

@@ -1,8 +1,8 @@
-//! Whether a reference or a condition stands among the items, and how far the characters of their runs count and their
-//! looks go back: a scan from one instruction to the next, into each body.
+//! Whether the items have a back-reference or a conditional, and up to which number the lengths of single-character
+//! repeats and lookbehinds matter: a scan from one instruction to the next, into each body.
 //!
 //! It needs no stack, since what ends a body is passed like any other instruction. A JUMP ends an alternative, and the
-//! next one, or the branch's tail, is behind the length word that follows it; the JUMP of a condition is not reached.
+//! next one, or the end of the branch, follows the length word after it. The JUMP of a conditional is never reached.
 
 ghost use Rattle.std.specs.Prelude.{◌≡◌, ◌<◌, length, Option, MatchOption, true, false};
 ghost use Rattle.sre_model.specs.Tree.{Tree};
@@ -17,8 +17,8 @@ use crate::code::{character, words};
 use crate::operands::word_or_zero;
 use sre_chars::constants::SreOpcode;
 
-/// How many words an instruction with this opcode has before its body or what is behind it, with the length word behind
-/// a BRANCH or a JUMP; none for a test, a reference or a condition.
+/// The number of words from an instruction with this opcode to its body, or to the next instruction. The length word
+/// after a BRANCH or a JUMP counts. `None` for a test, a back-reference or a conditional.
 fn own_words(code: SreOpcode) -> Option<usize>
     ensures { result ≡ own_words (role code) }
 {
@@ -37,7 +37,7 @@ fn own_words(code: SreOpcode) -> Option<usize>
     }
 }
 
-/// Up to which number the characters of a run make a difference, by its least and its greatest count.
+/// The greatest number up to which the length of a single-character repeat matters, by its counts.
 pub fn counted_to(low: u32, high: u32) -> u32
     ensures { result ≡ counted_to low high }
 {
@@ -47,8 +47,8 @@ pub fn counted_to(low: u32, high: u32) -> u32
     low.max(high)
 }
 
-/// Up to which number the characters make a difference of the run at this place, which has this opcode, or how many the
-/// look there goes back; 0 where another instruction is.
+/// That number for the repeat at `place`, or the distance in characters that the lookaround there goes back; 0 for
+/// another instruction.
 fn count_at(words: &[u32], place: usize, code: SreOpcode) -> u32
     requires { place < length words.now }
     ensures { result ≡ count_at code words.now place }
@@ -65,8 +65,8 @@ fn count_at(words: &[u32], place: usize, code: SreOpcode) -> u32
     }
 }
 
-/// Where the instruction behind the one at this place stands, and how far the run at this place counts, or the look
-/// goes back; none where a reference or a condition is there.
+/// The address of the instruction after the one at `place`, and that number for the one at `place`. `None` for a
+/// back-reference or a conditional.
 fn next(words: &[u32], place: usize) -> Option<(usize, u32)>
     ensures { NextAt words.now place result }
 {
@@ -82,7 +82,7 @@ fn next(words: &[u32], place: usize) -> Option<(usize, u32)>
     }
 }
 
-/// Where the instruction behind the one at this place stands; none where a reference or a condition is there.
+/// The address of the instruction after the one at `place`; `None` for a back-reference or a conditional.
 pub fn next_place(words: &[u32], place: usize) -> Option<usize>
     ensures { NextPlaceAt words.now place result }
 {
@@ -92,8 +92,8 @@ pub fn next_place(words: &[u32], place: usize) -> Option<usize>
     }
 }
 
-/// Up to which number the characters of the items' runs make a difference, or their looks go back; none where a
-/// reference or a condition is among the items, which have SUCCESS as the last word.
+/// The greatest number up to which the length of a single-character repeat or lookbehind matters. `None` if the items
+/// have a back-reference or a conditional; SUCCESS is the last word.
 pub fn most_counts(words: &[u32]) -> Option<u32>
     ensures { (tree : Tree) → WholeItems words.now tree → MatchOption result (refers tree ≡ true)
         (λ most. (refers tree ≡ false) × (most ≡ most_counts tree)) }

@@ -90,7 +90,7 @@ fn big_charset(words: &[u32], place: usize) -> Result<usize, CodeError>
     Ok(end)
 }
 
-/// Where the set's item at this place ends.
+/// The address after the set item at `place`.
 #[tactic(auto, using(crate::proofs::ReadSets::item_laws))]
 fn item(words: &[u32], place: usize) -> Result<usize, CodeError>
     ensures { SetItemEnds words.now place result }
@@ -107,7 +107,7 @@ fn item(words: &[u32], place: usize) -> Result<usize, CodeError>
     }
 }
 
-/// Whether a set's items fill the words from `start` to `end`.
+/// Checks that items of a set fill the words from `start` to `end`.
 #[tactic(auto, using(crate::proofs::ReadSets::items_laws))]
 pub fn items(words: &[u32], start: usize, end: usize) -> Result<(), CodeError>
     requires { end ≤ length words.now }

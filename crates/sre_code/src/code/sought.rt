@@ -1,8 +1,8 @@
-//! Whether the items of a body have what is sought, a fork or a mark: a scan from one instruction to the next, into
-//! each body, as that of the runs' counts.
+//! Whether the items of a body have a fork or a MARK: a scan from one instruction to the next, into each body, as in
+//! `run_counts`.
 //!
-//! A fork is a branch, a run, a loop or a possessive loop: there the machine may have more than one way to go on. The
-//! scan says yes at a reference or a condition, too.
+//! A fork is a branch, a single-character repeat, a loop or a possessive loop: from there the machine may have more
+//! than one match path. The scan returns `true` at a back-reference or a conditional, too.
 
 ghost use Rattle.std.specs.Prelude.{◌≡◌};
 ghost use Rattle.sre_model.specs.Roles.{role};
@@ -12,14 +12,14 @@ use crate::code::run_counts::next_place;
 use crate::code::words;
 use sre_chars::constants::SreOpcode;
 
-/// What is sought.
+/// What a scan seeks.
 #[derive(Clone, Copy)]
 pub enum Sought {
     Fork,
     Mark,
 }
 
-/// Whether an instruction with this opcode is a branch, a run, a loop or a possessive loop.
+/// Whether an opcode is that of a branch, a single-character repeat, a loop or a possessive loop.
 fn is_fork(code: SreOpcode) -> bool
     ensures { result ≡ is_fork (role code) }
 {
@@ -34,7 +34,7 @@ fn is_fork(code: SreOpcode) -> bool
     }
 }
 
-/// Whether an instruction with this opcode sets a mark.
+/// Whether an opcode sets a capture slot.
 fn is_mark(code: SreOpcode) -> bool
     ensures { result ≡ is_mark (role code) }
 {
@@ -44,7 +44,7 @@ fn is_mark(code: SreOpcode) -> bool
     }
 }
 
-/// Whether an instruction with this opcode is what is sought.
+/// Whether an opcode is what the scan seeks.
 fn is_sought(code: SreOpcode, sought: Sought) -> bool
     ensures { result ≡ is_sought sought (role code) }
 {
@@ -54,7 +54,8 @@ fn is_sought(code: SreOpcode, sought: Sought) -> bool
     }
 }
 
-/// Where the instruction behind the one at this place stands; none where that is sought, a reference or a condition.
+/// The address of the instruction after the one at `place`. `None` if that one is sought, or for a back-reference or a
+/// conditional.
 fn next_without(words: &[u32], place: usize, sought: Sought) -> Option<usize>
     ensures { WithoutAt sought words.now place result }
 {
@@ -67,8 +68,8 @@ fn next_without(words: &[u32], place: usize, sought: Sought) -> Option<usize>
     next_place(words, place)
 }
 
-/// Whether what is sought, a reference or a condition is among the items from `start` up to `end`, or in a body of
-/// theirs.
+/// Whether the items from `start` up to `end`, or bodies inside them, have what is sought, a back-reference or a
+/// conditional.
 pub fn has_or_refers(words: &[u32], start: usize, end: usize, sought: Sought) -> bool
     ensures { HasOrRefers sought words.now start end result }
 {

@@ -1,20 +1,21 @@
-//! What the descent keeps, and what its steps come to.
+//! The state of the check's pass: open parts, and the results of its steps.
 
-/// A part whose items are being read, by what ends it.
+/// A part whose items are being read, and what ends it.
 #[derive(Clone, Copy)]
 pub enum Part {
-    /// All the words: SUCCESS as the last one.
+    /// The whole code: SUCCESS as the last word.
     Whole,
-    /// An alternative of a BRANCH: JUMP at `end`, to `tail`; `least` is the least width of those before.
+    /// An alternative of a BRANCH: a JUMP at `end` leads to `tail`. `least` is the least width of those before.
     Alternative { end: usize, tail: usize, least: u32 },
-    /// The body of a REPEAT: MAX_UNTIL or MIN_UNTIL at `end`; it stands `least` times at least.
+    /// The body of a REPEAT: MAX_UNTIL or MIN_UNTIL at `end`. `least` is the least count.
     Body { end: usize, least: u32 },
-    /// The body of a possessive loop, an atomic group or a look: SUCCESS at `end`;
-    /// it counts for the width `least` times.
+    /// The body of a possessive loop, an atomic group or a lookaround: SUCCESS at `end`. Its least width counts `least`
+    /// times.
     Region { end: usize, least: u32 },
-    /// The yes part of a condition: it ends at `tail`, or by JUMP two words before it, and then the no part is there.
+    /// The first part of a conditional: it ends at `tail`, or with a JUMP two words before, after which the second part
+    /// begins at `tail`.
     There { tail: usize },
-    /// The no part of a condition: it ends at `end`; `least` is the least width of the yes part.
+    /// The second part of a conditional: it ends at `end`. `least` is the least width of the first part.
     Absent { end: usize, least: u32 },
 }
 
@@ -25,23 +26,23 @@ pub struct Open {
     pub width: u32,
 }
 
-/// What is at a place.
+/// What a step read.
 #[derive(Clone, Copy)]
 pub enum Step {
-    /// An item, whole: where it ends, and its least width.
+    /// A whole item: the address after it, and its least width.
     Past { place: usize, width: u32 },
-    /// An item with a part, whose items begin at the place.
+    /// The front of an item with a part, whose items begin at `place`.
     Opens { part: Part, place: usize },
 }
 
-/// Up to where the words have been read, and the least width of the item that ends there.
+/// The address up to which the bytecode has been read, and the least width of the item that ends there.
 #[derive(Clone, Copy)]
 pub struct Reached {
     pub place: usize,
     pub width: u32,
 }
 
-/// Where an alternative's JUMP stands, and where it leads.
+/// The address of an alternative's JUMP, and the address to which it leads.
 #[derive(Clone, Copy)]
 pub struct Bounds {
     pub end: usize,

@@ -1,4 +1,4 @@
-//! Single words: operands, skips, and the numbers of codes.
+//! Single words: operands, skips and the numbers of codes.
 
 ghost use Rattle.sre_chars.specs.Numbers.{opcode_number, at_number, category_number};
 ghost use Rattle.sre_code.specs.Reading.{OperandAt, SkipAt, CodeAt};
@@ -7,7 +7,7 @@ use crate::code::error::CodeError;
 use sre_chars::constants::{SreAtCode, SreCatCode, SreOpcode};
 use std::convert::TryFrom;
 
-/// The word at a place.
+/// The word at `place`, or `Truncated` past the end.
 pub fn operand(words: &[u32], place: usize) -> Result<u32, CodeError>
     ensures { OperandAt words.now place result }
 {
@@ -17,7 +17,7 @@ pub fn operand(words: &[u32], place: usize) -> Result<u32, CodeError>
     }
 }
 
-/// Where the skip word at a place leads.
+/// The address to which the skip at `place` leads.
 pub fn skip(words: &[u32], place: usize) -> Result<usize, CodeError>
     ensures { SkipAt words.now place result }
 {
@@ -25,7 +25,7 @@ pub fn skip(words: &[u32], place: usize) -> Result<usize, CodeError>
     Ok(place + skip as usize)
 }
 
-/// The opcode at a place.
+/// The opcode at `place`.
 #[tactic(auto, using(crate::proofs::ReadWords::opcode_laws))]
 pub fn opcode(words: &[u32], place: usize) -> Result<SreOpcode, CodeError>
     ensures { CodeAt opcode_number words.now place result }
@@ -37,7 +37,7 @@ pub fn opcode(words: &[u32], place: usize) -> Result<SreOpcode, CodeError>
     }
 }
 
-/// The position code at a place.
+/// The position code at `place`.
 #[tactic(auto, using(crate::proofs::ReadWords::position_laws))]
 pub fn position(words: &[u32], place: usize) -> Result<SreAtCode, CodeError>
     ensures { CodeAt at_number words.now place result }
@@ -49,7 +49,7 @@ pub fn position(words: &[u32], place: usize) -> Result<SreAtCode, CodeError>
     }
 }
 
-/// The category code at a place.
+/// The category code at `place`.
 #[tactic(auto, using(crate::proofs::ReadWords::category_laws))]
 pub fn category(words: &[u32], place: usize) -> Result<SreCatCode, CodeError>
     ensures { CodeAt category_number words.now place result }

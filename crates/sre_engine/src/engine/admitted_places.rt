@@ -1,7 +1,7 @@
-//! What the places of a code admit, told in the course of a walk.
+//! FIRST sets by address, computed in the course of an iteration.
 //!
-//! A list of what may come next at each place lets the machine leave an alternative by a look at one character. To tell
-//! it costs some steps' time, so a walk tells it behind its first steps, where it has much of a text before it.
+//! With these sets the machine rejects an alternative by one character. Computing them takes the time of some steps. So
+//! an iteration does it after its first steps, and only if much of the text is left.
 
 ghost use Rattle.std.specs.Prelude.{◌≡◌, ℕ, List, []};
 ghost use Rattle.sre_code.specs.Codes.{items_of};
@@ -16,16 +16,16 @@ use sre_request::{Admitted, Request};
 use std::alloc::{Allocator, Global};
 use std::marker::Model;
 
-// Behind so many steps of a walk the places are told.
+// The sets are computed after so many steps of an iteration.
 const FEW_STEPS: u32 = 8;
 
-// Where the window has fewer characters left they are not told.
+// With fewer characters left in the range they are not computed.
 const FEW_CHARACTERS: usize = 256;
 
-// Nor are those of a code of more words, so that the list takes little memory.
+// Nor are they for a code of more words, so that the list takes little memory.
 const MANY_WORDS: usize = 4096;
 
-/// What the places of a code's words admit, where a walk has told it, and how many of its first steps were taken.
+/// The FIRST sets of a code's addresses, once an iteration has computed them, and the number of its first steps so far.
 #[derive(Drop)]
 pub struct AdmittedPlaces<A: Allocator + Copy = Global> {
     list: Vec<Admitted, A>,
@@ -41,17 +41,17 @@ impl<A: Allocator + Copy> Model for AdmittedPlaces<A> {
     ghost view = { λ places. places.list.items };
 }
 
-// Behind a length word the next one, if an alternative is there.
+// The length word of the next alternative, if the one at this length word exists.
 fn next_length(words: &[u32], place: usize) -> Option<usize> {
     let length = *words.get(place)?;
     if length == 0 {
         return None;
     }
-    let _length = words.len(); // a slice has few items, so no place overflows
+    let _length = words.len(); // a slice has few items, so no address overflows
     Some(place + length as usize)
 }
 
-// Whether three alternatives are there from a length word on.
+// Whether three alternatives begin at a length word.
 fn has_three(words: &[u32], first: usize) -> bool {
     let Some(second) = next_length(words, first) else {
         return false;
@@ -62,8 +62,8 @@ fn has_three(words: &[u32], first: usize) -> bool {
     next_length(words, third).is_some()
 }
 
-// Whether three alternatives are anywhere: a list is asked by branches alone, and two alternatives are told as soon by
-// their own words. A word that is no opcode may be taken for a BRANCH, which costs a list that is not asked.
+// Whether there is a branch of three alternatives. Only branches read the list, and two alternatives are tested as
+// quickly by their own code words. An operand may be taken for a BRANCH, which costs a list that nothing reads.
 fn has_many_alternatives(words: &[u32]) -> bool {
     'place: for place in 0..words.len() {
         if words[place] == SreOpcode::BRANCH as u32 && has_three(words, place + 1) {
@@ -74,7 +74,7 @@ fn has_many_alternatives(words: &[u32]) -> bool {
 }
 
 impl<A: Allocator + Copy> AdmittedPlaces<A> {
-    /// Nothing is told yet. It takes no memory; what it takes later is of the state's allocator.
+    /// An empty list. It allocates nothing now, and later uses the state's allocator.
     pub fn new(state: &State<A>) -> AdmittedPlaces<A>
         ensures none { result ≡ [] }
         ensures admitted { (ws : List ℕ) → AllAdmitted ws result }
@@ -85,7 +85,7 @@ impl<A: Allocator + Copy> AdmittedPlaces<A> {
         }
     }
 
-    /// What each place admits; an empty list where nothing is told.
+    /// The FIRST set of each address, or an empty list if they are not computed.
     #[inline(always)]
     pub fn list(&self) -> &[Admitted]
         ensures { result.now ≡ self.now }
@@ -93,7 +93,7 @@ impl<A: Allocator + Copy> AdmittedPlaces<A> {
         &self.list
     }
 
-    /// Notes a step of a walk that is to come, and tells the places behind the first ones.
+    /// Notes the next step of an iteration, and computes the sets after the first steps.
     #[inline(always)]
     pub fn note_step<S: StrDrive>(&mut self, req: &Request<'_, S>)
         requires { AllAdmitted (items_of (code_of req.now)) self.old }
@@ -116,7 +116,7 @@ impl<A: Allocator + Copy> AdmittedPlaces<A> {
         }
     }
 
-    // Tells the places, where it is worth it. Where memory is refused the walk goes on without.
+    // Computes the sets if that pays. If an allocation fails the iteration continues without them.
     fn tell<S: StrDrive>(&mut self, req: &Request<'_, S>)
         requires { AllAdmitted (items_of (code_of req.now)) self.old }
         ensures { AllAdmitted (items_of (code_of req.now)) self.new }

@@ -1,4 +1,4 @@
-//! Codes that match at the text's start alone.
+//! Codes that match at the start of the text only.
 
 ghost use Rattle.std.specs.Prelude.{◌≡◌};
 ghost use Rattle.sre_model.specs.Tree.{Tree};
@@ -11,7 +11,7 @@ use sre_chars::string::StrDrive;
 use sre_code::operands::word;
 use sre_request::Request;
 
-/// Whether a code's first item is a position code that holds at position 0 alone.
+/// Whether a code's first item is a position code that holds only at position 0.
 #[inline(always)]
 pub(crate) fn is_anchored<S: StrDrive>(req: &Request<'_, S>) -> bool
     ensures { (t : Tree) → WholeItems (run_of req.now).words t → result ≡ is_anchored t }

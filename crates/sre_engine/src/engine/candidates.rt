@@ -1,8 +1,8 @@
-//! The starts that a search tries, one after the other, by what the hints of its code confirm.
+//! Candidates: the starts that a search tries in order, as the confirmed hints of its code allow.
 //!
-//! A search asks for a candidate, has the machine try it, and where that fails passes it. So there is one search, and
-//! a type for each way in which starts are found: the places of a prefix, the members of a first set, the starts that
-//! what has to come first leaves, and the window's start alone.
+//! A search takes a candidate, runs the machine there, and passes the candidate if the run fails. There is one search
+//! loop, and a type for each kind: occurrences of a prefix, members of a first set, starts that the FIRST set allows,
+//! and the start of the range alone.
 
 ghost use Rattle.std.specs.Prelude.{◌≡◌, ◌≤◌, ◌<◌, ◌+◌, ℕ, IfSome, None, Bool, true, false};
 ghost use Rattle.sre_model.specs.Runs.{Run};
@@ -23,7 +23,7 @@ pub(crate) mod only_start;
 pub(crate) mod openings;
 pub(crate) mod places;
 
-/// A start to try: how many literals of the code were compared there already, and a cursor behind these.
+/// A start to try: how many literals of the code are already compared there, and the cursor after them.
 #[derive(Clone, Copy)]
 pub(crate) struct Candidate {
     pub(crate) start: usize,
@@ -32,7 +32,7 @@ pub(crate) struct Candidate {
 }
 
 impl Candidate {
-    /// The start at which a cursor stands, where no literal was compared.
+    /// The start at a cursor, with no literal compared.
     #[inline(always)]
     pub(crate) fn at(cursor: StringCursor) -> Candidate
         ensures { result ≡ bare_candidate cursor }
@@ -45,9 +45,9 @@ impl Candidate {
     }
 }
 
-/// Where a search finds the starts that it tries.
+/// A source of candidates.
 pub(crate) trait Candidates<S: StrDrive> {
-    // The start from which on it looks.
+    // The start from which it searches on.
     ghost front: { Self → ℕ };
 
     // Whether it is at its front, after so many comparisons.
@@ -56,10 +56,10 @@ pub(crate) trait Candidates<S: StrDrive> {
     // Whether it is at a candidate.
     ghost is_at: { Self → Run → Asked → Code → Candidate → ℕ → Type 0 };
 
-    // Whether it has one candidate alone.
+    // Whether it has a single candidate.
     ghost single: { Bool };
 
-    /// The next start to try, if there is one.
+    /// The next start to try, or `None` if none is left.
     fn next<F: Starts<S>>(
         &mut self,
         req: &Request<'_, S>,
@@ -79,7 +79,7 @@ pub(crate) trait Candidates<S: StrDrive> {
             (end_of req.now + 1) }
         ensures few { ComparesFew (asked_of req.now) (code_of req.now) compared.new };
 
-    /// Passes the candidate, which has no match, and says whether there may be another one.
+    /// Passes the candidate, which has no match. Returns whether there may be another one.
     fn pass(&mut self, req: &Request<'_, S>, compared: u64, candidate: Candidate) -> bool
         requires is_at { is_at self.old (run_of req.now) (asked_of req.now) (code_of req.now) candidate compared }
         requires stands { Standing req.now candidate.cursor }

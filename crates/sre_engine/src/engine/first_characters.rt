@@ -1,4 +1,4 @@
-//! What has to come first in each match, as a code's first words tell it.
+//! What must come first in each match, read from the first code words.
 
 ghost use Rattle.std.specs.Prelude.{◌≡◌, ◌⊎◌, ◌+◌, ◌^◌, ◌<◌, ◌≤◌, ℕ, length, true, IfSome};
 ghost use Rattle.sre_chars.specs.Numbers.{at_number};
@@ -18,33 +18,33 @@ use sre_code::operands::{operand, word};
 use sre_reading::ascii::ascii_taken;
 use std::convert::TryFrom;
 
-/// What is wanted of the character at a position.
+/// What is required of the character at a position.
 #[derive(Clone, Copy)]
 pub(crate) enum Wanted {
-    /// Nothing is known of it.
+    /// Nothing is known.
     Anything,
-    /// The test whose opcode is at a place of the words takes it.
+    /// The test at this address takes it.
     Test(usize),
-    /// The set whose opcode is at a place of the words takes it, and of the ASCII characters it takes these.
+    /// The set at this address takes it. The second part are the ASCII characters of the set.
     Set(usize, AsciiSet),
-    /// It is one of a set, or past ASCII.
+    /// It is one of these, or past ASCII.
     Characters(AsciiSet),
 }
 
-/// What has to come first in each match of a code.
+/// What must come first in each match of a code.
 #[derive(Clone, Copy)]
 pub(crate) struct First {
-    // How many characters before its start.
+    // How many characters before the start the wanted one is.
     pub(super) back: usize,
-    // The position code that holds at its start.
+    // The position code that holds at the start.
     pub(super) at: Option<SreAtCode>,
-    // What is wanted so far back.
+    // What is wanted of that character.
     pub(super) wanted: Wanted,
 }
 
 impl First {
-    /// What a code's items tell; which ASCII characters a set takes, what the alternatives of a branch begin with and
-    /// what runs in front take, only where sets are to be read.
+    /// What a code's items require. With `reads_sets` it includes the ASCII characters of sets, and the FIRST sets of
+    /// alternatives and leading repeats.
     pub(crate) fn of_items(words: &[u32], reads_sets: bool) -> First
         requires { AreItems words.now }
         ensures bars { Bars words.now result }
@@ -59,18 +59,18 @@ impl First {
     }
 }
 
-// The place that the first words of a tree lead to, whichever way they go.
+// The address that every path from the first code words reaches.
 #[derive(Clone, Copy)]
 struct Reached {
     place: usize,
-    // How many characters before its start a tree at that place begins.
+    // How many characters before the start a tree at that address begins.
     back: usize,
-    // The first position code on the way, if nothing is looked back before it.
+    // The first position code on the path, if no lookbehind comes before it.
     at: Option<SreAtCode>,
 }
 
-// Where the words from a place on lead: past marks and position codes, and into atomic groups, positive looks and loops
-// that owe a body.
+// The address that the words from a given one lead to. They lead past MARKs and position codes, and into atomic groups,
+// positive lookarounds and loops with a least count of at least 1.
 fn follow(words: &[u32], start: usize) -> Reached
     requires { HasTree words.now start }
     ensures leads { (t : Tree) → TreeStands words.now start t → Leads words.now t result.place result.back }
@@ -114,7 +114,7 @@ fn follow(words: &[u32], start: usize) -> Reached
     }
 }
 
-// The first position code behind an AT: the one of before, or else its own, unless it is asked further back.
+// The first position code after an AT: the one known before, else its own, unless it applies further back.
 fn first_position(words: &[u32], reached: Reached) -> Option<SreAtCode>
     requires { reached.place + 1 < length words.now }
     ensures { (result ≡ reached.at) ⊎ ((reached.back ≡ 0)
@@ -129,8 +129,8 @@ fn first_position(words: &[u32], reached: Reached) -> Option<SreAtCode>
     }
 }
 
-// The place of the test that takes the character at which a tree at a place begins: its own, or that of a run that owes
-// a character.
+// The address of the test that takes the first character of a tree: its own, or that of a repeat with a least count of
+// at least 1.
 fn wanted_test(words: &[u32], place: usize) -> Option<usize>
     requires { HasTree words.now place }
     ensures bars { (t : Tree) → TreeStands words.now place t
@@ -154,7 +154,7 @@ fn wanted_test(words: &[u32], place: usize) -> Option<usize>
     }
 }
 
-// What is wanted where a test has to take a character, with the ASCII characters of a set, where they are to be read.
+// What is wanted if a test must take a character. It includes the ASCII characters of a set if they are to be read.
 fn wanted_by(words: &[u32], test: usize, reads_sets: bool) -> Wanted
     requires { HasTest words.now test }
     ensures bars { (s : Subject) (p : ℕ) → IsLacking words.now s result p → NotPassed words.now s test p }
@@ -169,8 +169,8 @@ fn wanted_by(words: &[u32], test: usize, reads_sets: bool) -> Wanted
     }
 }
 
-// The ASCII characters with which a tree at a place may begin, where its alternatives tell them, or runs that owe no
-// character and what is behind them.
+// The ASCII characters with which a tree may begin, if its alternatives define them, or its leading optional repeats
+// and what follows them.
 fn characters_at(words: &[u32], place: usize) -> Option<AsciiSet>
     requires { HasTree words.now place }
     ensures { (t : Tree) → TreeStands words.now place t
@@ -183,8 +183,7 @@ fn characters_at(words: &[u32], place: usize) -> Option<AsciiSet>
     Some(characters)
 }
 
-// What is wanted of the character at which a tree at a place begins: what a test asks for, or, where sets are to be
-// read, the characters with which it may begin.
+// What is wanted of the first character of a tree: what a test requires, or, if sets are to be read, its FIRST set.
 fn wanted_at(words: &[u32], place: usize, reads_sets: bool) -> Wanted
     requires { HasTree words.now place }
     ensures bars { (t : Tree) → TreeStands words.now place t → (s : Subject) (p : ℕ) → IsLacking words.now s result p
@@ -203,7 +202,7 @@ fn wanted_at(words: &[u32], place: usize, reads_sets: bool) -> Wanted
     }
 }
 
-// Behind a run at a place that owes no character, if one stands there.
+// The address after a repeat with least count 0, if there is one here.
 fn behind_run(words: &[u32], place: usize) -> Option<usize>
     requires { HasTree words.now place }
     ensures passes { (t : Tree) → TreeStands words.now place t
@@ -224,8 +223,8 @@ fn behind_run(words: &[u32], place: usize) -> Option<usize>
     }
 }
 
-// The ASCII characters with which a tree at a place may begin, where runs stand there that owe no character: what the
-// runs take, and what the test behind them does.
+// The ASCII characters with which a tree may begin if optional repeats are first: what the repeats and the test after
+// them take.
 fn beyond_runs(words: &[u32], start: usize) -> Option<AsciiSet>
     requires { HasTree words.now start }
     ensures { (t : Tree) → TreeStands words.now start t
@@ -249,7 +248,7 @@ fn beyond_runs(words: &[u32], start: usize) -> Option<AsciiSet>
     }
 }
 
-/// Whether an opcode is that of a test of one character.
+/// Whether an opcode is a test of one character.
 pub(crate) fn is_test(opcode: SreOpcode) -> bool
     ensures { result ≡ true → begins_test opcode ≡ true }
 {
@@ -273,8 +272,8 @@ pub(crate) fn is_test(opcode: SreOpcode) -> bool
     }
 }
 
-// The ASCII characters that the test at a place takes, if it tells them. Most alternatives begin with a LITERAL, which
-// is told with no call.
+// The ASCII characters that the test at an address takes, if they are known. Most alternatives begin with a LITERAL,
+// which takes no call.
 #[inline(always)]
 fn taken_at(words: &[u32], test: usize) -> Option<AsciiSet>
     requires { HasTest words.now test }
@@ -286,8 +285,8 @@ fn taken_at(words: &[u32], test: usize) -> Option<AsciiSet>
     ascii_taken(words, test)
 }
 
-// The ASCII characters with which the alternatives from a length word on may begin, if each begins with a test that
-// tells its own.
+// The ASCII characters with which the alternatives from a length word on may begin, if each begins with a test whose
+// characters are known.
 fn first_characters(words: &[u32], start: usize) -> Option<AsciiSet>
     requires { HasAlternatives words.now start }
     ensures { (j : ℕ) (ts : Trees) → ReadsBranch words.now start j ts

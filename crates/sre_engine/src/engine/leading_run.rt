@@ -1,7 +1,7 @@
-//! The run that a code begins with: where no match starts at its start, none starts inside it.
+//! The repeat at the front of a code: if no match starts at its start, none starts inside it.
 //!
-//! A start inside the run has its own run end at the same place, so that it leads to no end which the run's start has
-//! not tried. A search that goes on behind the run passes over each character once.
+//! A repeat from a start inside ends at the same position. So it leads to no end that the repeat from its start has not
+//! tried. A search that continues after the repeat passes each character once.
 
 ghost use Rattle.std.specs.Prelude.{◌≡◌, ◌+◌, ◌^◌, ◌<◌, ◌≤◌, length, true, IfSome, MatchOption, None};
 ghost use Rattle.sre_model.specs.Tree.{Tree};
@@ -22,15 +22,15 @@ use sre_reading::words::{operand, word};
 use sre_request::Request;
 use std::convert::TryFrom;
 
-/// A run with no greatest count that a code's words begin with: the place of its test, and that of the one test of a
-/// character that stands before it, if one does.
+/// A repeat without a greatest count at the front of the bytecode: the address of its test, and that of the single test
+/// before it, if there is one.
 #[derive(Clone, Copy)]
 pub(crate) struct LeadingRun {
     first: Option<usize>,
     test: usize,
 }
 
-// The opcode at a place, if one is there.
+// The opcode at an address, if there is one.
 #[inline(always)]
 fn opcode_at<S: StrDrive>(req: &Request<'_, S>, place: usize) -> Option<SreOpcode>
     requires { place < length (run_of req.now).words }
@@ -40,8 +40,8 @@ fn opcode_at<S: StrDrive>(req: &Request<'_, S>, place: usize) -> Option<SreOpcod
     SreOpcode::try_from(word(req, place)).ok()
 }
 
-/// The run that the words begin with, if they begin with one that has no greatest count, behind at most one test of a
-/// character, and behind marks where the code refers to none.
+/// The repeat at the front of the bytecode, if it has no greatest count. At most one test of a character may be before
+/// it, and MARKs if the code has no back-reference or conditional.
 pub(crate) fn leading_run<S: StrDrive>(req: &Request<'_, S>) -> Option<LeadingRun>
     ensures { (t : Tree) → WholeItems (run_of req.now).words t
         → IfSome result (λ lead. RunStands (run_of req.now).words t lead.first lead.test) }
@@ -76,7 +76,7 @@ pub(crate) fn leading_run<S: StrDrive>(req: &Request<'_, S>) -> Option<LeadingRu
     }
 }
 
-// The cursor one character on, in the window.
+// The cursor one character on, if that is within the range.
 #[inline(always)]
 fn one_on<S: StrDrive>(req: &Request<'_, S>, start: StringCursor) -> Option<StringCursor>
     requires stands { Standing req.now start }
@@ -90,7 +90,7 @@ fn one_on<S: StrDrive>(req: &Request<'_, S>, start: StringCursor) -> Option<Stri
     Some(read(req, start).1)
 }
 
-// The next start that a match may have, behind a start that has none and the run that leads from there.
+// The next start that may have a match, after a start that has none and the repeat from there.
 fn past_run<S: StrDrive>(
     req: &Request<'_, S>,
     lead: &LeadingRun,
@@ -121,8 +121,8 @@ fn past_run<S: StrDrive>(
     Some(run.end)
 }
 
-/// Goes on from a start that has no match to the next one that may have one: one character on, or behind the run that
-/// leads. It says whether there is one.
+/// Moves from a start without a match to the next one that may have one: one character on, or past the leading repeat.
+/// Returns whether there is one.
 #[inline(always)]
 pub(crate) fn pass_start<S: StrDrive>(
     req: &Request<'_, S>,

@@ -1,4 +1,4 @@
-//! The places of the members of a confirmed first set, at which alone a match may begin.
+//! Members of a confirmed first set: a match begins only at one of them.
 
 ghost use Rattle.std.specs.Prelude.{◌≡◌, ◌≤◌, List, true, IfSome};
 ghost use Rattle.sre_model.specs.Tree.{SetItem};
@@ -16,7 +16,7 @@ use sre_code::members::is_member;
 use sre_reading::text::read;
 use sre_request::Request;
 
-// The ASCII characters of the first set, where its items tell them at once.
+// The ASCII characters of the first set, if its items define them directly.
 #[inline(always)]
 fn members_told<S: StrDrive>(req: &Request<'_, S>) -> Option<AsciiSet>
     requires { (hints_of (code_of req.now)).first_set ≡ true }
@@ -42,7 +42,7 @@ fn takes<S: StrDrive>(req: &Request<'_, S>, told: Option<AsciiSet>, character: u
     is_member(code.words(), code.uni(), 5, character)
 }
 
-// The next member from a cursor on, by the ASCII characters that are told.
+// The next member from a cursor on, by the known ASCII characters.
 #[inline(always)]
 fn next_taken<S: StrDrive>(
     req: &Request<'_, S>,
@@ -67,8 +67,9 @@ fn next_taken<S: StrDrive>(
     None
 }
 
-/// The first cursor from one on whose character is a member of the confirmed first set, where there is one. What its
-/// ASCII characters are is only asked where the first character is none: most steps of a walk end at it.
+/// The first cursor, from a given one on, whose character is a member of the confirmed first set, if there is one. The
+/// set's ASCII characters are computed only if the first character is no member, since most steps of an iteration end
+/// there.
 pub(crate) fn next_member<S: StrDrive>(
     req: &Request<'_, S>,
     start: StringCursor,

@@ -1,4 +1,4 @@
-//! The starts at which a match may begin, as what has to come first tells: the others are passed with no run.
+//! The next start at which a match may begin, by what must come first. The search skips all others without a run.
 
 ghost use Rattle.std.specs.Prelude.{◌≡◌, ◌-◌, ◌≤◌};
 ghost use Rattle.sre_request.specs.Requests.{end_of};
@@ -14,7 +14,7 @@ use sre_reading::runs::first_taken;
 use sre_reading::text::{back_by, cursor_at, read};
 use sre_request::Request;
 
-// The cursor some characters back, with no step where there are none.
+// The cursor `back` characters back. The text is not read if `back` is 0.
 #[inline(always)]
 pub(super) fn looked_at<S: StrDrive>(
     req: &Request<'_, S>,
@@ -32,7 +32,8 @@ pub(super) fn looked_at<S: StrDrive>(
     back_by(req, cursor, back)
 }
 
-// The first cursor from one on whose character is one of a set or past ASCII, or the one at the window's end.
+// The first cursor, from a given one on, whose character is in a set or past ASCII; else the one at the end of the
+// range.
 #[inline(always)]
 fn first_among<S: StrDrive>(
     req: &Request<'_, S>,
@@ -54,8 +55,8 @@ fn first_among<S: StrDrive>(
     cursor
 }
 
-// The first cursor from one on whose character a set takes, of which the ASCII characters are told, or the one at the
-// window's end. From a character past ASCII on the set itself is asked.
+// The first cursor, from a given one on, whose character a set takes, or the one at the end of the range. `characters`
+// are the ASCII characters of the set. From the first character past ASCII on, the set itself is tested.
 #[inline(always)]
 fn first_in_set<S: StrDrive>(
     req: &Request<'_, S>,
@@ -82,7 +83,7 @@ fn first_in_set<S: StrDrive>(
     cursor
 }
 
-// The first cursor from one on at which what is wanted is, or the one at the window's end.
+// The first cursor, from a given one on, at which the wanted character is, or the one at the end of the range.
 #[inline(always)]
 fn first_wanted<S: StrDrive>(
     req: &Request<'_, S>,
@@ -102,7 +103,7 @@ fn first_wanted<S: StrDrive>(
     }
 }
 
-// The first cursor from one on at which what is wanted so far back is.
+// The first cursor, from a given one on, with the wanted character `back` characters before it.
 #[inline(always)]
 fn next_wanted<S: StrDrive>(
     req: &Request<'_, S>,
@@ -140,7 +141,7 @@ fn next_wanted<S: StrDrive>(
     Some(after)
 }
 
-// The cursor at which the line behind one begins, where there is such a line.
+// The cursor at the start of the next line, if there is one.
 #[inline(always)]
 #[tactic(auto, using(crate::proofs::Starting::line_sought, crate::proofs::Starting::no_line_sought))]
 fn next_line<S: StrDrive>(req: &Request<'_, S>, cursor: StringCursor) -> Option<StringCursor>
@@ -155,7 +156,7 @@ fn next_line<S: StrDrive>(req: &Request<'_, S>, cursor: StringCursor) -> Option<
     None
 }
 
-// The next cursor behind one at which a position code may hold, where there is one.
+// The next cursor after a given one at which a position code may hold, if there is one.
 #[inline(always)]
 fn next_held<S: StrDrive>(
     req: &Request<'_, S>,
@@ -175,7 +176,7 @@ fn next_held<S: StrDrive>(
     }
 }
 
-/// The first cursor from one on at which a match may begin, where there is one.
+/// The first cursor, from a given one on, at which a match may begin, if there is one.
 #[inline(never)]
 pub(crate) fn next_start<S: StrDrive>(
     req: &Request<'_, S>,

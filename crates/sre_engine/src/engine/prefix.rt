@@ -1,9 +1,10 @@
-//! The scan for the places where a confirmed prefix stands.
+//! The scan for occurrences of a confirmed prefix.
 //!
-//! It goes over the window once. Of the prefix words the longest front that ends where it is, is matched; where the
-//! next character is another, it goes on with a shorter front, which the overlap words tell, so that no character is
-//! compared more than twice on average. Where no word is matched, the text seeks one of the first words, the one that
-//! is likely to be the rarest, and the scan goes back to its place: only what lies between is read twice.
+//! It goes over the range once. Its state is the number of prefix words that end at the cursor, the longest such front.
+//! If the next character differs, it continues with a shorter front by the overlap words (as Knuth, Morris and Pratt
+//! do). So it compares each character at most twice on average. If no word is matched, the text seeks the one of the
+//! first words that is probably the rarest. The scan then goes back to the start of that occurrence, and reads only the
+//! characters between twice.
 
 ghost use Rattle.std.specs.Prelude.{◌≡◌, ◌↔◌, ◌+◌, ◌-◌, ◌*◌, ◌^◌, ◌<◌, ◌≤◌, length, true, false, IsTrue};
 ghost use Rattle.std.specs.Prelude.{None, IfSome, not, ◌||◌, nat_eq};
@@ -23,27 +24,27 @@ use sre_request::Request;
 pub(crate) struct Prefix<'a> {
     pub(super) words: &'a [u32],
     pub(super) overlaps: &'a [u32],
-    // How many of them are literals one directly after the other, which need not be matched again.
+    // How many of them are consecutive literals, which need not be matched again.
     pub(super) literals: usize,
     // Whether nothing follows them.
     pub(super) whole: bool,
-    // The place among the words of the one that is sought.
+    // The index of the word that is sought.
     sought: usize,
     ghost confirmed: { Overlapping words.now overlaps.now },
     ghost among: { sought < length words.now },
 }
 
-/// Where a scan is, and how many words end there.
+/// The position of a scan, and how many words end there.
 #[derive(Clone, Copy)]
 pub(crate) struct Spot {
     pub(super) cursor: StringCursor,
     pub(super) matched: usize,
 }
 
-// How many of a prefix's words are looked at for the one that is sought.
+// Among so many words the one that is sought is chosen.
 const LOOKED_AT: usize = 16;
 
-// How common a character is in prose, programs and logs, by a rough count; past ASCII a `str` seeks more slowly.
+// A rough rank of how common a character is in prose, programs and logs. Past ASCII a `str` seeks more slowly.
 #[inline(always)]
 fn commonness(character: u32) -> u32 {
     match character {
@@ -51,7 +52,7 @@ fn commonness(character: u32) -> u32 {
         32 | 97 | 101 | 104 | 105 | 110 | 111 | 114..=116 => 4,
         // c, d, l, m and u
         99 | 100 | 108 | 109 | 117 => 3,
-        // b, f, g, p, w and y, and marks that words are joined and parted by
+        // b, f, g, p, w and y, and punctuation that joins and separates words
         98 | 102 | 103 | 112 | 119 | 121 | 10 | 34 | 44..=47 | 95 => 2,
         // other letters, and digits
         48..=57 | 65..=90 | 97..=122 => 1,
@@ -60,7 +61,7 @@ fn commonness(character: u32) -> u32 {
     }
 }
 
-// The place of the rarest of the first words, the first one of these.
+// The index of the rarest of the first words, and of these the first.
 #[inline(never)]
 fn rarest(words: &[u32]) -> usize
     requires { 0 < length words.now }
@@ -79,7 +80,7 @@ fn rarest(words: &[u32]) -> usize
     place
 }
 
-/// The prefix, where one is confirmed.
+/// The prefix, if one is confirmed.
 pub(crate) fn confirmed_prefix<'a, S: StrDrive>(req: &Request<'a, S>) -> Option<Prefix<'a>>
     ensures none { result ≡ None → (hints_of (code_of req.now)).prefix ≡ None }
     ensures some { IfSome result (λ prefix. IsPrefix (code_of req.now) prefix.words.now prefix.literals prefix.whole) }
@@ -101,7 +102,7 @@ pub(crate) fn confirmed_prefix<'a, S: StrDrive>(req: &Request<'a, S>) -> Option<
     })
 }
 
-/// The start of the place behind which a scan is.
+/// The start of the occurrence that a scan has just passed.
 #[inline(always)]
 pub(crate) fn prefix_start(prefix: &Prefix<'_>, spot: Spot) -> usize
     requires { length prefix.now.words.now ≤ spot.cursor.position }
@@ -110,7 +111,7 @@ pub(crate) fn prefix_start(prefix: &Prefix<'_>, spot: Spot) -> usize
     spot.cursor.position() - prefix.words.len()
 }
 
-/// Whether a match may end at a cursor: anywhere, or at the window's end alone.
+/// Whether a match may end at a cursor: anywhere, or with `match_all` at the end of the range only.
 #[inline(always)]
 pub(crate) fn may_end<S: StrDrive>(req: &Request<'_, S>, cursor: StringCursor) -> bool
     ensures { result ≡ (not (match_all_of req.now) || nat_eq cursor.position (end_of req.now)) }
@@ -118,7 +119,7 @@ pub(crate) fn may_end<S: StrDrive>(req: &Request<'_, S>, cursor: StringCursor) -
     !req.match_all() || cursor.position() == req.end()
 }
 
-/// The cursor behind the first literals of the place behind which a scan is.
+/// The cursor after the first literals of the occurrence that a scan has just passed.
 #[inline(always)]
 pub(crate) fn behind_literals<S: StrDrive>(
     req: &Request<'_, S>,
@@ -135,7 +136,8 @@ pub(crate) fn behind_literals<S: StrDrive>(
     looked_at(req, spot.cursor, prefix.words.len() - prefix.literals)
 }
 
-// Compares a character with a word of a prefix. This function and `behind_next` alone do, and add what they compare.
+// Compares a character with a word of a prefix. Only this function and `behind_next` compare, and count what they
+// compare.
 #[inline(always)]
 fn is_same(compared: &mut u64, character: u32, word: u32) -> bool
     requires { compared.old + 1 < 2 ^ 64 }
@@ -146,8 +148,8 @@ fn is_same(compared: &mut u64, character: u32, word: u32) -> bool
     character == word
 }
 
-// Goes on from a cursor behind the next character that is a word, if there is one, else to the window's end. Each
-// character that is passed was compared once with the word.
+// Moves past the next character that equals the word, or to the end of the range. Each character passed is compared
+// once.
 #[inline(always)]
 #[tactic(auto, using(crate::proofs::Steps::first_sought))]
 fn behind_next<S: StrDrive>(
@@ -168,8 +170,8 @@ fn behind_next<S: StrDrive>(
     (is_there, cursor)
 }
 
-// Goes on from a cursor, where no word is matched, to the next place at which the word that is sought stands, and past
-// its first character.
+// Moves, with no word matched, to where the next sought word would have the prefix begin, and past the first character
+// there.
 #[inline(never)]
 #[tactic(auto, using(crate::proofs::Seeking::sought_laws))]
 fn behind_sought<S: StrDrive>(
@@ -213,8 +215,7 @@ fn behind_sought<S: StrDrive>(
     (true, Spot { cursor, matched: 0 })
 }
 
-// Goes on from a cursor, where no word is matched, behind the next first word, or as far as the next place at which the
-// word that is sought stands.
+// Moves, with no word matched, past the next first word; or as `behind_sought` does, if that is not the sought one.
 #[inline(always)]
 #[tactic(auto, using(crate::proofs::Seeking::first_laws))]
 fn behind_none<S: StrDrive>(
@@ -240,7 +241,7 @@ fn behind_none<S: StrDrive>(
     (false, Spot { cursor, matched: 0 })
 }
 
-// Goes past the next character, to the longest front of the prefix that ends behind it.
+// Moves past the next character, to the longest front of the prefix that ends there.
 #[inline(always)]
 #[tactic(auto, using(crate::proofs::Steps::pass_laws))]
 fn pass<S: StrDrive>(
@@ -274,7 +275,7 @@ fn pass<S: StrDrive>(
     }
 }
 
-/// Finds the next place where the prefix stands, and goes behind it.
+/// Finds the next occurrence of the prefix, and moves past it.
 #[inline(always)]
 #[tactic(auto, using(crate::proofs::Steps::find_laws))]
 pub(crate) fn find<S: StrDrive>(
@@ -310,7 +311,7 @@ pub(crate) fn find<S: StrDrive>(
     true
 }
 
-/// Goes on behind a place where the prefix stands, from the longest overlap.
+/// Continues after an occurrence of the prefix, from the longest overlap.
 #[inline(always)]
 #[tactic(auto, using(crate::proofs::Steps::onward, crate::proofs::Steps::onward_less))]
 pub(crate) fn go_on<S: StrDrive>(

@@ -1,4 +1,4 @@
-//! The walk over all matches, one after the other.
+//! [`SearchIter`]: the iteration over all matches.
 
 ghost use Rattle.std.specs.Prelude.{◌≡◌, ◌<◌, true, false, IfSome, None};
 ghost use Rattle.sre_model.specs.Marks.{no_marks};
@@ -16,21 +16,21 @@ use sre_machine::turns::Halt;
 use sre_request::Request;
 use std::alloc::{Allocator, Global};
 
-/// The matches of a window, each searched from the end of the one before.
+/// The iteration over the matches in a range, each searched from the end of the one before.
 ///
-/// An item `Ok(())` says that there is a match, which `state` shows: `req` then starts at its end, and must advance
-/// exactly where it was empty, so that no empty match comes twice. The walk ends with `None`, which `next_within` tells
-/// as `Some(false)`, or with an error, which means that a growth of the state's memory was refused; from then on there
-/// is no item, there are no marks, and `req` is as it was. A window of n characters has at most 2n + 1 matches. No step
-/// counts characters from the start on.
+/// An item `Ok(())` is a match, which `state` shows. `req` then starts at its end, and must advance exactly if the
+/// match was empty, so no empty match comes twice. The iteration ends with `None`, which `next_within` returns as
+/// `Some(false)`, or with an error if an allocation failed. From then on there are no items and no captures, and `req`
+/// is unchanged. A range of n characters has at most 2n + 1 matches. No call counts characters from the start of the
+/// text.
 ///
-/// Of a code with a branch of three alternatives or more, behind some steps, a list tells what may come next at each
-/// place, if much of the window is left. It takes up to 64 bytes for each word of the code, since it grows by doubling,
-/// and up to 48 more while it is told, from the state's allocator; of more than 4,096 words nothing is told. A refusal
-/// of that memory is no error: the walk goes on without.
+/// If the code has a branch of three or more alternatives, the iteration computes a FIRST set for each address after
+/// eight steps, provided that 256 characters of the range are left. The list comes from the state's allocator. It takes
+/// up to 64 bytes a code word, since it grows by doubling, and up to 48 more while it is computed. A code of more than
+/// 4,096 words gets no list. If its allocation fails, the iteration continues without it.
 ///
 /// ```
-/// // The words of `a`.
+/// // The bytecode of `a`.
 /// let code = Code::check(alloc, &[16, 97, 1], &uni)?;
 /// let mut walk = SearchIter::new(Request::whole("aba", code), State::new(alloc));
 /// let mut starts = 0;
@@ -51,7 +51,7 @@ pub struct SearchIter<'a, S: StrDrive, A: Allocator + Copy = Global> {
     ghost admitted: { AllAdmitted (items_of (code_of req)) places } by { one_all_admitted },
 }
 
-// By hand, as that of `State`.
+// Custom, as that of `State`.
 impl<'a, S: StrDrive, A: Allocator + Copy> Drop for SearchIter<'a, S, A> {
     fn drop(self) {
         let SearchIter {
@@ -67,10 +67,10 @@ impl<'a, S: StrDrive, A: Allocator + Copy> Drop for SearchIter<'a, S, A> {
 
 impl<'a, S: StrDrive, A: Allocator + Copy> SearchIter<'a, S, A> {
     ghost use Rattle.sre_engine.specs.Iterators.{request_of, shown_of, has_ended, most_items, NextGives, NextWithin};
-    ghost use Rattle.sre_engine.specs.Counts.{KeepsToTurns, runs_of};
+    ghost use Rattle.sre_engine.specs.Counts.{KeepsToSteps, runs_of};
     ghost use Rattle.sre_growth.specs.Refusal.{Refused};
 
-    /// The walk over the request's window. The state shows what it showed until the first item comes.
+    /// An iteration over the request's range. Until the first item, the state shows what it showed before.
     pub fn new(req: Request<'a, S>, state: State<A>) -> SearchIter<'a, S, A>
         ensures req { request_of result ≡ req.entry }
         ensures state { shown_of result ≡ state }
@@ -87,37 +87,36 @@ impl<'a, S: StrDrive, A: Allocator + Copy> SearchIter<'a, S, A> {
         }
     }
 
-    /// What is asked next: the matches still to come are those of its walk, until the walk has ended, and none after.
+    /// The request for the next item: the remaining matches are those of its iteration. After the end there are none.
     pub fn req(&self) -> &Request<'a, S>
         ensures { result.now ≡ request_of self.now }
     {
         &self.req
     }
 
-    /// The next match within a number of turns of the machine: whether there is one, as `next` tells it, or `None`
-    /// where they were used up before that was known. `State::match_within` says what a turn is.
+    /// Whether there is a next match, as `next` finds it, within a budget of steps. Returns `None` if the step limit is
+    /// exceeded. `State::match_within` defines a step, and says which budgets suffice for one match.
     ///
-    /// What is left of the turns comes back, so one number can bound a whole walk. Where they are used up there are no
-    /// marks, and the walk stands where it stood: `next`, or this with more turns, begins its step anew. How many are
-    /// enough for a step is said there, too.
+    /// `steps` then holds the steps that are left, so one budget can bound a whole iteration. After `None` there are no
+    /// captures, and the iterator is as before the call. `next`, or this call with more steps, searches the match anew.
     ///
     /// # Errors
     ///
-    /// [`SreError::Memory`], where a growth of the state's memory was refused; the walk has then ended.
-    pub fn next_within(&mut self, turns: &mut u64) -> Result<Option<bool>, SreError>
+    /// [`SreError::Memory`] if an allocation fails; the iteration has then ended.
+    pub fn next_within(&mut self, steps: &mut u64) -> Result<Option<bool>, SreError>
         ensures gives { NextWithin self.old result self.new }
-        ensures turns { KeepsToTurns (asked_of (request_of self.old)) (code_of (request_of self.old)) result
-            (runs_of (shown_of self.new)) turns.old turns.new }
+        ensures steps { KeepsToSteps (asked_of (request_of self.old)) (code_of (request_of self.old)) result
+            (runs_of (shown_of self.new)) steps.old steps.new }
     {
         if self.ended {
             return Ok(Some(false));
         }
         self.places.note_step(&self.req);
-        let mut allowed = Allowance::Turns(*turns);
+        let mut allowed = Allowance::Turns(*steps);
         let (req, state, cursor) = (&mut self.req, &mut self.state, &mut self.cursor);
         let admitted = self.places.list();
         let told = step_within(req, state, cursor, &mut allowed, &mut Nobody, admitted);
-        *turns = allowed.left();
+        *steps = allowed.left();
         match told {
             Ok(true) => Ok(Some(true)),
             Ok(false) => {
@@ -132,7 +131,7 @@ impl<'a, S: StrDrive, A: Allocator + Copy> SearchIter<'a, S, A> {
         }
     }
 
-    /// The next item as `next` gives it; the starts of which is told that they have no match are passed.
+    /// The next item, as `next` returns it. The search skips the starts that the prefilter excludes.
     pub fn next_by<F: Starts<S>>(&mut self, starts: &mut F) -> Option<Result<(), SreError>>
         requires suits { F.suits starts.old (string_of (request_of self.old)) (code_of (request_of self.old)) }
         ensures suits { F.suits starts.new (string_of (request_of self.new)) (code_of (request_of self.new)) }

@@ -1,4 +1,4 @@
-//! A state: what a search leaves of a match.
+//! [`State`]: runs a match or a search, and shows the match.
 
 ghost use Rattle.std.specs.Prelude.{◌≡◌, ◌+◌, ◌-◌, ◌*◌, ◌<◌, ◌≤◌, length, IfOk, OnErr, true, false, Some};
 ghost use Rattle.std.specs.Prelude.{None, IfSome, ◌≢◌};
@@ -10,7 +10,7 @@ ghost use Rattle.sre_model.specs.Anchors.{is_anchored};
 ghost use Rattle.sre_code.specs.Codes.{words_of};
 ghost use Rattle.sre_request.specs.Requests.{string_of, start_of, end_of, code_of, asked_of, stands_in};
 ghost use Rattle.sre_engine.specs.Answers.{answer_of, Spans, MayTakeMemory};
-ghost use Rattle.sre_engine.specs.Counts.{CountsStay, CountsUpTo, BeginsAgain, KeepsToTurns, runs_of};
+ghost use Rattle.sre_engine.specs.Counts.{CountsStay, CountsUpTo, BeginsAgain, KeepsToSteps, runs_of};
 ghost use Rattle.sre_engine.specs.Costs.{Charged};
 ghost use Rattle.sre_engine.specs.Searches.{Answered, CountsAll, has_found, RunsOnceAnchored};
 ghost use Rattle.sre_growth.specs.Refusal.{Refused};
@@ -29,10 +29,10 @@ use thiserror::Error;
 
 mod search;
 
-/// Why a search was given up.
+/// Why a call failed.
 #[derive(Clone, Copy, PartialEq, Eq, Debug, Error)]
 pub enum SreError {
-    /// Memory was refused to the search.
+    /// An allocation for the search failed.
     #[error("out of memory")]
     Memory,
 }
@@ -52,8 +52,8 @@ impl From<Refusal> for SreError {
     }
 }
 
-// For functions of callers that grow lists of their own. The calls here say by their contracts that a growth of theirs
-// was refused, which no error of these tells.
+// For callers that grow lists of their own. The contracts of the calls here say that an allocation of the call failed,
+// which these conversions cannot state.
 impl From<AllocError> for SreError {
     fn from(_refused: AllocError) -> SreError {
         SreError::Memory
@@ -66,9 +66,9 @@ impl<T: Drop> From<AllocFailed<T>> for SreError {
     }
 }
 
-/// The marks, the start and the end of a match, the counts of a search, and the memory in which it runs.
+/// Captures, start and end of a match, the counts of a search, and the memory in which it runs.
 ///
-/// A state serves any number of searches, over texts of any kind. Its memory is kept from one to the next.
+/// A state serves any number of searches, over texts of any type. It reuses its memory from one to the next.
 pub struct State<A: Allocator + Copy = Global> {
     runner: Runner<A>,
     start: usize,
@@ -76,7 +76,7 @@ pub struct State<A: Allocator + Copy = Global> {
     compared: u64,
 }
 
-// By hand, so that whoever lets a state go calls this. A derived one goes through each field of the runner there.
+// Custom, so that each drop of a state is one call. A derived `Drop` is expanded at each drop, field by field.
 impl<A: Allocator + Copy> Drop for State<A> {
     fn drop(self) {
         let State {
@@ -106,7 +106,7 @@ impl<A: Allocator + Copy> Model for State<A> {
 }
 
 impl<A: Allocator + Copy> State<A> {
-    /// A state with no marks, start 0, the default cursor, and nothing counted. It takes no memory.
+    /// A state without captures: start 0, the default cursor, all counts 0. It allocates nothing.
     pub fn new(alloc: A) -> State<A>
         ensures { result ≡ record {
           marks = no_marks;
@@ -125,52 +125,52 @@ impl<A: Allocator + Copy> State<A> {
         }
     }
 
-    /// The marks of the match; there are none where the last search found no match or was given up.
+    /// The captures of the match. There are none if the last search found no match, exceeded its step limit or failed.
     pub fn marks(&self) -> &Marks<A>
         ensures { result.now ≡ self.now.marks }
     {
         self.runner.marks()
     }
 
-    /// The position at which the match starts. It is left open where the last search found none.
+    /// The position at which the match starts, in characters. Unspecified if the last search found none.
     pub fn start(&self) -> usize
         ensures { result ≡ self.now.start }
     {
         self.start // of the match
     }
 
-    /// A cursor that stands where the match ends. It is left open where the last search found none.
+    /// The cursor at the end of the match. Unspecified if the last search found none.
     pub fn cursor(&self) -> StringCursor
         ensures { result ≡ self.now.cursor }
     {
         self.cursor
     }
 
-    /// How many comparisons of a character with a word of a confirmed prefix the last search made, one that was given
-    /// up among them. Only a search counts, and `all_matches` adds up what its steps count.
+    /// How many times the last search compared a character with a word of a confirmed prefix, even if it exceeded its
+    /// step limit. Only a search counts. `all_matches` adds up the counts of its searches.
     pub fn compared(&self) -> u64
         ensures { result ≡ self.now.compared }
     {
         self.compared
     }
 
-    /// At how many starts the last search began a run of the machine, one that was given up among them. Only a search
-    /// counts, and `all_matches` adds up what its steps count, of which two may begin at one start.
+    /// At how many starts the last search began a run of the machine, even if it exceeded its step limit. Only a search
+    /// counts. `all_matches` adds up the counts of its searches, of which two may begin a run at the same start.
     pub fn started(&self) -> u64
         ensures { result ≡ self.now.started }
     {
         self.runner.begun().started
     }
 
-    /// How many of these runs began a second time, since failures came to be kept in their course: only a search within
-    /// turns lets a run do so. `started` and this are all runs of the last search.
+    /// How many of these runs restarted when memoization began. Only a search with a step limit restarts a run. The sum
+    /// of `started` and this is the number of all runs of the last search.
     pub fn restarted(&self) -> u64
         ensures { result ≡ self.now.restarted }
     {
         self.runner.begun().restarted
     }
 
-    /// Stands at a position of a request's text, with no marks.
+    /// Drops the captures and sets start and cursor to a position of the request's text, in characters.
     pub fn reset<S: StrDrive>(&mut self, req: &Request<'_, S>, start: usize)
         requires { start ≤ length (S.text (string_of req.now)) }
         ensures marks { self.new.marks ≡ no_marks }
@@ -184,17 +184,17 @@ impl<A: Allocator + Copy> State<A> {
         (self.start, self.cursor) = (start, req.string().create_cursor(start));
     }
 
-    /// Matches at the window's start: whether there is a match, which the state then shows.
+    /// Matches at the start of the range, and returns whether there is a match. The state then shows it.
     ///
-    /// The match is the first way, in the order of CPython's `_sre`, that the request's flags accept; it ends between
-    /// the window's start and its end. Equal characters, tables, windows, flags and trees have equal answers, whatever
-    /// types the texts are of.
+    /// The match is the first match path, in the order of CPython's `_sre`, that the request's flags accept. It lies
+    /// within the range. Requests with equal characters, tables, ranges, flags and trees have equal answers, whatever
+    /// their text types.
     ///
-    /// After `Ok(false)`, as after an error, there are no marks, start and cursor are open, and the state serves again,
-    /// with a text of any type.
+    /// After `Ok(false)` or an error there are no captures, and start and cursor are unspecified. The state can be
+    /// reused, with a text of any type.
     ///
     /// ```
-    /// // The words of `(a)b`.
+    /// // The bytecode of `(a)b`.
     /// let code = Code::check(alloc, &[17, 0, 16, 97, 17, 1, 16, 98, 1], &uni)?;
     /// let mut state = State::new(alloc);
     /// assert!(state.pymatch(&Request::whole("abc", code))?);
@@ -205,7 +205,7 @@ impl<A: Allocator + Copy> State<A> {
     ///
     /// # Errors
     ///
-    /// [`SreError::Memory`], where a growth of the state's memory was refused.
+    /// [`SreError::Memory`] if an allocation fails.
     pub fn pymatch<S: StrDrive>(&mut self, req: &Request<'_, S>) -> Result<bool, SreError>
         ensures answer { (t : Tree) → Whole (words_of (code_of req.now)) t
             → IfOk result (λ b. answer_of b self.new ≡ matched (asked_of req.now) t) }
@@ -226,32 +226,33 @@ impl<A: Allocator + Copy> State<A> {
         }
     }
 
-    /// Matches at the window's start as `pymatch` does, within a number of turns of the machine: `None` where they were
-    /// used up before the answer was known, and then there are no marks.
+    /// Matches at the start of the range as `pymatch` does, within a budget of steps. Returns `None`, without captures,
+    /// if the step limit is exceeded.
     ///
-    /// What is left of the turns comes back. A turn is one instruction, or one step back to what is still to be tried;
-    /// a stretch of 64 characters or more that a run, a reference or a look goes over counts for one more for each
-    /// eight of them, on the way back to the group or the look's start, too. So the code alone bounds the time of a
-    /// turn, but for one in which room for failures is made, and a number of turns bounds that of a call.
+    /// `steps` then holds the steps that are left. A step is one instruction, or one return to a saved choice. If it
+    /// scans 64 characters or more, it costs one step more for each 8 of them. That concerns single-character repeats,
+    /// back-references, lookbehinds and the scan for what a long repeat needs next. The time of a step grows with the
+    /// code. Once a search, the memo also makes passes over the bytecode, and it allocates rows of bits for the whole
+    /// range.
     ///
-    /// By a code without references, whose regions are counted, and whose loops count no further than the memory of
-    /// failures goes (`IsRemembered`), more turns than `enough_turns` are not used up, unless memory is refused.
+    /// If the code meets the conditions of a step bound (`IsRemembered`), a budget above `step_bound` is exceeded only
+    /// if an allocation fails. `Code::step_bound` computes such a budget.
     ///
     /// ```
-    /// // The words of `a`.
+    /// // The bytecode of `a`.
     /// let code = Code::check(alloc, &[16, 97, 1], &uni)?;
-    /// let mut turns = 1000;
-    /// assert!(state.match_within(&Request::whole("ab", code), &mut turns)? == Some(true));
+    /// let mut steps = 1000;
+    /// assert!(state.match_within(&Request::whole("ab", code), &mut steps)? == Some(true));
     /// assert!(state.match_within(&Request::whole("ab", code), &mut 0)?.is_none());
     /// ```
     ///
     /// # Errors
     ///
-    /// [`SreError::Memory`], where a growth of the state's memory was refused.
+    /// [`SreError::Memory`] if an allocation fails.
     pub fn match_within<S: StrDrive>(
         &mut self,
         req: &Request<'_, S>,
-        turns: &mut u64,
+        steps: &mut u64,
     ) -> Result<Option<bool>, SreError>
         ensures answer { (t : Tree) → Whole (words_of (code_of req.now)) t → IfOk result
             (λ told. IfSome told (λ b. answer_of b self.new ≡ matched (asked_of req.now) t)) }
@@ -259,7 +260,7 @@ impl<A: Allocator + Copy> State<A> {
             (λ told. told ≡ Some true → stands_in req.now self.new.cursor self.new.cursor.position) }
         ensures span { IfOk result (λ told. told ≡ Some true → Spans (start_of req.now) (end_of req.now) self.new) }
         ensures no { IfOk result (λ told. told ≢ Some true → self.new.marks ≡ no_marks) }
-        ensures turns { KeepsToTurns (asked_of req.now) (code_of req.now) result 2 turns.old turns.new }
+        ensures steps { KeepsToSteps (asked_of req.now) (code_of req.now) result 2 steps.old steps.new }
         ensures err { OnErr result (self.new.marks ≡ no_marks) }
         ensures refused { OnErr result Refused }
         ensures compared { self.new.compared ≡ self.old.compared }
@@ -267,9 +268,9 @@ impl<A: Allocator + Copy> State<A> {
         ensures restarted { self.new.restarted ≡ self.old.restarted }
     {
         let start = req.string().create_cursor(req.start());
-        let mut allowed = Allowance::Turns(*turns);
+        let mut allowed = Allowance::Turns(*steps);
         let told = self.match_from(req, start, &mut allowed);
-        *turns = allowed.left();
+        *steps = allowed.left();
         match told {
             Ok(found) => Ok(Some(found)),
             Err(Halt::Refused(refusal)) => Err(SreError::from(refusal)),
@@ -277,7 +278,7 @@ impl<A: Allocator + Copy> State<A> {
         }
     }
 
-    // Matches as `pymatch` does, from a cursor that stands at the window's start. What the last search counted stays.
+    // Matches as `pymatch` does, from a cursor at the start of the range. The counts of the last search do not change.
     fn match_from<S: StrDrive>(
         &mut self,
         req: &Request<'_, S>,
@@ -307,24 +308,27 @@ impl<A: Allocator + Copy> State<A> {
         }
     }
 
-    /// Searches the window: whether there is a match at one of its starts, of which the state then shows that of the
-    /// least start; it lies in the window.
+    /// Searches the range for the least start that has a match, and returns whether there is one. The state then shows
+    /// that match, which lies within the range.
     ///
-    /// Each start is tried in turn, as `pymatch` tries it; an empty match at the window's end is one, too. Under
-    /// `must_advance` an empty match is refused at the window's start alone. Equal characters, tables, windows,
-    /// flags and trees have equal answers, whatever types the texts are of.
+    /// An empty match at the end of the range counts. With `must_advance`, an empty match at the start of the range
+    /// does not. Requests with equal characters, tables, ranges, flags and trees have equal answers, whatever their
+    /// text types.
     ///
-    /// A start at which no match begins by the code's hints is passed, and `started` and `compared` tell what the
-    /// search took: at most one run at each start, which never begins again, none at which a confirmed width does not
-    /// fit, with a confirmed prefix only where it stands, and with a confirmed first set only at its members; and at
-    /// most two comparisons with a confirmed prefix for each character. Where the prefix is all of the code, there is
-    /// no run and no error.
+    /// The search skips starts that the code's confirmed hints exclude:
     ///
-    /// After `Ok(false)`, as after an error, there are no marks, start and cursor are open, and the state serves again,
-    /// with a text of any type.
+    /// - a start after which the least width does not fit;
+    /// - with a prefix, a start where it does not occur;
+    /// - with a first set, a start whose character is not a member.
+    ///
+    /// It runs the machine at most once at each other start (`started`). It compares each character at most twice on
+    /// average with a confirmed prefix (`compared`). If the prefix is the whole code, there is no run and no error.
+    ///
+    /// After `Ok(false)` or an error there are no captures, and start and cursor are unspecified. The state can be
+    /// reused, with a text of any type.
     ///
     /// ```
-    /// // The words of `a`.
+    /// // The bytecode of `a`.
     /// let code = Code::check(alloc, &[16, 97, 1], &uni)?;
     /// let mut state = State::new(alloc);
     /// assert!(state.search(Request::whole("éa", code))?);
@@ -334,7 +338,7 @@ impl<A: Allocator + Copy> State<A> {
     ///
     /// # Errors
     ///
-    /// [`SreError::Memory`], where a growth of the state's memory was refused.
+    /// [`SreError::Memory`] if an allocation fails.
     pub fn search<S: StrDrive>(&mut self, req: Request<'_, S>) -> Result<bool, SreError>
         ensures answer { (t : Tree) → Whole (words_of (code_of req.entry)) t
             → IfOk result (λ b. answer_of b self.new ≡ found (asked_of req.entry) t) }
@@ -356,7 +360,11 @@ impl<A: Allocator + Copy> State<A> {
         self.search_by(req, &mut Nobody)
     }
 
-    /// Searches the window as `search` does, but passes the starts of which is told that they have no match.
+    /// Searches the range as `search` does, but skips the starts that the prefilter excludes.
+    ///
+    /// # Errors
+    ///
+    /// [`SreError::Memory`] if an allocation fails.
     pub fn search_by<S: StrDrive, F: Starts<S>>(
         &mut self,
         req: Request<'_, S>,
@@ -378,27 +386,26 @@ impl<A: Allocator + Copy> State<A> {
         }
     }
 
-    /// Searches the window as `search` does, within a number of turns of the machine over all its starts: `None` where
-    /// they were used up before the answer was known, and then there are no marks. `match_within` says what a turn is.
+    /// Searches the range as `search` does, within one budget of steps for all its starts. Returns `None`, without
+    /// captures, if the step limit is exceeded. `match_within` defines a step, and says which budgets suffice.
     ///
-    /// What is left of the turns comes back, so one number can bound several searches. How many are enough is said
-    /// there, too. Beside its turns a search looks for the starts that it tries; the code alone bounds the time that
-    /// this takes for each character of the window.
+    /// `steps` then holds the steps that are left, so one budget can bound several searches. The search for the next
+    /// possible start costs no step. The code alone bounds its time for each character of the range.
     ///
     /// ```
-    /// // The words of `a`.
+    /// // The bytecode of `a`.
     /// let code = Code::check(alloc, &[16, 97, 1], &uni)?;
-    /// let mut turns = 1000;
-    /// assert!(state.search_within(Request::whole("ba", code), &mut turns)? == Some(true));
+    /// let mut steps = 1000;
+    /// assert!(state.search_within(Request::whole("ba", code), &mut steps)? == Some(true));
     /// ```
     ///
     /// # Errors
     ///
-    /// [`SreError::Memory`], where a growth of the state's memory was refused.
+    /// [`SreError::Memory`] if an allocation fails.
     pub fn search_within<S: StrDrive>(
         &mut self,
         req: Request<'_, S>,
-        turns: &mut u64,
+        steps: &mut u64,
     ) -> Result<Option<bool>, SreError>
         ensures answer { (t : Tree) → Whole (words_of (code_of req.entry)) t → IfOk result
             (λ told. IfSome told (λ b. answer_of b self.new ≡ found (asked_of req.entry) t)) }
@@ -407,8 +414,8 @@ impl<A: Allocator + Copy> State<A> {
         ensures span { IfOk result (λ told. told ≡ Some true
             → (start_of req.entry ≤ self.new.start) × Spans self.new.start (end_of req.entry) self.new) }
         ensures no { IfOk result (λ told. told ≢ Some true → self.new.marks ≡ no_marks) }
-        ensures turns { KeepsToTurns (asked_of req.entry) (code_of req.entry) result (runs_of self.new) turns.old
-            turns.new }
+        ensures steps { KeepsToSteps (asked_of req.entry) (code_of req.entry) result (runs_of self.new) steps.old
+            steps.new }
         ensures again { BeginsAgain true self.new }
         ensures err { OnErr result (self.new.marks ≡ no_marks) }
         ensures refused { OnErr result Refused }
@@ -417,9 +424,9 @@ impl<A: Allocator + Copy> State<A> {
             × IfOk result (λ told. told ≡ None → MayTakeMemory (code_of req.entry)) }
     {
         let start = req.string().create_cursor(req.start());
-        let mut allowed = Allowance::Turns(*turns);
+        let mut allowed = Allowance::Turns(*steps);
         let told = self.search_from(&req, start, &mut allowed, &mut Nobody);
-        *turns = allowed.left();
+        *steps = allowed.left();
         match told {
             Ok(found) => Ok(Some(found)),
             Err(Halt::Refused(refusal)) => Err(SreError::from(refusal)),
@@ -427,12 +434,12 @@ impl<A: Allocator + Copy> State<A> {
         }
     }
 
-    // The allocator that its memory is taken from.
+    // The allocator of its memory.
     pub(crate) fn allocator(&self) -> A {
         self.runner.allocator()
     }
 
-    // Takes the marks away; the memory is kept.
+    // Drops the captures, and keeps the memory for reuse.
     pub(crate) fn forget(&mut self)
         ensures marks { self.new.marks ≡ no_marks }
         ensures compared { self.new.compared ≡ self.old.compared }
@@ -442,7 +449,7 @@ impl<A: Allocator + Copy> State<A> {
         self.runner.clear();
     }
 
-    // Shows such counts in place of those of the last search.
+    // Shows these counts instead of those of the last search.
     pub(crate) fn show_counts(&mut self, started: u64, compared: u64)
         ensures marks { self.new.marks ≡ self.old.marks }
         ensures compared { self.new.compared ≡ compared }

@@ -1,4 +1,4 @@
-//! Starts of which another tells that they have no match: a search passes them with no run.
+//! Prefilters: they exclude starts without a match, which a search then skips without a run.
 
 ghost use Rattle.std.specs.Prelude.{◌≡◌, ◌≤◌, ◌+◌, ◌-◌, length, IfSome, None, true, false, ⊤};
 ghost use Rattle.sre_model.specs.Tree.{Tree};
@@ -19,13 +19,14 @@ use crate::engine::prefix::{Prefix, Spot, find};
 use sre_chars::string::{StrDrive, StringCursor};
 use sre_request::Request;
 
-/// Who tells a search of starts that have no match.
+/// A prefilter: it excludes starts that have no match.
 pub trait Starts<S: StrDrive> {
-    // Whether it tells of a code's starts in a text.
+    // Whether it suits a code and a text.
     ghost suits: { Self → S → Code → Type 0 };
 
-    /// A cursor in the window before which no start from one on has a match; none where no start from there on has
-    /// one. A search asks at its window's start, and behind each start that it tried in vain.
+    /// Skips starts without a match. The result is a cursor in the range, from the given one on; no start before it has
+    /// a match. `None`: no start from the given one on has a match. A search calls this at the start of its range, and
+    /// after each start that failed.
     fn beyond(&mut self, req: &Request<'_, S>, from: StringCursor) -> Option<StringCursor>
         requires suits { suits self.old (string_of req.now) (code_of req.now) }
         requires stands { Standing req.now from }
@@ -35,17 +36,17 @@ pub trait Starts<S: StrDrive> {
         ensures none { (t : Tree) → Whole (words_of (code_of req.now)) t
             → NoneUntil (asked_of req.now) t from.position result };
 
-    /// Whether it may tell of any start. Where it does not, a search need not find the start that it would ask about.
+    /// Whether `beyond` may skip any start. If not, a search need not find the start that it would pass to `beyond`.
     fn tells(&self) -> bool {
         true
     }
 
-    /// Notes that the machine ran in vain at the start that was last found.
+    /// Notes that the machine's run at the last candidate failed.
     fn note_failed(&mut self)
         ensures { (string : S) (code : Code) → suits self.old string code → suits self.new string code };
 }
 
-/// Tells nothing.
+/// The prefilter that skips nothing.
 #[derive(Clone, Copy, Debug)]
 pub struct Nobody;
 
@@ -66,9 +67,9 @@ impl<S: StrDrive> Starts<S> for Nobody {
     fn note_failed(&mut self) {}
 }
 
-// Where the scan for a prefix goes on, but for starts of which is told that they have no match. Where words are matched
-// the next start is before the scan's cursor. The scan never goes back: it goes to a start that is told from its cursor
-// on, or stays as it is. So nothing is compared again.
+// Where the scan for a prefix continues, after the prefilter's skip. If words are matched, the next start is before the
+// scan's cursor. The scan never goes back: it moves to a start from its cursor on, or stays. So it compares nothing
+// again.
 #[inline(always)]
 #[tactic(auto, using(crate::proofs::Telling::stays, crate::proofs::Telling::none_passed))]
 fn spot_told<S: StrDrive, F: Starts<S>>(
@@ -99,8 +100,7 @@ fn spot_told<S: StrDrive, F: Starts<S>>(
     Some(Spot { cursor, matched: 0 })
 }
 
-/// Finds the next place where the prefix stands, but for starts of which is told that they have no match, and goes
-/// behind it.
+/// Finds the next occurrence of the prefix that the prefilter does not exclude, and moves past it.
 #[inline(always)]
 #[tactic(auto, using(crate::proofs::Telling::here_on))]
 pub(crate) fn find_told<S: StrDrive, F: Starts<S>>(
@@ -130,8 +130,7 @@ pub(crate) fn find_told<S: StrDrive, F: Starts<S>>(
     find(req, prefix, compared, spot)
 }
 
-/// The first member of the confirmed first set from a cursor on, where there is one, but for starts of which is told
-/// that they have no match.
+/// The first member of the confirmed first set, from a cursor on, that the prefilter does not exclude.
 #[inline(always)]
 pub(crate) fn next_member_told<S: StrDrive, F: Starts<S>>(
     req: &Request<'_, S>,
@@ -153,8 +152,7 @@ pub(crate) fn next_member_told<S: StrDrive, F: Starts<S>>(
     next_member(req, told)
 }
 
-/// The first cursor from one on at which a match may begin, where there is one, but for starts of which is told that
-/// they have none.
+/// The first cursor, from a given one on, at which a match may begin and which the prefilter does not exclude.
 #[inline(always)]
 pub(crate) fn next_start_told<S: StrDrive, F: Starts<S>>(
     req: &Request<'_, S>,

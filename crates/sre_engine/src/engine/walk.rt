@@ -1,4 +1,4 @@
-//! One step of a walk: the next match, and what is asked after it.
+//! One step of an iteration: the next match, and the request after it.
 
 ghost use Rattle.std.specs.Prelude.{◌≡◌, OnErr};
 ghost use Rattle.sre_code.specs.Codes.{items_of};
@@ -19,7 +19,7 @@ use sre_machine::turns::Halt;
 use sre_request::{Admitted, Request};
 use std::alloc::Allocator;
 
-// Searches as `State::search_from` does, by what the places of the code admit where that is told.
+// Searches as `State::search_from` does, with the FIRST sets of the code's addresses if they are computed.
 #[inline(always)]
 fn search_admitted<S: StrDrive, A: Allocator + Copy, F: Starts<S>>(
     req: &Request<'_, S>,
@@ -46,12 +46,12 @@ fn search_admitted<S: StrDrive, A: Allocator + Copy, F: Starts<S>>(
     state.search_from(&asked, from, allowed, starts)
 }
 
-/// Searches from a cursor that stands at the window's start. After a match, which the state shows, the request starts
-/// at its end, where the cursor stands, and must advance where the match was empty. So no step counts characters from
-/// the text's start on.
+/// Searches from a cursor at the start of the range. After a match, which the state shows, the request and the cursor
+/// are at its end. The request must advance exactly if the match was empty. So no step counts characters from the start
+/// of the text.
 ///
-/// Without a match, and after an error, there are no marks, and the request is as it was. Where turns are limited it
-/// takes its own off those that are left.
+/// Without a match, and after an error, there are no captures, and the request is unchanged. Steps of the machine are
+/// charged to the limit.
 pub(crate) fn step_within<S: StrDrive, A: Allocator + Copy, F: Starts<S>>(
     req: &mut Request<'_, S>,
     state: &mut State<A>,
@@ -81,7 +81,15 @@ pub(crate) fn step_within<S: StrDrive, A: Allocator + Copy, F: Starts<S>>(
     Ok(true)
 }
 
-/// The same without a limit. The starts of which is told that they have no match are passed.
+/// One step of an iteration: searches from a cursor at the start of the range, and returns whether there is a match.
+/// The search skips the starts that the prefilter excludes.
+///
+/// After a match, which the state shows, the request and the cursor are at its end. The request must advance exactly if
+/// the match was empty. Without a match, and after an error, there are no captures, and the request is unchanged.
+///
+/// # Errors
+///
+/// [`SreError::Memory`] if an allocation fails.
 pub fn step_by<S: StrDrive, A: Allocator + Copy, F: Starts<S>>(
     req: &mut Request<'_, S>,
     state: &mut State<A>,
@@ -101,7 +109,11 @@ pub fn step_by<S: StrDrive, A: Allocator + Copy, F: Starts<S>>(
     step_admitted(req, state, cursor, starts, &[])
 }
 
-/// The same, by what the places of the code admit, if the list is not empty: it changes no answer.
+/// One step as `step_by` takes it, with a list of FIRST sets. The list, which may be empty, changes no answer.
+///
+/// # Errors
+///
+/// [`SreError::Memory`] if an allocation fails.
 pub fn step_admitted<S: StrDrive, A: Allocator + Copy, F: Starts<S>>(
     req: &mut Request<'_, S>,
     state: &mut State<A>,

@@ -1,4 +1,4 @@
-//! The walk over all matches, as a list.
+//! The list of all matches.
 
 ghost use Rattle.std.specs.Prelude.{◌≡◌, ◌<◌, ◌≤◌, ◌+◌, ◌-◌, ◌++◌, map, IfOk, OnErr};
 ghost use Rattle.std.specs.Vec.{vec_len};
@@ -25,8 +25,8 @@ use sre_growth::Refusal;
 use sre_request::{Admitted, Request};
 use std::alloc::{Allocator, Global};
 
-/// A match: where it starts and ends, in characters, the positions of its marks as `Marks::raw` gives them, and the
-/// index of the group that was closed last, counted from 1, or -1 where there is none.
+/// A match: its start and end in characters, its capture slots as `Marks::raw` returns them, and the number of the
+/// group that was closed last, counted from 1, or -1 if there is none.
 #[derive(Drop)]
 pub struct Found<A: Allocator = Global> {
     pub start: usize,
@@ -48,14 +48,14 @@ fn found_in<A: Allocator + Copy>(state: &State<A>) -> Result<Found<A>, Refusal>
     })
 }
 
-// What the steps of a walk count together.
+// The counts of an iteration's steps together.
 #[derive(Drop)]
 struct Tally {
     started: u64,
     compared: u64,
 }
 
-// A step of the walk, whose counts are added.
+// One step of the iteration, which adds its counts to the tally.
 fn counted_step<S: StrDrive, A: Allocator + Copy, F: Starts<S>>(
     req: &mut Request<'_, S>,
     state: &mut State<A>,
@@ -81,7 +81,7 @@ fn counted_step<S: StrDrive, A: Allocator + Copy, F: Starts<S>>(
     found
 }
 
-// Appends the matches of the walk, and counts what its steps do.
+// Appends all matches, and adds up the counts of the steps.
 fn add_matches<S: StrDrive, A: Allocator + Copy, F: Starts<S>>(
     mut req: Request<'_, S>,
     state: &mut State<A>,
@@ -114,19 +114,20 @@ fn add_matches<S: StrDrive, A: Allocator + Copy, F: Starts<S>>(
     Ok(())
 }
 
-/// All matches of a window, each searched from the end of the one before, as `SearchIter` gives them.
+/// All matches in a range, in order: the items of a `SearchIter`, as a list.
 ///
-/// Its memory is taken from the state's allocator. A window of n characters has at most 2n + 1 matches, and 2n where
-/// it must advance at first; each starts no earlier than the one before ends.
+/// The list comes from the state's allocator. A range of n characters has at most 2n + 1 matches, or 2n if the request
+/// must advance. No match starts before the end of the one before it.
 ///
-/// The state then counts all steps together, on an error too: they begin no more runs than there are starts at which
-/// one may begin, and one more for each match, and compare no character more than twice on average.
+/// The state then counts all searches together, after an error too. They begin at most one run for each start that the
+/// confirmed hints allow, and one more for each match. They compare each character at most twice on average with a
+/// confirmed prefix.
 ///
-/// After it, whatever it gives, there are no marks in the state, start and cursor are open, and the state serves again,
-/// with a text of any type.
+/// Afterwards the state has no captures, on an error too, and start and cursor are unspecified. The state can be
+/// reused, with a text of any type.
 ///
 /// ```
-/// // The words of `a`.
+/// // The bytecode of `a`.
 /// let code = Code::check(alloc, &[16, 97, 1], &uni)?;
 /// let all = all_matches(Request::whole("aba", code), &mut State::new(alloc))?;
 /// assert!(all.len() == 2 && all[1].start == 2 && all[1].end == 3);
@@ -134,7 +135,7 @@ fn add_matches<S: StrDrive, A: Allocator + Copy, F: Starts<S>>(
 ///
 /// # Errors
 ///
-/// [`SreError::Memory`], where a growth was refused.
+/// [`SreError::Memory`] if an allocation fails.
 pub fn all_matches<S: StrDrive, A: Allocator + Copy>(
     req: Request<'_, S>,
     state: &mut State<A>,
@@ -154,7 +155,11 @@ pub fn all_matches<S: StrDrive, A: Allocator + Copy>(
     all_matches_by(req, state, &mut Nobody)
 }
 
-/// The same; the starts of which is told that they have no match are passed.
+/// All matches as `all_matches` returns them. The search skips the starts that the prefilter excludes.
+///
+/// # Errors
+///
+/// [`SreError::Memory`] if an allocation fails.
 pub fn all_matches_by<S: StrDrive, A: Allocator + Copy, F: Starts<S>>(
     req: Request<'_, S>,
     state: &mut State<A>,
@@ -184,7 +189,7 @@ pub fn all_matches_by<S: StrDrive, A: Allocator + Copy, F: Starts<S>>(
     match added {
         Ok(()) => Ok(all),
         Err(error) => {
-            state.forget(); // a match that could not be kept
+            state.forget(); // the list has no room for this match
             Err(error)
         }
     }

@@ -1,4 +1,4 @@
-//! The last start at which a confirmed width fits.
+//! The last start with room for the confirmed least width.
 
 ghost use Rattle.std.specs.Prelude.{◌≡◌, true, false};
 ghost use Rattle.sre_request.specs.Requests.{code_of, asked_of};
@@ -7,7 +7,7 @@ ghost use Rattle.sre_engine.specs.Prefixed.{IsLast, FitsAt};
 use sre_chars::string::StrDrive;
 use sre_request::Request;
 
-/// The last start at which a match may begin by its width, where there is one.
+/// The last start at which the least width fits, if there is one.
 #[inline(always)]
 pub(crate) fn last_start<S: StrDrive>(req: &Request<'_, S>) -> Option<usize>
     ensures { IsLast (asked_of req.now) (code_of req.now) result }
@@ -18,7 +18,7 @@ pub(crate) fn last_start<S: StrDrive>(req: &Request<'_, S>) -> Option<usize>
     }
 }
 
-/// Whether a start is behind the last one.
+/// Whether a start is after the last one.
 #[inline(always)]
 pub(crate) fn is_past(last: Option<usize>, start: usize) -> bool
     ensures fits { result ≡ false → FitsAt last start }

@@ -1,4 +1,4 @@
-//! The search of a case, over a long window by a finder.
+//! The search of a case, in a long range with a prefilter.
 
 ghost use Rattle.std.specs.Prelude.{◌≡◌, true, IfOk};
 ghost use Rattle.sre_engine.specs.Tree.{Tree};
@@ -13,8 +13,7 @@ use sre_engine::{Request, State};
 use sre_finder::{Encoding, Finder, Haystack};
 use std::alloc::{Allocator, Global};
 
-/// Searches the window as `State::search` does, with the same answer. Where `reading` says as what, automata on `alloc`
-/// read the text.
+/// Searches the range, with the result of `State::search`. If `reading` is an encoding, DFAs on `alloc` read the text.
 pub fn search<S: Haystack, A: Allocator + Copy>(
     alloc: Global,
     request: Request<'_, S>,
@@ -32,8 +31,7 @@ pub fn search<S: Haystack, A: Allocator + Copy>(
     }
 }
 
-// Searches by a finder, whose automata tell where a match can begin. Where they tell nothing, or memory for them is
-// refused, the machine tries all starts.
+// Searches with a prefilter. If it has no DFAs, because an allocation failed for example, the machine tries all starts.
 fn search_told<S: Haystack, A: Allocator + Copy>(
     alloc: Global,
     request: Request<'_, S>,

@@ -1,4 +1,4 @@
-//! All matches of a case, told one after the other.
+//! All matches of a case, one after the other.
 
 ghost use Rattle.std.specs.Prelude.{◌≡◌, ◌++◌, OnOk, string_bytes};
 ghost use Rattle.sre_engine.specs.Tree.{Tree};
@@ -15,8 +15,8 @@ use sre_engine::{Request, SearchIter, State, StrDrive};
 use sre_finder::{Encoding, Finder, Haystack, SpanFinder, SpanIter};
 use std::alloc::{AllocError, Allocator, Global};
 
-/// Appends the spans of all matches as they come, divided by spaces, or `none`. No match is kept. Where `reading` says
-/// as what, automata on `alloc` read the text.
+/// Appends the spans of all matches, separated by spaces, or `none`. The matches are not stored. If `reading` is an
+/// encoding, DFAs on `alloc` read the text.
 pub fn push_matches<S: Haystack, A: Allocator + Copy>(
     alloc: Global,
     heap: A,
@@ -33,7 +33,7 @@ pub fn push_matches<S: Haystack, A: Allocator + Copy>(
     }
 }
 
-// Appends them by the machine, which asks someone which starts have no match.
+// Appends the spans by the machine, with a prefilter.
 fn push_walk<S: StrDrive, A: Allocator + Copy, F: Starts<S>>(
     heap: A,
     request: Request<'_, S>,
@@ -61,7 +61,8 @@ fn push_walk<S: StrDrive, A: Allocator + Copy, F: Starts<S>>(
     Ok(())
 }
 
-// Appends them where automata are asked. Where they tell nothing, or memory for them is refused, the machine tells all.
+// Appends the spans by DFAs. If there are none, because an allocation failed for example, the machine finds all
+// matches.
 fn push_told<S: Haystack, A: Allocator + Copy>(
     alloc: Global,
     heap: A,
@@ -81,7 +82,7 @@ fn push_told<S: Haystack, A: Allocator + Copy>(
     push_walk(heap, request, &mut starts, answer)
 }
 
-// Appends them by a finder of spans.
+// Appends the spans by DFAs that find spans.
 fn push_spans<S: Haystack, A: Allocator + Copy>(
     heap: A,
     request: Request<'_, S>,
@@ -96,7 +97,7 @@ fn push_spans<S: Haystack, A: Allocator + Copy>(
     push_left(&mut matches, answer)
 }
 
-// Appends the spans that are left of a walk, or `none`. It is a function of its own, so that the walk is dropped in one
+// Appends the remaining spans of an iteration, or `none`. A separate function, so that the iteration is dropped at one
 // place.
 fn push_left<S: Haystack, A: Allocator + Copy>(
     matches: &mut SpanIter<'_, '_, S, A>,
@@ -120,7 +121,7 @@ fn push_left<S: Haystack, A: Allocator + Copy>(
     Ok(())
 }
 
-// Appends what stands before a span.
+// Appends the separator before a span.
 fn push_gap<A: Allocator>(answer: &mut String<A>, first: bool) -> Result<(), AllocError>
     ensures { OnOk result (string_bytes answer.new ≡ string_bytes answer.old ++ gap_text first) }
 {

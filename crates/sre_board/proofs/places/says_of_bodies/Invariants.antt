@@ -1,4 +1,4 @@
-use Rattle.std.proofs.Common.{ℕ, ◌<◌, [], length, slice_index_or}
+use Rattle.std.proofs.Common.{◌<◌, [], length, slice_index_or}
 use Rattle.sre_turns.specs.AskedPlaces.{SaysOfBodies}
 use Rattle.sre_board.proofs.places.says_of_bodies.Given as goal
 

@@ -8,6 +8,6 @@ returns-clause-rows g c =
     let own : c.in-Ok.request ≡ c.args.request.now = search rules in
     let next = request_of c.write_rows.new.walk in (
       next,
-      subst (λ first. WritesRows c.write_rows.result first next c.args.walked.now.turns c.args.width
+      subst (λ first. WritesRows c.write_rows.result first next c.args.walked.now.steps c.args.width
           c.write_rows.new.walked c.write_rows.new.rows) (c.new-walk.ensures.req ∙ own) c.write_rows.ensures.rows,
     )

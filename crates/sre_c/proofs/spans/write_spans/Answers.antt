@@ -11,7 +11,7 @@ matches-preserved g c =
     let kept = c.matches.invariant in
     let noted = c.note_next-in-matches.ensures.next in
     let count = ap (λ (w : SreWalked). w.count) noted in
-    let turns = ap (λ (w : SreWalked). w.turns) noted in
+    let steps = ap (λ (w : SreWalked). w.steps) noted in
     let places = ap (λ n. n * c.args.width) count in (
       c.write_last.ensures.ended ∙ gives.after,
       span_written (request_of c.args.walk.now) c.matches.walk c.next.new.self c.write_last.new.walk span c.args.width
@@ -21,7 +21,7 @@ matches-preserved g c =
       omega (arith, kept.2, places),
       omega (arith, kept.2, kept.3),
       omega (arith, kept.4, c.write_last.auto.rows),
-      omega (arith, kept.5, turns),
+      omega (arith, kept.5, steps),
     )
 
 pub returns-in_default-item-clause-rows : goal.returns-in_default-item-clause-rows

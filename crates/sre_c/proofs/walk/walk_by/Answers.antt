@@ -15,6 +15,6 @@ returns-clause-walks g c =
     ∙ ap (λ table. asked_in c.args.asked.now table (g.S.StrDrive.text c.args.text))
     c.in-Ok.ensures.uni)
     c.in-Ok.ensures.tree c.write.result
-    (subst (λ turns. WritesRows c.write.result c.request-request.result told.0
-    turns c.args.width c.write.new.walked c.write.new.rows) (ap (λ w. w.turns) c.requires.begun)
+    (subst (λ steps. WritesRows c.write.result c.request-request.result told.0
+    steps c.args.width c.write.new.walked c.write.new.rows) (ap (λ w. w.steps) c.requires.begun)
     told.1)

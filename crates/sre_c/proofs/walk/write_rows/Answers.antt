@@ -9,15 +9,15 @@ use Rattle.sre_c.proofs.walk.write_rows.Goals as goal
 pub matches-preserved : goal.matches-preserved
 matches-preserved g c =
     let gives =
-    match_given c.matches.walk c.step.new.walk _ c.in-Ok-Some-true.ensures.gives
+    match_given c.matches.walk c.next_match.new.walk _ c.in-Ok-Some-true.ensures.gives
     (c.in-Ok-Some-true.field-0-is ∙ ap Some c.in-Ok-Some-true.field-0-0-test) in
     let kept = c.matches.invariant in
     let noted = c.note_next-in-matches.ensures.next in
     let count = ap (λ (w : SreWalked). w.count) noted in
-    let turns = ap (λ (w : SreWalked). w.turns) noted in
+    let steps = ap (λ (w : SreWalked). w.steps) noted in
     let places = ap (λ n. n * c.args.width) count in (
       gives.after,
-      step_written (request_of c.args.walk.now) c.matches.walk c.step.new.walk c.args.width c.matches.walked _
+      step_written (request_of c.args.walk.now) c.matches.walk c.next_match.new.walk c.args.width c.matches.walked _
           c.matches.rows c.write_row.new.rows kept.1 gives (ap (λ (w : SreWalked). w.start) noted)
           (ap (λ (w : SreWalked). w.must_advance) noted) c.matches.at kept.2 count
           (subst (λ s. IsRow (match_shown s) c.matches.at c.args.width c.write_row.new.rows) c.state.ensures
@@ -26,7 +26,7 @@ matches-preserved g c =
       omega (arith, kept.2, places),
       omega (arith, kept.2, kept.3),
       omega (arith, kept.4, c.write_row.auto.rows),
-      omega (arith, kept.5, turns, c.in-Ok-Some-true.ensures.turns.fewer),
+      omega (arith, kept.5, steps, c.in-Ok-Some-true.ensures.steps.fewer),
       λ none. absurd (omega (arith, count, none)),
       c.in-Ok-Some-true.ensures.suits,
     )

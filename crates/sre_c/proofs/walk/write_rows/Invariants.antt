@@ -11,9 +11,9 @@ invariant-matches g l =
     × (l.at ≡ l.walked.count * l.width)
     × (l.at ≤ length l.rows)
     × (length l.rows ≡ length l.fn.rows)
-    × (l.walked.turns ≤ l.fn.walked.turns)
-    × (l.walked.count ≡ 0 → l.walked.turns ≡ l.fn.walked.turns)
-    × g.H.Steps.suits l.how (string_of (request_of l.walk)) (code_of (request_of l.walk))
+    × (l.walked.steps ≤ l.fn.walked.steps)
+    × (l.walked.count ≡ 0 → l.walked.steps ≡ l.fn.walked.steps)
+    × g.H.NextMatch.suits l.how (string_of (request_of l.walk)) (code_of (request_of l.walk))
 
 abbrev pub decreases-matches : goal.decreases-matches
 decreases-matches g l = length l.rows - l.at

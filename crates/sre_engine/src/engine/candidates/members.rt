@@ -1,4 +1,4 @@
-//! Candidates along the members of a confirmed first set.
+//! Candidates: the members of a confirmed first set.
 
 use crate::engine::candidates::{Candidate, Candidates};
 use crate::engine::leading_run::{leading_run, pass_start};

@@ -1,11 +1,11 @@
-//! The window's start as the only candidate, for codes that are anchored at the text's.
+//! The start of the range as the only candidate, for codes that are anchored at the start of the text.
 
 use crate::engine::candidates::{Candidate, Candidates};
 use crate::engine::told::Starts;
 use sre_chars::string::{StrDrive, StringCursor};
 use sre_request::Request;
 
-/// The window's start.
+/// The start of the range.
 #[derive(Clone, Copy)]
 pub(crate) struct OnlyStart {
     pub(crate) start: StringCursor,

@@ -1,4 +1,4 @@
-//! Candidates where neither a prefix nor a first set is confirmed: the starts that what has to come first leaves.
+//! Candidates without a confirmed prefix or first set: the starts that the FIRST set of the first items allows.
 
 ghost use Rattle.std.specs.Prelude.{◌≡◌, ◌≤◌, None, IfSome};
 ghost use Rattle.sre_model.specs.Tree.{Tree};
@@ -15,15 +15,15 @@ use crate::engine::told::{Starts, next_start_told};
 use sre_chars::string::{StrDrive, StringCursor};
 use sre_request::Request;
 
-// Where fewer characters are left, to read with what alternatives and runs begin costs more than it spares.
+// With fewer characters left, reading how alternatives and repeats begin costs more than it saves.
 const FEW_FOR_ALTERNATIVES: usize = 8;
 
-// Where fewer are left, to read which characters a set takes does.
+// With fewer characters left, reading which characters a set takes costs more than it saves.
 const FEW_FOR_SETS: usize = 20;
 
-/// The starts from a cursor on, and what was read of the code. Only behind the first one that failed it is worth to
-/// read in the words which characters a set takes, what alternatives begin with and what runs in front take, and
-/// whether a run leads: most steps of a walk end at the first start that is tried.
+/// The starts from a cursor on, and what was read of the code. Some reads pay only after the first failed start: the
+/// characters of a set, the FIRST sets of alternatives and leading repeats, and whether a repeat leads. Most steps of
+/// an iteration end at the first start.
 #[derive(Clone, Copy)]
 pub(crate) struct Openings {
     first: First,
@@ -50,7 +50,7 @@ impl Openings {
         }
     }
 
-    // Reads what sets take and what alternatives and runs begin with, where enough of the window is left.
+    // Reads the characters of sets and the FIRST sets of alternatives and repeats, if enough of the range is left.
     fn read_sets<S: StrDrive>(&mut self, req: &Request<'_, S>)
         requires test { TestsThere (run_of req.now).words self.old.first.wanted }
         requires bars { Bars (run_of req.now).words self.old.first }
@@ -69,7 +69,7 @@ impl Openings {
         }
     }
 
-    // Passes the first start that failed, and reads what is worth to be read then. It is out of line, since most
+    // Passes the first start that failed, and does the reads that pay from then on. It is out of line, since most
     // searches end before.
     #[inline(never)]
     fn pass_first<S: StrDrive>(&mut self, req: &Request<'_, S>, start: StringCursor) -> bool

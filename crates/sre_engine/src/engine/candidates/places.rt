@@ -1,4 +1,4 @@
-//! Candidates along the places of a confirmed prefix, each of which the machine tries behind the first literals.
+//! Candidates: the occurrences of a confirmed prefix. The machine begins after its first literals.
 
 ghost use Rattle.std.specs.Prelude.{◌≡◌, false};
 
@@ -8,7 +8,7 @@ use crate::engine::told::{Starts, find_told};
 use sre_chars::string::{StrDrive, StringCursor};
 use sre_request::Request;
 
-/// A scan for a prefix that is not all of the code.
+/// A scan for a prefix that is not the whole code.
 #[derive(Clone, Copy)]
 pub(crate) struct Places<'a> {
     prefix: &'a Prefix<'a>,
@@ -16,7 +16,7 @@ pub(crate) struct Places<'a> {
 }
 
 impl<'a> Places<'a> {
-    /// The places from a cursor on.
+    /// The occurrences from a cursor on.
     #[inline(always)]
     pub(crate) fn new(prefix: &'a Prefix<'a>, from: StringCursor) -> Places<'a>
         ensures prefix { result.prefix.now ≡ prefix.now }

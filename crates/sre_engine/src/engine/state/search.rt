@@ -1,4 +1,4 @@
-//! The search: from candidate to candidate, by what its code's hints confirm.
+//! The search: it tries candidate after candidate, of the kind that the confirmed hints select.
 
 ghost use Rattle.std.specs.Prelude.{◌≡◌, ◌≤◌, true, false, OnErr};
 ghost use Rattle.sre_request.specs.Requests.{string_of, start_of, code_of, asked_of, stands_in};
@@ -27,8 +27,8 @@ use sre_request::Request;
 use std::alloc::Allocator;
 
 impl<A: Allocator + Copy> State<A> {
-    // Searches as `search` does, from a cursor that stands at the window's start. The hints are asked in this order: a
-    // prefix passes more starts than a first set does, and a first set more than what has to come first.
+    // Searches as `search` does, from a cursor at the start of the range. The kinds are tried in this order, since a
+    // prefix skips more starts than a first set does, and a first set more than FIRST sets.
     pub(crate) fn search_from<S: StrDrive, F: Starts<S>>(
         &mut self,
         req: &Request<'_, S>,
@@ -60,7 +60,7 @@ impl<A: Allocator + Copy> State<A> {
         self.search_along(req, &mut Openings::new(req, from), allowed, starts)
     }
 
-    // Searches the places where a prefix stands, which is all of the code.
+    // Searches for a prefix that is the whole code.
     fn search_whole<S: StrDrive>(
         &mut self,
         req: &Request<'_, S>,
@@ -73,7 +73,7 @@ impl<A: Allocator + Copy> State<A> {
         ensures answers { AnsweredAtOnce req.now result self.new }
         ensures none { runs_of self.new ≡ 0 }
     {
-        self.runner.clear(); // of an earlier search
+        self.runner.clear(); // captures of an earlier search
         self.runner.count(Begun::none());
         self.compared = 0;
         let mut spot = Spot {
@@ -90,7 +90,7 @@ impl<A: Allocator + Copy> State<A> {
         false
     }
 
-    // Tries one candidate after the other, until one has a match.
+    // Tries candidate after candidate, until one has a match.
     #[inline(always)]
     fn search_along<S: StrDrive, C: Candidates<S>, F: Starts<S>>(
         &mut self,

@@ -2,9 +2,9 @@ use Rattle.std.proofs.Common.{◌≡◌, ℕ, ◌<◌, ◌≤◌, List, length, 
 use Rattle.sre_engine.specs.Grammar.{Whole, behind_block}
 use Rattle.sre_engine.specs.Codes.{words_of, items_of}
 use Rattle.sre_engine.specs.Requests.{asked_of, code_of, start_of, end_of}
-use Rattle.sre_engine.specs.Remembered.{IsRemembered, enough_turns}
+use Rattle.sre_engine.specs.Remembered.{IsRemembered}
 use Rattle.sre_laws.specs.TwoRuns.{words_of_two_runs}
-use Rattle.sre_laws.proofs.TwoRuns.{two_runs, its_words, two_runs_remembered, turns_enough}
+use Rattle.sre_laws.proofs.TwoRuns.{two_runs, its_words, two_runs_remembered, steps_suffice}
 use Rattle.sre_laws.proofs.laws.two_runs_searched.Goals as goal
 
 pub returns : goal.returns
@@ -16,13 +16,11 @@ returns g c =
     let places : 22 ≡ length (items_of (code_of req)) = sym (ap (λ (ws : List ℕ). length (behind_block ws)) same) in
     let order : start_of req ≤ end_of req = omega (arith, c.new.ensures.start) in
     let short : end_of req ≤ 1000 = omega (arith, c.new.ensures.end, c.requires.short) in
-    c.search_within.ensures.turns.enough
+    c.search_within.ensures.steps.enough
     (record {
       tree = two_runs;
       whole = subst (λ (ws : List ℕ). Whole ws two_runs) (sym same) its_words;
       remembered =
           subst (λ n. IsRemembered n two_runs (asked_of req)) places (two_runs_remembered (asked_of req) order short);
-      more =
-          subst (λ n. enough_turns n two_runs (asked_of req) < 17697681) places
-          (turns_enough (asked_of req) order short);
+      more = steps_suffice (asked_of req) order short;
     })

@@ -3,6 +3,7 @@ use Rattle.sre_code.specs.Codes.{items_of}
 use Rattle.sre_turns.specs.Fruit.{is_inside}
 use Rattle.sre_machine.specs.declared.trying.Keeping.TheVariants.{Unmarked}
 use Rattle.sre_machine.proofs.KnownEnds.{known_there, none_there}
+use Rattle.sre_machine.proofs.Opening.{forks_not}
 use Rattle.sre_machine.proofs.body_ends.known_end.Goals as goal
 
 pub returns-clause-told : goal.returns-clause-told
@@ -24,3 +25,7 @@ returns-clause-none g c =
     untold : {T : Type 0} {A B : Type 0} (x : Option T) → (A → B) → IfNone x A → IfNone x B
     untold None f h = f h
     untold (Some t) f h = tt
+
+pub returns-then-not-may_branch_at-clause-none : goal.returns-then-not-may_branch_at-clause-none
+returns-then-not-may_branch_at-clause-none g c = λ _ forks.
+    absurd (forks_not c.args.req.now c.args.point forks (c.may_branch_at.ensures.free c.if-not-may_branch_at.true))

@@ -1,4 +1,3 @@
-use Rattle.std.proofs.Common.{◌≡◌}
 use Rattle.sre_request.specs.Runs.{run_of}
 use Rattle.sre_turns.proofs.Strides.{strides_at, strides_goes}
 use Rattle.sre_machine.proofs.loops.strided.Goals as goal

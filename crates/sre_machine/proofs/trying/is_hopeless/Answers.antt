@@ -1,6 +1,6 @@
 use Rattle.std.proofs.Common.{rules, inl, inr}
 use Rattle.sre_machine.proofs.Failing.{stays_on}
-use Rattle.sre_machine.proofs.Opening.{goes_freely, goes_forgetting, branches_not}
+use Rattle.sre_machine.proofs.Opening.{goes_freely, goes_forgetting, forks_not, run_forks}
 use Rattle.sre_machine.proofs.trying.is_hopeless.Goals as goal
 
 pub returns-in-Nothing-clause-leaves : goal.returns-in-Nothing-clause-leaves
@@ -19,7 +19,8 @@ returns-then-not-may_branch_at-clause-leaves g c =
 
 pub returns-then-not-may_branch_at-clause-tries : goal.returns-then-not-may_branch_at-clause-tries
 returns-then-not-may_branch_at-clause-tries g c = λ _ _ on.
-    absurd (branches_not c.args.req.now c.args.point on (c.may_branch_at.ensures.free c.if-not-may_branch_at.true))
+    absurd (forks_not c.args.req.now c.args.point (run_forks c.args.req.now c.args.point on)
+    (c.may_branch_at.ensures.free c.if-not-may_branch_at.true))
 
 pub returns-else-not-may_branch_at-clause-tries : goal.returns-else-not-may_branch_at-clause-tries
 returns-else-not-may_branch_at-clause-tries g c = λ told _ _. c.has_failed.ensures.tries told
@@ -29,7 +30,7 @@ returns-in-Marked-clause-tries g c = λ told _ _. c.has_failed_marked.ensures.tr
 
 pub has_failed-requires-clause-no_end : goal.has_failed-requires-clause-no_end
 has_failed-requires-clause-no_end g c =
-    inr (c.requires.no_end c.in-Unmarked.is (c.may_branch_at.ensures.tolls (search rules)))
+    inr (c.requires.no_end c.in-Unmarked.is (c.may_branch_at.ensures.forks (search rules)))
 
 pub has_failed-requires-clause-serves : goal.has_failed-requires-clause-serves
 has_failed-requires-clause-serves g c = inl (c.requires.keeping.unmarked c.in-Unmarked.is)

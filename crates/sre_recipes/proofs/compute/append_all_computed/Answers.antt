@@ -4,7 +4,7 @@ use Rattle.sre_engine.specs.Grammar.{Whole}
 use Rattle.sre_engine.specs.Found.{Match, walk}
 use Rattle.sre_engine.specs.Requests.{string_of, start_of, end_of, code_of, asked_of}
 use Rattle.sre_engine.specs.Iterators.{request_of}
-use Rattle.sre_recipes.specs.Computed.{Computes, ReplacedInTurn}
+use Rattle.sre_recipes.specs.Computed.{Computes, ReplacedInOrder}
 use Rattle.sre_recipes.specs.Bounded.{first_of}
 use Rattle.sre_recipes.proofs.Begun.{all_left}
 use Rattle.sre_recipes.proofs.compute.append_all_computed.Goals as goal
@@ -18,7 +18,7 @@ returns-clause-ok g c = λ t tree going.
     let whole = subst (λ r. Whole (words_of (code_of r)) t) (sym c.new-walk.ensures.req) tree in
     let Told = λ (s : g.row.S.Denot) (from to : ℕ) (ms : List Match).
     (new : List ℕ) × (after ≡ before ++ new)
-    × ReplacedInTurn
+    × ReplacedInOrder
     (Computes g.S.StrDrive.text (λ f d r h. goal.F-step g f d r h) g.S.Rewritten.shown (g.S.StrDrive.text s))
     (g.S.StrDrive.text s) c.args.compute from to ms new in
     subst (λ r. Told (string_of r) (start_of r) (end_of r) (first_of most (walk (asked_of r) t))) c.new-walk.ensures.req

@@ -47,9 +47,9 @@ walk-preserved g c =
           kept.string gives told.1 c.in_ok-append_new-in-Ok.ensures.last;
       is_text = c.in_ok-append_new-in-Ok.ensures.written;
       going = takes.going;
-      turns =
-          left_on c.args.bounds.now.turns c.walk.bounds.turns c.next_bounded.new.bounds.turns c.walk.invariant.turns
-          takes.turns;
+      steps =
+          left_on c.args.bounds.now.steps c.walk.bounds.steps c.next_bounded.new.bounds.steps c.walk.invariant.steps
+          takes.steps;
       lasts = λ enough. takes.lasts (c.walk.invariant.lasts enough);
       callable = search of_calls;
       left = λ t tree.

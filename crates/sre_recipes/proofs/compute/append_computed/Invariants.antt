@@ -4,7 +4,7 @@ use Rattle.sre_engine.specs.Grammar.{Whole}
 use Rattle.sre_engine.specs.Codes.{words_of}
 use Rattle.sre_engine.specs.Requests.{string_of, start_of, end_of, code_of}
 use Rattle.sre_engine.specs.Iterators.{request_of, left_of, most_items}
-use Rattle.sre_recipes.specs.Computed.{Computes, ReplacedInTurn}
+use Rattle.sre_recipes.specs.Computed.{Computes, ReplacedInOrder}
 use Rattle.sre_recipes.specs.Bounded.{first_of, AreLeft}
 use Rattle.sre_recipes.specs.Limits.{OutlastRest}
 use Rattle.sre_recipes.specs.Spans.{StandsAt}
@@ -20,15 +20,15 @@ invariant-walk g l =
       kept : Kept l.walk (string_of asked) (words_of (code_of asked)) (end_of asked);
       stands : StandsAt (g.S.StrDrive.stands (string_of asked)) l.last (start_of (request_of l.walk));
       is_text : g.S.Text.IsText l.output.items;
-      going : l.bounds.used_up ≡ false;
-      turns : AreLeft l.fn.bounds.turns l.bounds.turns;
-      lasts : OutlastRest l.fn.walk l.fn.bounds.turns → OutlastRest l.walk l.bounds.turns;
+      going : l.bounds.limit_exceeded ≡ false;
+      steps : AreLeft l.fn.bounds.steps l.bounds.steps;
+      lasts : OutlastRest l.fn.walk l.fn.bounds.steps → OutlastRest l.walk l.bounds.steps;
       callable : goal.F-IsAlwaysCallable g l.compute;
       left : (t : Tree) → Whole (words_of (code_of asked)) t → (rest : List ℕ)
-          → ReplacedInTurn puts text l.compute (start_of (request_of l.walk)) (end_of asked)
+          → ReplacedInOrder puts text l.compute (start_of (request_of l.walk)) (end_of asked)
           (first_of l.bounds.most (left_of l.walk t)) rest
           → (new : List ℕ) × (g.S.Text.characters l.output.items ++ rest ≡ g.S.Text.characters l.fn.output.items ++ new)
-          × ReplacedInTurn puts text l.fn.compute (start_of asked) (end_of asked)
+          × ReplacedInOrder puts text l.fn.compute (start_of asked) (end_of asked)
           (first_of l.fn.bounds.most (left_of l.fn.walk t)) new;
     }
 

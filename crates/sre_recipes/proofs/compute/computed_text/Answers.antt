@@ -1,7 +1,7 @@
 use Rattle.std.proofs.Common.{sym, ◌∙◌, subst}
 use Rattle.sre_engine.specs.Found.{walk}
 use Rattle.sre_engine.specs.Requests.{string_of, start_of, end_of, asked_of}
-use Rattle.sre_recipes.specs.Computed.{Computes, ReplacedInTurn}
+use Rattle.sre_recipes.specs.Computed.{Computes, ReplacedInOrder}
 use Rattle.sre_recipes.specs.Bounded.{first_of}
 use Rattle.sre_recipes.proofs.compute.computed_text.Goals as goal
 
@@ -18,7 +18,7 @@ returns-clause-ok g c = λ t tree going.
     c.from_output.ensures ∙ rw (c.new-output.ensures.items, g.met.S.Text.none_characters) at told.1 in
     let text = g.S.StrDrive.text (string_of c.args.req) in
     subst
-    (ReplacedInTurn (Computes g.S.StrDrive.text (λ f d r h. goal.F-step g f d r h) g.S.Rewritten.shown text) text
+    (ReplacedInOrder (Computes g.S.StrDrive.text (λ f d r h. goal.F-step g f d r h) g.S.Rewritten.shown text) text
     c.args.compute (start_of c.args.req) (end_of c.args.req)
     (first_of c.args.bounds.now.most (walk (asked_of c.args.req) t)))
     (sym same) told.2

@@ -36,9 +36,9 @@ walk-preserved g c =
           walk_on before after (string_of asked) c.add_piece.new.last c.in-Some.span.start c.in-Some.span.end
           kept.string gives told.1 c.in_ok-add_piece.ensures.last;
       going = takes.going;
-      turns =
-          left_on c.args.bounds.now.turns c.walk.bounds.turns c.next_bounded.new.bounds.turns c.walk.invariant.turns
-          takes.turns;
+      steps =
+          left_on c.args.bounds.now.steps c.walk.bounds.steps c.next_bounded.new.bounds.steps c.walk.invariant.steps
+          takes.steps;
       lasts = λ enough. takes.lasts (c.walk.invariant.lasts enough);
       left = λ t tree.
           pieces_step text pieces (map shown c.add_piece.new.pieces.items) found

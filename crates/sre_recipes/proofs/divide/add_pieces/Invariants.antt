@@ -17,9 +17,9 @@ invariant-walk g l =
     record {
       kept : Kept l.walk (string_of asked) (words_of (code_of asked)) (end_of asked);
       stands : StandsAt (g.S.StrDrive.stands (string_of asked)) l.last (start_of (request_of l.walk));
-      going : l.bounds.used_up ≡ false;
-      turns : AreLeft l.fn.bounds.turns l.bounds.turns;
-      lasts : OutlastRest l.fn.walk l.fn.bounds.turns → OutlastRest l.walk l.bounds.turns;
+      going : l.bounds.limit_exceeded ≡ false;
+      steps : AreLeft l.fn.bounds.steps l.bounds.steps;
+      lasts : OutlastRest l.fn.walk l.fn.bounds.steps → OutlastRest l.walk l.bounds.steps;
       left : (t : Tree) → Whole (words_of (code_of asked)) t
           → map g.S.StrDrive.text l.pieces.items
           ++ pieces_between (g.S.StrDrive.text (string_of asked)) (start_of (request_of l.walk)) (end_of asked)

@@ -43,9 +43,9 @@ walk-preserved g c =
           walk_on before after (string_of asked) c.add_with_groups.new.last c.in-Some.span.start c.in-Some.span.end
           kept.string gives told.1 c.in_ok-add_with_groups.ensures.last;
       going = takes.going;
-      turns =
-          left_on c.args.bounds.now.turns c.walk.bounds.turns c.next_bounded.new.bounds.turns c.walk.invariant.turns
-          takes.turns;
+      steps =
+          left_on c.args.bounds.now.steps c.walk.bounds.steps c.next_bounded.new.bounds.steps c.walk.invariant.steps
+          takes.steps;
       lasts = λ enough. takes.lasts (c.walk.invariant.lasts enough);
       left = λ t tree.
           groups_step text several pieces longer found (first_of c.walk.bounds.most (left_of before t))

@@ -39,9 +39,9 @@ walk-preserved g c =
       string = gives.request.string ∙ c.walk.invariant.string;
       code = gives.request.pattern_codes ∙ c.walk.invariant.code;
       going = takes.going;
-      turns =
-          left_on c.args.bounds.now.turns c.walk.bounds.turns c.next_bounded.new.bounds.turns c.walk.invariant.turns
-          takes.turns;
+      steps =
+          left_on c.args.bounds.now.steps c.walk.bounds.steps c.next_bounded.new.bounds.steps c.walk.invariant.steps
+          takes.steps;
       lasts = λ enough. takes.lasts (c.walk.invariant.lasts enough);
       left = λ t tree.
           listed_step (slice_of (g.S.StrDrive.text whole)) texts (map shown c.add_text.new.all.items) found

@@ -13,9 +13,9 @@ abbrev pub invariant-walk : goal.invariant-walk
 invariant-walk g l = record {
   string : string_of (request_of l.walk) ≡ string_of (request_of l.fn.walk);
   code : code_of (request_of l.walk) ≡ code_of (request_of l.fn.walk);
-  going : l.bounds.used_up ≡ false;
-  turns : AreLeft l.fn.bounds.turns l.bounds.turns;
-  lasts : OutlastRest l.fn.walk l.fn.bounds.turns → OutlastRest l.walk l.bounds.turns;
+  going : l.bounds.limit_exceeded ≡ false;
+  steps : AreLeft l.fn.bounds.steps l.bounds.steps;
+  lasts : OutlastRest l.fn.walk l.fn.bounds.steps → OutlastRest l.walk l.bounds.steps;
   left : (t : Tree) → Whole (words_of (code_of (request_of l.fn.walk))) t
       → map g.S.StrDrive.text l.all.items
       ++ map (slice_of (g.S.StrDrive.text (string_of (request_of l.fn.walk))))

@@ -31,9 +31,9 @@ walk-preserved g c =
       string = gives.request.string ∙ c.walk.invariant.string;
       code = gives.request.pattern_codes ∙ c.walk.invariant.code;
       going = takes.going;
-      turns =
-          left_on c.args.bounds.now.turns c.walk.bounds.turns c.next_bounded.new.bounds.turns c.walk.invariant.turns
-          takes.turns;
+      steps =
+          left_on c.args.bounds.now.steps c.walk.bounds.steps c.next_bounded.new.bounds.steps c.walk.invariant.steps
+          takes.steps;
       lasts = λ enough. takes.lasts (c.walk.invariant.lasts enough);
       left = λ t tree.
           listed_step shown all (map (captures_shown g.S.StrDrive.text) c.add_captures.new.all.items) found

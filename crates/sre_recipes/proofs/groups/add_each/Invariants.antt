@@ -16,9 +16,9 @@ invariant-walk g l =
     record {
       string : string_of (request_of l.walk) ≡ string_of asked;
       code : code_of (request_of l.walk) ≡ code_of asked;
-      going : l.bounds.used_up ≡ false;
-      turns : AreLeft l.fn.bounds.turns l.bounds.turns;
-      lasts : OutlastRest l.fn.walk l.fn.bounds.turns → OutlastRest l.walk l.bounds.turns;
+      going : l.bounds.limit_exceeded ≡ false;
+      steps : AreLeft l.fn.bounds.steps l.bounds.steps;
+      lasts : OutlastRest l.fn.walk l.fn.bounds.steps → OutlastRest l.walk l.bounds.steps;
       left : (t : Tree) → Whole (words_of (code_of asked)) t
           → map (captures_shown g.S.StrDrive.text) l.all.items
           ++ map (captured (g.S.StrDrive.text (string_of asked))) (first_of l.bounds.most (left_of l.walk t))

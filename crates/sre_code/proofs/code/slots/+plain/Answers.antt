@@ -30,7 +30,7 @@ pub scan-returns-in_default-clause-told : goal.scan-returns-in_default-clause-to
 scan-returns-in_default-clause-told t c =
     let before = c.part.invariant in
     scan_stops c.args.regions c.args.words.now c.args.most c.args.start c.args.end before.some c.part.place
-    c.part.slots c.part.alternatives before.onto c.part-test.true
+    c.part.slots before.onto c.part-test.true
     (subst (λ r. ToldAt c.args.regions c.args.most c.args.words.now c.part.place r) c.in_default.is
     c.part-in-part.ensures.told)
 
@@ -41,8 +41,8 @@ scan-part-preserved t c =
       some = before.some;
       onto =
           onto_next c.args.regions c.args.words.now c.args.most c.args.start c.args.end before.some c.part.place
-          c.part.slots c.part.alternatives c.max-slots.result c.max-alternatives.result c.in-Some.next before.onto
-          c.part-test.true c.in-Some.ensures.told (grind (arith, common_steps)) (grind (arith, common_steps));
+          c.part.slots c.max-slots.result c.in-Some.next before.onto c.part-test.true c.in-Some.ensures.told
+          (grind (arith, common_steps));
       few = grind (arith, common_steps);
     }
 
@@ -50,4 +50,4 @@ pub scan-returns-clause-told : goal.scan-returns-clause-told
 scan-returns-clause-told t c =
     let before = c.part.invariant in
     scan_ends c.args.regions c.args.words.now c.args.most c.args.start c.args.end before.some c.part.place
-    c.part.slots c.part.alternatives before.onto c.part-test.false
+    c.part.slots before.onto c.part-test.false

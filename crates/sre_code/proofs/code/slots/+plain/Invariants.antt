@@ -18,6 +18,6 @@ decreases-scan-part l = l.end - l.place
 abbrev pub invariant-scan-part : goal.invariant-scan-part
 invariant-scan-part l = record {
   some : 1 ≤ l.most;
-  onto : Onto l.regions l.words l.most l.start l.end some l.place l.slots l.alternatives;
+  onto : Onto l.regions l.words l.most l.start l.end some l.place l.slots;
   few : l.slots ≤ l.most;
 }

@@ -8,6 +8,8 @@ use Rattle.sre_model.proofs.TreeOf.{tree_of, whole-read}
 use Rattle.sre_turns.specs.Board.{bare}
 use Rattle.sre_turns.proofs.Start.{first_limit}
 use Rattle.sre_request.specs.Runs.{run_of}
+use Rattle.sre_machine.specs.Paying.{Remembering}
+use Rattle.sre_turns.proofs.TreePrices.{steps_behind}
 use Rattle.sre_machine.proofs.Following.{begins_run, run_given_up, run_settles, if_err, if_ok, err_at, ok_at}
 use Rattle.sre_machine.proofs.Following.{not_opened, rested}
 use Rattle.sre_machine.specs.Spending.{told_of}
@@ -41,6 +43,9 @@ returns-clause-costs g c =
     let begins = begins_run r c.args.literals c.args.start c.self.inside.board
     (subst (λ (ws : List ℕ). AreWords ws) same c.know_words.ensures) (whole_of c.args.req.now.pattern_codes)
     c.requires.may.behind c.requires.may.stands c.requires.may.inside fresh in
+    let few = λ (pl : Remembering c.args.req.now).
+    steps_behind r.words (2 * c.args.literals) c.args.literals pl.plain.tree
+    (c.requires.may.behind pl.plain.tree pl.plain.whole) pl.plain.whole.1 in
     let end = c.turns_from-told.new.ended in
     let told = told_of c.turns_from-told.result end in
     let costs = c.turns_from-told.ensures.costs in
@@ -49,7 +54,7 @@ returns-clause-costs g c =
       given_up = if_err told
           (λ halt is gives used. run_given_up c.args.req.now _ (2 * c.args.literals)
           (behind_items c.args.literals (tree_of r.words)) c.args.start c.self.inside.board c.self.inside.memo _ _
-          begins (gives used)
+          begins few (gives used)
           (λ pl closed. err_at _ told halt is
           (costs.waited (err_at _ c.turns_from-told.result halt (untold c.turns_from-told.result end halt is)
           c.turns_from-told.ensures.spends.used used).0 closed pl).given_up used))
@@ -59,7 +64,7 @@ returns-clause-costs g c =
           c.rest.new.self _ _ c.rest.ensures.same
           (run_settles c.args.req.now _ (2 * c.args.literals)
           (behind_items c.args.literals (tree_of r.words)) c.args.start c.self.inside.board c.self.inside.memo _ _
-          begins c.turns_from-told.new.memo (settles none)
+          begins few c.turns_from-told.new.memo (settles none)
           (λ pl closed. ok_at _ told d is (costs.waited limited closed pl).decided (not_opened d none))))
           (costs.settles limited);
       waited = λ limited closed pl. (costs.waited limited closed pl).opened;

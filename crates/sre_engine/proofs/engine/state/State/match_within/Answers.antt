@@ -2,8 +2,8 @@ use Rattle.std.proofs.Common.{refl, arith}
 use Rattle.sre_engine.proofs.Enough.{used_up}
 use Rattle.sre_engine.proofs.engine.state.State.match_within.Goals as goal
 
-pub returns-in-Err-UsedUp-clause-turns : goal.returns-in-Err-UsedUp-clause-turns
-returns-in-Err-UsedUp-clause-turns g c =
+pub returns-in-Err-UsedUp-clause-steps : goal.returns-in-Err-UsedUp-clause-steps
+returns-in-Err-UsedUp-clause-steps g c =
     let up = c.in-Err-UsedUp in
-    used_up c.args.req.now c.args.turns.now _ _ _ _ _ _ c.match_from-told.ensures.charged up.field-0 up.is
+    used_up c.args.req.now c.args.steps.now _ _ _ _ _ _ c.match_from-told.ensures.charged up.field-0 up.is
     (rw up.is at up.field-0-is) refl c.left.ensures (λ enough. omega (arith, enough.remembered.order))

@@ -1,0 +1,142 @@
+-- The number that is told of a code is the one that is written for its tree.
+use Rattle.std.proofs.Common.{ℕ, ◌+◌, ◌-◌, ◌*◌, ◌/◌, ◌^◌, ◌≡◌, ◌<◌, ◌≤◌, false, min, max}
+use Rattle.std.proofs.Common.{List, length, Option, Some, None, refl}
+use Rattle.std.proofs.Common.{sym, ap, ◌∙◌, subst, arith, IfSome}
+use Rattle.sre_model.specs.Tree.{Tree}
+use Rattle.sre_model.specs.Found.{Asked}
+use Rattle.sre_model.specs.Slots.{most_slots}
+use Rattle.sre_model.specs.RunCounts.{most_counts}
+use Rattle.sre_model.specs.LooksBehind.{backs}
+use Rattle.sre_model.specs.Nesting.{nesting}
+use Rattle.sre_model.specs.TreePrices.{cost_of, most_steps}
+use Rattle.sre_model.specs.References.{refers}
+use Rattle.sre_model.specs.Grammar.{WholeItems, Whole, behind_block}
+use Rattle.sre_model.specs.Remembered.{kept_positions, words_at_place, IsRemembered, sides, step_bound}
+use Rattle.sre_model.proofs.WiderWindows.{IsInside, remembered_inside, bound_inside}
+use Rattle.sre_code.specs.StepBounds.{IsWindow, IsWholeText, IsStepBound, HasNoStepBound, most_nested}
+use Rattle.sre_code.specs.Bounds.{IsCounted, CountedTold, BoundTold, NumberBy, AreWhole, bound_by, bound_of, room_by}
+use Rattle.sre_code.specs.Prices.{cost_at, IsPrice, AreHeld, TreePriced}
+use Rattle.sre_code.specs.declared.code.bounds.Counted.{Counted}
+use Rattle.sre_code.specs.declared.code.prices.Prices.{Prices}
+
+-- the bound as it is written, of positions from start to end
+abbrev written : Tree → ℕ → ℕ → ℕ
+written t start end =
+    (end + 1 - (start - backs t))
+    * (32 + (1 + most_steps t + cost_of end 1 t 2 * sides t) * (1 + min (most_counts t) end / 8))
+
+-- and for a whole text
+abbrev of_text : Tree → ℕ → ℕ
+of_text t n = bound_by (n + 1) (most_steps t) (cost_of n 1 t 2 * sides t) (min (most_counts t) n)
+
+from_start : (t : Tree) (n : ℕ) → written t 0 n ≡ of_text t n
+from_start t n =
+    let all : n + 1 - (0 - backs t) ≡ n + 1 = omega arith in
+    ap (λ f. f * (32 + (1 + most_steps t + cost_of n 1 t 2 * sides t) * (1 + min (most_counts t) n / 8))) all
+
+-- what is computed of prices is the bound of their tree
+by_prices : (t : Tree) (n : ℕ) (x : Prices) → IsPrice n t x.all → most_steps t ≡ max (x.since + 2) x.most
+    → bound_of x (sides t) (min (most_counts t) n) (n + 1) ≡ of_text t n
+by_prices t n x is most =
+    let cost : cost_of n 1 t 2 ≡ cost_at x.all 2 + x.all.apart = omega (arith, is.cost 1 2) in
+    ap (λ m. bound_by (n + 1) m ((cost_at x.all 2 + x.all.apart) * sides t) (min (most_counts t) n)) (sym most)
+    ∙ ap (λ c. bound_by (n + 1) (most_steps t) (c * sides t) (min (most_counts t) n)) (sym cost)
+
+module _ (places : ℕ) (t : Tree) (n : ℕ) where
+  on_whole : (a : Asked) → IsWholeText n a → step_bound t a ≡ of_text t n
+  on_whole a w =
+      ap (λ i. written t i a.end) w.start ∙ ap (λ j. written t 0 j) w.end ∙ from_start t n
+
+  room_on_whole : (a : Asked) → IsWholeText n a
+      → places * words_at_place t a ≡ room_by places (n + 1) (most_slots t)
+  room_on_whole a w =
+      let all : kept_positions t a ≡ n + 1 = omega (arith, w.start, w.end) in
+      ap (λ f. places * (most_slots t * 2 * f / 64 + 1)) all
+
+  -- the whole text that a window stands in
+  abbrev around : Asked → Asked
+  around a = record a { start = 0; end = n }
+
+  inside : (a : Asked) → IsWindow n a → IsInside a (around a)
+  inside a w = record { order = w.order; from = omega arith; to = w.within }
+
+  whole : (a : Asked) → IsWholeText n (around a)
+  whole a = record { start = refl; end = refl }
+
+  whole_on_whole : (a : Asked) → IsWholeText n a → words_at_place t a ≡ most_slots t * 2 * (n + 1) / 64 + 1
+  whole_on_whole a w =
+      let all : kept_positions t a ≡ n + 1 = omega (arith, w.start, w.end) in
+      ap (λ f. most_slots t * 2 * f / 64 + 1) all
+
+  enough_for : (steps : ℕ) → IsCounted t → room_by places (n + 1) (most_slots t) ≤ 2 ^ 30
+      → AreWhole (n + 1) (most_slots t) → steps ≡ of_text t n + 1 → IsStepBound places t n steps
+  enough_for steps counted room fits is = record {
+    remembered = λ a w. remembered_inside places t a (around a) (inside a w) (kept a);
+    more = λ a w. omega (arith, bound_inside t a (around a) (inside a w), on_whole (around a) (whole a), is);
+    least = λ a w. omega (arith, on_whole a w, is);
+  }
+    where
+      kept : (a : Asked) → IsRemembered places t (around a)
+      kept a = record {
+        unmarked = counted.unmarked;
+        no_reference = counted.no_reference;
+        slots = counted.few;
+        whole = λ many. omega (arith, whole_on_whole (around a) (whole a), fits many);
+        room = omega (arith, room_on_whole (around a) (whole a), room);
+        order = omega arith;
+      }
+
+  number_told : (r : Option ℕ) → IsCounted t → NumberBy places (most_slots t) (of_text t n) n r → BoundTold places t n r
+  number_told (Some steps) counted by = enough_for steps counted by.0 by.1 by.2
+  number_told None counted by = record {
+    none = λ a w kept nested.
+        omega (
+          arith,
+          on_whole a w,
+          by (omega (arith, room_on_whole a w, kept.room))
+              (λ many. omega (arith, whole_on_whole a w, kept.whole many)),
+        );
+  }
+
+  -- where nothing is counted, or items are nested too deep
+  pub uncounted_told : CountedTold t None → BoundTold places t n None
+  uncounted_told none = record {
+    none = λ a w kept nested.
+        absurd (none (record { unmarked = kept.unmarked; no_reference = kept.no_reference; few = kept.slots }));
+  }
+
+  pub deep_told : most_nested < nesting t → BoundTold places t n None
+  deep_told deep = record { none = λ a w kept nested. absurd (omega (arith, deep, nested)) }
+
+pub bound_told : (ws : List ℕ) (n counts : ℕ) (c : Counted) (p : Prices) (r : Option ℕ) (t : Tree)
+    → CountedTold t (Some c) → TreePriced n most_nested t (Some p)
+    → ((x : Prices) → AreHeld x p → NumberBy (length ws) c.slots (bound_of x c.sides (min counts n) (n + 1)) n r)
+    → (refers t ≡ false → counts ≡ most_counts t) → BoundTold (length ws) t n r
+bound_told ws n counts c p r t told priced number counted =
+    number_told (length ws) t n r told.0
+    (subst (λ b. NumberBy (length ws) (most_slots t) b n r) (by_prices t n priced.0 priced.1 priced.2)
+    (subst (λ k. NumberBy (length ws) (most_slots t) (bound_of priced.0 (sides t) (min k n) (n + 1)) n r)
+    (counted told.0.no_reference)
+    (subst (λ m. NumberBy (length ws) (most_slots t) (bound_of priced.0 m (min counts n) (n + 1)) n r) told.2
+    (subst (λ s. NumberBy (length ws) s (bound_of priced.0 c.sides (min counts n) (n + 1)) n r) told.1
+    (number priced.0 priced.3)))))
+
+-- what is told of each tree, by whether a number is
+pub enough_some : (places n : ℕ) (ws : List ℕ) (r : Option ℕ) → ((t : Tree) → Whole ws t → BoundTold places t n r)
+    → IfSome r (λ steps. (t : Tree) → Whole ws t → IsStepBound places t n steps)
+enough_some places n ws (Some turns) each = each
+enough_some places n ws None each = tt
+
+pub enough_none : (places n : ℕ) (ws : List ℕ) (r : Option ℕ) → ((t : Tree) → Whole ws t → BoundTold places t n r)
+    → r ≡ None → (t : Tree) → Whole ws t → HasNoStepBound places t n
+enough_none places n ws r each is t w = subst (BoundTold places t n) is (each t w)
+
+-- what is told of the words behind a block is told of the whole
+pub behind_told : (ws items : List ℕ) (n counts : ℕ) (r : Option ℕ) → items ≡ behind_block ws
+    → ((t : Tree) → WholeItems items t → (refers t ≡ false → counts ≡ most_counts t)
+    → BoundTold (length items) t n r)
+    → ((t : Tree) → Whole ws t → refers t ≡ false → counts ≡ most_counts t)
+    → (t : Tree) → Whole ws t → BoundTold (length (behind_block ws)) t n r
+behind_told ws items n counts r same told counted t w =
+    subst (λ (is : List ℕ). BoundTold (length is) t n r) same
+    (told t (subst (λ (is : List ℕ). WholeItems is t) (sym same) w.1) (counted t w))

@@ -1,0 +1,13 @@
+use Rattle.std.proofs.Common.{sym, subst}
+use Rattle.sre_model.specs.Grammar.{Reads}
+use Rattle.sre_code.proofs.CodeBounds.{bound_told}
+use Rattle.sre_code.proofs.code.bounds.step_bound.Goals as goal
+
+pub returns : goal.returns
+returns c = λ t w counted.
+    let ws = c.args.items.now in
+    let told = c.in_ok-counted.ensures.told t w in
+    bound_told ws c.args.characters c.args.counts c.in_ok-counted.counted c.in_ok-prices.prices c.number.result t told
+    (c.in_ok-prices.ensures.each t (subst (λ n. Reads ws 0 n t) (sym c.saturating_sub-end.ensures) w.0)
+    told.0.no_reference)
+    c.number.ensures counted

@@ -1,0 +1,8 @@
+use Rattle.std.proofs.Common.{rules}
+use Rattle.sre_recipes.proofs.compute.replace_with.Goals as goal
+
+pub returns-clause-ok : goal.returns-clause-ok
+returns-clause-ok g c =
+    let ok = rw c.copied.ensures at c.computed_text.ensures.ok in
+    let lasts = rw c.copied.ensures at c.computed_text.ensures.lasts in
+    search rules
