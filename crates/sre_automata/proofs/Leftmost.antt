@@ -1,4 +1,4 @@
--- What the ends and the starts of an automaton's matches tell of a pattern's.
+-- What the ends and the starts of a DFA's matches imply for a pattern's.
 use Rattle.std.proofs.Common.{◌≡◌, ◌≤◌, ◌<◌, ℕ, List, length, All, Option, Some, None, option_map, refl, sym, ap, ◌∙◌}
 use Rattle.std.proofs.Common.{subst, arith, inl, inr, Fits, w8, get_or}
 use Rattle.std.proofs.Math.Logic.{∥∥₁_elim}

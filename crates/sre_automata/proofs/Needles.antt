@@ -1,4 +1,4 @@
--- Where the bytes don't come any more that each match contains, no match is left, and none is found.
+-- Where the bytes that each match contains occur no more, no match is left, and none is found.
 use Rattle.std.proofs.Common.{◌≡◌, ◌≤◌, ◌<◌, ◌+◌, ◌-◌, ℕ, zero, suc, List, [], ◌∷◌, length, drop, take, None, ap}
 use Rattle.std.proofs.Common.{◌∙◌, subst, arith, length-drop, get_or-drop, get_or}
 use Rattle.std.proofs.Common.{map, sym, true, Vec, Global}

@@ -1,5 +1,5 @@
--- What is known of a pattern that is sought: bytes that each match contains, and its automata.
--- Words of this crate's contracts.
+-- What is known of a pattern that is sought: bytes that each match contains, and its DFAs.
+-- Definitions for the contracts of this crate.
 use Rattle.std.specs.Prelude.{⊤, ℕ, ◌≤◌, List, length, Option, Some, None}
 use Rattle.regex_hir.specs.Re.{Re}
 use Rattle.regex_hir.specs.Matches.{Matches}

@@ -1,5 +1,5 @@
--- What automata tell of the matches of a pattern.
--- Words of this crate's contracts.
+-- What DFAs report about the matches of a pattern.
+-- Definitions for the contracts of this crate.
 use Rattle.std.specs.Prelude.{◌≡◌, ⊤, ℕ, ◌≤◌, ◌<◌, List, length, Some, None}
 use Rattle.regex_hir.specs.Re.{Re}
 use Rattle.regex_hir.specs.Matches.{Matches}

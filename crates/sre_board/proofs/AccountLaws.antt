@@ -1,5 +1,5 @@
--- How the account of the bits goes on: an instruction is tried, it has failed, the body ends in which some were tried,
--- and the memory grows. And how many bits there are at most.
+-- How the account of the bits changes: an instruction is tried, it has failed, the body ends in which some were tried,
+-- and the memo grows. And how many bits there are at most.
 use Rattle.std.proofs.Common.{◌≡◌, ℕ, ◌+◌, ◌*◌, ◌<◌, ◌≤◌, ◌⊎◌, inl, inr, Bool, true}
 use Rattle.std.proofs.Common.{List, [], ◌∷◌, ◌++◌, Some, slice_get, slice_index}
 use Rattle.std.proofs.Common.{refl, sym, ap, ◌∙◌, subst, arith, append_assoc}

@@ -1,4 +1,4 @@
--- Loops with one number tell no difference.
+-- Loops with the same number are equivalent.
 use Rattle.std.proofs.Common.{◌≡◌, ℕ, zero, suc, ◌+◌, ◌*◌, ◌<◌, ◌≤◌, Bool, true, false, List, [], ◌∷◌, length}
 use Rattle.std.proofs.Common.{Option, Some, None, cond, min, refl, sym, ap, ◌∙◌, subst}
 use Rattle.std.proofs.Common.{arith}

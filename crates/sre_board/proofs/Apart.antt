@@ -1,4 +1,4 @@
--- Numbers of which each stands at one place, and which are below a bound, are no more than the bound.
+-- Numbers that are each at one position of a list, and below a bound, are no more than the bound.
 use Rattle.std.proofs.Common.{◌≡◌, ℕ, suc, ◌<◌, ◌≤◌, ◌||◌, Bool, true, false, List, [], ◌∷◌, length, Some}
 use Rattle.std.proofs.Common.{slice_get, refl, arith}
 use Rattle.std.specs.List.{AllByRecursion, IsDistinct, list_any}

@@ -1,4 +1,4 @@
--- Laws of the choices that share one trail and one table of chains.
+-- Laws of saved alternatives with one trail and one table of chains.
 use Rattle.std.proofs.Common.{◌≡◌, ℕ, ◌+◌, ◌-◌, ◌<◌, ◌≤◌, List, [], ◌∷◌, ◌++◌, length, map, reverse, take, drop}
 use Rattle.std.proofs.Common.{Bool, true, inr, Option, Some, slice_index_or, refl, sym, ap, ◌∙◌, subst, arith}
 use Rattle.std.proofs.Common.{length-append}

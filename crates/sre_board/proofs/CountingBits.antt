@@ -1,4 +1,4 @@
--- How many bits are set: one more where one is set that was not, and none more where words of noughts follow.
+-- How many bits are set: one more where a clear bit is set, and none more where zero words follow.
 use Rattle.std.proofs.Common.{◌≡◌, ℕ, zero, suc, ◌+◌, ◌*◌, ◌^◌, ◌%◌, ◌<◌, ◌≤◌, List, ◌++◌, length, replicate}
 use Rattle.std.proofs.Common.{get_or, slice_set, refl, ap, ◌∙◌, arith, w64, ◌≢◌, inl, inr}
 use Rattle.std.specs.Prelude.{bit_or}

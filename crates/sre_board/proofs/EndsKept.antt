@@ -1,6 +1,6 @@
--- The ends that are kept by the numbers of spots: what one end more keeps, that spots with one number are alike, and
--- that ends which are right stay so.
--- The machine's memory of where bodies end rests on it.
+-- Body ends memoized by the numbers of configurations: what adding one preserves, that configurations with one number
+-- are equivalent, and that ends which are right stay so.
+-- The machine's memo of body ends rests on it.
 use Rattle.std.proofs.Common.{◌≡◌, ℕ, inl, inr, Bool, true, List, [], ◌∷◌, ◌++◌}
 use Rattle.std.proofs.Common.{Option, Some, None, IfNone, sym, ap, ◌∙◌, subst, arith}
 use Rattle.std.specs.List.{AllByRecursion}

@@ -1,5 +1,5 @@
--- Which ends a memory tells for spots after it has grown: those that it told before, and none outside of regions.
--- The law that a search takes few turns (`enough` of sre_engine) rests on this.
+-- Which ends a memo returns for configurations once it has grown: those from before, none outside of atomic scopes.
+-- That the step bound suffices (`enough` of sre_engine) rests on this.
 use Rattle.std.proofs.Common.{◌≡◌, ℕ, ◌+◌, ◌*◌, ◌/◌, Bool, true, false, List, [], ◌∷◌, Some}
 use Rattle.std.proofs.Common.{refl, sym, ap, ◌∙◌, subst, arith}
 use Rattle.sre_chars.specs.declared.string.StringCursor.{StringCursor}

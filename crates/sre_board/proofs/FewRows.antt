@@ -1,4 +1,4 @@
--- Rows of places below a bound are no more than the bound, and fewer where one of these places has none.
+-- Rows of addresses below a bound are no more than the bound, and fewer where one of these addresses has none.
 use Rattle.std.proofs.Common.{◌≡◌, ℕ, zero, suc, ◌<◌, ◌≤◌, List, [], ◌∷◌, length, map, Some, slice_get}
 use Rattle.std.proofs.Common.{refl, sym, ap, ◌∙◌, arith}
 use Rattle.sre_board.specs.declared.failures.Row.{Row}

@@ -1,4 +1,4 @@
--- The innermost region among the choices of a board, and what is left when it ends.
+-- The innermost atomic scope on a backtrack stack, and what is left when it ends.
 use Rattle.std.proofs.Common.{◌≡◌, ℕ, ◌+◌, ◌-◌, ◌<◌, ◌≤◌, ◌⊎◌, inl, inr, List, [], ◌∷◌, length, map, reverse, take}
 use Rattle.std.proofs.Common.{slice_index_or, refl, sym, ap, ◌∙◌, subst, arith, Bool, true, false, not, nat_eq}
 use Rattle.std.proofs.lemmas.Bool.Decides.{nat_tests}

@@ -1,4 +1,4 @@
--- The spots that are kept as bits: when one more is kept, and when a row is added.
+-- Configurations that are memoized as bits: when one more is, and when a row is added.
 use Rattle.std.proofs.Common.{◌≡◌, ℕ, zero, suc, ◌+◌, ◌-◌, ◌*◌, ◌/◌, ◌%◌, ◌^◌, ◌<◌, ◌≤◌, ◌⊎◌, inl, inr}
 use Rattle.std.proofs.Common.{Bool, List, [], ◌∷◌, ◌++◌, length, replicate, Option, Some, slice_get, slice_index}
 use Rattle.std.proofs.Common.{slice_set, get_or, refl, sym, ap, ◌∙◌, subst, arith, w64, length-append}

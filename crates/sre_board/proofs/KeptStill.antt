@@ -1,4 +1,4 @@
--- Nothing that was kept is lost: when a spot is kept, and when a row is added. So a further row grows what is kept.
+-- No memoized configuration is lost when another is memoized, or a row is added. So a further row extends the memo.
 use Rattle.std.proofs.Common.{◌≡◌, ℕ, zero, suc, ◌+◌, ◌-◌, ◌*◌, ◌%◌, ◌^◌, ◌<◌, ◌≤◌, inl, inr}
 use Rattle.std.proofs.Common.{Bool, List, [], ◌∷◌, ◌++◌, length, take, replicate, Some, slice_get, slice_index}
 use Rattle.std.proofs.Common.{slice_set, get_or, refl, sym, ap, ◌∙◌, subst, arith, w64, length-append}

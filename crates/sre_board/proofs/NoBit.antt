@@ -1,4 +1,4 @@
--- A spot has a bit where its place's row has one for it, and else it has none.
+-- A configuration has a bit exactly where the row of its address has one for it.
 use Rattle.std.proofs.Common.{◌≡◌, ℕ, ◌+◌, ◌-◌, ◌*◌, ◌/◌, ◌^◌, ◌<◌, ◌≤◌, Bool, cond, Option, Some, slice_get}
 use Rattle.std.proofs.Common.{◌%◌, List, length, refl, sym, ap, ◌∙◌, subst, arith}
 use Rattle.sre_turns.specs.Moves.{Spot}

@@ -1,4 +1,4 @@
--- Loops that have no slot of a shape, or none that is below a number.
+-- Loops without a counter state of a shape, or without one below a number.
 use Rattle.std.proofs.Common.{◌≡◌, ℕ, ◌+◌, ◌*◌, ◌<◌, ◌≤◌, List, [], ◌∷◌, length, Some, slice_get, ◌^◌}
 use Rattle.std.proofs.Common.{sym, subst, ap, ◌∙◌, arith}
 use Rattle.sre_turns.specs.declared.Frame.{Frame}

@@ -1,4 +1,4 @@
--- A spot has one bit at most: its place has one row, and its loops have one slot there.
+-- A configuration has one bit at most: its address has one row, and its loops have one counter state there.
 use Rattle.std.proofs.Common.{◌≡◌, ℕ, ◌+◌, ◌-◌, ◌*◌, ◌/◌, ◌%◌, Bool, List, [], ◌∷◌, cond, Option, Some, slice_get}
 use Rattle.std.proofs.Common.{sym, ap, ◌∙◌, subst}
 use Rattle.sre_turns.specs.Moves.{Spot}

@@ -1,4 +1,4 @@
--- The spots that are tried in the innermost region, gone over from choice to choice.
+-- The configurations tried in the innermost atomic scope, one saved alternative after the other.
 use Rattle.std.specs.List.{AllByRecursion}
 use Rattle.std.proofs.Common.{◌≡◌, ℕ, zero, suc, ◌+◌, ◌-◌, ◌<◌, ◌≤◌, inl, inr, false, List, [], ◌∷◌, ◌++◌, drop, length}
 use Rattle.std.proofs.Common.{map, reverse, get_or, option_map, Some, slice_get, refl, sym, ap, ◌∙◌, subst, arith}

@@ -1,6 +1,6 @@
--- The bits of the account pay for no more than the tree's instructions cost: each is that of an address, a slot, a side
--- and a position.
--- The law that a search takes few steps (`enough` of sre_engine) rests on this.
+-- The bits of the account pay for at most what the tree's instructions cost: each belongs to an address, a counter
+-- state, a side and a position.
+-- That the step bound suffices (`enough` of sre_engine) rests on this.
 use Rattle.std.proofs.Common.{◌≡◌, ℕ, ◌+◌, ◌-◌, ◌*◌, ◌<◌, ◌≤◌, inl, inr, Bool, true, false, cond, List, []}
 use Rattle.std.proofs.Common.{◌∷◌}
 use Rattle.std.proofs.Common.{length, Option, Some, slice_get, refl, sym, ap, ◌∙◌, arith}

@@ -1,5 +1,5 @@
--- Pages of places, one for each word of bits: what the end of a number is there, and what a page more, places more and
--- an end more change.
+-- Pages of entries, one for each word of bits: the end of a number there, and what one more page, more entries and one
+-- more end change.
 use Rattle.std.proofs.Common.{◌≡◌, ◌≢◌, ℕ, zero, suc, ◌+◌, ◌-◌, ◌/◌, ◌%◌, ◌<◌, ◌≤◌, inl, inr, List, [], length}
 use Rattle.std.proofs.Common.{Option, Some, None, slice_index_or, slice_set, refl, sym, ap, ◌∙◌, arith}
 use Rattle.std.proofs.lemmas.Bool.Decides.{eqb_tells, leb_tells}

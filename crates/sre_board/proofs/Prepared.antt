@@ -1,5 +1,5 @@
--- What the memory of failures has taken in stays so when a row is prepared for a spot, and the spot has a bit then,
--- inside a region and outside.
+-- What the memo of failures has taken in stays when a row is prepared for a configuration, which has a bit then, inside
+-- an atomic scope and outside.
 use Rattle.std.proofs.Common.{◌≡◌, ℕ, zero, suc, ◌+◌, ◌*◌, ◌^◌, ◌<◌, ◌≤◌, ◌⊎◌, inl, inr, Bool, List, [], ◌∷◌}
 use Rattle.std.proofs.Common.{length, Some, slice_get, refl, sym, ap, ◌∙◌, subst, arith}
 use Rattle.std.proofs.lemmas.Bool.{cases_eq}

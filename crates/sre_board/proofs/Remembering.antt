@@ -1,4 +1,4 @@
--- What is remembered of the spots of which nothing came.
+-- What is memoized of the configurations that failed.
 use Rattle.std.proofs.Common.{◌≡◌, ℕ, ◌+◌, inl, inr, Bool, List, [], ◌∷◌, sym, ap, ◌∙◌, subst}
 use Rattle.sre_model.specs.Grammar.{Word}
 use Rattle.sre_model.specs.Marks.{Marks}

@@ -1,4 +1,4 @@
--- Each row's number stands at its place, so where none stands the place has no row.
+-- Each row's number is stored at its address, so an address without a number has no row.
 use Rattle.std.proofs.Common.{◌≡◌, ◌≢◌, ℕ, zero, suc, ◌<◌, ◌≤◌, List, [], ◌∷◌, ◌++◌, length}
 use Rattle.std.proofs.Common.{Option, Some, slice_get, get_or, sym, ap, ◌∙◌, arith, inl, inr}
 use Rattle.sre_board.specs.Failures.{Kept, kept_of, HasNoRow, Numbered}

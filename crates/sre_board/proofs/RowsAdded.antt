@@ -1,4 +1,4 @@
--- Rows when one is added: those there were stay, and the new one is for what it was made for.
+-- When a row is added, the others stay, and the new one is for what it was made for.
 use Rattle.std.proofs.Common.{◌≡◌, ℕ, ◌+◌, ◌-◌, ◌*◌, ◌^◌, ◌<◌, ◌≤◌, inl, inr, Bool, true, false, cond, List, []}
 use Rattle.std.proofs.Common.{◌∷◌, ◌++◌, length, Some, slice_get, Result, Ok, Err, is_ok, IfOk}
 use Rattle.std.proofs.Common.{sym, ap, ◌∙◌, subst, arith}

@@ -1,4 +1,4 @@
--- A spot has a bit where a row is there for its place, its position and its loops.
+-- A configuration has a bit where a row exists for its address, its position and its loops.
 use Rattle.std.proofs.Common.{◌≡◌, ℕ, ◌+◌, ◌-◌, ◌*◌, ◌/◌, ◌%◌, ◌<◌, ◌≤◌, Bool, List, [], ◌∷◌, Some, sym, subst, refl}
 use Rattle.std.proofs.Common.{slice_get, arith}
 use Rattle.std.proofs.Math.Nat.{mul-le-mul_right}

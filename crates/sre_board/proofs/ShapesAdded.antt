@@ -1,4 +1,4 @@
--- The places of the loops in progress as they are appended to the shapes, and the number of their slots.
+-- The addresses of the loops in progress as they are appended to the shapes, and the number of their counter states.
 use Rattle.std.proofs.Common.{◌≡◌, ℕ, ◌+◌, ◌*◌, ◌<◌, ◌≤◌, List, [], ◌∷◌, ◌++◌, length, take, Some, slice_get, ◌^◌}
 use Rattle.std.proofs.Common.{refl, sym, ap, ◌∙◌, subst, arith, length-append, append_assoc}
 use Rattle.std.proofs.lemmas.List.{append-nil}

@@ -1,5 +1,5 @@
--- A loop that was passed has a digit, and digits below their radixes make a slot below the number of slots.
--- The law that a search takes few turns (`enough` of sre_engine) rests on this.
+-- A loop that was passed has a digit, and digits below their radixes make a counter state below the number of states.
+-- That the step bound suffices (`enough` of sre_engine) rests on this.
 use Rattle.std.proofs.Common.{◌≡◌, ℕ, ◌+◌, ◌*◌, ◌<◌, ◌≤◌, Option, Some, None}
 use Rattle.std.proofs.Common.{arith}
 use Rattle.std.proofs.Math.Nat.{mul_assoc, mul-le-mul_right}

@@ -1,6 +1,6 @@
--- What the memory of failures has taken in for the credits of instructions that may branch: a bit for each, inside an
+-- What the memo of failures has taken in for the credits of instructions that may branch: a bit for each, inside an
 -- atomic scope or not. The bit of an instruction that is tried is not set yet. It is set where the instruction fails.
--- Where the body of an atomic scope ends, what is tried inside has not failed: an end is kept for the number of its
+-- Where the body of an atomic scope ends, what is tried inside has not failed: an end is memoized for the number of its
 -- bit. None is taken in twice.
 use Rattle.std.specs.Prelude.{⊤, ℕ, ◌+◌, ◌-◌, ◌*◌, ◌^◌, ◌<◌, ◌≤◌, ◌≡◌, List, [], ◌∷◌, ◌++◌, length, Some}
 use Rattle.std.specs.Prelude.{slice_get, slice_index}

@@ -1,4 +1,4 @@
--- Numbers that are apart: no two of a list are the same.
+-- Numbers that are distinct: no two of a list are the same.
 use Rattle.std.specs.Prelude.{◌≡◌, ◌⊎◌, ⊤, ℕ, List, [], ◌∷◌}
 
 -- a number is one of a list

@@ -1,5 +1,5 @@
--- The choices of a board, which share one trail and one table of chains.
--- Words of private contracts: the value of a board is `BoardValue` of sre_turns.
+-- The alternatives that a backtrack stack saves, which share one trail and one table of chains.
+-- Definitions for private contracts: the value of a backtrack stack is `BoardValue` of sre_turns.
 use Rattle.std.specs.Prelude.{ℕ, ◌+◌, ◌<◌, ◌≤◌, cond, nat_eq, List, [], ◌∷◌, map, reverse, slice_index_or}
 use Rattle.std.specs.Prelude.{◌≡◌, Bool, true, false, Some, slice_get}
 use Rattle.sre_chars.specs.declared.string.StringCursor.{StringCursor}

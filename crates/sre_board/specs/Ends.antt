@@ -1,6 +1,6 @@
--- Where the bodies of regions end, kept by the numbers of spots inside: a spot's number is that of its bit.
--- Words of the machine's contracts: it keeps such ends beside failures. What sre_engine makes public does not rest on
--- it.
+-- Where the bodies of atomic scopes end, memoized by the numbers of configurations inside: each is the number of a bit.
+-- Definitions for the machine's contracts: it memoizes such ends beside failures. What sre_engine makes public does not
+-- rest on it.
 use Rattle.std.specs.Prelude.{zero, suc, ◌/◌, ◌%◌, ◌≢◌, ◌≤◌, None, ◌++◌, ◌∷◌}
 use Rattle.std.specs.Prelude.{ℕ, ◌+◌, ◌*◌, ◌<◌, ◌≡◌, ◌⊎◌, Bool, true, List, Option, Some, slice_index_or}
 use Rattle.sre_chars.specs.declared.string.StringCursor.{StringCursor}

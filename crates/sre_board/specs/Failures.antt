@@ -1,5 +1,5 @@
--- The spots of which nothing came, as bits: one row of bits for each place, one bit for each spot that tells a
--- difference there.
+-- The configurations that failed, as bits: one row of bits for each address, one bit for each configuration that makes
+-- a difference there.
 use Rattle.std.specs.Prelude.{ℕ, zero, suc, ◌+◌, ◌-◌, ◌*◌, ◌/◌, ◌%◌, ◌^◌, ◌<◌, ◌≤◌, ◌≡◌, ◌⊎◌, ⊤, Bool, cond, min}
 use Rattle.std.specs.Prelude.{List, [], ◌∷◌, Option, Some, None, slice_get, slice_index, length}
 use Rattle.std.specs.Int.{bit_at}

@@ -1,5 +1,5 @@
--- The trail: the marks now, and what they were before each change that can be taken back.
--- Words of private contracts: the value of a board is `Board` of sre_model.
+-- The trail: the capture slots now, and what they were before each change that can be undone.
+-- Definitions for private contracts: the value of a backtrack stack is `BoardValue` of sre_turns.
 use Rattle.std.specs.Prelude.{ℕ, ◌≡◌, ◌≤◌, List, [], ◌∷◌, ◌++◌, Option, Some, None, take, slice_set, slice_index_or}
 use Rattle.sre_model.specs.Marks.{Marks, no_marks, set_mark, index_of}
 use Rattle.sre_board.specs.declared.marks.Former.{Former}

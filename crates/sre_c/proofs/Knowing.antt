@@ -1,4 +1,4 @@
--- What follows of what a check has told of words.
+-- What follows from a check's report on bytecode.
 use Rattle.std.proofs.Common.{ℕ, ◌≡◌, ◌∙◌, List, false, ap}
 use Rattle.std.proofs.Props.{props}
 use Rattle.std.proofs.Math.Logic.{∥∥₁_map, ∥∥₁_elim}

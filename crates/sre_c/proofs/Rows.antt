@@ -1,4 +1,4 @@
--- Rows of matches: one more behind those that are there, and a walk that is written up to some request.
+-- Rows of matches: one more after those that exist, and an iteration that is written up to some request.
 use Rattle.std.proofs.Common.{◌≡◌, ◌∙◌, ◌<◌, ◌+◌, ◌*◌, ℕ, List, [], ◌∷◌, ◌++◌, length, slice_index, cond, nat_eq}
 use Rattle.std.proofs.Common.{Bool, true, false, Option, Some, None, Ok, sym, ap, subst, arith, append_assoc}
 use Rattle.std.proofs.Common.{length-append}

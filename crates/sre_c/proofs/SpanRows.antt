@@ -1,4 +1,4 @@
--- Rows of spans: one more behind those that are there.
+-- Rows of spans: one more after those that exist.
 use Rattle.std.proofs.Common.{◌≡◌, ◌∙◌, ◌<◌, ◌+◌, ◌*◌, ℕ, List, [], ◌∷◌, slice_index, cond, nat_eq, sym, ap, subst}
 use Rattle.std.proofs.Common.{arith, Some}
 use Rattle.sre_chars.specs.declared.string.StrDrive.{Ghosts}

@@ -1,4 +1,4 @@
--- The answer of a state in the words of C.
+-- The answer of a state in the terms of C.
 use Rattle.std.proofs.Common.{ℕ}
 use Rattle.sre_model.specs.Found.{Asked}
 use Rattle.sre_code.specs.declared.code.Code.{Code}

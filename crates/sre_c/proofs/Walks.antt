@@ -1,4 +1,4 @@
--- What is written of a walk's request, in the words of C.
+-- What is written of an iteration's request, in the terms of C.
 use Rattle.std.proofs.Common.{◌≡◌, ◌∙◌, ◌≤◌, ℕ, List, [], length, min, arith, sym, ap, subst}
 use Rattle.sre_chars.specs.declared.string.StrDrive.{Ghosts}
 use Rattle.sre_model.specs.Grammar.{Whole, IsCode}

@@ -1,4 +1,4 @@
--- What an export says of a match.
+-- What an export reports of a match.
 -- Public clauses rest on it.
 use Rattle.std.specs.Prelude.{ℕ, ◌≡◌, ◌<◌, ◌-◌, ◌^◌, List, length, slice_index, Option, Some, None}
 use Rattle.sre_model.specs.Tree.{Tree}

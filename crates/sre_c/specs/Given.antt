@@ -1,4 +1,4 @@
--- What a caller hands over, in the words of the model.
+-- What a caller passes, in the terms of the specification.
 -- Public clauses rest on it.
 use Rattle.std.specs.Prelude.{ℕ, ◌≡◌, ◌<◌, ◌⊎◌, List, length, min, cond, Option}
 use Rattle.std.specs.Str.{chars, IsUtf8}

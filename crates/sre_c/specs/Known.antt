@@ -1,4 +1,4 @@
--- What a check has told of lists and words.
+-- What a check has reported of lists and bytecode.
 -- Public clauses rest on it.
 use Rattle.std.specs.Prelude.{ℕ, ◌≡◌, false, List, cond, Some, None}
 use Rattle.sre_chars.specs.Tables.{Table}

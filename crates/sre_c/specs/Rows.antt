@@ -1,5 +1,5 @@
--- How far a walk of a request is written.
--- Words of the contracts inside this crate; what it makes public does not rest on it.
+-- How far an iteration of a request is written.
+-- Definitions for the contracts inside this crate; what it makes public does not rest on it.
 use Rattle.std.specs.Prelude.{ℕ, ◌≡◌, ◌≤◌, ◌<◌, ◌+◌, ◌*◌, ◌⊎◌, List, [], length}
 use Rattle.sre_chars.specs.declared.string.StrDrive.{Ghosts}
 use Rattle.sre_model.specs.Tree.{Tree}

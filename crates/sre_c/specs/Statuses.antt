@@ -1,4 +1,4 @@
--- What a call says by a number.
+-- What a call reports by a number.
 -- Public clauses rest on it.
 use Rattle.std.specs.Prelude.{ℕ, ◌≡◌}
 use Rattle.sre_c.specs.declared.status.Status.{Status}

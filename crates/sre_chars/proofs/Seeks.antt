@@ -1,4 +1,4 @@
--- A character is looked for among bytes. Where an ASCII one stands its byte does, and no other character has that byte.
+-- A search for a character among bytes: an ASCII one is where its byte is, and no other character has that byte.
 use Rattle.std.proofs.Common.{◌≡◌, ◌≢◌, ℕ, suc, ◌+◌, ◌-◌, ◌<◌, ◌≤◌, inl, inr, refl, ap, sym, ◌∙◌, true, arith}
 use Rattle.std.proofs.Common.{List, ◌∷◌, ◌++◌, length, take, drop, get_or, count_by, length-append}
 use Rattle.std.proofs.Math.Seq.{take-add, drop-cons}

@@ -1,4 +1,4 @@
--- Places in UTF-8 text: a step past a character goes to the end of its bytes, a step back to their start.
+-- Positions in UTF-8 text: a step past a character goes to the end of its bytes, a step back to their start.
 use Rattle.std.proofs.Common.{◌≡◌, ℕ, zero, suc, add-one, ◌+◌, ◌-◌, ◌<◌, ◌≤◌, true, refl, ap, sym, ◌∙◌, arith}
 use Rattle.std.proofs.Common.{List, [], ◌∷◌, ◌++◌, length, take, drop, get_or, length-append}
 use Rattle.std.proofs.Math.Seq.{take-append_seam, drop-append_seam, take-suc, drop-cons, drop-nil}

@@ -1,4 +1,4 @@
--- The refusals of a table's lists: their numbers, and which of them comes.
+-- The errors of a table's lists: their numbers, and which of them is returned.
 use Rattle.std.specs.Prelude.{ℕ, ◌+◌, Bool, List, [], ◌∷◌, Option, Some, None, if◌then◌else◌, not, nat_lt, ◌&&◌, ◌||◌}
 use Rattle.std.specs.Option.{option_or}
 use Rattle.sre_chars.specs.Tables.{Table, is_scalar}

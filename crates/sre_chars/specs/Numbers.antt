@@ -1,4 +1,4 @@
--- The numbers of the codes that stand in compiled patterns, and of a rule.
+-- The numbers of the codes that occur in compiled patterns, and of a rule.
 use Rattle.std.specs.Prelude.{◌≡◌, ◌≤◌, ℕ, Result, MatchResult}
 use Rattle.sre_chars.specs.declared.constants.UnknownCode.{UnknownCode}
 use Rattle.sre_chars.specs.declared.constants.SreOpcode.{SreOpcode}

@@ -1,4 +1,4 @@
--- Where a cursor stands in a text.
+-- Where a cursor is in a text.
 use Rattle.std.specs.Prelude.{◌≡◌, ◌≢◌, ◌<◌, ◌≤◌, ℕ, ◌-◌, Bool, true, false, ◌||◌, nat_le, nat_lt}
 use Rattle.std.specs.Prelude.{List, length, take, count_by, slice_index}
 use Rattle.std.specs.Str.{chars, encode_utf8_all}

@@ -1,4 +1,4 @@
--- What the reading of an item answers, by its opcode.
+-- The result of reading an item, by its opcode.
 use Rattle.sre_code.proofs.ReadItems.{fail_exactly, reference_at, only_tests, no_opcode, info_nowhere}
 use Rattle.sre_code.proofs.ReadRuns.{greedy_there, lazy_there, possessive_there}
 use Rattle.sre_code.proofs.ReadRegions.{assert_there, assert_not_there}

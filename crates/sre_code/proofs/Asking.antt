@@ -1,4 +1,4 @@
--- A scan from one instruction to the next tells from which group on groups are asked for, and up to which.
+-- A scan from instruction to instruction computes the range of groups that back-references and conditionals read.
 use Rattle.std.proofs.Common.{ℕ, ◌+◌, ◌-◌, ◌≡◌, ◌<◌, ◌≤◌, ◌⊎◌, inl, inr, min, max, List, length, Option, Some}
 use Rattle.std.proofs.Common.{None, refl, sym, ap, ◌∙◌, arith}
 use Rattle.sre_chars.specs.declared.constants.SreOpcode.{SreOpcode}

@@ -1,4 +1,4 @@
--- The regions that end a scan are those that fork, or none; a body that neither forks nor refers has none.
+-- The atomic scopes that end a scan are those that branch, or none; a body that neither branches nor refers has none.
 use Rattle.std.proofs.Common.{◌≡◌, Bool, false, ◌||◌, ◌&&◌, refl, ◌∙◌}
 use Rattle.std.proofs.Math.Bool.{and-false}
 use Rattle.std.proofs.lemmas.Bool.{or_parts}

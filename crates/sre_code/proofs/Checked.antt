@@ -1,4 +1,4 @@
--- The tree of checked words.
+-- The tree of checked bytecode.
 use Rattle.std.proofs.Common.{ℕ, List, sym, subst}
 use Rattle.std.proofs.Math.Logic.{∥∥₁_map, ∥∥₁_elim}
 use Rattle.std.proofs.Props.{props}

@@ -1,4 +1,4 @@
--- What the block claims, by its words, and what is confirmed of it.
+-- What the INFO block claims, by its words, and what is confirmed of it.
 use Rattle.std.proofs.Common.{ℕ, ◌+◌, ◌*◌, ◌-◌, ◌/◌, ◌%◌, ◌≡◌, ◌≢◌, ◌<◌, ◌≤◌, Bool, true, false, cond, nat_eq, nat_lt}
 use Rattle.std.proofs.Common.{nat_le, ◌&&◌, List, length, Option, Some, None, slice_range, refl, sym, ◌∙◌, ap, arith}
 use Rattle.std.proofs.lemmas.Bool.Decides.{nat_tests}

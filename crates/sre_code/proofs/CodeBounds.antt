@@ -1,4 +1,4 @@
--- The number that is told of a code is the one that is written for its tree.
+-- The number computed for a code is the one specified for its tree.
 use Rattle.std.proofs.Common.{ℕ, ◌+◌, ◌-◌, ◌*◌, ◌/◌, ◌^◌, ◌≡◌, ◌<◌, ◌≤◌, false, min, max}
 use Rattle.std.proofs.Common.{List, length, Option, Some, None, refl}
 use Rattle.std.proofs.Common.{sym, ap, ◌∙◌, subst, arith, IfSome}

@@ -1,4 +1,4 @@
--- The slots that are told of a code are those of its tree.
+-- The counter states computed for a code are those of its tree.
 use Rattle.std.proofs.Common.{ℕ, ◌-◌, ◌^◌, ◌≡◌, ◌≤◌, Bool, true, false, List, length, cond}
 use Rattle.std.proofs.Common.{Option, Some, None, IfSome, refl, sym, ap, ◌∙◌, subst}
 use Rattle.std.proofs.lemmas.Bool.{true≢false}

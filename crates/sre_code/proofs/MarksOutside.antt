@@ -1,4 +1,4 @@
--- Where no mark's opcode stands among the words of a region's body, no region of a tree sets a mark.
+-- Where no MARK is among the code words of an atomic scope's body, no atomic scope of a tree sets a capture slot.
 use Rattle.std.proofs.Common.{ℕ, ◌+◌, ◌-◌, ◌≡◌, ◌<◌, ◌≤◌, Bool, false, ◌||◌, List, length, Some, refl, subst, arith}
 use Rattle.std.proofs.Common.{◌⊎◌, inl, inr, ⊎_elim}
 use Rattle.std.proofs.lemmas.Bool.{cases_lt}

@@ -1,4 +1,4 @@
--- What is told of one instruction, by what it is: a loop with its body, or another one.
+-- What is computed of one instruction, by its kind: a loop with its body, or another one.
 use Rattle.std.proofs.Common.{ℕ, ◌+◌, ◌*◌, ◌/◌, ◌≡◌, ◌≤◌, ⊎_elim, Bool, List}
 use Rattle.std.proofs.Common.{Some, None, refl, sym, ap, ◌∙◌, subst, arith}
 use Rattle.std.proofs.lemmas.Nat.{le-div}

@@ -1,4 +1,4 @@
--- What is left of a tree behind marks and literals, by the words that stand there.
+-- What is left of a tree after MARKs and literals, by the code words there.
 use Rattle.std.proofs.Common.{ℕ, ◌+◌, ◌-◌, ◌≡◌, ◌≢◌, ◌<◌, ◌≤◌, Bool, true, false, cond, nat_eq, List, ◌∷◌, length}
 use Rattle.std.proofs.Common.{Option, Some, None, slice_index, take, drop, refl, sym, ◌∙◌, ap, subst, arith}
 use Rattle.std.proofs.lemmas.List.{at_drop_more, at_drop_all}

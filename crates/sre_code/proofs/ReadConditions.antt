@@ -1,4 +1,4 @@
--- Conditions: what the check reads of them is what the grammar says.
+-- Conditionals: what the check reads of them is what the grammar says.
 use Rattle.std.proofs.Common.{ℕ, ◌+◌, ◌-◌, ◌≡◌, ◌≢◌, ◌<◌, ◌≤◌, ◌⊎◌, List, length, min}
 use Rattle.std.proofs.Common.{⊎_elim, refl, sym, ◌∙◌, ap, inl, inr, arith}
 use Rattle.sre_chars.specs.Numbers.{opcode_number}

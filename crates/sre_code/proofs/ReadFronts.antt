@@ -1,4 +1,4 @@
--- The block at the front, and what a check says of words whose items it has read.
+-- The INFO block at the front, and what a check says of bytecode whose items it has read.
 use Rattle.std.proofs.Common.{ℕ, ◌≡◌, ◌≢◌, List}
 use Rattle.std.proofs.Common.{drop, sym, subst}
 use Rattle.sre_chars.specs.Tables.{Table}

@@ -1,4 +1,4 @@
--- Bodies of possessive loops, atomic groups and looks: what the check reads of them is what the grammar says.
+-- Bodies of possessive loops, atomic groups and lookarounds: what the check reads of them is what the grammar says.
 use Rattle.std.proofs.Common.{ℕ, ◌+◌, ◌-◌, ◌*◌, ◌≡◌, ◌≢◌, ◌<◌, ◌≤◌, List, length, refl, sym, ◌∙◌, ap, arith}
 use Rattle.sre_chars.specs.Numbers.{opcode_number}
 use Rattle.sre_chars.specs.declared.constants.SreOpcode.{SreOpcode}

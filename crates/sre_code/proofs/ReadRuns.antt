@@ -1,4 +1,4 @@
--- Runs of one test: what the check reads of them is what the grammar says.
+-- Single-character repeats: what the check reads of them is what the grammar says.
 use Rattle.std.proofs.Common.{ℕ, ◌+◌, ◌-◌, ◌≡◌, ◌≢◌, ◌<◌, ◌≤◌, List, length, sym, ◌∙◌, subst, arith}
 use Rattle.sre_chars.specs.Numbers.{opcode_number}
 use Rattle.sre_chars.specs.declared.constants.SreOpcode.{SreOpcode}

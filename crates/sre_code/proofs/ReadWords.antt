@@ -1,4 +1,4 @@
--- What reading a single word answers.
+-- What reading a single word returns.
 use Rattle.std.proofs.Common.{ℕ, ◌≡◌, ◌<◌, ◌≤◌, List, length, sym, ◌∙◌, arith}
 use Rattle.sre_chars.specs.Numbers.{opcode_number, at_number, category_number}
 use Rattle.sre_model.specs.Grammar.{Word, word}

@@ -1,4 +1,4 @@
--- Numbers that are held at the greatest one of 64 bits, and what they come to.
+-- Numbers that saturate at 64 bits, and what they come to.
 use Rattle.std.proofs.Common.{ℕ, ◌+◌, ◌-◌, ◌*◌, ◌/◌, ◌^◌, ◌≡◌, ◌<◌, ◌≤◌, ◌⊎◌, inl, inr, max, min, sym, ap, ◌∙◌, arith}
 use Rattle.std.proofs.Common.{nat_le}
 use Rattle.std.proofs.Math.Nat.{mul-le-mul_left, mul-le-mul_right}

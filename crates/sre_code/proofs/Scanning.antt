@@ -1,6 +1,5 @@
--- A scan from one instruction to the next tells whether a reference or a condition is among the items, and adds up
--- what they have: how far the characters of their runs count and their looks go back at most, and how far their looks
--- go back together.
+-- A scan from instruction to instruction computes whether the items have a back-reference or a conditional, and adds up
+-- how far their repeats count and their lookbehinds reach at most, and how far their lookbehinds reach together.
 use Rattle.std.proofs.Common.{ℕ, ◌+◌, ◌-◌, ◌^◌, ◌≡◌, ◌<◌, ◌≤◌, ◌⊎◌, inl, inr, ⊎_elim, Bool, true, false}
 use Rattle.std.proofs.lemmas.Bool.{true≢false, or_left, or_right}
 use Rattle.std.proofs.Common.{List, Option, Some, None, length, min, max, refl, sym, ap, ap₂, ◌∙◌, subst, arith}

@@ -1,5 +1,5 @@
--- A scan from one instruction to the next, into each alternative, past each loop, and past each region or into it,
--- tells how many slots plain items have, or that they are not plain.
+-- A scan from instruction to instruction, into each alternative, past each loop, and past each atomic scope or into it,
+-- computes how many counter states plain items have, or that they are not plain.
 use Rattle.std.proofs.Common.{ℕ, ◌+◌, ◌≡◌, ◌<◌, ◌≤◌, ◌⊎◌, inl, inr, Bool, true, false, ◌&&◌}
 use Rattle.std.proofs.Common.{◌||◌, List, Option, Some, None, max, refl, sym, ap, ◌∙◌, subst, arith}
 use Rattle.std.proofs.lemmas.Bool.{true≢false}

@@ -1,5 +1,5 @@
--- A scan from one instruction to the next tells whether a body has what is sought, or refers; one that neither forks
--- nor refers has no slots of loops.
+-- A scan from instruction to instruction computes whether a body has what is sought, or refers back; one that neither
+-- branches nor refers back has no counter states.
 use Rattle.std.proofs.Common.{ℕ, ◌+◌, ◌≡◌, ◌<◌, ◌≤◌, ◌⊎◌, inl, inr, Bool, true, false, ◌||◌, List, Option}
 use Rattle.std.proofs.Common.{Some, None, max, refl, sym, ap, ◌∙◌, subst, arith}
 use Rattle.std.proofs.lemmas.Bool.{true≢false, or_right}

@@ -1,5 +1,5 @@
--- A scan from one instruction to the next, past each region whose body has no mark and does not refer, tells whether a
--- region of a code sets a mark, or the code refers.
+-- A scan from instruction to instruction, past each atomic scope whose body sets no capture slot and does not refer
+-- back, computes whether an atomic scope of a code sets one, or the code refers back.
 use Rattle.std.proofs.Common.{ℕ, ◌+◌, ◌-◌, ◌≡◌, ◌<◌, ◌≤◌, ◌⊎◌, inl, inr, Bool, true, false, ◌||◌, List, length, Option}
 use Rattle.std.proofs.Common.{Some, None, refl, sym, ap, ◌∙◌, subst, arith}
 use Rattle.std.proofs.lemmas.Bool.{true≢false, or_right, or_parts}

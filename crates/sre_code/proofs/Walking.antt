@@ -1,5 +1,5 @@
--- Scans from instruction to instruction, and what such a scan tells of a tree: what it tells of each instruction, put
--- together by a folding.
+-- Scans from instruction to instruction, and what such a scan computes of a tree: its results for each instruction,
+-- combined by a fold.
 use Rattle.std.proofs.Common.{ℕ, zero, suc, ◌+◌, ◌-◌, ◌≡◌, ◌<◌, ◌≤◌, ◌⊎◌, inl, inr, ⊎_elim, Some, List, refl, sym}
 use Rattle.std.proofs.Common.{subst, arith, false}
 use Rattle.sre_chars.specs.declared.constants.SreOpcode.TheVariants as opcode

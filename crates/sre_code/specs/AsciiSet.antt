@@ -1,5 +1,5 @@
 -- Which characters a set of ASCII characters has.
--- Words of the machine's contracts; what sre_engine makes public does not rest on it.
+-- Definitions for the machine's contracts; what sre_engine makes public does not rest on it.
 use Rattle.std.specs.Prelude.{ℕ, ◌-◌, Bool, nat_eq, nat_lt, ◌&&◌, if◌then◌else◌}
 use Rattle.std.specs.Int.{bit_at}
 use Rattle.sre_code.specs.declared.ascii_set.AsciiSet.{AsciiSet}

@@ -1,5 +1,5 @@
 -- Which ASCII characters the items of a set take.
--- Words of the check's contracts; what sre_engine makes public does not rest on it.
+-- Definitions for the check's contracts; what sre_engine makes public does not rest on it.
 use Rattle.std.specs.Prelude.{ℕ, ◌≡◌, ◌<◌, Bool, true, ◌&&◌, ◌||◌, List, Option, Some, None}
 use Rattle.sre_code.specs.AsciiSet.{contains}
 use Rattle.sre_code.specs.declared.ascii_set.AsciiSet.{AsciiSet}

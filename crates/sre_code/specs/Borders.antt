@@ -1,5 +1,5 @@
 -- Borders of the fronts of a prefix, word by word.
--- Words of the check's contracts; what sre_engine makes public does not rest on it.
+-- Definitions for the check's contracts; what sre_engine makes public does not rest on it.
 use Rattle.std.specs.Prelude.{ℕ, ◌+◌, ◌-◌, ◌≡◌, ◌<◌, ◌≤◌, List, length, slice_index}
 
 -- the first k of the first n words are their last k, and k is below n

@@ -1,5 +1,5 @@
--- The step bound as it is computed: by what it is made of, and where it takes more than 64 bits.
--- Words of the check's contracts; what sre_engine makes public does not rest on it.
+-- The step bound as it is computed: by its parts, and where it takes more than 64 bits.
+-- Definitions for the check's contracts; what sre_engine makes public does not rest on it.
 use Rattle.std.specs.Prelude.{ℕ, ◌+◌, ◌*◌, ◌/◌, ◌^◌, ◌≡◌, ◌<◌, ◌≤◌, true, false, max, Option, Some, None}
 use Rattle.sre_model.specs.Tree.{Tree}
 use Rattle.sre_model.specs.References.{refers}

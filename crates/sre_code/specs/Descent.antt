@@ -1,5 +1,5 @@
--- The descent of the check into the words, with a stack of open parts.
--- Words of the check's contracts; what sre_engine makes public does not rest on it.
+-- The descent of the check into the bytecode, with a stack of open parts.
+-- Definitions for the check's contracts; what sre_engine makes public does not rest on it.
 use Rattle.std.specs.Prelude.{ℕ, ◌+◌, ◌-◌, ◌*◌, ◌≡◌, ◌≢◌, ◌<◌, ◌≤◌, List, [], ◌∷◌, ◌++◌, reverse, length}
 use Rattle.std.specs.Prelude.{Result, Ok, Err}
 use Rattle.sre_chars.specs.declared.constants.SreOpcode.TheVariants as opcode

@@ -1,5 +1,5 @@
--- What is told of the first items of trees.
--- Words of the check's contracts; what sre_engine makes public does not rest on it.
+-- What is computed of the first items of trees.
+-- Definitions for the check's contracts; what sre_engine makes public does not rest on it.
 use Rattle.std.specs.Prelude.{ℕ, ◌-◌, ◌≡◌, ◌≤◌, Bool, true, List, length, Option}
 use Rattle.std.specs.Bool.{Decides}
 use Rattle.sre_chars.specs.declared.constants.SreOpcode.{SreOpcode}

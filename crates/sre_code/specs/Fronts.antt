@@ -1,5 +1,5 @@
--- The information block that a check passes over.
--- Words of the check's contracts; what sre_engine makes public does not rest on it.
+-- The INFO block that a check passes over.
+-- Definitions for the check's contracts; what sre_engine makes public does not rest on it.
 use Rattle.std.specs.Prelude.{ℕ, ◌≡◌, ◌≢◌, ◌<◌, ◌≤◌, true, false, List, length, drop, Result, Ok, Err}
 use Rattle.sre_model.specs.Tree.{Tree}
 use Rattle.sre_model.specs.Grammar.{Whole, skip, has_block, behind_block, fits_block}

@@ -1,5 +1,5 @@
--- Instructions: where the next one stands, bodies included, how far a run counts, and which group a reference is to.
--- Words of the check's contracts; what sre_engine makes public does not rest on it.
+-- Instructions: where the next one is, bodies included, how far a repeat counts, and the group of a back-reference.
+-- Definitions for the check's contracts; what sre_engine makes public does not rest on it.
 use Rattle.std.specs.Prelude.{ℕ, ◌+◌, ◌≡◌, ◌<◌, ◌⊎◌, List, Option, Some, None}
 use Rattle.sre_chars.specs.declared.constants.SreOpcode.{SreOpcode}
 use Rattle.sre_model.specs.Tree.{Test, Fold}

@@ -1,4 +1,4 @@
--- How many slots the loops of a code have, where it has no references.
+-- How many counter states the loops of a code have, if it has no back-references or conditionals.
 -- Public clauses rest on it.
 use Rattle.std.specs.Prelude.{ℕ, ◌^◌, ◌≡◌, ◌<◌, ◌≤◌, true, false, Option, Some, None}
 use Rattle.sre_model.specs.Tree.{Tree}

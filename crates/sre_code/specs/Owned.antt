@@ -1,4 +1,4 @@
--- What a code that is kept shows.
+-- What an owned code shows.
 -- Public clauses rest on it.
 use Rattle.std.specs.Prelude.{ℕ, List}
 use Rattle.sre_chars.specs.Tables.{Table}

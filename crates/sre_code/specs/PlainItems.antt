@@ -1,6 +1,6 @@
--- Items without references, whose loops have few slots within each other, and whose regions a scan goes past: those
--- that do not fork, so that no branch, run or loop is in their bodies, or all of them.
--- Words of the check's contracts; what sre_engine makes public does not rest on it.
+-- Items without back-references and conditionals, whose nested loops have few counter states, and whose atomic scopes a
+-- scan passes: those that do not branch, so that no branch, repeat or loop is in their bodies, or all.
+-- Definitions for the check's contracts; what sre_engine makes public does not rest on it.
 use Rattle.std.specs.Prelude.{ℕ, ◌+◌, ◌-◌, ◌≡◌, ◌<◌, ◌≤◌, ◌⊎◌, Bool, true, false, ◌||◌, ◌&&◌, cond}
 use Rattle.std.specs.Prelude.{List, Option, Some, None}
 use Rattle.sre_chars.specs.declared.constants.SreOpcode.{SreOpcode}

@@ -1,5 +1,5 @@
--- What is left of the items behind marks and behind a prefix.
--- Words of the check's contracts; what sre_engine makes public does not rest on it.
+-- What is left of the items after MARKs and after a prefix.
+-- Definitions for the check's contracts; what sre_engine makes public does not rest on it.
 use Rattle.std.specs.Prelude.{ℕ, ◌+◌, ◌-◌, ◌≡◌, ◌≤◌, true, List, length, Option, Some, None}
 use Rattle.sre_chars.specs.declared.constants.SreOpcode.{SreOpcode}
 use Rattle.sre_chars.specs.declared.constants.SreOpcode.TheVariants as opcode

@@ -1,6 +1,6 @@
 -- Prices of items as they are computed: the steps and costs they come to, whatever follows and whatever loops are
 -- around them.
--- Words of the check's contracts; what sre_engine makes public does not rest on it.
+-- Definitions for the check's contracts; what sre_engine makes public does not rest on it.
 use Rattle.std.specs.Prelude.{ℕ, ◌+◌, ◌-◌, ◌*◌, ◌^◌, ◌≡◌, ◌<◌, ◌≤◌, true, false, ◌&&◌, cond, max, List, Option, Some, None}
 use Rattle.sre_chars.specs.declared.constants.SreOpcode.{SreOpcode}
 use Rattle.sre_model.specs.Tree.{Tree, Item, Branch, Loop, PossessiveLoop, Atomic, Trees, Order}

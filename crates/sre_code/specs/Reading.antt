@@ -1,5 +1,5 @@
 -- Words, sets and tests: what the check's answers say of them.
--- Words of the check's contracts; what sre_engine makes public does not rest on it.
+-- Definitions for the check's contracts; what sre_engine makes public does not rest on it.
 use Rattle.std.specs.Prelude.{ℕ, ◌≡◌, ◌≢◌, ◌<◌, ◌≤◌, List, length, Result, Ok, Err}
 use Rattle.sre_chars.specs.declared.constants.SreOpcode.{SreOpcode}
 use Rattle.sre_model.specs.Tree.{Fold, Test, SetItem}

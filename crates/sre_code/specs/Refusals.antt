@@ -1,4 +1,4 @@
--- Refusals of words: their numbers and places.
+-- Errors in bytecode: their numbers and positions.
 -- Public clauses rest on it.
 use Rattle.std.specs.Prelude.{ℕ}
 use Rattle.sre_code.specs.declared.code.error.CodeError.{CodeError}

@@ -1,5 +1,5 @@
--- Words of regions, which are atomic groups, looks and possessive loops: from where up to where a body stands.
--- Words of the check's contracts; what sre_engine makes public does not rest on it.
+-- Code words of atomic scopes, which are atomic groups, lookarounds and possessive loops: where a body begins and ends.
+-- Definitions for the check's contracts; what sre_engine makes public does not rest on it.
 use Rattle.std.specs.Prelude.{ℕ, ◌+◌, ◌-◌, ◌≡◌, List, Option, Some, None}
 use Rattle.sre_chars.specs.declared.constants.SreOpcode.{SreOpcode}
 use Rattle.sre_chars.specs.declared.constants.SreOpcode.TheVariants as opcode

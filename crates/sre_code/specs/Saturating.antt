@@ -1,5 +1,5 @@
--- Numbers that are held at the greatest one of 64 bits.
--- Words of the check's contracts; what sre_engine makes public does not rest on it.
+-- Numbers that saturate at 64 bits.
+-- Definitions for the check's contracts; what sre_engine makes public does not rest on it.
 use Rattle.std.specs.Prelude.{ℕ, ◌-◌, ◌^◌, ◌≡◌, min}
 
 -- x, or the greatest number of 64 bits where x is above it

@@ -1,6 +1,6 @@
--- What is sought in bodies of regions: forks, which are instructions from which a machine may go on in more than one
--- way, and marks; and what a scan for them tells.
--- Words of the check's contracts; what sre_engine makes public does not rest on it.
+-- What is sought in bodies of atomic scopes: forks, from which a machine may continue in more than one way, and MARKs;
+-- and what a scan for them returns.
+-- Definitions for the check's contracts; what sre_engine makes public does not rest on it.
 use Rattle.std.specs.Prelude.{ℕ, ◌≡◌, ◌<◌, Bool, true, false, ◌||◌, List, Option, Some, None}
 use Rattle.sre_chars.specs.declared.constants.SreOpcode.{SreOpcode}
 use Rattle.sre_model.specs.Tree.{Tree}

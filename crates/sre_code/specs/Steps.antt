@@ -1,5 +1,5 @@
 -- Steps of the check: what is left to read of an item or a part, and what the answers say of it.
--- Words of the check's contracts; what sre_engine makes public does not rest on it.
+-- Definitions for the check's contracts; what sre_engine makes public does not rest on it.
 use Rattle.std.specs.Prelude.{ℕ, ◌+◌, ◌*◌, ◌≡◌, ◌<◌, ◌≤◌, ◌⊎◌, min, List, length, Option, Some, None, Result, Ok, Err}
 use Rattle.sre_chars.specs.declared.constants.SreOpcode.TheVariants as opcode
 use Rattle.sre_model.specs.Tree.{Tree, Empty, Item, One, Trees, Order, RunKind, Sign, Test}

@@ -1,5 +1,5 @@
--- What is told of an instruction in a scan that passes each region whole, unless its body sets a mark or refers.
--- Words of the check's contracts; what sre_engine makes public does not rest on it.
+-- What is computed of an instruction in a scan past each atomic scope whose body neither sets a capture nor refers.
+-- Definitions for the check's contracts; what sre_engine makes public does not rest on it.
 use Rattle.std.specs.Prelude.{ℕ, ◌+◌, ◌≡◌, Bool, cond, ◌||◌, List, Option, Some, None}
 use Rattle.sre_chars.specs.declared.constants.SreOpcode.{SreOpcode}
 use Rattle.sre_model.specs.Tree.{Tree}

@@ -1,4 +1,4 @@
--- A block before the words of a tree: its rows, that the words are still the tree's, and that its claims are confirmed.
+-- A block before the code words of a tree: its rows, that they are still the tree's, and that its claims are confirmed.
 use Rattle.std.proofs.Common.{ℕ, zero, suc, ◌+◌, ◌*◌, ◌-◌, ◌/◌, ◌%◌, ◌≡◌, ◌<◌, ◌≤◌, Bool, true, false, ◌&&◌, cond}
 use Rattle.std.proofs.Common.{nat_eq, nat_lt}
 use Rattle.std.proofs.Common.{nat_le, List, [], ◌∷◌, ◌++◌, length, take, drop, Option, Some, None, is_some}

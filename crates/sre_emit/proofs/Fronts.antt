@@ -1,4 +1,4 @@
--- What the items of a part begin with: plain literals, and marks between them.
+-- What the items of a part begin with: plain literals, with MARKs between them.
 use Rattle.std.proofs.Common.{ℕ, suc, ◌+◌, ◌≡◌, ◌<◌, ◌≤◌, Bool, true, false, ◌&&◌, cond, nat_eq, List, [], ◌∷◌}
 use Rattle.std.proofs.Common.{◌++◌}
 use Rattle.std.proofs.Common.{map, drop, length, slice_index_or, Option, Some, None, is_some, is_none, refl, sym, ◌∙◌}

@@ -1,4 +1,4 @@
--- What a writer hands out are the words of a part, behind the block that was asked for.
+-- What a writer returns are the code words of a part, after the block that was requested.
 use Rattle.std.proofs.Common.{ℕ, ◌≡◌, ◌≤◌, Bool, List, [], ◌++◌, reverse, None, Some, sym, ◌∙◌, ap}
 use Rattle.std.proofs.Common.{subst}
 use Rattle.std.proofs.lemmas.List.{reverse-reverse}

@@ -1,4 +1,4 @@
--- The information block that is written before the words of a tree.
+-- The INFO block that is written before the code words of a tree.
 -- Public clauses rest on it.
 use Rattle.std.specs.Prelude.{ℕ, zero, suc, ◌+◌, Bool, true, false, ◌&&◌, cond, nat_lt, List, [], ◌∷◌, ◌++◌, length}
 use Rattle.std.specs.Prelude.{take}

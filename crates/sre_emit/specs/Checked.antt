@@ -1,5 +1,5 @@
 -- What the check of a part says.
--- Words of the check's contracts; the public clauses rest on parts.
+-- Definitions for the check's contracts; the public clauses rest on parts.
 use Rattle.std.specs.Prelude.{ℕ, ◌≤◌, ◌<◌, List, length, All, Result, Ok, Err}
 use Rattle.sre_emit.specs.declared.part.Part.{Part}
 use Rattle.sre_emit.specs.Parts.{HasTree}

@@ -1,4 +1,4 @@
--- What words are emitted for a part, and why none are.
+-- What bytecode is emitted for a part, and why none is.
 -- Public clauses rest on it.
 use Rattle.std.specs.Prelude.{ℕ, ◌≡◌, ◌<◌, ◌≤◌, Bool, false, ◌&&◌, List, [], ◌++◌, Some, None, cond}
 use Rattle.sre_growth.specs.Refusal.{Refused}

@@ -1,4 +1,4 @@
--- Why no words are written: the numbers of the causes.
+-- Why no bytecode is written: the numbers of the causes.
 -- Public clauses rest on it.
 use Rattle.std.specs.Prelude.{ℕ}
 use Rattle.sre_emit.specs.declared.error.EmitError.{EmitError}

@@ -1,4 +1,4 @@
--- The tree of a part, whether it has one, and how deep parts lie in it.
+-- The tree of a part, whether it has one, and how deep parts are nested in it.
 -- Public clauses rest on it.
 use Rattle.std.specs.Prelude.{ℕ, ◌+◌, ◌≡◌, max, Bool, true, false, ◌&&◌, List, [], ◌∷◌, map, Some, None}
 use Rattle.sre_model.specs.Tree as tree

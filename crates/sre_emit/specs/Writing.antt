@@ -1,5 +1,5 @@
--- What a writer does: words are written from the last to the first, and a failure stays.
--- Words of the writer's contracts; the public clauses rest on the grammar.
+-- What a writer does: it writes words from the last to the first, and a failure stays.
+-- Definitions for the writer's contracts; the public clauses rest on the grammar.
 use Rattle.std.specs.Prelude.{ℕ, ◌≡◌, ◌≤◌, List, ◌++◌, length, reverse, Option, Some, None}
 use Rattle.sre_growth.specs.Refusal.{Refused}
 use Rattle.sre_model.specs.Standing.{AreWords}

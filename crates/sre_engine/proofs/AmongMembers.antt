@@ -1,4 +1,4 @@
--- Where the members of a confirmed first set are, and what a search along them comes to.
+-- Where the members of a confirmed FIRST set are, and what a search along them comes to.
 use Rattle.std.proofs.Common.{◌≡◌, ◌&&◌, ℕ, List, true, false, Option, Some, None, refl, sym}
 use Rattle.std.proofs.Common.{ap, subst, arith, inl, inr, nat_lt}
 use Rattle.std.proofs.lemmas.Bool.{cases_lt}

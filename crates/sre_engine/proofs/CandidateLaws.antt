@@ -1,4 +1,4 @@
--- What is found of a start makes it a candidate, and what is passed behind one that failed.
+-- How a start becomes a candidate, and what is skipped after one that failed.
 use Rattle.std.proofs.Common.{◌≡◌, ◌≤◌, ◌<◌, ◌+◌, ℕ, Bool, true, List, length, Some, None, refl, subst, arith, inl, inr}
 use Rattle.std.proofs.lemmas.Bool.{cases_lt}
 use Rattle.sre_chars.specs.declared.string.StrDrive.{Ghosts}

@@ -1,5 +1,5 @@
--- A request that carries a list of what its code's places admit asks what it asked without: what a search says of one
--- holds of the other.
+-- A request asks the same with and without a list of its code's FIRST sets: what a search says of one holds of the
+-- other.
 use Rattle.std.proofs.Common.{◌≡◌, ℕ, Bool, List, Result, Ok, Err, IfErr, Bor}
 use Rattle.sre_chars.specs.declared.string.StrDrive.{Ghosts}
 use Rattle.sre_code.specs.Codes.{items_of}

@@ -1,4 +1,4 @@
--- What the bound on the runs of a search comes to by each of a code's hints.
+-- What the bound on the runs of a search comes to by each of a code's search hints.
 use Rattle.std.proofs.Common.{◌≡◌, ◌≤◌, ◌<◌, ◌+◌, ◌-◌, ◌&&◌, ◌||◌, ℕ, zero, suc, List, Bool, true, false, not, cond}
 use Rattle.std.proofs.Common.{Some, refl, sym, ◌∙◌, subst, arith}
 use Rattle.std.proofs.lemmas.Bool.{leb-true}

@@ -1,4 +1,4 @@
--- Steps that suffice for a search, where each failure is memoized, are not used up unless an allocation failed.
+-- A search that memoizes each failure exceeds no sufficient step limit unless an allocation failed.
 use Rattle.std.proofs.Common.{◌≡◌, ℕ, ◌+◌, ◌-◌, ◌*◌, ◌≤◌, inl, inr, Bool, None, Result, Ok}
 use Rattle.std.proofs.Common.{Err, refl, ap}
 use Rattle.std.proofs.Common.{◌∙◌, subst, arith}

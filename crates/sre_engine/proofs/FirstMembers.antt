@@ -1,4 +1,4 @@
--- Where the first character is no member of the first set no match begins.
+-- Where the first character is no member of the FIRST set no match begins.
 use Rattle.std.proofs.Common.{◌≡◌, ℕ, List, Bool, true, false, ◌&&◌, nat_eq, nat_lt, None, refl, sym, ◌∙◌}
 use Rattle.std.proofs.Common.{subst, arith}
 use Rattle.std.proofs.lemmas.Bool.Decides.{nat_tests}

@@ -1,4 +1,4 @@
--- What the confirmed hints of a code tell of its tree.
+-- What the confirmed search hints of a code imply for its tree.
 use Rattle.std.proofs.Common.{◌≡◌, ◌≤◌, ◌<◌, ◌+◌, ◌-◌, ◌^◌, ℕ, List, Bool, length, Option, Some, None}
 use Rattle.std.proofs.Common.{sym, ap, ◌∙◌, arith, inl, inr, SomeIff, slice_range, length-take, length-drop}
 use Rattle.std.proofs.lemmas.Bool.{cases_lt}

@@ -1,4 +1,4 @@
--- Behind a start that has no match, and the run that leads from there.
+-- The starts after one without a match, and the repeat that leads from there.
 use Rattle.std.proofs.Common.{◌≡◌, ◌≤◌, ◌<◌, ◌+◌, ℕ, Bool, true, false, nat_lt, List, Option, Some, None, MatchOption}
 use Rattle.std.proofs.Common.{refl, sym, ap, ◌∙◌, subst, arith}
 use Rattle.std.proofs.lemmas.Bool.Decides.{nat_tests}

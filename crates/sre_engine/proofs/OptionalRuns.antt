@@ -1,4 +1,4 @@
--- Runs that owe no character, where a tree begins with them: it may begin with what is behind them, too.
+-- Repeats that need no character, where a tree begins with them: it may begin with what follows them, too.
 use Rattle.std.proofs.Common.{◌≡◌, ℕ, ◌+◌, ◌-◌, true, false, List, [], refl, sym, ap, ◌∙◌, subst, arith}
 use Rattle.std.proofs.Common.{true≢false, ◌⊎◌, inl, inr, ◌||◌}
 use Rattle.sre_chars.specs.declared.constants.SreOpcode.TheVariants as opcode

@@ -1,4 +1,4 @@
--- What a search along the places of a prefix comes to.
+-- What a search along the positions of a prefix comes to.
 use Rattle.std.proofs.Common.{◌≡◌, ◌≤◌, ◌<◌, ◌+◌, ◌||◌, ◌&&◌, ℕ, zero, suc, List, [], ◌∷◌, Bool, true, false}
 use Rattle.std.proofs.Common.{not}
 use Rattle.std.proofs.Common.{cond}

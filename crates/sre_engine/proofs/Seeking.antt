@@ -1,5 +1,5 @@
--- Where no word of a prefix is matched, the scan goes on behind the next first word, or behind the next place at which
--- another one stands.
+-- Where no word of a prefix is matched, the scan continues after the next first word, or after the next position of
+-- another one.
 use Rattle.std.proofs.Common.{ℕ, ◌+◌, ◌-◌, ◌≡◌, ◌≢◌, ◌<◌, ◌≤◌, List, length, slice_index, refl, sym, ◌∙◌, subst}
 use Rattle.std.proofs.Common.{true, false, arith}
 use Rattle.sre_chars.specs.declared.string.StringCursor.{StringCursor}

@@ -1,4 +1,4 @@
--- Where a scan for a prefix goes on, by what is told of starts that have no match.
+-- Where a scan for a prefix continues, by what is known of starts without a match.
 use Rattle.std.proofs.Common.{◌≡◌, ◌≤◌, ◌<◌, ℕ, List, length, Bool, refl, sym, subst, arith}
 use Rattle.std.proofs.Common.{inl, inr, ⊎_elim}
 use Rattle.std.proofs.lemmas.Bool.{cases_lt}

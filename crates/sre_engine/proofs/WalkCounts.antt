@@ -1,4 +1,4 @@
--- What the steps of a walk count together.
+-- What the steps of an iteration count together.
 use Rattle.std.proofs.Common.{◌≡◌, ◌≤◌, ◌+◌, ◌-◌, ℕ, zero, suc, List, Bool, true, false, cond, nat_eq}
 use Rattle.std.proofs.Common.{[], ◌∷◌, ◌++◌, map}
 use mathlib.Core.List.{append_assoc, map-append}

@@ -1,4 +1,4 @@
--- A step of a walk gives its first match, and leaves the walk from that match's end on.
+-- A step of an iteration gives its first match, and leaves the iteration from that match's end on.
 use Rattle.std.proofs.Common.{◌≡◌, ◌<◌, ◌∷◌, List, Bool, true, false, Some, sym, ap, ◌∙◌}
 use Rattle.std.proofs.Common.{subst}
 use Rattle.sre_chars.specs.declared.string.StrDrive.{Ghosts}

@@ -1,5 +1,5 @@
 -- The starts that a search tries, one after the other.
--- Words of the search's contracts; what sre_engine makes public does not rest on it.
+-- Definitions for the search's contracts; what sre_engine makes public does not rest on it.
 use Rattle.std.specs.Prelude.{ℕ, ◌+◌, ◌-◌, ◌*◌, ◌^◌, ◌≡◌, ◌<◌, ◌≤◌, true, false, List, Option, Some, None}
 use Rattle.std.specs.Prelude.{length, IfSome}
 use Rattle.sre_chars.specs.declared.string.StringCursor.{StringCursor}

@@ -1,5 +1,5 @@
 -- What a search that is limited costs at most, where no allocation fails.
--- Words of the contracts inside this crate; what it makes public does not rest on it.
+-- Definitions for the contracts inside this crate; what it makes public does not rest on it.
 use Rattle.std.specs.Prelude.{ℕ, ◌+◌, ◌*◌, ◌≤◌, ◌≡◌, ◌⊎◌, Bool, true, false, Result, IfErr}
 use Rattle.sre_chars.specs.declared.string.StrDrive.{Ghosts}
 use Rattle.sre_growth.specs.Refusal.{Refused}

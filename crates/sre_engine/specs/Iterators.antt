@@ -1,5 +1,5 @@
--- What a walk that goes from match to match shows, and what its next item is.
--- Of the meaning: what sre_engine makes public rests on it.
+-- What an iterator over matches shows, and what its next item is.
+-- Of the specification: what sre_engine makes public rests on it.
 use Rattle.std.specs.Prelude.{◌≡◌, ◌≤◌, ℕ, ◌+◌, Bool, true, false, cond, List, [], ◌∷◌, Option, Some, None, Result}
 use Rattle.std.specs.Prelude.{Ok, Err}
 use Rattle.sre_chars.specs.declared.string.StrDrive.{Ghosts}

@@ -1,5 +1,5 @@
 -- A match in a list.
--- Of the meaning: what sre_engine makes public rests on it.
+-- Of the specification: what sre_engine makes public rests on it.
 use Rattle.sre_model.specs.Found.{Match}
 use Rattle.sre_engine.specs.declared.engine.whole_walk.Found.{Found}
 

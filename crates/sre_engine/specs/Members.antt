@@ -1,4 +1,4 @@
--- The first set of a code, and where a match may begin by it.
+-- The FIRST set of a code, and where a match may begin by it.
 -- Public clauses rest on it.
 use Rattle.std.specs.Prelude.{ℕ, ◌-◌, ◌≡◌, ◌<◌, ◌≤◌, Bool, true, false, List, Option, Some, None}
 use Rattle.sre_chars.specs.declared.constants.SreOpcode.TheVariants as opcode

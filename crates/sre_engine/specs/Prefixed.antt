@@ -1,5 +1,5 @@
--- What a search takes from confirmed hints.
--- Words of the search's contracts; what sre_engine makes public does not rest on it.
+-- What a search takes from confirmed search hints.
+-- Definitions for the search's contracts; what sre_engine makes public does not rest on it.
 use Rattle.std.specs.Prelude.{ℕ, ◌+◌, ◌*◌, ◌^◌, ◌≡◌, ◌<◌, ◌≤◌, Bool, true, List, length, Option, Some, None}
 use Rattle.sre_model.specs.Tree.{Tree}
 use Rattle.sre_model.specs.Grammar.{Whole}

@@ -1,5 +1,5 @@
--- A scan for the places where the words of a prefix stand.
--- Words of the search's contracts; what sre_engine makes public does not rest on it.
+-- A scan for the positions where the words of a prefix occur.
+-- Definitions for the search's contracts; what sre_engine makes public does not rest on it.
 use Rattle.std.specs.Prelude.{ℕ, ◌+◌, ◌-◌, ◌*◌, ◌≡◌, ◌≢◌, ◌<◌, ◌≤◌, ◌⊎◌, Bool, true, false, List, length}
 use Rattle.std.specs.Prelude.{slice_index}
 use Rattle.sre_chars.specs.declared.string.StrDrive.{Ghosts}

@@ -1,4 +1,4 @@
--- What a search of a request says of its answer, and a step of a walk of its match and of what is asked next.
+-- What a search says of its answer, and a step of an iteration of its match and of the next request.
 -- Public clauses rest on it.
 use Rattle.std.specs.Prelude.{◌+◌, ◌≡◌, ◌<◌, ◌≤◌, Bool, true, false, Option, None, Some, Result, Ok, Err, IfOk, OnErr}
 use Rattle.sre_chars.specs.declared.string.StrDrive.{Ghosts}

@@ -1,5 +1,5 @@
--- Starts from which there is no match: barred by what has to come first, or passed behind a start that has none.
--- Words of the search's contracts. What is public rests on `NoneUntil` and `StartFrom`, by `Starts::beyond`.
+-- Starts without a match: ruled out by what has to come first, or skipped after a start that has none.
+-- Definitions for the search's contracts. What is public rests on `NoneUntil` and `StartFrom`, by `Starts::beyond`.
 use Rattle.std.specs.Prelude.{ℕ, ◌≡◌, ◌<◌, ◌≤◌, ◌+◌, ◌-◌, ◌⊎◌, ◌||◌, cond, nat_le, Bool, true, false}
 use Rattle.std.specs.Prelude.{List, Option, Some, None}
 use Rattle.sre_chars.specs.declared.constants.SreAtCode.{SreAtCode}

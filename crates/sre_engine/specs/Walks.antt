@@ -1,5 +1,5 @@
--- A step of a walk.
--- Of the meaning: what sre_engine makes public rests on it.
+-- A step of an iteration.
+-- Of the specification: what sre_engine makes public rests on it.
 use Rattle.std.specs.Prelude.{◌≡◌, ◌≤◌, Bool, cond, List, [], ◌∷◌}
 use Rattle.sre_chars.specs.declared.string.StrDrive.{Ghosts}
 use Rattle.sre_model.specs.Found.{Match, asked_after}

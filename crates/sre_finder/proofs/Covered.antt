@@ -1,4 +1,4 @@
--- What a pattern that covers a code tells of its matches.
+-- What a pattern that covers a code implies for its matches.
 use Rattle.std.proofs.Common.{◌≡◌, ◌≤◌, ◌<◌, ◌+◌, ℕ, List, [], length, Option, Some, None, refl, ap, sym, subst, arith}
 use Rattle.regex_hir.specs.Re.{Re}
 use Rattle.regex_hir.specs.Matches.{Matches}

@@ -1,4 +1,4 @@
--- How bytes and UTF-8 are seen, and in which order positions stand there.
+-- How bytes and UTF-8 are seen, and the order of positions there.
 use Rattle.std.proofs.Common.{◌≡◌, ◌≤◌, ◌<◌, ◌+◌, ◌-◌, ℕ, List, length, take, refl, sym, ap, ◌∙◌, subst}
 use Rattle.std.proofs.Common.{arith, inl, inr, Fits, w8, get_or}
 use Rattle.std.proofs.lemmas.Bool.{cases_lt}

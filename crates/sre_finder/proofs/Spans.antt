@@ -1,4 +1,4 @@
--- What automata that have the first matches of a code tell of its spans, and how a walk goes on behind a span.
+-- What DFAs with the first matches of a code report of its spans, and how an iteration continues after a span.
 use Rattle.std.proofs.Common.{◌≡◌, ◌≤◌, ◌<◌, ℕ, zero, suc, List, [], ◌∷◌, Bool, true, false, not, ◌&&◌, ◌||◌, cond}
 use Rattle.std.proofs.Common.{nat_eq, Some, None, refl, ap, ap₂, sym, ◌∙◌, subst, arith, inl, inr}
 use Rattle.std.specs.List.{AllByRecursion}

@@ -1,4 +1,4 @@
--- What a walk with a finder shows.
+-- What an iteration with a finder shows.
 use Rattle.sre_chars.specs.declared.string.StrDrive.{Ghosts}
 use Rattle.sre_engine.specs.declared.engine.search_iter.SearchIter.{SearchIter}
 use Rattle.sre_finder.specs.declared.finder_iter.FinderIter.{FinderIter}

@@ -1,5 +1,5 @@
 -- What a finder knows of its code.
--- Words of this crate's contracts.
+-- Definitions for the contracts of this crate.
 use Rattle.std.specs.Prelude.{⊤, ℕ, List, Option, Some, None}
 use Rattle.regex_hir.specs.Re.{Re}
 use Rattle.regex_hir.specs.Meaning.{meaning}

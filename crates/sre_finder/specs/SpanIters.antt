@@ -1,5 +1,5 @@
--- What a walk over spans shows, and what its next item is.
--- Words of this crate's contracts.
+-- What an iteration over spans shows, and what its next item is.
+-- Definitions for the contracts of this crate.
 use Rattle.std.specs.Prelude.{◌≡◌, ◌+◌, ℕ, Bool, true, false, cond, List, [], ◌∷◌, Option, Some, None, Result, Ok, Err}
 use Rattle.sre_chars.specs.declared.string.StrDrive.{Ghosts}
 use Rattle.sre_model.specs.Tree.{Tree}

@@ -1,5 +1,5 @@
--- The spans of a walk's matches, and what a finder of spans knows of its code.
--- Words of this crate's contracts.
+-- The spans of an iteration's matches, and what a finder of spans knows of its code.
+-- Definitions for the contracts of this crate.
 use Rattle.std.specs.Prelude.{◌≡◌, ◌≤◌, ⊤, ℕ, nat_eq, Option, Some, None}
 use Rattle.regex_hir.specs.Re.{Re}
 use Rattle.regex_hir.specs.Matches.{IsMinLen}

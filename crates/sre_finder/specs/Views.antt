@@ -1,5 +1,5 @@
 -- How a text is seen as bytes up to a position.
--- Words of this crate's contracts.
+-- Definitions for the contracts of this crate.
 use Rattle.std.specs.Prelude.{ℕ, ◌≡◌, ◌≤◌, List, length}
 use Rattle.sre_model.specs.Subject.{Subject}
 use Rattle.sre_patterns.specs.Patterns.{view_of}

@@ -1,4 +1,4 @@
--- A code of which all that failed is remembered, for a worked law.
+-- A code whose failures are all memoized, for a worked law.
 use Rattle.std.specs.Prelude.{ℕ, List, [], ◌∷◌}
 
 -- the words of (?:a+a+)+b, as CPython's compiler makes them, without a block

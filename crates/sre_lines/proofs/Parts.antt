@@ -1,4 +1,4 @@
--- Pieces that are written one behind the other: where a write fails, a part of all of them stands there.
+-- Pieces that are written one after the other: where a write fails, a part of them all was written.
 use Rattle.std.proofs.Common.{ℕ, ◌≡◌, ◌∙◌, List, ◌++◌, Option, Some, None, Result, Ok, Err}
 use Rattle.std.proofs.Common.{sym, ap, subst, append_assoc, inl, inr}
 use Rattle.std.specs.Prelude.{OnOk, OnErr, IfOk, Vec, String, string_bytes}

@@ -1,4 +1,4 @@
--- A walk's text, as it is written: what stands there and what is still to come make the whole.
+-- An iteration's text, as it is written: what is there and what is still to come make the whole.
 use Rattle.std.proofs.Common.{◌≡◌, ◌∙◌, ℕ, List, ◌∷◌, ◌++◌, Bool, true, false, refl, sym, ap}
 use Rattle.std.proofs.Common.{append_assoc}
 use Rattle.sre_engine.specs.Tree.{Tree}

@@ -1,4 +1,4 @@
--- Why a line is no case, and how that is told.
+-- Why a line is no case, and how that is reported.
 use Rattle.std.specs.Prelude.{ℕ, ◌≡◌, ◌≢◌, ◌==◌, ◌%◌, ◌^◌, ◌<◌, ◌≤◌, ◌⊎◌, List, [], ◌∷◌, ◌++◌, map, codes}
 use Rattle.std.specs.Prelude.{length, slice_index, All, Contains, false}
 use Rattle.std.specs.Fmt.{decimal, digit_glyph}

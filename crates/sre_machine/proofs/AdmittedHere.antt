@@ -1,5 +1,5 @@
--- What an instruction admits, by its opcode, where the words are as the telling reads them.
--- The list that branches leave alternatives by is told by this; nothing else here rests on it.
+-- The FIRST set of an instruction, by its opcode, where the words are as the computation reads them.
+-- The list by which branches skip alternatives rests on this; nothing else here does.
 use Rattle.std.proofs.Common.{◌≡◌, ℕ, ◌+◌, ◌⊎◌, inl, inr, Bool, List, refl, sym, subst}
 use Rattle.sre_chars.specs.Numbers.{category_number}
 use Rattle.sre_chars.specs.declared.constants.SreCatCode.{SreCatCode}

@@ -1,4 +1,4 @@
--- The groups that stand behind opcodes which ask for them end before the mark that a look through the words tells.
+-- The groups after opcodes that read them end before the capture slot that a scan of the bytecode returns.
 use Rattle.std.proofs.Common.{◌≡◌, ℕ, ◌+◌, ◌-◌, ◌*◌, ◌<◌, ◌≤◌, ◌⊎◌, inl, inr, Bool, true, false, List, length}
 use Rattle.std.proofs.Common.{sym, ◌∙◌, ap, subst, arith}
 use Rattle.std.proofs.lemmas.Bool.{cases_lt}

@@ -1,5 +1,5 @@
--- What an instruction asks for, by its opcode, where the words are as the telling reads them.
--- The list of what places ask for is told by this; nothing else here rests on it.
+-- Live captures at an instruction, by its opcode, where the words are as the computation reads them.
+-- The list of live captures by address rests on this; nothing else here does.
 use Rattle.std.proofs.Common.{◌≡◌, ℕ, ◌+◌, ◌*◌, ◌⊎◌, inl, inr, List, refl, sym, ◌∙◌, ap, subst, arith}
 use Rattle.sre_chars.specs.declared.constants.SreOpcode.{SreOpcode}
 use Rattle.sre_chars.specs.declared.constants.SreOpcode.TheVariants as opcode

@@ -1,5 +1,5 @@
--- A list that tells of each place which marks may be asked for tells it rightly where one place more is told.
--- The list of what places ask for is told by this; nothing else here rests on it.
+-- A list of the captures that may be live at each address stays right where one more address is filled in.
+-- The list of live captures by address rests on this; nothing else here does.
 use Rattle.std.proofs.Common.{◌≡◌, ℕ, zero, suc, ◌<◌, ◌≤◌, ◌⊎◌, inl, inr, List, [], ◌∷◌, ◌++◌, Option, Some, None}
 use Rattle.std.proofs.Common.{Bool, true}
 use Rattle.std.proofs.Common.{length, slice_get, slice_set, refl, sym, ◌∙◌, ap, subst, arith}

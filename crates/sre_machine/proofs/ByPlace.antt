@@ -1,5 +1,5 @@
--- Lists by place: what is told stays told where another place is told, and what a place tells of sets.
--- The list that branches leave alternatives by is told by this; nothing else here rests on it.
+-- Lists by address: an entry stays where another one is set, and what an entry says of sets.
+-- The list by which branches skip alternatives rests on this; nothing else here does.
 use Rattle.std.proofs.Common.{◌≡◌, ℕ, zero, suc, ◌+◌, ◌⊎◌, inl, inr, Bool, true, false, not, cond, ◌&&◌, ◌||◌}
 use Rattle.std.proofs.Common.{nat_lt, List, [], ◌∷◌, ◌++◌, Option, Some, None, slice_get, slice_set, refl, sym, ap}
 use Rattle.std.proofs.Common.{◌∙◌, subst, arith}

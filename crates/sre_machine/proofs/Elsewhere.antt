@@ -1,4 +1,4 @@
--- Nothing comes of a position code that does not hold.
+-- A position code that does not hold fails.
 use Rattle.std.proofs.Common.{◌≡◌, ℕ, ◌+◌, false, refl}
 use Rattle.sre_chars.specs.Numbers.{at_number}
 use Rattle.sre_chars.specs.declared.constants.SreAtCode.{SreAtCode}

@@ -1,4 +1,4 @@
--- The body of an atomic scope ends: what is tried inside is tried no more, and an end is kept for the bit that was
+-- The body of an atomic scope ends: what is tried inside is tried no more, and an end is memoized for the bit that was
 -- taken in.
 use Rattle.std.proofs.Common.{◌≡◌, ℕ, ◌+◌, ◌≤◌, ◌⊎◌, inl, inr, Bool, true, false, List, [], ◌∷◌, ◌++◌, drop}
 use Rattle.std.proofs.Common.{length, map, refl, sym, ap, ◌∙◌, subst, arith}

@@ -1,4 +1,4 @@
--- Runs without a greatest count, while failures are kept.
+-- Repeats without a greatest count, while failures are memoized.
 use Rattle.std.proofs.Common.{◌≡◌, ◌⊎◌, inl, inr, ℕ, ◌+◌, ◌-◌, ◌<◌, ◌≤◌, true, false, List, ◌∷◌, Some, None}
 use Rattle.std.proofs.Common.{refl, sym, subst, arith}
 use Rattle.sre_chars.specs.declared.constants.SreOpcode.TheVariants as opcode

@@ -1,4 +1,4 @@
--- Why a run is given up, where memory was refused to a turn.
+-- Why a run stops where an allocation failed in a step.
 use Rattle.std.proofs.Common.{◌≡◌, Result, Ok, Err, IfOk, IfErr, Option, Bool, ap, sym, subst}
 use Rattle.std.specs.Result.{IsErrAnd}
 use Rattle.sre_chars.specs.declared.string.StringCursor.{StringCursor}

@@ -1,4 +1,4 @@
--- A spot that failed is kept: the bit that was taken in for it is set.
+-- A failed configuration is memoized: the bit that was taken in for it is set.
 use Rattle.std.proofs.Common.{◌≡◌, ℕ, inr, List, [], ◌∷◌, drop, length, sym, ap, ◌∙◌, subst}
 use Rattle.std.proofs.Common.{arith}
 use Rattle.std.proofs.lemmas.List.{append-nil}

@@ -1,4 +1,4 @@
--- An end that a memo tells of a point is where the body ends from there.
+-- An end that a memo returns for a point is where the body ends from there.
 use Rattle.std.proofs.Common.{◌≡◌, ℕ, true, List, Option, Some, None, IfSome}
 use Rattle.sre_chars.specs.declared.string.StrDrive.{Ghosts}
 use Rattle.sre_chars.specs.declared.string.StringCursor.{StringCursor}

@@ -1,4 +1,4 @@
--- The ends that are left of a lazy run, where failures are kept by now: the next of them, and the same run later on.
+-- The ends that are left of a lazy repeat once failures are memoized: the next of them, and the same repeat later on.
 use Rattle.std.proofs.Common.{◌≡◌, ℕ, ◌+◌, ◌≤◌, true, List, ◌∷◌, refl, sym, subst, arith}
 use Rattle.sre_chars.specs.declared.string.StrDrive.{Ghosts}
 use Rattle.sre_chars.specs.declared.string.StringCursor.{StringCursor}

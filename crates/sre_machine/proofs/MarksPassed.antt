@@ -1,5 +1,5 @@
--- A mark of what was tried is passed over as the machine goes back: what waits below it is gone back to, nothing is
--- granted, and what was tried there has failed.
+-- The machine passes a marker of what was tried as it backtracks: it takes what is saved below, nothing is granted, and
+-- what was tried there has failed.
 use Rattle.std.proofs.Common.{◌≡◌, List, ◌∷◌, refl, ap, ◌∙◌}
 use Rattle.sre_chars.specs.declared.string.StrDrive.{Ghosts}
 use Rattle.sre_chars.specs.declared.string.StringCursor.{StringCursor}

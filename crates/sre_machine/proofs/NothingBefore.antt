@@ -1,4 +1,4 @@
--- What bars a point: a list tells that its place does not admit the next character.
+-- What rules out a point: the next character is not in the FIRST set of its address.
 use Rattle.std.proofs.Common.{◌≡◌, ◌<◌, ℕ, Bool, true, nat_lt, List, length, Some, slice_index_or, sym, ap, ◌∙◌}
 use Rattle.std.proofs.Common.{arith}
 use Rattle.std.proofs.lemmas.Bool.Decides.{nat_tests}

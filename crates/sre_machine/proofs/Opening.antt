@@ -1,5 +1,5 @@
--- An instruction that may branch, or a possessive loop, is tried: it is paid by a bit that the memory takes in, unless
--- an allocation failed.
+-- An instruction that may branch, or a possessive loop, is tried: it is paid by a bit that the memo takes in, unless an
+-- allocation failed.
 use Rattle.std.proofs.Common.{◌≡◌, ℕ, ◌+◌, ◌-◌, ◌*◌, ◌<◌, ◌≤◌, ◌⊎◌, inl, inr, Bool, true, false, List, ◌∷◌}
 use Rattle.std.proofs.Common.{length, Some, refl, sym}
 use Rattle.std.proofs.Common.{subst, ap, ◌∙◌, arith}

@@ -1,4 +1,4 @@
--- What a memo keeps is hopeless, and the ends that it keeps are right.
+-- Memoized configurations are hopeless, and memoized ends are right.
 use Rattle.std.proofs.Common.{◌≡◌, ℕ, ◌+◌, ◌*◌, ◌<◌, ◌⊎◌, inl, inr, List, Bool, true, sym, ap, ◌∙◌, subst}
 use Rattle.sre_model.specs.Marks.{no_marks}
 use Rattle.sre_model.specs.Runs.{Run}

@@ -1,4 +1,4 @@
--- Nothing comes of a literal that is nowhere in the rest of the window.
+-- A literal that occurs nowhere in the rest of the range fails.
 use Rattle.std.proofs.Common.{◌≡◌, ◌≢◌, ◌⊎◌, inl, inr, ℕ, ◌+◌, ◌<◌, ◌≤◌, true, false, Bool, nat_eq, List, Option, Some}
 use Rattle.std.proofs.Common.{None, IfSome, refl, subst, arith}
 use Rattle.std.proofs.lemmas.Bool.Decides.{nat_tests}

@@ -1,5 +1,5 @@
--- How many turns are allowed: whether they are limited, and how many are left.
--- Words of the contracts inside these crates; what sre_engine makes public does not rest on it.
+-- How many steps are allowed: whether they are limited, and how many are left.
+-- Definitions for the contracts inside these crates; what sre_engine makes public does not rest on it.
 use Rattle.std.specs.Prelude.{ℕ, ◌≡◌, Bool, true, false}
 use Rattle.sre_growth.specs.Refusal.{Refused}
 use Rattle.sre_machine.specs.declared.allowance.Allowance.{Allowance}

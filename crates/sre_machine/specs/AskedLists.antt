@@ -1,5 +1,5 @@
--- What a list tells of each place of the words: which marks may be asked for from there on.
--- Words of the machine's contracts; what sre_engine makes public does not rest on it.
+-- What a list says of each address: which captures may be live from there on.
+-- Definitions for the machine's contracts; what sre_engine makes public does not rest on it.
 use Rattle.std.specs.Prelude.{ℕ, ◌-◌, ◌^◌, ◌≡◌, ◌⊎◌, List, Option, None, Some, slice_get}
 use Rattle.sre_chars.specs.declared.constants.SreOpcode.{SreOpcode}
 use Rattle.sre_model.specs.Grammar.{Opcode}

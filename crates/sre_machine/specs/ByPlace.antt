@@ -1,5 +1,5 @@
--- What a list tells of each place of the words: which ASCII characters a set takes there.
--- Words of the machine's contracts; what sre_engine makes public does not rest on it.
+-- What a list says of each address: which ASCII characters a set takes there.
+-- Definitions for the machine's contracts; what sre_engine makes public does not rest on it.
 use Rattle.std.specs.Prelude.{ℕ, ◌≡◌, List, Option, Some, slice_get}
 use Rattle.sre_code.specs.declared.ascii_set.AsciiSet.{AsciiSet}
 use Rattle.sre_code.specs.AsciiSets.{AreTold}

@@ -1,5 +1,5 @@
--- Runs without a greatest count, while failures are kept: their first end, and the run that has the others.
--- Words of the machine's contracts; what sre_engine makes public does not rest on it.
+-- Repeats without a greatest count, while failures are memoized: their first end, and the repeat that has the others.
+-- Definitions for the machine's contracts; what sre_engine makes public does not rest on it.
 use Rattle.std.specs.Prelude.{ℕ, ◌+◌, ◌≡◌, ◌<◌, ◌⊎◌, true, false, Option, MatchOption}
 use Rattle.sre_chars.specs.declared.constants.SreOpcode.TheVariants as opcode
 use Rattle.sre_chars.specs.declared.string.StrDrive.{Ghosts}

@@ -1,4 +1,4 @@
--- What a memo has: the failures and the ends of bodies that are kept, and how long the search goes on without.
+-- What a memo has: the failures and the body ends that are memoized, and how long the search goes on without.
 use Rattle.std.specs.Prelude.{ℕ, ◌+◌, ◌-◌, ◌*◌, ◌^◌, ◌<◌, ◌≤◌, ◌≡◌, Bool, true, false, List, []}
 use Rattle.std.specs.Prelude.{Option, Some, None, negsuc}
 use Rattle.sre_chars.specs.declared.string.StrDrive.{Ghosts}

@@ -1,7 +1,7 @@
 -- How the credits are paid that are granted for instructions which may branch, while failures are memoized: by bits
--- that the memory takes in, each of which pays for all ends of a repeat with a greatest count. And what steps cost
--- before that: each is one of those that the memo waits.
--- Words of the machine's contracts; what sre_engine makes public does not rest on it.
+-- that the memo takes in, each of which pays for all ends of a repeat with a greatest count. And what steps cost before
+-- that: each is one of those for which the memo waits.
+-- Definitions for the machine's contracts; what sre_engine makes public does not rest on it.
 use Rattle.std.specs.Prelude.{ℕ, ◌+◌, ◌-◌, ◌*◌, ◌/◌, ◌≤◌, ◌≡◌, ◌⊎◌, ⊤, List, [], ◌∷◌, min, true, false}
 use Rattle.std.specs.Prelude.{Option}
 use Rattle.std.specs.List.{AllByRecursion}

@@ -1,5 +1,5 @@
--- What a runner has, and what an attempt of it keeps, counts and costs.
--- Words of the contracts inside these crates; what sre_engine makes public does not rest on it.
+-- What a runner has, and what an attempt of it preserves, counts and costs.
+-- Definitions for the contracts inside these crates; what sre_engine makes public does not rest on it.
 use Rattle.std.specs.Prelude.{⊤, ℕ, ◌+◌, ◌-◌, ◌*◌, ◌^◌, ◌≡◌, ◌<◌, ◌≤◌, Bool, true, false, Option, None, Some}
 use Rattle.std.specs.Prelude.{Result, Ok, Err, IfOk, IfErr}
 use Rattle.sre_chars.specs.declared.string.StrDrive.{Ghosts}

@@ -1,5 +1,5 @@
--- What the machine reads of a run of one test.
--- Words of the machine's contracts; what sre_engine makes public does not rest on it.
+-- What the machine reads of a single-character repeat.
+-- Definitions for the machine's contracts; what sre_engine makes public does not rest on it.
 use Rattle.std.specs.Prelude.{ℕ, ◌+◌, ◌^◌, ◌<◌}
 use Rattle.sre_chars.specs.declared.string.StrDrive.{Ghosts}
 use Rattle.sre_turns.specs.OperandsOfRuns.{OperandsOfRun}

@@ -1,5 +1,5 @@
--- What turns take off those that are left, and what a run of them costs.
--- Words of the machine's contracts; what sre_engine makes public does not rest on it.
+-- What steps take off those that are left, and what a run of them costs.
+-- Definitions for the machine's contracts; what sre_engine makes public does not rest on it.
 use Rattle.std.specs.Prelude.{ℕ, ◌+◌, ◌*◌, ◌≡◌, ◌≢◌, ◌≤◌, Bool, true, false, Option, None, Some, List}
 use Rattle.std.specs.Prelude.{Result, Ok, Err, IfOk, IfErr}
 use Rattle.sre_chars.specs.declared.string.StrDrive.{Ghosts}

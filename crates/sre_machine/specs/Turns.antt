@@ -1,5 +1,5 @@
--- Where the machine stands, and what an instruction's step keeps, in the words of its functions' contracts.
--- Words of the machine's contracts; what sre_engine makes public does not rest on it.
+-- Where the machine is, and what an instruction's step preserves.
+-- Definitions for the machine's contracts; what sre_engine makes public does not rest on it.
 use Rattle.std.specs.Prelude.{⊤, ℕ, ◌≡◌, ◌≢◌, Bool, true, false, List, [], Option}
 use Rattle.sre_chars.specs.declared.constants.SreOpcode.{SreOpcode}
 use Rattle.sre_chars.specs.declared.string.StrDrive.{Ghosts}

@@ -1,4 +1,4 @@
--- Each way ends between its position and the window's end.
+-- Each match path ends between its position and the range's end.
 use Rattle.std.proofs.Common.{◌≡◌, ℕ, zero, suc, ◌+◌, ◌-◌, ◌<◌, ◌≤◌, Bool, true, false, cond, ◌&&◌, ◌||◌, nat_le}
 use Rattle.std.proofs.Common.{nat_lt, nat_eq, List, [], ◌∷◌, Option, Some, None, map, refl, arith}
 use Rattle.std.specs.List.{flat_map, AllByRecursion}

@@ -1,4 +1,4 @@
--- A first set is confirmed in one way.
+-- A FIRST set is confirmed in one way.
 use Rattle.std.proofs.Common.{ℕ, ◌-◌, ◌≡◌, true, false, List}
 use Rattle.std.proofs.Props.{props}
 use mathlib.Core.HLevel.{is_prop→PathP}

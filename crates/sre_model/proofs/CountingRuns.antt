@@ -1,4 +1,4 @@
--- What a run of one character comes to.
+-- What a single-character repeat comes to.
 use Rattle.std.proofs.Common.{ℕ, zero, suc, ◌+◌, ◌-◌, ◌≡◌, ◌<◌, ◌≤◌, Bool, true, false, not, refl, sym, ◌∙◌, ap}
 use Rattle.std.proofs.Common.{arith, inl, inr}
 use mathlib.Core.Bool.{beq}

@@ -1,4 +1,4 @@
--- A block that is cut off: what is behind it has none, and is a code of the same tree.
+-- An INFO block that is cut off: the rest has none, and is a code of the same tree.
 use Rattle.std.proofs.Common.{◌≡◌, ℕ, ◌-◌, Bool, true, false, List, length, zero, suc, ◌<◌, refl, sym}
 use Rattle.std.proofs.Common.{subst, arith}
 use Rattle.std.proofs.lemmas.Bool.Decides.{nat_tests}

@@ -1,4 +1,4 @@
--- Where the first words of a code leave no way.
+-- Where the first code words leave no match path.
 use Rattle.std.proofs.Common.{◌≡◌, ℕ, zero, suc, ◌+◌, ◌-◌, ◌<◌, Bool, true, false, List, [], length, nat_lt}
 use Rattle.std.proofs.Common.{nat_le, ◌⊎◌, inl, inr, refl, sym, ap, ◌∙◌, subst, arith, true≢false}
 use Rattle.std.proofs.lemmas.Bool.{cases_lt}

@@ -1,5 +1,5 @@
--- Two foldings in one: what a tree has by it is what it has by each. And foldings that tell whether some item is there:
--- what is so of each item is so of trees.
+-- Two folds in one: its value of a tree is what each gives. And folds that compute whether some item is there: what
+-- holds of each item holds of trees.
 use Rattle.std.proofs.Common.{◌≡◌, Bool, true, false, ◌||◌, refl, ap, ap₂, ◌∙◌}
 use Rattle.std.proofs.lemmas.Bool.{true≢false}
 use Rattle.sre_model.specs.Tree.{Tree, Empty, Then, Item, Fail, One, At, Mark, Branch, Loop, Run, PossessiveLoop}

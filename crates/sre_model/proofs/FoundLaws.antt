@@ -1,4 +1,4 @@
--- The match that is found is that of the least start, and lies in the window.
+-- The match that is found is that of the least start, and lies in the range.
 use Rattle.std.proofs.Common.{◌≡◌, ◌≤◌, ◌<◌, ◌+◌, ◌-◌, ℕ, zero, suc, List, [], ◌∷◌, Bool, true, false, cond, nat_le}
 use Rattle.std.proofs.Common.{nat_lt, nat_eq, Option, Some, None, refl, sym, ap, ◌∙◌, subst, arith, ◌⊎◌, inl, inr}
 use Rattle.std.specs.List.{filter}

@@ -1,4 +1,4 @@
--- Words of a tree, standing at a place, are read as that tree.
+-- The code words of a tree, at an address, are read as that tree.
 use Rattle.std.proofs.Common.{ℕ, ◌+◌, ◌*◌, ◌-◌, ◌/◌, ◌≡◌, ◌<◌, List, [], ◌∷◌, ◌++◌, length, slice_range, slice_index}
 use Rattle.std.proofs.Common.{refl, sym, ◌∙◌, ap, subst, arith, length-append}
 use Rattle.std.specs.List.{flat_map}

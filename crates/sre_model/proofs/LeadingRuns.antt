@@ -1,4 +1,4 @@
--- Starts inside the run that a tree begins with have no match where the run's own start has none.
+-- Starts inside the repeat that a tree begins with have no match where the repeat's own start has none.
 use Rattle.std.proofs.Common.{◌≡◌, ◌≤◌, ◌<◌, ◌+◌, ◌-◌, ℕ, zero, suc, List, [], ◌∷◌, ◌++◌, Bool, true, false, cond}
 use Rattle.std.proofs.Common.{map, nat_le, nat_lt, Option, Some, None, refl, sym, ap, subst, arith}
 use Rattle.std.specs.List.{flat_map, AllByRecursion}

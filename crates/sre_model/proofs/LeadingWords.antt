@@ -1,4 +1,4 @@
--- Which words begin with a run.
+-- Which code words begin with a repeat.
 use Rattle.std.proofs.Common.{◌≡◌, ◌≢◌, ℕ, ◌+◌, ◌-◌, ◌<◌, ◌⊎◌, inl, inr, List, length, Option, Some, None, refl, false}
 use Rattle.std.proofs.Common.{sym, ap, ◌∙◌, subst, arith, true, true≢false}
 use Rattle.std.proofs.lemmas.Bool.{or_parts}

@@ -1,4 +1,4 @@
--- A tree without references: where its ways stop does not depend on the marks that they begin with.
+-- A tree without back-references and conditionals: where its match paths stop does not depend on prior captures.
 use Rattle.std.proofs.Common.{◌≡◌, ℕ, zero, suc, ◌+◌, ◌-◌, Bool, true, false, cond, ◌&&◌, nat_le, nat_lt}
 use Rattle.std.proofs.Common.{List, [], ◌∷◌, ◌++◌, Option, Some, None, map, refl, ap, subst}
 use Rattle.std.specs.List.{flat_map}

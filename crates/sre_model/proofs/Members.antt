@@ -1,4 +1,4 @@
--- What each item of a set decides, and what is left of the set behind it.
+-- What each item of a set decides, and what is left of the set after it.
 use Rattle.std.proofs.Common.{ℕ, ◌+◌, ◌*◌, ◌≡◌, ◌≢◌, ◌<◌, Bool, true, false, not, cond, nat_eq, List, [], ◌∷◌, length}
 use Rattle.std.proofs.Common.{slice_range, refl, sym, ◌∙◌, ap, arith}
 use Rattle.std.specs.List.{flat_map}

@@ -1,4 +1,4 @@
--- The words of a tree are a code of that tree, and no others without a block are.
+-- The code words of a tree are a code of that tree, and no others without an INFO block are.
 use Rattle.std.proofs.Common.{ℕ, ◌+◌, ◌-◌, ◌≡◌, ◌<◌, false, List, [], ◌∷◌, length, subst, arith}
 use Rattle.std.proofs.Common.{length-append}
 use Rattle.sre_chars.specs.Numbers.{opcode_number}

@@ -1,4 +1,4 @@
--- Worked rows of reading words, by computation.
+-- Worked rows of reading bytecode, by computation.
 use Rattle.std.specs.Prelude.{refl, ◌≡◌, [], ◌∷◌, ◌++◌, replicate, false}
 use Rattle.sre_chars.specs.declared.constants.SreAtCode.TheVariants.{END}
 use Rattle.sre_chars.specs.declared.constants.SreCatCode.TheVariants.{WORD, UNI_NOT_LINEBREAK}

@@ -1,4 +1,4 @@
--- Worked rows of writing words, by computation.
+-- Worked rows of writing bytecode, by computation.
 use Rattle.std.proofs.Common.{refl, ◌≡◌, [], ◌∷◌, ◌++◌, replicate}
 use Rattle.sre_model.specs.Tree.{Empty, One, Mark, Branch, Loop, Run, PossessiveLoop, Atomic, Look}
 use Rattle.sre_model.specs.Tree.{Exists, ExistsElse, Only, Or, Any, Literal, In, Single}

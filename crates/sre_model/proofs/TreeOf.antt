@@ -1,4 +1,4 @@
--- The tree of words, by a function: a run of the machine is measured by it.
+-- The tree of bytecode, by a function: a run of the machine is measured by it.
 use Rattle.std.proofs.Common.{◌≡◌, ℕ, zero, suc, ◌+◌, ◌*◌, ◌-◌, ◌<◌, ◌≤◌, ◌⊎◌, inl, inr, Bool, true, false, nat_lt}
 use Rattle.std.proofs.Common.{nat_eq, List, [], ◌∷◌, length, Option, None, Some, slice_index_or, slice_range, flat_map}
 use Rattle.std.proofs.Common.{refl, ap, ◌∙◌, arith}

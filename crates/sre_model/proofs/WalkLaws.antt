@@ -1,4 +1,4 @@
--- A walk is the match that is found, and the walk after it; it has a bound, and goes forward.
+-- An iteration is the match that is found, and the iteration after it; it has a bound, and goes forward.
 use Rattle.std.proofs.Common.{◌≡◌, ◌≤◌, ◌<◌, ◌+◌, ◌-◌, ◌*◌, ℕ, zero, suc, [], ◌∷◌, length, Bool, true, false, not, ◌||◌}
 use Rattle.std.proofs.Common.{cond, nat_eq, Some, None, refl, sym, ap, ◌∙◌, subst, arith, inl, inr}
 use Rattle.std.proofs.lemmas.Bool.{and_parts}

@@ -1,4 +1,4 @@
--- Each way is at least as long as the tree's least width.
+-- Each match path is at least as long as the tree's least width.
 use Rattle.std.proofs.Common.{◌≡◌, ℕ, zero, suc, ◌+◌, ◌-◌, ◌*◌, ◌<◌, ◌≤◌, cond, ◌&&◌, nat_le, nat_lt}
 use Rattle.std.proofs.Common.{List, [], ◌∷◌, Option, Some, None, map, refl, arith}
 use Rattle.std.specs.List.{flat_map, AllByRecursion}

@@ -1,4 +1,4 @@
--- Widths are held at the greatest word.
+-- Widths saturate at the greatest word.
 use Rattle.std.proofs.Common.{◌≤◌, arith}
 use Rattle.sre_model.specs.Tree.{Tree, Empty, Then, Trees, Only, Or}
 use Rattle.sre_model.specs.Width.{width, least_width}

@@ -1,5 +1,5 @@
 -- Which characters a test or a set takes.
--- Of the meaning: what sre_engine makes public rests on it.
+-- Of the specification: what sre_engine makes public rests on it.
 use Rattle.std.specs.Prelude.{ℕ, ◌+◌, ◌*◌, ◌/◌, ◌%◌, ◌^◌, Bool, true, false, not, ◌&&◌, ◌||◌, cond, List, [], ◌∷◌}
 use Rattle.std.specs.Prelude.{nat_eq, nat_lt, slice_index}
 use Rattle.sre_chars.specs.Tables.{Table, is_between, lower_ascii, upper_ascii, lower_of, upper_of}

@@ -1,4 +1,4 @@
--- What the information block claims, and which of it a tree confirms.
+-- What the INFO block claims, and which of it a tree confirms.
 -- Public clauses rest on it.
 use Rattle.std.specs.Prelude.{ℕ, zero, suc, ◌+◌, ◌*◌, ◌-◌, ◌/◌, ◌%◌, ◌≡◌, Bool, true, false, ◌&&◌, cond}
 use Rattle.std.specs.Prelude.{nat_eq, nat_lt, nat_le, List, [], ◌∷◌, length, take, drop, slice_range, bytes_eq, IsTrue}

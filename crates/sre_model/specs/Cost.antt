@@ -1,5 +1,5 @@
--- How many turns it takes to go over all ways of a tree, given how many it takes for what follows.
--- Of the meaning: what sre_engine makes public rests on it.
+-- How many steps it takes to try all match paths of a tree, given how many it takes for what follows.
+-- Of the specification: what sre_engine makes public rests on it.
 use Rattle.std.specs.Prelude.{ℕ, zero, suc, ◌+◌, ◌-◌, cond, nat_eq, nat_lt, nat_le, ◌&&◌, List, [], ◌∷◌, Option, Some}
 use Rattle.std.specs.Prelude.{None}
 use Rattle.sre_model.specs.Tree.{Tree, Empty, Then, Item, One, At, Mark, Branch, Loop, Run, GreedyRun, LazyRun}

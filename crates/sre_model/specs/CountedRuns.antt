@@ -1,5 +1,5 @@
--- Runs of one character, as they are counted.
--- Words of the machine's contracts; what sre_engine makes public does not rest on it.
+-- Single-character repeats, as they are counted.
+-- Definitions for the machine's contracts; what sre_engine makes public does not rest on it.
 use Rattle.std.specs.Prelude.{ℕ, ◌+◌, ◌≡◌, ◌<◌, ◌≤◌, Bool, not}
 use Rattle.sre_chars.specs.declared.string.StringCursor.{StringCursor}
 use Rattle.sre_model.specs.Tree.{Test}

@@ -1,5 +1,5 @@
--- First characters: where a tree has no way, as its first words tell it.
--- Words of the search's contracts; what sre_engine makes public does not rest on it.
+-- First characters: where a tree has no match path, by its first code words.
+-- Definitions for the search's contracts; what sre_engine makes public does not rest on it.
 use Rattle.std.specs.Prelude.{ℕ, ◌-◌, ◌<◌, ◌≡◌, Bool, true, false, List, []}
 use Rattle.sre_chars.specs.declared.constants.SreOpcode.{SreOpcode}
 use Rattle.sre_model.specs.Tree.{Tree, Trees, Test}

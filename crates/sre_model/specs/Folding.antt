@@ -1,5 +1,5 @@
 -- A value of a tree that is made of the values of its items, and an item's of those of its parts.
--- Of the meaning: what sre_engine makes public rests on it.
+-- Of the specification: what sre_engine makes public rests on it.
 use Rattle.sre_model.specs.Tree.{Tree, Empty, Then, Item, Fail, One, At, Mark, Branch, Loop, Run, PossessiveLoop}
 use Rattle.sre_model.specs.Tree.{Atomic, Look, Reference, Exists, ExistsElse, Trees, Only, Or}
 

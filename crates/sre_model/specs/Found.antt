@@ -1,5 +1,5 @@
--- What is asked of a code on a text, and the match that is found.
--- Of the meaning: what sre_engine makes public rests on it.
+-- What is requested of a code on a text, and the match that is found.
+-- Of the specification: what sre_engine makes public rests on it.
 use Rattle.std.specs.Prelude.{◌+◌, ◌-◌, ◌*◌, ℕ, zero, suc, List, [], ◌∷◌, Bool, not, ◌&&◌, ◌||◌, cond, nat_eq, Option}
 use Rattle.std.specs.Prelude.{Some, None}
 use Rattle.sre_chars.specs.declared.constants.EmptyRule.{EmptyRule}

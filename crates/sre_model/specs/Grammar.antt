@@ -1,5 +1,5 @@
--- The grammar: which words are a tree's.
--- Of the meaning: what sre_engine makes public rests on it.
+-- The grammar: which bytecode is a tree's.
+-- Of the specification: what sre_engine makes public rests on it.
 use Rattle.std.specs.Prelude.{ℕ, ◌+◌, ◌*◌, ◌-◌, ◌/◌, ◌%◌, ◌≡◌, ◌<◌, ◌≤◌, List, [], ◌∷◌, length, Some, slice_get}
 use Rattle.std.specs.Prelude.{Bool, true, cond, nat_eq, nat_le, drop}
 use Rattle.std.specs.Prelude.{slice_index, slice_range, EachIndex}

@@ -1,4 +1,4 @@
--- Trees that have words: counts in order, sets whose tables are whole.
+-- Trees that have bytecode: counts in order, sets whose tables are whole.
 -- Public clauses of what writes trees rest on it.
 use Rattle.std.specs.Prelude.{ℕ, ◌*◌, ◌/◌, ◌≡◌, ◌<◌, ◌≤◌, List, [], ◌∷◌, length, slice_index, EachIndex}
 use Rattle.sre_model.specs.Tree.{Tree, Empty, Then, Item, One, Branch, Loop, Run, PossessiveLoop}

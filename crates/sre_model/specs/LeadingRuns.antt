@@ -1,5 +1,5 @@
--- Leading runs: trees that begin with a run that has no greatest count, perhaps behind one test of a character.
--- Words of the search's contracts; what sre_engine makes public does not rest on it.
+-- Leading repeats: trees that begin with a repeat without a greatest count, perhaps after one test of a character.
+-- Definitions for the search's contracts; what sre_engine makes public does not rest on it.
 use Rattle.std.specs.Prelude.{⊤, ℕ, ◌+◌, ◌≡◌, ◌≤◌, Bool, true, false, List, Option, Some, None}
 use Rattle.std.specs.List.{AllByRecursion}
 use Rattle.sre_model.specs.Tree.{Tree, Test}

@@ -1,5 +1,5 @@
--- How far the looks of a tree go back together.
--- Of the meaning: what sre_engine makes public rests on it.
+-- How far the lookbehinds of a tree reach back together.
+-- Of the specification: what sre_engine makes public rests on it.
 use Rattle.std.specs.Prelude.{ℕ, ◌+◌}
 use Rattle.sre_model.specs.Tree.{Tree, Item, Look}
 use Rattle.sre_model.specs.Folding.{Folding, of_tree}

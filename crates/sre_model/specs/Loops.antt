@@ -1,5 +1,5 @@
 -- Loops by the count of bodies that are done.
--- For laws of the meaning; what sre_engine makes public does not rest on it.
+-- For laws of the semantics; what sre_engine makes public does not rest on it.
 use Rattle.std.specs.Prelude.{ℕ, ◌+◌, ◌-◌, max, List, [], ◌∷◌, Option}
 use Rattle.std.specs.List.{flat_map}
 use Rattle.sre_model.specs.Tree.{Order}

@@ -1,5 +1,5 @@
--- Marks: the positions that a way has set, and the last group's index.
--- Of the meaning: what sre_engine makes public rests on it.
+-- Capture slots: the positions that a match path has set, and the last group's index.
+-- Of the specification: what sre_engine makes public rests on it.
 use Rattle.std.specs.Prelude.{ℕ, zero, suc, ◌+◌, ◌-◌, ◌*◌, ◌/◌, ◌%◌, List, [], ◌++◌, length, Option, Some, None}
 use Rattle.std.specs.Prelude.{replicate, cond, nat_eq, nat_le, slice_set, slice_index_or, ℤ, pos, negsuc}
 

@@ -1,6 +1,6 @@
--- Marks that are set: whether a tree sets one, and whether it sets one inside a region.
--- Of the meaning: what sre_engine makes public rests on it. Where a body of a region ends is remembered of codes whose
--- regions set no mark.
+-- Capture slots that are set: whether a tree sets one, and whether it sets one inside an atomic scope.
+-- Of the specification: what sre_engine makes public rests on it. The ends of atomic scopes are memoized for codes
+-- whose atomic scopes set none.
 use Rattle.std.specs.Prelude.{Bool, true, false, ◌||◌}
 use Rattle.sre_model.specs.Tree.{Tree, Item, Mark, PossessiveLoop, Atomic, Look}
 use Rattle.sre_model.specs.Folding.{Folding, of_tree}

@@ -1,4 +1,4 @@
--- Prefixes: literals that a tree begins with, and where they stand in a text.
+-- Prefixes: literals that a tree begins with, and where they occur in a text.
 -- Public clauses rest on it.
 use Rattle.std.specs.Prelude.{ℕ, zero, suc, ◌+◌, ◌*◌, ◌-◌, Bool, true, false, ◌&&◌, cond, nat_eq, List}
 use Rattle.std.specs.Prelude.{[], ◌∷◌, length, slice_range}

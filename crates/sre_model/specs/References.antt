@@ -1,5 +1,5 @@
--- References: whether a tree asks which groups are present, or what they hold, and from which group on, up to which.
--- Of the meaning: what sre_engine makes public rests on it.
+-- Back-references and conditionals: whether a tree reads a group's presence or text, and the range of such groups.
+-- Of the specification: what sre_engine makes public rests on it.
 use Rattle.std.specs.Prelude.{ℕ, Bool, true, false, ◌||◌, min, max}
 use Rattle.sre_model.specs.Tree.{Tree, Item, Reference, Exists, ExistsElse}
 use Rattle.sre_model.specs.Folding.{Folding, of_tree}

@@ -1,6 +1,6 @@
--- Regions: atomic groups, looks and possessive loops, whose bodies are matched apart; and whether a body may be matched
--- in more than one way.
--- Of the meaning: what sre_engine makes public rests on it.
+-- Atomic scopes: atomic groups, lookarounds and possessive loops, whose bodies are matched apart; and whether a body
+-- may be matched in more than one way.
+-- Of the specification: what sre_engine makes public rests on it.
 use Rattle.std.specs.Prelude.{Bool, true, false, ◌||◌}
 use Rattle.sre_model.specs.Tree.{Tree, Item, Branch, Run, Loop, PossessiveLoop, Atomic, Look}
 use Rattle.sre_model.specs.Folding.{Folding, of_tree}

@@ -1,4 +1,4 @@
--- Worked rows, by computation: which groups a tree asks for.
+-- Worked rows, by computation: which groups a tree reads.
 use Rattle.std.specs.Prelude.{refl, ◌≡◌, [], ◌∷◌}
 use Rattle.sre_model.specs.Tree.{Tree, Mark, Reference, Exists, Plain, Loop, Greedy}
 use Rattle.sre_model.specs.References.{asked_from, asked_to}

@@ -1,4 +1,4 @@
--- Worked rows, by computation: walks.
+-- Worked rows, by computation: iterations.
 use Rattle.std.specs.Prelude.{refl, ◌≡◌, true, [], ◌∷◌, codes}
 use Rattle.sre_chars.specs.declared.constants.SreAtCode.TheVariants.{BOUNDARY}
 use Rattle.sre_model.specs.Tree.{Empty, At, Mark, Branch, Run, Only, Or, GreedyRun}

@@ -1,5 +1,5 @@
--- How far the counts of a tree's runs of one test make a difference, and how far its looks go back.
--- Of the meaning: what sre_engine makes public rests on it.
+-- How far the counts of a tree's repeats make a difference, and how far its lookbehinds reach back.
+-- Of the specification: what sre_engine makes public rests on it.
 use Rattle.std.specs.Prelude.{ℕ, max}
 use Rattle.sre_model.specs.Tree.{Tree, Item, Run, Look}
 use Rattle.sre_model.specs.Folding.{Folding, of_tree}

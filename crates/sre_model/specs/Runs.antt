@@ -1,5 +1,5 @@
--- What a run over a code's words is about.
--- For the machine and what it stands on. What sre_engine makes public rests on it by `Starts::beyond` alone.
+-- What a run over bytecode is about.
+-- For the machine and what it rests on. What sre_engine makes public rests on it by `Starts::beyond` alone.
 use Rattle.std.specs.Prelude.{ℕ, Bool, List}
 use Rattle.sre_chars.specs.declared.string.StringCursor.{StringCursor}
 use Rattle.sre_model.specs.Subject.{Subject}

@@ -1,4 +1,4 @@
--- Short words for worked rows: trees, texts, what is asked and what is answered.
+-- Short names for worked rows: trees, texts, requests and answers.
 use Rattle.std.specs.Prelude.{ℕ, List, [], ◌∷◌, length, false, Option, Some, ℤ, pos}
 use Rattle.sre_chars.specs.declared.constants.EmptyRule.TheVariants.{Never}
 use Rattle.sre_chars.specs.Tables.{ascii_table}

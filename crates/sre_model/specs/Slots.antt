@@ -1,5 +1,5 @@
--- Slots: how many states of the loops in progress make a difference to what is still to come.
--- Of the meaning: what sre_engine makes public rests on it.
+-- Counter states: how many states of the loops in progress make a difference to what is still to come.
+-- Of the specification: what sre_engine makes public rests on it.
 use Rattle.std.specs.Prelude.{ℕ, ◌+◌, ◌*◌, cond, max, nat_eq}
 use Rattle.sre_model.specs.Tree.{Tree, Item, Loop, PossessiveLoop}
 use Rattle.sre_model.specs.Ways.{unlimited}

@@ -1,5 +1,5 @@
--- What stands at a place of the words: a set, or a test of one character.
--- Words of the machine's contracts; what sre_engine makes public does not rest on it.
+-- What is at an address of the bytecode: a set, or a test of one character.
+-- Definitions for the machine's contracts; what sre_engine makes public does not rest on it.
 use Rattle.std.specs.Prelude.{ℕ, ◌≡◌, ◌<◌, ◌≤◌, Bool, true, cond, List}
 use Rattle.sre_chars.specs.Numbers.{category_number}
 use Rattle.sre_chars.specs.Tables.{Table}

@@ -1,5 +1,5 @@
--- What stays fixed while a code is matched, and what is asked of a place in it.
--- Of the meaning: what sre_engine makes public rests on it.
+-- What stays fixed while a code is matched, and what is tested at a position in it.
+-- Of the specification: what sre_engine makes public rests on it.
 use Rattle.std.specs.Prelude.{ℕ, zero, suc, ◌+◌, ◌-◌, Bool, true, false, not, ◌&&◌, ◌||◌, cond, List, nat_eq, nat_lt}
 use Rattle.std.specs.Prelude.{slice_index}
 use Rattle.sre_chars.specs.Tables.{Table}

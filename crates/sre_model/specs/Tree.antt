@@ -1,5 +1,5 @@
--- Trees: what the words of a code stand for.
--- Of the meaning: what sre_engine makes public rests on it.
+-- Trees: what the bytecode of a pattern denotes.
+-- Of the specification: what sre_engine makes public rests on it.
 use Rattle.std.specs.Prelude.{ℕ, List}
 use Rattle.sre_chars.specs.declared.constants.SreAtCode.{SreAtCode}
 use Rattle.sre_chars.specs.declared.constants.SreCatCode.{SreCatCode}

@@ -1,5 +1,5 @@
--- How many turns the runs of a search can take.
--- Of the meaning: what sre_engine makes public rests on it.
+-- How many steps the runs of a search can take.
+-- Of the specification: what sre_engine makes public rests on it.
 use Rattle.std.specs.Prelude.{◌≤◌, ℕ, ◌+◌, ◌-◌, ◌*◌, ◌/◌}
 use Rattle.sre_model.specs.Tree.{Tree}
 use Rattle.sre_model.specs.Marks.{no_marks}

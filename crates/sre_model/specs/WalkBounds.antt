@@ -1,5 +1,5 @@
--- How long a walk can be, and how its matches follow each other.
--- Of the meaning: what sre_engine makes public rests on it.
+-- How long an iteration can be, and how its matches follow each other.
+-- Of the specification: what sre_engine makes public rests on it.
 use Rattle.std.specs.Prelude.{◌≤◌, ℕ, ◌+◌, ◌-◌, ◌*◌, List, [], ◌∷◌, ⊤, cond}
 use Rattle.sre_model.specs.Found.{Asked, Match}
 

@@ -1,5 +1,5 @@
--- Ways: where a tree can lead from a position under marks, in order.
--- Of the meaning: what sre_engine makes public rests on it.
+-- Match paths: where a tree can lead from a position with captures, in order.
+-- Of the specification: what sre_engine makes public rests on it.
 use Rattle.std.specs.Prelude.{ℕ, zero, suc, ◌+◌, ◌-◌, Bool, ◌&&◌, ◌||◌, not, List, [], ◌∷◌, ◌++◌, map, Option, Some}
 use Rattle.std.specs.Prelude.{None, cond, nat_lt, nat_le, nat_eq}
 use Rattle.std.specs.List.{flat_map, filter}

@@ -1,5 +1,5 @@
--- The words of a tree, written out: each skip counts what it leads over.
--- Words of the contracts of what writes trees; public clauses rest on the grammar.
+-- The code words of a tree, written out: each skip counts what it leads over.
+-- Definitions for the contracts of what writes trees; public clauses rest on the grammar.
 use Rattle.std.specs.Prelude.{ℕ, ◌+◌, ◌*◌, ◌/◌, List, [], ◌∷◌, ◌++◌, length}
 use Rattle.sre_chars.specs.Numbers.{opcode_number, at_number, category_number}
 use Rattle.sre_chars.specs.declared.constants.SreOpcode.TheVariants as opcode

@@ -1,4 +1,4 @@
--- The first items alone: what is read so far tells of where matches start.
+-- The first items alone: what is read so far limits where matches start.
 use Rattle.std.proofs.Common.{ℕ, ◌≡◌, ◌<◌, List, length, sym, subst}
 use Rattle.regex_hir.specs.Re.{Re, empty, cat}
 use Rattle.sre_chars.specs.Tables.{Table}

@@ -1,4 +1,4 @@
--- What is read at a place, by its opcode.
+-- What is read at an address, by its opcode.
 use Rattle.std.proofs.Common.{◌≡◌, ℕ, ◌+◌, ◌-◌, ◌<◌, ◌≤◌, ◌⊎◌, Bool, List, length, refl, sym, ap, ◌∙◌, subst, inl, inr}
 use Rattle.std.proofs.Common.{arith, None}
 use Rattle.regex_hir.specs.Re.{Re, empty}

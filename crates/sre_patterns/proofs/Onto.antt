@@ -1,4 +1,4 @@
--- Patterns one after the other, and one or another of them.
+-- Concatenation and alternation of patterns.
 use Rattle.std.proofs.Common.{◌≡◌, ℕ, List, [], ◌∷◌, ◌++◌, refl, sym, ap, subst, inl}
 use Rattle.regex_hir.specs.Re.{Re, empty, cat, alt, byte_in, literal}
 use Rattle.regex_hir.specs.Meaning.{cat_all, alt_all}

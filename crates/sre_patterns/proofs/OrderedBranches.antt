@@ -1,4 +1,4 @@
--- Patterns that try the ways of alternatives in their order.
+-- Patterns that try the match paths of alternatives in their order.
 use Rattle.std.proofs.Common.{◌≡◌, ◌≢◌, ℕ, ◌+◌, ◌-◌, ◌<◌, ◌≤◌, ◌⊎◌, List, [], ◌∷◌, ◌++◌, length, refl, sym, ap, ◌∙◌}
 use Rattle.std.proofs.Common.{subst, inl, inr, arith}
 use Rattle.regex_hir.specs.Re.{Re, byte_in, alt}

@@ -1,4 +1,4 @@
--- Patterns that try the ways of items in their order: one after the other, and by their opcodes.
+-- Patterns that try the match paths of items in their order: one after the other, and by their opcodes.
 use Rattle.std.proofs.Common.{◌≡◌, ℕ, ◌+◌, ◌-◌, ◌<◌, ◌≤◌, Bool, not, nat_eq, List, [], ◌∷◌, ◌++◌, length, refl, sym}
 use Rattle.std.proofs.Common.{ap, ◌∙◌, subst, arith, true}
 use Rattle.std.proofs.lemmas.Bool.Decides.{nat_tests}

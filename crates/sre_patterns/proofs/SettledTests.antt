@@ -1,4 +1,4 @@
--- From which character on categories, sets and tests answer alike.
+-- From which character on categories, sets and tests give one answer.
 use Rattle.std.proofs.Common.{◌≡◌, ℕ, ◌+◌, ◌-◌, ◌<◌, ◌≤◌, max, Bool, false, not, ◌&&◌}
 use Rattle.std.proofs.Common.{cond, nat_eq, nat_lt, List, slice_range, refl, sym, ap, ap₂, ◌∙◌, arith}
 use Rattle.std.proofs.lemmas.Bool.Decides.{nat_tests}

@@ -1,4 +1,4 @@
--- Positions in each kind of text: what stands on both sides of them, which hold alike, and in which order they stand.
+-- Positions in each kind of text: what is on both sides of them, which of them hold equally, and their order.
 use Rattle.std.proofs.Common.{ℕ, List, refl}
 use Rattle.sre_chars.specs.declared.constants.SreAtCode.{SreAtCode}
 use Rattle.sre_model.specs.Subject.{Subject}

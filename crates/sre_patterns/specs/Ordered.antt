@@ -1,4 +1,4 @@
--- What is said of a pattern that tries the ways of the words at a place in their order.
+-- What is said of a pattern that tries the match paths of the bytecode at an address in order.
 use Rattle.std.specs.Prelude.{ℕ, ◌≡◌, Bool, List}
 use Rattle.regex_hir.specs.Re.{Re}
 use Rattle.sre_chars.specs.Tables.{Table}

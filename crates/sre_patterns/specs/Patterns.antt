@@ -1,4 +1,4 @@
--- What is said of a pattern for the words at a place.
+-- What is said of a pattern for the bytecode at an address.
 use Rattle.std.specs.Prelude.{ℕ, ◌≡◌, ◌<◌, ◌≤◌, ◌⊎◌, Bool, true, ◌&&◌, nat_lt, List, [], ◌∷◌}
 use Rattle.regex_class.specs.Ranges.{in_ranges}
 use Rattle.regex_hir.specs.Re.{Re, cat, alt}

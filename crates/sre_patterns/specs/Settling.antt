@@ -1,4 +1,4 @@
--- From which character on a test, or a set, answers alike.
+-- From which character on a test, or a set, gives one answer.
 use Rattle.std.specs.Prelude.{ℕ, ◌≡◌, ◌≤◌, ◌<◌, Bool, List}
 use Rattle.sre_chars.specs.Tables.{Table}
 use Rattle.sre_model.specs.Tree.{SetItem}

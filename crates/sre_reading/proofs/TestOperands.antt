@@ -1,4 +1,4 @@
--- What follows the opcode of a test, in words that are read of a request.
+-- What follows the opcode of a test, in code words that are read of a request.
 use Rattle.std.proofs.Common.{ℕ, ◌+◌, ◌-◌, ◌≡◌, ◌<◌, List, length, sym, subst, arith}
 use Rattle.sre_chars.specs.declared.constants.SreOpcode.{SreOpcode}
 use Rattle.sre_model.specs.Tree.{Test, Fold, Literal, NotLiteral, In}

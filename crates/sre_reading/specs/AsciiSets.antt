@@ -1,5 +1,5 @@
 -- Which ASCII characters a set or a test takes.
--- Words of the request's contracts; what sre_engine makes public does not rest on it.
+-- Definitions for the request's contracts; what sre_engine makes public does not rest on it.
 use Rattle.std.specs.Prelude.{ℕ, ◌≡◌, ◌<◌, Bool, true, false, List}
 use Rattle.sre_code.specs.AsciiSet.{contains}
 use Rattle.sre_code.specs.declared.ascii_set.AsciiSet.{AsciiSet}

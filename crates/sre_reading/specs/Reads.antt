@@ -1,5 +1,5 @@
 -- What is read of a request's words and text: a word, a test, a character.
--- Words of the request's contracts; what sre_engine makes public does not rest on it.
+-- Definitions for the request's contracts; what sre_engine makes public does not rest on it.
 use Rattle.std.specs.Prelude.{ℕ, ◌<◌, Bool, length}
 use Rattle.sre_chars.specs.declared.string.StrDrive.{Ghosts}
 use Rattle.sre_model.specs.Tree.{Test}

@@ -1,5 +1,5 @@
 -- Stretches of characters.
--- Words of the request's contracts; what sre_engine makes public does not rest on it.
+-- Definitions for the request's contracts; what sre_engine makes public does not rest on it.
 use Rattle.std.specs.Prelude.{ℕ, ◌+◌, ◌-◌, ◌≡◌, ◌≢◌, ◌<◌, ◌≤◌, Bool, not, cond, nat_eq}
 use Rattle.sre_chars.specs.declared.string.StrDrive.{Ghosts}
 use Rattle.sre_chars.specs.declared.string.StringCursor.{StringCursor}

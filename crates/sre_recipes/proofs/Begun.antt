@@ -1,4 +1,4 @@
--- A walk that has just begun.
+-- An iteration that has just begun.
 use Rattle.std.proofs.Common.{◌≡◌, Bool, false, cond, [], ap}
 use Rattle.sre_chars.specs.declared.string.StrDrive.{Ghosts}
 use Rattle.sre_engine.specs.Tree.{Tree}

@@ -1,4 +1,4 @@
--- What bounds leave of a walk.
+-- What bounds leave of an iteration.
 use Rattle.std.proofs.Common.{◌≡◌, ◌<◌, ◌+◌, ◌-◌, ℕ, zero, suc, List, [], ◌∷◌, Bool, false, take, Option}
 use Rattle.std.proofs.Common.{Some, None, refl, sym, ap, ◌∙◌, subst, arith, cond, inl, inr}
 use Rattle.sre_chars.specs.declared.string.StrDrive.{Ghosts}

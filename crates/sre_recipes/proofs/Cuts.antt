@@ -1,4 +1,4 @@
--- Where a text is cut: the bytes between the offsets of two places are the characters between these.
+-- Where a text is cut: the bytes between the offsets of two positions are the characters between these.
 use Rattle.std.proofs.Common.{◌≡◌, ℕ, ◌+◌, ◌-◌, ◌<◌, ◌≤◌, List, [], ◌++◌, length, take, drop, ap, sym, ◌∙◌, arith}
 use Rattle.std.proofs.Common.{◌≢◌, inl, inr, length-append}
 use Rattle.std.proofs.Math.Seq.{take-add, take-append_seam, take-length, drop-length}

@@ -1,4 +1,4 @@
--- Where the cursors of a walk over texts stand: the match that comes next lies behind the one, in the text.
+-- Where the cursors of an iteration over texts are: the next match lies after the last one, in the text.
 use Rattle.std.proofs.Common.{◌≡◌, ◌≤◌, ℕ, length, sym, subst, arith}
 use Rattle.std.proofs.Math.Logic.{∥∥₁_elim}
 use Rattle.sre_chars.specs.declared.string.StrDrive.{Ghosts}

@@ -1,4 +1,4 @@
--- What one match of a walk leaves of a budget of steps that outlasts the walk.
+-- What one match of an iteration leaves of a step budget that outlasts the iteration.
 use Rattle.std.proofs.Common.{◌≢◌, ◌≤◌, ◌<◌, ℕ, ◌+◌, ◌-◌, ◌*◌, ◌/◌, Some, sym}
 use Rattle.std.proofs.Common.{subst, arith, add-mul}
 use Rattle.std.proofs.Math.Nat.{mul-le-mul, mul-le-mul_right, div-mul-le_self}

@@ -1,4 +1,4 @@
--- What a step over a match leaves to come, and where it stands.
+-- What a step over a match leaves to come, and where it is.
 use Rattle.std.proofs.Common.{◌≡◌, ◌≤◌, ℕ, List, ◌∷◌, ap, sym, ◌∙◌, subst}
 use Rattle.std.specs.List.{slice_range}
 use Rattle.sre_chars.specs.declared.string.StrDrive.{Ghosts}

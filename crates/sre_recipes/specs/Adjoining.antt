@@ -1,4 +1,4 @@
--- The matches of a walk that adjoin each other: words of private functions' contracts.
+-- The matches of an iteration that adjoin each other: definitions for private functions' contracts.
 use Rattle.std.specs.Prelude.{◌≡◌, ℕ, List, [], ◌∷◌, cond, nat_eq}
 use Rattle.sre_chars.specs.declared.string.StrDrive.{Ghosts}
 use Rattle.sre_engine.specs.Tree.{Tree}

@@ -1,5 +1,5 @@
--- The first matches, where no more than so many are wanted, the steps that are left, and budgets that outlast a walk.
--- Of the meaning: what sre_recipes makes public rests on it.
+-- The first matches, where no more than so many are wanted, the steps left, and budgets that outlast an iteration.
+-- Of the specification: what sre_recipes makes public rests on it.
 use Rattle.std.specs.Prelude.{⊤, ℕ, ◌≡◌, ◌≤◌, ◌<◌, ◌+◌, ◌-◌, ◌*◌, List, take, Option, Some, None}
 use Rattle.sre_code.specs.declared.code.Code.{Code}
 use Rattle.sre_engine.specs.Codes.{words_of}

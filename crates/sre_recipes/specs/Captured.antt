@@ -1,5 +1,5 @@
 -- A match with its groups, as it shows.
--- Of the meaning: what sre_recipes makes public rests on it.
+-- Of the specification: what sre_recipes makes public rests on it.
 use Rattle.std.specs.Prelude.{ℕ, List, map, Option}
 use Rattle.std.specs.Option.{option_map}
 use Rattle.sre_recipes.specs.declared.groups.CapturesOf.{CapturesOf}

@@ -1,5 +1,5 @@
 -- A text whose matches are replaced by what a function gives for each.
--- Of the meaning: what sre_recipes makes public rests on it.
+-- Of the specification: what sre_recipes makes public rests on it.
 use denote.Ref.{Bor}
 use Rattle.std.specs.Prelude.{◌≡◌, ℕ, List, [], ◌∷◌, ◌++◌, slice_range, Result, Ok}
 use Rattle.sre_engine.specs.Found.{Match}

@@ -1,5 +1,5 @@
--- What a walk over the texts of matches gives.
--- Words of this crate's contracts.
+-- What an iteration over the texts of matches gives.
+-- Definitions for the contracts of this crate.
 use Rattle.std.specs.Prelude.{◌≡◌, false, Option, Some, None, Result, Ok, Err, slice_range}
 use Rattle.sre_chars.specs.declared.string.StrDrive.{Ghosts}
 use Rattle.sre_growth.specs.Refusal.{Refused}

@@ -1,5 +1,5 @@
 -- The tokens that a text begins with.
--- Of the meaning: what sre_recipes makes public rests on it.
+-- Of the specification: what sre_recipes makes public rests on it.
 use Rattle.std.specs.Prelude.{ℕ, zero, suc, ◌+◌, ◌-◌, ℤ, true, List, [], ◌∷◌, Option, Some, None}
 use Rattle.sre_engine.specs.Tree.{Tree}
 use Rattle.sre_engine.specs.Found.{Asked, Match, matched}

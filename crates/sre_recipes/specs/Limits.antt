@@ -1,4 +1,4 @@
--- How far a walk is followed within bounds: words of private functions' contracts.
+-- How far an iteration is followed within bounds: definitions for private functions' contracts.
 use Rattle.std.specs.Prelude.{◌≡◌, ℕ, ◌-◌, nat_eq, Bool, true, false, List, [], ◌∷◌, Option, Some, None}
 use Rattle.sre_chars.specs.declared.string.StrDrive.{Ghosts}
 use Rattle.sre_engine.specs.Tree.{Tree}

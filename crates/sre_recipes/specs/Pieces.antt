@@ -1,5 +1,5 @@
 -- What lies between matches.
--- Of the meaning: what sre_recipes makes public rests on it.
+-- Of the specification: what sre_recipes makes public rests on it.
 use Rattle.std.specs.Prelude.{ℕ, List, [], ◌∷◌, ◌++◌, map, slice_range, Option, Some}
 use Rattle.std.specs.List.{range_with_len}
 use Rattle.sre_engine.specs.Found.{Match}

@@ -1,5 +1,5 @@
 -- The characters of a match and of its groups.
--- Of the meaning: what sre_recipes makes public rests on it.
+-- Of the specification: what sre_recipes makes public rests on it.
 use Rattle.std.specs.Prelude.{ℕ, ◌+◌, ◌-◌, ◌/◌, List, length, map, Option, Some, None, true, cond, nat_eq, nat_le}
 use Rattle.std.specs.Prelude.{slice_range}
 use Rattle.std.specs.List.{range_with_len}

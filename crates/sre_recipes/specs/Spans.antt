@@ -1,4 +1,4 @@
--- Where a match starts and ends in a text, as a walk leaves it: words of private functions' contracts.
+-- Where a match starts and ends in a text, as an iteration leaves it: definitions for private functions' contracts.
 use Rattle.std.specs.Prelude.{ℕ, ◌≡◌, ◌≤◌}
 use Rattle.sre_chars.specs.declared.string.StringCursor.{StringCursor}
 use Rattle.sre_engine.specs.Answers.{Shown}

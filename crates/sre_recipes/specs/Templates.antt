@@ -1,5 +1,5 @@
 -- What a template makes of a match, and a text whose matches are replaced.
--- Of the meaning: what sre_recipes makes public rests on it.
+-- Of the specification: what sre_recipes makes public rests on it.
 use Rattle.std.specs.Prelude.{ℕ, List, [], ◌∷◌, ◌++◌, slice_range, unwrap_or}
 use Rattle.std.specs.List.{flat_map}
 use Rattle.sre_engine.specs.Found as model

@@ -1,5 +1,5 @@
 -- The seal: a fact that comes by its lemma alone, since no other file can unfold it.
--- Public clauses cite the fact; the lemma is for the growths of sre_growth, and no other crate may list this one.
+-- Public clauses cite the fact; the lemma is for the proofs of sre_growth, and no other crate may list this one.
 
 -- a growth was refused
 pub Refused : Type 0

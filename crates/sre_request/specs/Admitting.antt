@@ -1,4 +1,4 @@
--- What lists tell of each place of the words: which characters may come next there.
+-- FIRST sets as lists by address: which characters may come next there.
 -- The clauses of `Request::with_admitted`, `Request::admitted` and `step_admitted` rest on it.
 use Rattle.std.specs.Prelude.{ℕ, ◌≡◌, List, Some, slice_get}
 use Rattle.std.proofs.Props.{props}

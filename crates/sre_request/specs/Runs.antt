@@ -1,5 +1,5 @@
 -- The run of the machine for a request.
--- Words of the machine's contracts. What sre_engine makes public rests on them by `Starts::beyond` alone.
+-- Definitions for the machine's contracts. What sre_engine makes public rests on them by `Starts::beyond` alone.
 use Rattle.std.specs.Prelude.{ℕ}
 use Rattle.sre_chars.specs.declared.constants.SreOpcode.{SreOpcode}
 use Rattle.sre_chars.specs.declared.string.StrDrive.{Ghosts}

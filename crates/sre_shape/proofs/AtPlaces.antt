@@ -1,4 +1,4 @@
--- Where the matches of patterns begin: at a byte where a position stands, unless they are empty.
+-- Where the matches of patterns begin: at a byte where a position is, unless they are empty.
 use Rattle.std.proofs.Common.{◌≡◌, ℕ, zero, suc, ◌+◌, ◌-◌, ◌/◌, ◌%◌, ◌<◌, ◌≤◌, Bool, true, false, List, []}
 use Rattle.std.proofs.Common.{length, Option, Some, None, true≢false, sym, ap, ◌∙◌, ◌⊎◌, ⊎_elim, inl, inr, arith}
 use Rattle.std.proofs.Common.{slice_index}

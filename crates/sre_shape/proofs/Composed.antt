@@ -1,4 +1,4 @@
--- Patterns that cover the parts of a tree, put together to one that covers it.
+-- Patterns that cover the parts of a tree, combined to one that covers it.
 use Rattle.std.proofs.Common.{ℕ, ◌<◌, Bool, None, refl}
 use Rattle.regex_hir.specs.Re.{Re, empty, cat, alt}
 use Rattle.regex_hir.specs.Meaning.{repeat}

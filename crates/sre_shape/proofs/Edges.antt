@@ -1,4 +1,4 @@
--- Positions between characters, seen as places between bytes: where a position's condition holds an assertion does.
+-- Positions between characters, as positions between bytes: where a position code holds an assertion does.
 use Rattle.std.proofs.Common.{◌≡◌, ℕ, zero, suc, ◌+◌, ◌-◌, ◌<◌, ◌≤◌, Bool, true, false, cond, not, ◌&&◌, ◌||◌, ◌==◌}
 use Rattle.std.proofs.Common.{nat_eq, nat_lt, List, length, Some, is_some, slice_get, refl, sym, ap, ap₂}
 use Rattle.std.proofs.Common.{◌∙◌, subst, arith}

@@ -1,4 +1,4 @@
--- What stands at both edges of a character in UTF-8.
+-- What is at both edges of a character in UTF-8.
 use Rattle.std.proofs.Common.{◌≡◌, ℕ, ◌+◌, ◌-◌, ◌<◌, ◌≤◌, ◌/◌, ◌%◌, List, length, Some, slice_get, slice_index, refl}
 use Rattle.std.proofs.Common.{sym, ap, ◌∙◌, ⊎_elim, arith}
 use Rattle.std.proofs.lemmas.Option.{slice_get-get_or}

@@ -1,4 +1,4 @@
--- Patterns that try the ways of the parts of a tree in order, put together to one that tries those of the tree.
+-- Patterns that try the match paths of the parts of a tree in order, combined to one that tries those of the tree.
 use Rattle.std.proofs.Common.{◌≡◌, ℕ, zero, suc, ◌+◌, ◌-◌, ◌<◌, ◌≤◌, min, true, false, cond, ◌||◌, nat_lt, nat_eq}
 use Rattle.std.proofs.Common.{List, [], Option, Some, None, slice_get, refl, sym, ap, ap₂, ◌∙◌, subst, ⊎_elim, arith}
 use Rattle.std.specs.List.{AllByRecursion}

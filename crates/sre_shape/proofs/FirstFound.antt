@@ -1,5 +1,5 @@
--- A search for a pattern that tries a tree's ways in order, each of which reads a byte, finds what the tree's meaning
--- finds: over bytes, and over UTF-8, where its matches begin at characters.
+-- A search for a pattern that tries a tree's match paths in order, each of which reads a byte, finds what the tree's
+-- semantics finds: over bytes, and over UTF-8, where its matches begin at characters.
 use Rattle.std.proofs.Common.{◌≡◌, ℕ, ◌≤◌, ◌<◌, Bool, true, false, not, ◌||◌, cond, nat_eq, List, [], ◌∷◌, length}
 use Rattle.std.proofs.Common.{Some, None, refl, sym, ap, ◌∙◌, ⊎_elim, inl, inr, arith}
 use Rattle.std.specs.List.{AllByRecursion}

@@ -1,4 +1,4 @@
--- Patterns that tell of starts alone: where the pattern has no match the tree has no way.
+-- Patterns for starts alone: where the pattern has no match the tree has no match path.
 use Rattle.std.proofs.Common.{◌≡◌, ℕ, List, [], ◌∷◌, ◌++◌, refl, ap₂}
 use Rattle.std.specs.List.{flat_map, AllByRecursion}
 use Rattle.regex_hir.specs.Re.{Re, empty, cat}

@@ -1,4 +1,4 @@
--- Where a pattern is exact it tries the ways of its tree in their order, so its first match is their first.
+-- An exact pattern tries the match paths of its tree in their order, so its first match is their first.
 use Rattle.std.proofs.Common.{◌≡◌, ℕ, zero, suc, ◌+◌, ◌-◌, ◌<◌, ◌≤◌, Bool, true, false, cond, ◌&&◌, ◌||◌, not, nat_lt}
 use Rattle.std.proofs.Common.{nat_eq, List, [], ◌∷◌, ◌++◌, length, Option, Some, None, refl, sym, ap, ap₂, ◌∙◌, arith}
 use Rattle.std.proofs.Common.{slice_get, true≢false, option_and_then}

@@ -1,4 +1,4 @@
--- Ways that go along a relation: those of loops, runs, regions and looks.
+-- Match paths along a relation: those of loops, repeats, atomic scopes and lookarounds.
 use Rattle.std.proofs.Common.{◌≡◌, ℕ, zero, suc, ◌+◌, ◌-◌, ◌<◌, ◌≤◌, max, Bool, true, false, cond, ◌&&◌, nat_lt, nat_le}
 use Rattle.std.proofs.Common.{List, [], ◌∷◌, map, Option, Some, None, refl, arith}
 use Rattle.std.specs.List.{flat_map, AllByRecursion}

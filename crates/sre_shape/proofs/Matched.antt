@@ -1,4 +1,4 @@
--- Wherever a tree has a way its pattern has a match.
+-- Wherever a tree has a match path its pattern has a match.
 use Rattle.std.proofs.Common.{◌≡◌, ℕ, zero, suc, ◌+◌, ◌<◌, ◌≤◌, Bool, true, nat_lt, List, [], None, refl, ap, inl, inr}
 use Rattle.std.proofs.Common.{arith}
 use Rattle.std.proofs.lemmas.Bool.{and_parts}

@@ -1,4 +1,4 @@
--- Texts of UTF-8 are seen as their bytes, in which each character stands whole.
+-- Texts of UTF-8 are seen as their bytes, in which each character is whole.
 use Rattle.std.proofs.Common.{◌≡◌, ℕ, zero, suc, ◌+◌, ◌<◌, ◌≤◌, true, refl, ap, sym, ◌∙◌, subst, arith, List, [], ◌∷◌}
 use Rattle.std.proofs.Common.{◌++◌, length, take, drop, get_or, Some, length-append}
 use Rattle.std.proofs.Math.Seq.{take-suc, drop-cons}

@@ -1,4 +1,4 @@
--- Runs and references go along the rounds of a relation that goes over each character which passes a test.
+-- Repeats and back-references follow the rounds of a relation that goes over each character which passes a test.
 use Rattle.std.proofs.Common.{◌≡◌, ℕ, zero, suc, ◌+◌, ◌-◌, ◌<◌, ◌≤◌, Bool, true, false, cond, ◌&&◌, ◌||◌, nat_lt}
 use Rattle.std.proofs.Common.{nat_le, nat_eq, [], ◌∷◌, Option, Some, None, refl, subst, arith}
 use Rattle.std.specs.List.{AllByRecursion}

@@ -1,4 +1,4 @@
--- When a pattern of bytes has a match wherever a tree has a way.
+-- When a pattern of bytes has a match wherever a tree has a match path.
 use Rattle.std.specs.Prelude.{ℕ, ◌≡◌, ◌+◌, ◌≤◌, ◌<◌, true, List, [], length, take, Some, slice_get}
 use Rattle.std.specs.List.{AllByRecursion}
 use Rattle.std.specs.Char.{len_utf8}

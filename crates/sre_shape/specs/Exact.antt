@@ -1,4 +1,4 @@
--- When a pattern of bytes tries the ways of a tree in their order.
+-- When a pattern of bytes tries the match paths of a tree in their order.
 use Rattle.std.specs.Prelude.{ℕ, ◌≡◌, ◌<◌, ◌≤◌, ◌⊎◌, List, [], ◌∷◌, Option, None}
 use Rattle.std.specs.Option.{option_or}
 use Rattle.regex_hir.specs.Re.{Re, Rest, Trace, attempt}

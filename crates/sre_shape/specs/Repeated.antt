@@ -1,4 +1,4 @@
--- Repetitions, whose counts are kept as far as they are small.
+-- Repetitions, whose counts are preserved while they are small.
 use Rattle.std.specs.Prelude.{ℕ, min, Bool, true, false, ◌||◌, cond, Option, Some, None, nat_lt}
 use Rattle.regex_hir.specs.Re.{Re}
 use Rattle.regex_hir.specs.Meaning.{repeat}

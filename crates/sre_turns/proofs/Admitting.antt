@@ -1,5 +1,5 @@
--- What an instruction admits, from what is admitted where it goes on: one step, whatever the role.
--- Branches leave alternatives of which nothing comes by this; nothing in this crate rests on it.
+-- The FIRST set of an instruction, from those where it continues: one step, whatever the role.
+-- Branches skip alternatives that fail by this; nothing in this crate rests on it.
 use Rattle.std.proofs.Common.{◌≡◌, ℕ, ◌+◌, ◌-◌, ◌<◌, ◌&&◌, ◌||◌, Bool, true, false, cond, nat_eq, nat_lt, List, []}
 use Rattle.std.proofs.Common.{◌∷◌, Option, Some, None, refl, sym, ◌∙◌, ap, subst, arith}
 use Rattle.std.specs.Bool.{⊤}

@@ -1,5 +1,5 @@
--- Loops that are alike: how long they stay so, and that they decide alike on a further body. So the memory of failures
--- keeps of a loop its count, as far as it is told, and one bit of its last body.
+-- Equivalent loops: how long they stay so, and that they decide the same on a further body. So the memo of failures
+-- stores of a loop its count, as far as it makes a difference, and one bit of its last body.
 use Rattle.std.proofs.Common.{◌≡◌, ℕ, ◌+◌, ◌≤◌, Bool, true, false, not, ◌&&◌, ◌||◌, List, [], ◌∷◌, min, max, drop}
 use Rattle.std.proofs.Common.{nat_eq, nat_lt, Option, Some, None, refl, sym, ap, ◌∙◌, subst, arith}
 use Rattle.std.proofs.lemmas.Bool.Decides.{nat_tests}

@@ -1,5 +1,5 @@
--- Alike spots with alike marks make alike turns; and a region closes alike. By these laws such spots have the same
--- stops (SameComes), on which the memory of failures rests.
+-- Equivalent configurations with equivalent captures make equivalent steps, and close an atomic scope equally. By these
+-- laws they have the same stops (SameComes), on which the memo of failures rests.
 use Rattle.std.proofs.Common.{◌≡◌, ℕ, ◌+◌, ◌-◌, ◌*◌, ◌<◌, ◌≤◌, ◌&&◌, ◌||◌, Bool, true, false, cond, nat_eq}
 use Rattle.std.proofs.Common.{nat_le, nat_lt}
 use Rattle.std.proofs.Common.{List, [], ◌∷◌, Option, Some, None, refl, sym, ap, subst, arith, ◌⊎◌, inl, inr, drop}

@@ -1,4 +1,4 @@
--- Marks that are alike stay so, and tell the same of a group.
+-- Equivalent captures stay so, and say the same of a group.
 use Rattle.std.proofs.Common.{◌≡◌, ℕ, zero, suc, ◌+◌, ◌-◌, ◌*◌, ◌<◌, ◌≤◌, List, [], ◌∷◌, ◌++◌, length, replicate, cond}
 use Rattle.std.proofs.Common.{slice_set, slice_index_or, Option, Some, None, refl, sym, ap, ◌∙◌, arith, nat_le}
 use Rattle.std.proofs.Common.{◌⊎◌, inl, inr}

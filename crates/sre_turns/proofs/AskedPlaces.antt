@@ -1,5 +1,5 @@
--- What is told of the places, which marks may be asked for from each on, stays so where fewer are told of one place.
--- The list of the machine that tells this is filled by it; nothing in this crate rests on it.
+-- A list of the captures that may be live at each address stays right where fewer are listed for one.
+-- The machine's list of live captures is filled by it; nothing in this crate rests on it.
 use Rattle.std.proofs.Common.{◌≡◌, ℕ, ◌+◌, ◌⊎◌, inl, inr, List, sym, subst}
 use Rattle.sre_chars.specs.declared.constants.SreOpcode.{SreOpcode}
 use Rattle.sre_model.specs.Grammar.{Word, Opcode, word, skip}

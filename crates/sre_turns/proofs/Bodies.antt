@@ -1,6 +1,6 @@
--- In the body of a region that sets no mark the marks stay as they are: a run there stays in the body, and no turn
--- there is that of a MARK.
--- The memory of where bodies end rests on this.
+-- In the body of an atomic scope that sets no capture slot the captures stay as they are: a run there stays in the
+-- body, and no step there is that of a MARK.
+-- The memo of body ends rests on this.
 use Rattle.std.proofs.Common.{◌≡◌, ℕ, ◌+◌, ◌-◌, Bool, true, false, cond, ◌&&◌, ◌||◌, nat_lt, nat_eq, nat_le}
 use Rattle.std.proofs.Common.{List, [], ◌∷◌, Option, Some, None, refl, sym, ap, ◌∙◌, subst}
 use Rattle.std.specs.Bool.{⊤}

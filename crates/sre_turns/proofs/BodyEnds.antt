@@ -1,6 +1,6 @@
 -- Where the body of an atomic scope ends: each instruction that is tried inside has that end as its first outcome, so
--- has each configuration that is alike, and at such a configuration the machine may go to the end at once.
--- The memory of where bodies end rests on these laws.
+-- has each equivalent configuration, and there the machine may go to the end at once.
+-- The memo of body ends rests on this.
 use Rattle.std.proofs.Common.{◌≡◌, ℕ, ◌+◌, ◌≤◌, true, List, [], ◌∷◌, ◌++◌, refl, sym, ap, ◌∙◌, subst}
 use Rattle.std.proofs.Common.{inl, inr, ◌⊎◌, arith}
 use Rattle.std.specs.List.{AllByRecursion}

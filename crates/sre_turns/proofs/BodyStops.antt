@@ -1,6 +1,6 @@
--- What comes of a spot in the body of a region stops in the window, and no earlier than where the region was entered,
--- unless it looks behind.
--- The law that a search takes few turns (`enough` of sre_engine) rests on this.
+-- The outcomes of a configuration in the body of an atomic scope stop in the range, and no earlier than where the scope
+-- was entered, unless it is a lookbehind.
+-- That the step bound suffices (`enough` of sre_engine) rests on this.
 use Rattle.std.proofs.Common.{◌≡◌, ℕ, ◌≤◌, true, List, [], ◌∷◌, drop, refl, subst, arith}
 use Rattle.std.specs.List.{AllByRecursion}
 use Rattle.sre_model.proofs.Each.{each-append}

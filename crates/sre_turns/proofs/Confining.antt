@@ -1,5 +1,5 @@
--- Each turn keeps the machine in the body of the region that it is in, where no region of the words sets a mark.
--- The memory of where bodies end rests on this.
+-- Each step keeps the machine in its atomic scope's body, where no atomic scope of the bytecode sets a capture slot.
+-- The memo of body ends rests on this.
 use Rattle.std.proofs.Common.{◌≡◌, ℕ, Bool, true, List, [], ◌∷◌}
 use Rattle.sre_chars.specs.declared.string.StringCursor.{StringCursor}
 use Rattle.sre_model.specs.Marks.{Marks, no_marks}

@@ -1,4 +1,4 @@
--- What a step leaves of the potential, in a search over words whose steps are counted.
+-- What a step leaves of the potential, in a search over bytecode whose steps are counted.
 use Rattle.std.proofs.Common.{◌≡◌, ℕ, ◌+◌, ◌-◌, ◌≤◌, Bool, length, List, [], ◌∷◌, drop, true, refl, sym, ap, ◌∙◌}
 use Rattle.std.proofs.Common.{subst, arith}
 use Rattle.std.specs.Bool.{⊤}

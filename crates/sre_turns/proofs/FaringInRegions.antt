@@ -1,6 +1,6 @@
--- What is left of the potential where an atomic scope is left, in a search over words whose steps are counted: the
--- choices above it go, with what is tried inside.
--- The law that a search takes few steps (`enough` of sre_engine) rests on this.
+-- What is left of the potential where an atomic scope is left, in a search over bytecode whose steps are counted: the
+-- saved alternatives above it go, with what is tried inside.
+-- That the step bound suffices (`enough` of sre_engine) rests on this.
 use Rattle.std.proofs.Common.{◌≡◌, ℕ, ◌≤◌, length, List, [], ◌∷◌, drop, true, refl, sym, ap, ◌∙◌}
 use Rattle.std.proofs.Common.{◌++◌, subst, arith}
 use Rattle.std.proofs.lemmas.Bool.{true≢false}

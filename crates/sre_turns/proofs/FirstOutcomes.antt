@@ -1,5 +1,5 @@
--- The first outcome that passes a test: outcomes that come again behind others change nothing of it, whatever the test
--- is, as long as it looks at where they stop. So what waits twice may be left out where it comes later.
+-- The first outcome that passes a test: outcomes that come again after others change nothing of it, whatever the test
+-- is, as long as it depends on where they stop. So what waits twice may be left out where it comes later.
 use Rattle.std.proofs.Common.{◌≡◌, Bool, true, false, List, [], ◌∷◌, ◌++◌, refl, sym, ap, ◌∙◌}
 use Rattle.std.specs.List.{filter}
 use Rattle.std.proofs.lemmas.List.Elements.{filter-append}

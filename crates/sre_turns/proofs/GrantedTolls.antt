@@ -1,6 +1,6 @@
 -- The credits of an instruction are no more than what a memoized failure there pays for, but for a repeat without a
 -- greatest count. Where there is one way to go on, there are none.
--- The law that a search takes few steps (`enough` of sre_engine) rests on this.
+-- That the step bound suffices (`enough` of sre_engine) rests on this.
 use Rattle.std.proofs.Common.{◌≡◌, ℕ, ◌+◌, ◌-◌, ◌*◌, ◌≤◌, ◌⊎◌, inl, inr, Bool, true, false, cond, min, nat_eq, List}
 use Rattle.std.proofs.Common.{refl}
 use Rattle.std.proofs.Common.{subst, sym, ◌∙◌, arith, add-mul, one-mul, mul-le-mul_right}

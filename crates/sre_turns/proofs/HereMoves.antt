@@ -1,6 +1,6 @@
--- Where the machine stands in a search over words whose steps are counted, each step leads to where it may stand: an
--- atomic scope that is entered is entered at the body that it has, and behind it one goes on where one may stand, too.
--- The law that a search takes few steps (`enough` of sre_engine) rests on this.
+-- In a search over bytecode whose steps are counted, each step leads to where the machine may be: it enters an atomic
+-- scope at the body that the scope has, and continues after it where it may be, too.
+-- That the step bound suffices (`enough` of sre_engine) rests on this.
 use Rattle.std.proofs.Common.{◌≡◌, ℕ, ◌+◌, ◌-◌, ◌≤◌, true, false, List, [], ◌∷◌, length, drop, refl, sym, subst}
 use Rattle.std.proofs.Common.{arith}
 use Rattle.std.specs.Bool.{⊤}

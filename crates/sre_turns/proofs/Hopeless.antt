@@ -1,5 +1,5 @@
--- A spot of which nothing came is hopeless, and the machine may go back at once from one that is alike.
--- The memory of failures, which keeps hopeless spots, rests on these laws.
+-- A configuration that failed is hopeless, and the machine may backtrack at once from an equivalent one.
+-- The memo of failures, which stores hopeless configurations, rests on these laws.
 use Rattle.std.proofs.Common.{◌≡◌, ℕ, Bool, true, false, List, [], ◌∷◌, refl, sym, ◌∙◌, subst, inl, inr}
 use Rattle.std.specs.List.{filter}
 use Rattle.std.proofs.lemmas.Bool.{true≢false}

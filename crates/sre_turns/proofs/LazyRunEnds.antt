@@ -1,5 +1,5 @@
--- What comes of a lazy run without a greatest count: where more than its least count passes, what comes of its own
--- first end, and then of the run from the next character on. And its turn where it has one end, or none.
+-- The outcomes of a lazy repeat without a greatest count: where more than its least count passes, those of its own
+-- first end, and then those of the repeat from the next character on. And its step where it has one end, or none.
 use Rattle.std.proofs.Common.{◌≡◌, ℕ, zero, suc, ◌+◌, ◌-◌, ◌<◌, ◌≤◌, Bool, true, false, List, ◌++◌}
 use Rattle.std.proofs.Common.{refl, sym, subst, arith, nat_lt}
 use Rattle.std.proofs.lemmas.Bool.Decides.{nat_tests}

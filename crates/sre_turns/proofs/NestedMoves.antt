@@ -1,5 +1,5 @@
--- Each turn of a spot that lies in the words of a tree leads to spots that lie there.
--- The law that a search takes few turns (`enough` of sre_engine) rests on this.
+-- Each step of a configuration in the bytecode of a tree leads to configurations there.
+-- That the step bound suffices (`enough` of sre_engine) rests on this.
 use Rattle.std.proofs.Common.{◌≡◌, ℕ, ◌+◌, ◌-◌, inl, inr, Bool, true, false, cond, ◌&&◌, ◌||◌, nat_lt, nat_eq}
 use Rattle.std.proofs.Common.{nat_le, List, [], ◌∷◌, length, Option, Some, None, refl, sym, ap, ◌∙◌, subst}
 use Rattle.sre_chars.specs.declared.constants.SreOpcode.{SreOpcode}

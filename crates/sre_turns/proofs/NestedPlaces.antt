@@ -1,6 +1,6 @@
--- At one address of the words of a tree the same point stands, under the same loops, always: an instruction, or a
--- possessive loop at that of its first operand.
--- The law that a search takes few steps (`enough` of sre_engine) rests on this.
+-- An address of a tree's bytecode always has the same point, in the same loops: an instruction, or a possessive loop at
+-- that of its first operand.
+-- That the step bound suffices (`enough` of sre_engine) rests on this.
 use Rattle.std.proofs.Common.{◌≡◌, ℕ, ◌+◌, ◌-◌, ◌<◌, ◌≤◌, inl, inr, List, [], ◌∷◌, length, refl}
 use Rattle.std.proofs.lemmas.Bool.{true≢false}
 use Rattle.std.proofs.Common.{true, false, ap, Option, Some, None, sym, ◌∙◌, subst, arith}

@@ -1,5 +1,5 @@
--- What holds of each point that lies in a tree's words, where the tree is good by a folding.
--- The law that a search takes few turns (`enough` of sre_engine) rests on this.
+-- What holds of each point in a tree's bytecode, where the tree is good by a fold.
+-- That the step bound suffices (`enough` of sre_engine) rests on this.
 use Rattle.std.proofs.Common.{ℕ, ◌+◌, ◌-◌, inl, inr, List, [], ◌∷◌, refl, sym, subst}
 use Rattle.sre_chars.specs.declared.constants.SreOpcode.TheVariants as opcode
 use Rattle.sre_model.specs.Tree.{Tree, Empty, Then, Item, Fail, One, At, Mark, Branch, Loop, Run, PossessiveLoop}

@@ -1,5 +1,5 @@
--- Each turn leads to spots that stand no earlier than the last bodies of their loops began, and in the window.
--- The law that a search takes few turns (`enough` of sre_engine) rests on this.
+-- Each step leads to configurations no earlier than where the last bodies of their loops began, and in the range.
+-- That the step bound suffices (`enough` of sre_engine) rests on this.
 use Rattle.std.proofs.Common.{ℕ, List, sym, subst}
 use Rattle.sre_model.specs.Subject.{Subject}
 use Rattle.sre_turns.specs.Moves.{Spot, Move}

@@ -1,5 +1,5 @@
--- At each place of a tree's words the loops in progress have at most so many states as the tree tells.
--- The law that a search takes few turns (`enough` of sre_engine) rests on this.
+-- At each address of a tree's bytecode the loops in progress have at most as many states as the tree says.
+-- That the step bound suffices (`enough` of sre_engine) rests on this.
 use Rattle.std.proofs.Common.{◌≡◌, ℕ, ◌+◌, ◌*◌, ◌-◌, ◌≤◌, max, inl, inr, List, [], ◌∷◌, length, refl, sym, ap, ◌∙◌}
 use Rattle.std.proofs.Common.{arith}
 use Rattle.std.proofs.Math.Nat.{mul_assoc, mul_left_comm, mul-le-mul_left, mul-le-mul_right, one-le-mul, le-max_left}

@@ -1,5 +1,5 @@
--- A run begins at a spot that lies in the words of its tree, also behind leading literals.
--- The law that a search takes few turns (`enough` of sre_engine) rests on this.
+-- A run begins at a configuration in the bytecode of its tree, also after leading literals.
+-- That the step bound suffices (`enough` of sre_engine) rests on this.
 use Rattle.std.proofs.Common.{◌≡◌, ℕ, zero, suc, ◌*◌, ◌-◌, ◌≤◌, inr, List, [], length, refl, subst, arith}
 use Rattle.sre_model.specs.Tree.{Tree, Empty, Then}
 use Rattle.sre_model.specs.Marks.{Marks}

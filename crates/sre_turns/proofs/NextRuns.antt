@@ -1,7 +1,7 @@
--- A repeat without a greatest count, step by step: what comes of it is what comes of the repeat that begins one
--- character later, and of its own first end; of a possessive one, of one of the two. While failures are memoized the
--- machine goes by that, so that each end is tried once, from wherever the repeat is reached. Such a step has two ways
--- to go on at most, so the credits of one step pay for it.
+-- A repeat without a greatest count, step by step: its outcomes are those of the repeat that begins one character
+-- later, and of its own first end; of a possessive one, of one of the two. While failures are memoized the machine goes
+-- by that, so that each end is tried once, from wherever the repeat is reached. Such a step has two ways to go on at
+-- most, so the credits of one step pay for it.
 use Rattle.std.proofs.Common.{◌≡◌, ℕ, suc, ◌+◌, ◌-◌, ◌<◌, ◌≤◌, false, List, ◌∷◌, ◌++◌, refl, sym, ap, ◌∙◌}
 use Rattle.std.proofs.Common.{subst, arith, append-nil}
 use Rattle.sre_chars.specs.declared.constants.SreOpcode.{SreOpcode}

@@ -1,4 +1,4 @@
--- A turn is determined: no spot has two moves, so what comes of a spot comes of its one turn.
+-- A step is determined: no configuration has two moves, so its outcomes come of its one step.
 use Rattle.std.proofs.Common.{◌≡◌, ℕ, ◌+◌, List, ◌∷◌, sym, ap, ◌∙◌, subst}
 use Rattle.sre_model.specs.Tree.{Test, Order, RunKind, Sign}
 use Rattle.sre_model.specs.Subject.{Subject}

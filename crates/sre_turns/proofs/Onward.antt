@@ -1,6 +1,6 @@
--- How far a turn reaches: no further back than its spot, not out of the window, and not before the last bodies of its
--- loops began. So what comes of a spot ends no earlier than at the least position to which its point comes back: behind
--- an atomic group and a body of a possessive loop one stands no earlier than before it. Alike spots rest on that.
+-- How far a step reaches: no further back than its configuration, not out of the range, and not before the last bodies
+-- of its loops began. So its outcomes end no earlier than at the least position to which its point comes back: after an
+-- atomic group and a body of a possessive loop no position is earlier than before it. Equivalence rests on that.
 use Rattle.std.proofs.Common.{◌≡◌, ℕ, ◌+◌, ◌-◌, ◌<◌, ◌≤◌, ◌&&◌, ◌||◌, Bool, true, false, cond, nat_eq, nat_lt, nat_le}
 use Rattle.std.proofs.Common.{List, [], ◌∷◌, ◌++◌, drop, Option, Some, None, refl, sym, subst, arith}
 use Rattle.std.specs.Bool.{⊤}

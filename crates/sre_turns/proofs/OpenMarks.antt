@@ -1,6 +1,5 @@
--- No spot is come to that is alike to one whose mark waits: alike spots take as many turns, and
--- the spot that is come to has fewer to come than the one that is tried. The law that a search takes few turns rests on
--- this.
+-- No configuration is reached that is equivalent to one whose marker waits: equivalent ones take as many steps, and the
+-- one reached has fewer to come than the one that is tried. That the step bound suffices rests on this.
 use Rattle.std.proofs.Common.{ℕ, ◌+◌, ◌≤◌, List, [], ◌∷◌, arith}
 use Rattle.sre_chars.specs.declared.string.StringCursor.{StringCursor}
 use Rattle.sre_model.specs.Ways.{Way}

@@ -1,4 +1,4 @@
--- What standing at a point comes to, where what follows is known.
+-- The outcomes at a point, where what follows is known.
 use Rattle.std.proofs.Common.{◌≡◌, ℕ, ◌≤◌, List, [], ◌∷◌, ◌++◌, refl, ap, subst}
 use Rattle.std.specs.List.{flat_map}
 use Rattle.std.proofs.lemmas.List.{append-nil}

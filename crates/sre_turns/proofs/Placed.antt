@@ -1,4 +1,4 @@
--- Marks that are set lie in the text.
+-- Captured positions lie in the text.
 use Rattle.std.proofs.Common.{◌≡◌, ℕ, zero, suc, ◌≤◌, ◌⊎◌, inl, inr, ⊎_elim, List, [], ◌∷◌, ◌++◌, length}
 use Rattle.std.proofs.Common.{replicate, slice_set, slice_index_or, Option, Some, None}
 use Rattle.std.proofs.Common.{arith}

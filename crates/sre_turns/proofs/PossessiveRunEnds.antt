@@ -1,6 +1,6 @@
--- What comes of a possessive run without a greatest count: where more than its least count passes, what comes of the
--- run from the next character on, and else what comes of its tail. So what comes of it comes of its tail behind all
--- characters that pass.
+-- The outcomes of a possessive repeat without a greatest count: where more than its least count passes, those of the
+-- repeat from the next character on, and else those of its tail. So they are those of its tail after all characters
+-- that pass.
 use Rattle.std.proofs.Common.{◌≡◌, ℕ, zero, suc, ◌+◌, ◌-◌, ◌<◌, ◌≤◌, Bool, true, false, List, refl, sym, subst, arith}
 use Rattle.std.proofs.Common.{nat_lt}
 use Rattle.std.proofs.lemmas.Bool.Decides.{nat_tests}

@@ -1,6 +1,6 @@
 -- The price of a configuration, with the credits of its point, pays for its step and for the prices of what the step
 -- leads to. And which instructions enter an atomic scope.
--- The law that a search takes few steps (`enough` of sre_engine) rests on this.
+-- That the step bound suffices (`enough` of sre_engine) rests on this.
 use Rattle.std.proofs.Common.{◌≡◌, ℕ, zero, suc, ◌+◌, ◌-◌, ◌*◌, ◌<◌, ◌≤◌, ◌&&◌, ◌||◌, Bool, true, false, cond}
 use Rattle.std.proofs.Common.{nat_eq, nat_lt}
 use Rattle.std.proofs.Common.{nat_le, List, [], ◌∷◌, length, Option, Some, None, refl, sym, ◌∙◌, ap, subst, arith}

@@ -1,4 +1,4 @@
--- The words of a tree have the tree's ways.
+-- The bytecode of a tree has the tree's match paths.
 use Rattle.std.proofs.Common.{◌≡◌, ℕ, suc, ◌+◌, ◌-◌, ◌<◌, ◌≤◌, true, false, ◌||◌, List, [], length, refl, sym, arith}
 use Rattle.std.proofs.lemmas.Bool.{or_left, or_right, or_parts}
 use Rattle.std.proofs.lemmas.Grind.{flat_map-append}

@@ -1,4 +1,4 @@
--- The words of an item without a part, and of an alternative, have its ways.
+-- The bytecode of an item without a part, and of an alternative, has its match paths.
 use Rattle.std.proofs.Common.{◌≡◌, ℕ, suc, ◌+◌, ◌<◌, ◌≤◌, Bool, true, false, cond, nat_lt, nat_eq, List, [], ◌++◌}
 use Rattle.std.proofs.Common.{length, refl, subst, arith}
 use Rattle.std.proofs.lemmas.List.{append-nil}

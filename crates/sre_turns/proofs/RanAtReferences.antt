@@ -1,4 +1,4 @@
--- The words of a reference and of a condition have its ways.
+-- The bytecode of a back-reference and of a conditional has its match paths.
 use Rattle.std.proofs.Common.{◌≡◌, ℕ, suc, ◌+◌, ◌-◌, ◌<◌, ◌≤◌, Bool, true, false, ◌&&◌, cond, nat_le, List, [], ap}
 use Rattle.std.proofs.Common.{length, Option, Some, None, refl, ap, arith}
 use Rattle.std.proofs.lemmas.Bool.{leb-true, and_parts}

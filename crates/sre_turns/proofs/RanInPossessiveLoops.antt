@@ -1,4 +1,4 @@
--- The words of a possessive loop have its ways.
+-- The bytecode of a possessive loop has its match paths.
 use Rattle.std.proofs.Common.{◌≡◌, ℕ, zero, suc, ◌+◌, ◌-◌, ◌≤◌, Bool, true, false, cond, nat_lt, min, Option, Some}
 use Rattle.std.proofs.Common.{None, List, [], ◌∷◌, inl, inr, refl, sym, ap, ◌∙◌, subst, arith}
 use Rattle.std.specs.List.{flat_map}

@@ -1,4 +1,4 @@
--- The words of an atomic group and of a look have its ways.
+-- The bytecode of an atomic group and of a lookaround has its match paths.
 use Rattle.std.proofs.Common.{◌≡◌, ℕ, suc, ◌+◌, ◌-◌, ◌<◌, ◌≤◌, Bool, true, false, cond, nat_lt, List, [], ◌∷◌, length}
 use Rattle.std.proofs.Common.{map, refl, arith}
 use Rattle.sre_chars.specs.declared.constants.SreOpcode.TheVariants as opcode

@@ -1,5 +1,5 @@
--- What comes of a greedy run without a greatest count: where more than its least count passes, what comes of the run
--- from the next character on, and then of its own first end. And its turn where it has one end, or none.
+-- The outcomes of a greedy repeat without a greatest count: where more than its least count passes, those of the repeat
+-- from the next character on, and then those of its own first end. And its step where it has one end, or none.
 use Rattle.std.proofs.Common.{◌≡◌, ℕ, zero, suc, ◌+◌, ◌-◌, ◌<◌, ◌≤◌, Bool, true, false, List, [], ◌++◌}
 use Rattle.std.proofs.Common.{refl, sym, ◌∙◌, ap, subst, arith, append-nil, nat_lt}
 use Rattle.std.proofs.lemmas.List.{append_assoc}

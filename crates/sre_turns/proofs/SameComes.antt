@@ -1,5 +1,5 @@
--- Alike spots with alike marks have alike outcomes in as many turns. Hopeless spots rest on where these stop. The law
--- that a search takes few turns rests on their number, since by it no spot comes to one that is alike.
+-- Equivalent configurations with equivalent captures have equivalent outcomes in as many steps. Hopelessness rests on
+-- where these stop, the step bound on the number of steps: no configuration leads to an equivalent one.
 use Rattle.std.proofs.Common.{◌≡◌, ℕ, suc, ◌+◌, List, [], ◌∷◌, refl, sym, ap, subst, arith, inl, inr}
 use Rattle.std.proofs.Common.{Bool, true, Some, slice_get}
 use Rattle.sre_model.specs.Marks.{Marks}

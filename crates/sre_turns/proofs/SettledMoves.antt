@@ -1,5 +1,5 @@
--- In words whose steps are counted each step of a settled configuration leads to settled configurations, but for the
--- body of an atomic scope. The law that a search takes few steps (`enough` of sre_engine) rests on this.
+-- In bytecode whose steps are counted each step of a settled configuration leads to settled configurations, but for the
+-- body of an atomic scope. That the step bound suffices (`enough` of sre_engine) rests on this.
 use Rattle.std.proofs.Common.{ℕ, ◌*◌, ◌≤◌, List, []}
 use Rattle.std.specs.Bool.{⊤}
 use Rattle.sre_model.specs.Tree.{Tree}

@@ -1,5 +1,5 @@
--- The steps from an instruction, by those from what is behind it.
--- The law that a search takes few steps (`enough` of sre_engine) rests on this.
+-- The steps from an instruction, by those from what follows it.
+-- That the step bound suffices (`enough` of sre_engine) rests on this.
 use Rattle.std.proofs.Common.{◌≡◌, ℕ, zero, suc, ◌+◌, ◌-◌, ◌<◌, ◌≤◌, List, length, refl, sym, ap, ◌∙◌, arith}
 use Rattle.std.specs.Prelude.{slice_index_or}
 use Rattle.sre_chars.specs.Numbers.{opcode_number}

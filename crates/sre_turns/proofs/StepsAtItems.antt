@@ -1,4 +1,4 @@
--- Steps at tests, positions, marks, jumps, and at the ends of an atomic scope.
+-- Steps at tests, positions, MARKs, jumps, and at the ends of an atomic scope.
 use Rattle.std.proofs.Common.{◌≡◌, ◌≢◌, ℕ, ◌+◌, ◌<◌, ◌≤◌, Bool, true, false, nat_eq, nat_lt, ◌&&◌, List, length, refl}
 use Rattle.std.proofs.Common.{sym, ap, ◌∙◌, subst, arith}
 use Rattle.std.proofs.lemmas.Bool.Decides.{nat_tests}

@@ -1,4 +1,4 @@
--- Turns at a reference to a group, and at a condition on one.
+-- Steps at a back-reference to a group, and at a conditional on one.
 use Rattle.std.proofs.Common.{◌≡◌, ℕ, ◌+◌, ◌-◌, ◌<◌, true, false, nat_le, List, length, Some}
 use Rattle.std.proofs.Common.{None, refl, sym, ◌∙◌, subst}
 use Rattle.sre_chars.specs.declared.constants.SreOpcode.{SreOpcode}

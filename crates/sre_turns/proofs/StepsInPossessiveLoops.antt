@@ -1,4 +1,4 @@
--- Turns at a possessive loop: POSSESSIVE_REPEAT, and a body or the end.
+-- Steps at a possessive loop: POSSESSIVE_REPEAT, and a body or the end.
 use Rattle.std.proofs.Common.{◌≡◌, ℕ, ◌+◌, ◌<◌, ◌≤◌, true, false, nat_lt, List, [], ◌∷◌, length, drop, Option, Some}
 use Rattle.std.proofs.Common.{refl, sym, ap, ◌∙◌, subst, arith}
 use Rattle.std.proofs.lemmas.Bool.Decides.{nat_tests}

@@ -1,6 +1,6 @@
--- At no point of a body that does not fork the machine has more than one way to go on. Where an atomic scope is
--- entered, it has a body, of which is told what its tree tells.
--- The law that a search takes few steps (`enough` of sre_engine) rests on this.
+-- In a body that does not branch the machine has at most one way to go on at each point. An atomic scope that is
+-- entered has a body, with what its tree has.
+-- That the step bound suffices (`enough` of sre_engine) rests on this.
 use Rattle.std.proofs.Common.{◌≡◌, ℕ, ◌+◌, ◌-◌, ◌≤◌, ◌⊎◌, inl, inr, Bool, true, false, ◌||◌, cond, nat_lt}
 use Rattle.std.proofs.Common.{List, [], ◌∷◌, Option, Some, refl, sym, ap, ◌∙◌, subst, arith}
 use Rattle.std.specs.Bool.{⊤}

@@ -1,4 +1,4 @@
--- Bodies of a loop that are one character each, gone over in one step.
+-- Batched loop iterations: bodies of one character each, gone over in one step.
 use Rattle.std.proofs.Common.{◌≡◌, ℕ, ◌+◌, ◌<◌, ◌≤◌, ◌⊎◌, inl, inr, Bool, true, false, nat_eq, nat_lt, ◌++◌, List, []}
 use Rattle.std.proofs.Common.{◌∷◌, Some, refl, sym, ap}
 use Rattle.std.proofs.Common.{◌∙◌, subst, arith}

@@ -1,6 +1,6 @@
--- What memoized failures pay for at one position is no more than what the tree says: by the instructions of its words,
--- of which each has so many failures at most as its loops have states.
--- The law that a search takes few steps (`enough` of sre_engine) rests on this.
+-- What memoized failures pay for at one position is no more than what the tree says: by the instructions of its
+-- bytecode, each of which has at most as many failures as its loops have states.
+-- That the step bound suffices (`enough` of sre_engine) rests on this.
 use Rattle.std.proofs.Common.{◌≡◌, ℕ, zero, suc, ◌+◌, ◌-◌, ◌*◌, ◌<◌, ◌≤◌, ◌⊎◌, inl, inr, Bool, true, false, cond}
 use Rattle.std.proofs.Common.{List, [], ◌∷◌, length, refl, sym, ap, ◌∙◌, subst, arith, nat_eq}
 use Rattle.std.proofs.Common.{mul-le-mul, mul-le-mul_right, add-mul, map, ◌||◌}

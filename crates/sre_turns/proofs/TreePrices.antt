@@ -1,5 +1,5 @@
--- The steps from an address are those of the tree whose words begin there, before those from where they end.
--- The law that a search takes few steps (`enough` of sre_engine) rests on this.
+-- The steps from an address are those of the tree whose code words begin there, before those from where they end.
+-- That the step bound suffices (`enough` of sre_engine) rests on this.
 use Rattle.std.proofs.Common.{◌≡◌, ℕ, zero, suc, ◌+◌, ◌-◌, ◌≤◌, List, length, refl, sym, ap, ◌∙◌, arith}
 use Rattle.sre_chars.specs.declared.constants.SreOpcode.TheVariants as opcode
 use Rattle.sre_model.specs.Tree.{Tree, Empty, Then, Item, Fail, One, At, Mark, Branch, Loop, Run, PossessiveLoop}

@@ -1,5 +1,5 @@
--- An instruction or a possessive loop that is tried: a mark waits below all that comes of it, and where that mark is
--- reached again, nothing came of it, and nothing will.
+-- An instruction or a possessive loop that is tried: a marker waits below all its outcomes, and where that marker is
+-- reached again, it has failed, and always will.
 use Rattle.std.proofs.Common.{◌≡◌, ℕ, ◌+◌, ◌≤◌, Bool, List, [], ◌∷◌, drop, ap, refl, sym, subst, arith}
 use Rattle.sre_chars.specs.declared.string.StringCursor.{StringCursor}
 use Rattle.sre_model.specs.Marks.{Marks}

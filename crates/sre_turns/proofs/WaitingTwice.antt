@@ -1,5 +1,5 @@
--- What waits twice: where the newest choice is to go on right where the machine goes on, it may go. All that comes of
--- it comes of going on, too, and before.
+-- What waits twice: where the newest saved alternative is to continue right where the machine continues, it may go. All
+-- its outcomes come of continuing, too, and before.
 use Rattle.std.proofs.Common.{◌≡◌, ◌∙◌, inl, inr, ℕ, ◌+◌, ◌≤◌, Bool, true, false, List, [], ◌∷◌, ◌++◌, refl, sym}
 use Rattle.std.proofs.Common.{subst, arith}
 use Rattle.sre_chars.specs.declared.string.StringCursor.{StringCursor}

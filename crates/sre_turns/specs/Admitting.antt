@@ -1,6 +1,6 @@
--- What may come next at a point of the words: an ASCII character of a set, or one past ASCII. Where another one comes
--- next, nothing comes of the point; nor where the window ends, unless the set has every ASCII character.
--- Words of the machine's contracts. What is public rests on `AdmitsOnly`, by the lists that a request may carry.
+-- FIRST sets: what may come next at a point, which is an ASCII character of a set, or one past ASCII. Where another one
+-- comes next, the point fails; it fails where the range ends, too, unless the set has every ASCII character.
+-- Definitions for the machine's contracts. What is public rests on `AdmitsOnly`, by the lists that a request may carry.
 use Rattle.std.specs.Prelude.{⊤, ℕ, ◌+◌, ◌≡◌, ◌<◌, Bool, true, false, List, []}
 use Rattle.sre_chars.specs.Tables.{Table}
 use Rattle.sre_model.specs.Tree.{Test, Order}

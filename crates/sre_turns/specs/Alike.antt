@@ -1,6 +1,6 @@
--- Alike spots: those between which no turn tells a difference, where the words have no reference.
--- Words of the machine's contracts: the memory of failures goes by them, since of a spot that is alike to one of which
--- nothing came nothing will come. What sre_engine makes public does not rest on it.
+-- Equivalent configurations: no step differs between them, where the bytecode has no back-reference or conditional.
+-- Definitions for the machine's contracts: the memo of failures goes by them, since a configuration that is equivalent
+-- to one that failed fails, too. What sre_engine makes public does not rest on it.
 use Rattle.std.specs.Prelude.{⊤, ℕ, ◌+◌, ◌-◌, ◌≡◌, ◌≤◌, Bool, false, List, [], ◌∷◌, min, nat_eq}
 use Rattle.std.specs.Prelude.{Option, Some, None}
 pub use Rattle.sre_model.specs.Slots.{counted_to}

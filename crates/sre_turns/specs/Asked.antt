@@ -1,5 +1,5 @@
--- Marks as far as a turn can tell them: those that a reference or a condition may ask for.
--- Words of the machine's contracts; what sre_engine makes public does not rest on it.
+-- Captures as far as a step depends on them: those that a back-reference or a conditional may read.
+-- Definitions for the machine's contracts; what sre_engine makes public does not rest on it.
 use Rattle.std.specs.Prelude.{⊤, ℕ, ◌+◌, ◌*◌, ◌≡◌, ◌⊎◌, List, [], ◌∷◌}
 use Rattle.sre_model.specs.Marks.{Marks, no_marks, mark_at}
 use Rattle.sre_model.specs.Ways.{Way}

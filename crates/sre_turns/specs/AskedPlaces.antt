@@ -1,6 +1,6 @@
--- Which marks may be asked for from a place of the words on, before they are set anew. Where none may, marks make no
--- difference to what comes of a spot.
--- Words of the machine's contracts; what sre_engine makes public does not rest on it.
+-- Which captures may be live at an address: read from there on, before they are set anew. Where none is, captures make
+-- no difference to the outcomes of a configuration.
+-- Definitions for the machine's contracts; what sre_engine makes public does not rest on it.
 use Rattle.std.specs.Prelude.{⊤, ℕ, ◌+◌, ◌*◌, ◌≡◌, ◌<◌, ◌≤◌, ◌⊎◌, Bool, true, List, [], ◌∷◌, Some, slice_get}
 use Rattle.sre_chars.specs.declared.constants.SreOpcode.{SreOpcode}
 use Rattle.sre_model.specs.Tree.{Test}

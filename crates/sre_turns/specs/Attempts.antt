@@ -1,6 +1,6 @@
--- Instructions that are tried, inside a region or not.
--- Of the law that a search takes few turns: the memory of failures takes in a bit for each. What sre_engine makes
--- public does not rest on it.
+-- Instructions that are tried, inside an atomic scope or not.
+-- For the law that the step bound suffices: the memo of failures takes in a bit for each. What sre_engine makes public
+-- does not rest on it.
 use Rattle.std.specs.Prelude.{Bool}
 use Rattle.sre_turns.specs.Moves.{Spot}
 

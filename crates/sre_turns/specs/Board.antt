@@ -1,5 +1,5 @@
--- The board: what a run of the machine holds beside its place and position.
--- Words of the machine's contracts; what sre_engine makes public does not rest on it.
+-- The backtrack stack: what a run of the machine holds beside its address and position.
+-- Definitions for the machine's contracts; what sre_engine makes public does not rest on it.
 use Rattle.std.specs.Prelude.{⊤, ℕ, ◌≡◌, ◌⊎◌, Bool, true, List, [], ◌∷◌}
 use Rattle.sre_chars.specs.declared.string.StringCursor.{StringCursor}
 use Rattle.sre_model.specs.Marks.{Marks}

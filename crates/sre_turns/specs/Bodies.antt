@@ -1,5 +1,5 @@
--- Bodies of regions that set no mark, where points lie in one, and words whose regions all have such a body.
--- Words of the machine's contracts; what sre_engine makes public does not rest on it.
+-- Bodies of atomic scopes that set no capture, points inside one, and bytecode all of whose atomic scopes have one.
+-- Definitions for the machine's contracts; what sre_engine makes public does not rest on it.
 use Rattle.std.specs.Prelude.{ℕ, ◌≡◌, false, List, []}
 use Rattle.sre_chars.specs.declared.constants.SreOpcode.TheVariants as opcode
 use Rattle.sre_model.specs.Tree.{Tree}

@@ -1,7 +1,7 @@
--- Where the body of a region ends, as told of a spot inside: what comes of it begins with that end, and so it does of
--- each spot that is alike.
--- Words of the machine's contracts: the memory keeps such ends beside failures, and the machine goes there at once.
--- What sre_engine makes public does not rest on it.
+-- Where the body of an atomic scope ends, as known for a configuration inside: its outcomes begin with that end, and so
+-- do those of each equivalent one.
+-- Definitions for the machine's contracts: the memo stores such ends beside failures, and the machine goes there at
+-- once. What sre_engine makes public does not rest on it.
 use Rattle.std.specs.Prelude.{ℕ, ◌≡◌, List}
 use Rattle.std.specs.List.{AllByRecursion}
 use Rattle.sre_model.specs.Marks.{Marks}

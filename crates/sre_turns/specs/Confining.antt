@@ -1,6 +1,6 @@
--- Where no region of the words sets a mark: inside a region the machine stands in a body that sets none, and so does
--- all that waits there.
--- Words of the machine's contracts; what sre_engine makes public does not rest on it.
+-- Where no atomic scope of the bytecode sets a capture slot: inside one the machine is in a body that sets none, and so
+-- is all that waits there.
+-- Definitions for the machine's contracts; what sre_engine makes public does not rest on it.
 use Rattle.std.specs.Prelude.{⊤, ℕ, ◌≡◌, Bool, true, List, [], ◌∷◌}
 use Rattle.sre_turns.specs.Board.{Choice, Else, Keep, Trying}
 use Rattle.sre_turns.specs.Bodies.{IsConfined}

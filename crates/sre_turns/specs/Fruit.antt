@@ -1,6 +1,6 @@
--- What came of an instruction that is tried. The first of its outcomes that counts is the first that counts of what is
--- to come: where the machine goes back nothing came, and where the body of a region ends that end is the first.
--- Words of the machine's contracts; what sre_engine makes public does not rest on it.
+-- The outcome of an instruction that is tried. Its first outcome that counts is the first that counts of what is to
+-- come: where the machine backtracks there was none, and where the body of an atomic scope ends that end is the first.
+-- Definitions for the machine's contracts; what sre_engine makes public does not rest on it.
 use Rattle.std.specs.Prelude.{◌≡◌, Bool, true, false, List, [], ◌∷◌}
 use Rattle.std.specs.List.{filter}
 use Rattle.sre_model.specs.Ways.{Way, first}

@@ -1,6 +1,6 @@
--- Hopeless spots: where the machine stood and nothing came of it, so that nothing comes of a spot that is alike.
--- Words of the machine's contracts: the memory of failures keeps such spots, and the machine leaves them at once. What
--- sre_engine makes public does not rest on it.
+-- Hopeless configurations: the machine was there and failed, so it fails at each equivalent one.
+-- Definitions for the machine's contracts: the memo of failures stores such configurations, and the machine leaves them
+-- at once. What sre_engine makes public does not rest on it.
 use Rattle.std.specs.Prelude.{ℕ, ◌≡◌, ◌⊎◌, Bool, List}
 use Rattle.sre_model.specs.Marks.{Marks}
 use Rattle.sre_model.specs.Ways.{Way}

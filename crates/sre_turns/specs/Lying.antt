@@ -1,5 +1,5 @@
--- Where points lie in the words of a tree, and under which loops: those that enclose the place.
--- Words of the machine's contracts; what sre_engine makes public does not rest on it.
+-- Where points lie in the bytecode of a tree, and in which loops: those that enclose the address.
+-- Definitions for the machine's contracts; what sre_engine makes public does not rest on it.
 use Rattle.std.specs.Prelude.{ℕ, ◌+◌, ◌-◌, ◌≡◌, ◌⊎◌, List, [], ◌∷◌, map}
 use Rattle.sre_model.specs.Tree.{Tree, Empty, Then, Item, Fail, One, At, Mark, Branch, Loop, Run, PossessiveLoop}
 use Rattle.sre_model.specs.Tree.{Atomic, Look, Reference, Exists, ExistsElse, Trees, Only, Or}

@@ -1,5 +1,5 @@
--- The machine: what standing at a point of the words means, and what a step keeps.
--- Words of the machine's contracts; what sre_engine makes public does not rest on it.
+-- The machine: the outcomes at a point of the bytecode, and what a step preserves.
+-- Definitions for the machine's contracts; what sre_engine makes public does not rest on it.
 use Rattle.std.specs.Prelude.{⊤, ℕ, suc, ◌+◌, ◌≡◌, ◌<◌, ◌≤◌, Bool, false, List, [], ◌∷◌, ◌++◌, drop, length}
 use Rattle.std.specs.Prelude.{Option, Some, None}
 use Rattle.std.specs.List.{filter}

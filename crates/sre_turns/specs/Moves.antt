@@ -1,5 +1,5 @@
--- Moves: what the machine does in one turn, by the role of the opcode. Nothing here is recursive.
--- Words of the machine's contracts; what sre_engine makes public does not rest on it.
+-- Moves: what the machine does in one step, by the role of the opcode. Nothing here is recursive.
+-- Definitions for the machine's contracts; what sre_engine makes public does not rest on it.
 use Rattle.std.specs.Prelude.{ℕ, ◌+◌, ◌≡◌, ◌<◌, length, drop, cond, nat_eq, List, [], ◌∷◌}
 use Rattle.sre_chars.specs.Numbers.{at_number}
 use Rattle.sre_chars.specs.declared.constants.SreAtCode.{SreAtCode}

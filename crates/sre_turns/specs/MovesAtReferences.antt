@@ -1,6 +1,6 @@
--- What the machine does in one turn at a reference to a group: GROUPREF group and its three foldings, and at a
--- condition on one: GROUPREF_EXISTS group skip.
--- Words of the machine's contracts; what sre_engine makes public does not rest on it.
+-- What the machine does in one step at a back-reference to a group: GROUPREF group and its three foldings, and at a
+-- conditional on one: GROUPREF_EXISTS group skip.
+-- Definitions for the machine's contracts; what sre_engine makes public does not rest on it.
 use Rattle.std.specs.Prelude.{ℕ, ◌+◌, ◌-◌, ◌≡◌, ◌<◌, ◌≤◌, ◌&&◌, length, cond, nat_le, Bool, true, false, List, Some}
 use Rattle.std.specs.Prelude.{None}
 use Rattle.sre_chars.specs.declared.constants.SreOpcode.{SreOpcode}

@@ -1,6 +1,6 @@
--- What the machine does in one turn at a loop: REPEAT skip least greatest body, and then MAX_UNTIL or MIN_UNTIL; and
--- POSSESSIVE_REPEAT skip least greatest body SUCCESS, whose bodies are regions.
--- Words of the machine's contracts; what sre_engine makes public does not rest on it.
+-- What the machine does in one step at a loop: REPEAT skip least greatest body, and then MAX_UNTIL or MIN_UNTIL; and
+-- POSSESSIVE_REPEAT skip least greatest body SUCCESS, whose bodies are atomic scopes.
+-- Definitions for the machine's contracts; what sre_engine makes public does not rest on it.
 use Rattle.std.specs.Prelude.{ℕ, ◌+◌, ◌≡◌, ◌<◌, length, min, cond, nat_lt, List, ◌∷◌, Option, Some, None}
 use Rattle.sre_model.specs.Tree.{Order, Greedy, Lazy}
 use Rattle.sre_model.specs.Ways.{unlimited, may_repeat}

@@ -1,5 +1,5 @@
--- What the machine does in one turn at a region: ATOMIC_GROUP skip body SUCCESS, and the looks.
--- Words of the machine's contracts; what sre_engine makes public does not rest on it.
+-- What the machine does in one step at an atomic scope: ATOMIC_GROUP skip body SUCCESS, and the lookarounds.
+-- Definitions for the machine's contracts; what sre_engine makes public does not rest on it.
 use Rattle.std.specs.Prelude.{ℕ, ◌+◌, ◌-◌, ◌≡◌, ◌<◌, length, cond, nat_lt, List, []}
 use Rattle.sre_model.specs.Tree.{Sign, Positive, Negative}
 use Rattle.sre_model.specs.Grammar.{Word, skip}

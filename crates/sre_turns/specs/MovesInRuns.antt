@@ -1,5 +1,5 @@
--- What the machine does in one turn at a run of one test.
--- Words of the machine's contracts; what sre_engine makes public does not rest on it.
+-- What the machine does in one step at a single-character repeat.
+-- Definitions for the machine's contracts; what sre_engine makes public does not rest on it.
 use Rattle.std.specs.Prelude.{ℕ, ◌+◌, ◌-◌, ◌≡◌, ◌≤◌, ◌&&◌, ◌||◌, cond, nat_eq, nat_lt, List}
 use Rattle.sre_model.specs.Tree.{Test, RunKind, GreedyRun, LazyRun, PossessiveRun}
 use Rattle.sre_model.specs.Subject.{Subject, passes}

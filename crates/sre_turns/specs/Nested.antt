@@ -1,6 +1,6 @@
--- Where the machine stands in the words of a tree, and where its turns lead to.
--- Of the law that a search takes few turns: the memory of failures lays out its bits for
--- the loops in progress at a place, and these are always the same. What sre_engine makes public does not rest on it.
+-- Where the machine is in the bytecode of a tree, and where its steps lead to.
+-- For the law that the step bound suffices: the memo of failures lays out its bits for the loops in progress at an
+-- address, and these are always the same. What sre_engine makes public does not rest on it.
 use Rattle.std.specs.Prelude.{⊤, ℕ, ◌+◌, ◌-◌, ◌≤◌, List, [], ◌∷◌, length, drop, Option, Some, None}
 use Rattle.std.specs.Prelude.{◌*◌, Bool, true, false}
 use Rattle.std.specs.List.{AllByRecursion}

@@ -1,5 +1,5 @@
--- What stands behind the opcode of a run of one test.
--- Words of the machine's contracts; what sre_engine makes public does not rest on it.
+-- What follows the opcode of a single-character repeat.
+-- Definitions for the machine's contracts; what sre_engine makes public does not rest on it.
 use Rattle.std.specs.Prelude.{ℕ, ◌+◌, ◌≡◌, List}
 use Rattle.sre_model.specs.Grammar.{Word, skip}
 use Rattle.sre_model.specs.Standing.{HasTest}

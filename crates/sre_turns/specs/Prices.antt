@@ -1,7 +1,7 @@
 -- Prices: how many steps follow at most from a configuration up to the next instruction that may branch; and credits:
 -- what such an instruction is given each time that it is executed, which pays for each of its ways to go on (amortized
 -- analysis).
--- Of the law that a search takes few steps. What sre_engine makes public does not rest on it.
+-- For the law that the step bound suffices. What sre_engine makes public does not rest on it.
 use Rattle.std.specs.Prelude.{ℕ, zero, suc, ◌+◌, ◌-◌, ◌*◌, ◌≤◌, ◌≡◌, Bool, true, List, [], ◌∷◌, length, cond, max, min}
 use Rattle.std.specs.Prelude.{nat_eq, slice_index_or}
 use Rattle.sre_chars.specs.declared.constants.SreOpcode.{SreOpcode}

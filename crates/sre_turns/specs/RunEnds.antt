@@ -1,6 +1,6 @@
--- Runs of one test without a greatest count: but for its own first end, what comes of one comes of the run one
--- character later.
--- Words of the machine's contracts; what sre_engine makes public does not rest on it.
+-- Repeats of one test without a greatest count: but for its own first end, the outcomes of one are those of the repeat
+-- one character later.
+-- Definitions for the machine's contracts; what sre_engine makes public does not rest on it.
 use Rattle.std.specs.Prelude.{ℕ, ◌+◌, ◌≡◌, ◌<◌, ◌≤◌, ◌⊎◌, true, List}
 use Rattle.sre_chars.specs.declared.constants.SreOpcode.TheVariants as opcode
 use Rattle.sre_model.specs.Tree.{Test}

@@ -1,6 +1,6 @@
--- Where the machine stands in a search over words whose turns are counted: in the words of their tree, in the window
--- from a start on, and behind where the last bodies of its loops began.
--- Of the law that a search takes few turns. What sre_engine makes public does not rest on it.
+-- Where the machine is in a search over bytecode whose steps are counted: in the bytecode of its tree, in the range
+-- from a start on, and after where the last bodies of its loops began.
+-- For the law that the step bound suffices. What sre_engine makes public does not rest on it.
 use Rattle.std.specs.Prelude.{ℕ, ◌≤◌, ◌≡◌, false, List}
 use Rattle.sre_model.specs.Tree.{Tree}
 use Rattle.sre_model.specs.Subject.{Subject}

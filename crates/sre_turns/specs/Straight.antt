@@ -1,5 +1,5 @@
--- Bodies of atomic scopes, where the machine stands in one, and where it has one way to go on at most.
--- Words of the machine's contracts; what sre_engine makes public does not rest on it.
+-- Bodies of atomic scopes, where the machine is in one, and where it has one way to go on at most.
+-- Definitions for the machine's contracts; what sre_engine makes public does not rest on it.
 use Rattle.std.specs.Prelude.{ℕ, ◌+◌, ◌≡◌, ◌≤◌, Bool, true, false, List, []}
 use Rattle.sre_chars.specs.declared.constants.SreOpcode.{SreOpcode}
 use Rattle.sre_chars.specs.declared.constants.SreOpcode.TheVariants as opcode

@@ -1,5 +1,5 @@
--- Strides: bodies of a loop that are gone over in one turn.
--- Words of the machine's contracts; what sre_engine makes public does not rest on it.
+-- Batched loop iterations: bodies of a loop that are gone over in one step.
+-- Definitions for the machine's contracts; what sre_engine makes public does not rest on it.
 use Rattle.std.specs.Prelude.{ℕ, ◌+◌, ◌≡◌, ◌<◌, ◌≤◌, Bool, true, false, List, ◌∷◌}
 use Rattle.sre_chars.specs.declared.string.StringCursor.{StringCursor}
 use Rattle.sre_model.specs.Grammar.{Word}

@@ -1,5 +1,5 @@
--- Turns: what the machine does at a point, and what comes of a spot.
--- Words of the machine's contracts; what sre_engine makes public does not rest on it.
+-- Steps: what the machine does at a point, and the outcomes of a configuration.
+-- Definitions for the machine's contracts; what sre_engine makes public does not rest on it.
 use Rattle.std.specs.Prelude.{ℕ, suc, ◌+◌, ◌≡◌, List, [], ◌∷◌, ◌++◌}
 use Rattle.sre_chars.specs.declared.constants.SreOpcode.{SreOpcode}
 use Rattle.sre_model.specs.Roles.{Role, ToFail, ToEnd, ToTest, ToCheckPosition, ToMark, ToBranch, ToJump, ToRun}

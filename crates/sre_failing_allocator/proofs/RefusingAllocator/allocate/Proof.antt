@@ -1,4 +1,4 @@
--- It counts the call, and answers what the inner allocator answers. Assumes `Logic`.
+-- It counts the call, and returns what the inner allocator returns. Assumes `Logic`.
 mod Walk
 use Rattle.std.proofs.Common.{refl, w64}
 use prog.Wp.{WpFn, Tables}

@@ -1,4 +1,4 @@
--- Where memory is refused, that is the answer, and a write that fails leaves a part of one.
+-- Where an allocation fails, that is the answer, and a write that fails leaves a part of one.
 use Rattle.std.proofs.Common.{◌++◌, ◌∷◌, [], ◌∙◌, ap, refl, inr, codes}
 use Rattle.sre_lines.proofs.FileLines.{memory_answer, answer_begun}
 use Rattle.sre_lines.proofs.cases.write_answer.Goals as goal

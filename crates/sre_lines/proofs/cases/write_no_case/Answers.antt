@@ -1,4 +1,4 @@
--- The line's number stands between two pieces of text.
+-- The line's number is between two pieces of text.
 use Rattle.std.proofs.Common.{◌∙◌, ◌++◌, List, ℕ, ap}
 use Rattle.std.specs.Prelude.{codes}
 use Rattle.std.specs.Fmt.{decimal}

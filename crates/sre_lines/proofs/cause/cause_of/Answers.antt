@@ -1,4 +1,4 @@
--- The command, and the fields behind it.
+-- The command, and the fields after it.
 use Rattle.std.proofs.Common.{[]}
 use Rattle.sre_lines.specs.declared.line.Verb.TheVariants.{Check, Find}
 use Rattle.sre_lines.proofs.Parted.{first_part_at, only_part_at}

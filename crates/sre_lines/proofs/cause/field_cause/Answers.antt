@@ -1,4 +1,4 @@
--- The fields before the one that is told are of their form.
+-- The fields before the reported one have their form.
 use Rattle.std.proofs.Common.{rules, refl}
 use Rattle.sre_lines.specs.declared.line.Verb.TheVariants.{Find}
 use Rattle.sre_lines.specs.Causes.{IsWords, IsBytes, IsWindowField, IsFlagsField}

@@ -1,4 +1,4 @@
--- Behind the command there have to be four fields.
+-- Four fields have to follow the command.
 use Rattle.std.proofs.Common.{arith, ap, sym, subst, ◌∙◌, ◌∷◌}
 use Rattle.std.specs.Prelude.{length}
 use Rattle.sre_lines.specs.declared.line.Verb.TheVariants.{Find}

@@ -1,4 +1,4 @@
--- Digits that are refused write a greater number.
+-- Digits that are rejected denote a greater number.
 use Rattle.std.proofs.Common.{rules, ◌≡◌, ◌+◌, length, get_or, sym, ap, ◌∙◌}
 use Rattle.std.specs.Str.Parse.{IsNumeral, digits_value}
 use Rattle.std.proofs.lemmas.Fmt.{digits_value-decimal}

@@ -1,4 +1,4 @@
--- Where digits are refused, a form stands before them.
+-- Where digits are rejected, a form is before them.
 use Rattle.std.proofs.Common.{rules, arith}
 use Rattle.sre_lines.proofs.Causes.{bytes_field, other_form}
 use Rattle.sre_lines.proofs.cause.text_fault.Goals as goal

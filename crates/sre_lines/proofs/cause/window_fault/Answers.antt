@@ -1,4 +1,4 @@
--- A window that is refused has no two dots together behind its first part, or a number that has a fault.
+-- A range that is rejected has no two dots together after its first part, or a number with a fault.
 use Rattle.std.proofs.Common.{rules, ◌≡◌, ◌≢◌, [], true, false, inl, inr}
 use Rattle.std.specs.Prelude.{codes}
 use Rattle.sre_lines.specs.Causes.{IsPlace}

@@ -1,4 +1,4 @@
--- The words in front of what is left are read, and the next one is another, or has a fault.
+-- The words before what is left are read, and the next one is another, or has a fault.
 use Rattle.std.proofs.Common.{rules}
 use Rattle.std.specs.Prelude.{codes}
 use Rattle.sre_lines.proofs.Cuts.{unequal}

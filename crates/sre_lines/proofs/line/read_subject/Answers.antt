@@ -1,5 +1,5 @@
--- Where a field is refused, no fields of a subject stand here: `w`, `t` and `v` cut off the words, the text and the
--- window.
+-- Where a field is rejected, the line has no fields of a subject: `w`, `t` and `v` cut off the words, the text and the
+-- range.
 use Rattle.std.proofs.Common.{rules}
 use Rattle.sre_lines.proofs.Lines.{after_words, after_text, after_window, no_text_field, no_window_field}
 use Rattle.sre_lines.proofs.line.read_subject.Goals as goal

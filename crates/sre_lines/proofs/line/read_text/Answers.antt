@@ -1,4 +1,4 @@
--- A field that is refused has no form's letter, or bytes that are no text of the form.
+-- A field that is rejected has no form's letter, or bytes that are no text of the form.
 use Rattle.std.proofs.Common.{rules}
 use Rattle.sre_lines.specs.Fields.{IsText}
 use Rattle.sre_lines.proofs.Lines.{no_form, no_text}

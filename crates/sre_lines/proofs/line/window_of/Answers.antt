@@ -1,4 +1,4 @@
--- A field that is refused is neither `all` nor two numbers with two dots between them.
+-- A field that is rejected is neither `all` nor two numbers with two dots between them.
 use Rattle.std.proofs.Common.{◌≡◌, ◌≢◌, true, false}
 use Rattle.std.specs.Prelude.{codes}
 use Rattle.sre_lines.proofs.Cuts.{unequal}

@@ -1,4 +1,4 @@
--- A field that is refused is not what any number is written as.
+-- A field that is rejected is not what any number is written as.
 use Rattle.std.proofs.Common.{rules}
 use Rattle.sre_lines.specs.Fields.{BeginsAsNumber}
 use Rattle.sre_lines.proofs.Numbers.{read_is_written, refused_is_not_written, no_text_is_not_written}

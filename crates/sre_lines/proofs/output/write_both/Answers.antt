@@ -1,4 +1,4 @@
--- The second write goes on behind the first one; where that one fails, nothing is behind a part of it.
+-- The second write continues after the first one; where that one fails, nothing follows a part of it.
 use Rattle.std.proofs.Common.{refl}
 use Rattle.sre_lines.proofs.Parts.{front_part, behind_part}
 use Rattle.sre_lines.proofs.output.write_both.Goals as goal

@@ -1,4 +1,4 @@
--- The other pieces go on behind the first one; where that one fails, nothing is behind a part of it.
+-- The other pieces follow the first one; where that one fails, nothing follows a part of it.
 use Rattle.std.proofs.Common.{◌++◌, refl}
 use Rattle.sre_lines.proofs.Parts.{front_part, behind_part, behind_whole}
 use Rattle.sre_lines.proofs.output.write_three.Goals as goal

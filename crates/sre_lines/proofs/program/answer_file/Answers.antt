@@ -1,4 +1,4 @@
--- The fault at which the file stops is told, with its cause where that is asked.
+-- The fault at which the file stops is reported, with its cause on request.
 use Rattle.sre_lines.proofs.Parts.{stopped_file}
 use Rattle.sre_lines.proofs.program.answer_file.Goals as goal
 

@@ -1,4 +1,4 @@
--- Behind the program's name stands what is asked.
+-- What is requested follows the program's name.
 use Rattle.std.proofs.Common.{inl}
 use Rattle.sre_lines.proofs.program.call_of.Goals as goal
 

@@ -1,4 +1,4 @@
--- Where the arguments ask nothing, that is told.
+-- Where the arguments request nothing, that is reported.
 use Rattle.std.proofs.Common.{refl, codes, [], ◌∷◌, Err}
 use Rattle.sre_lines.proofs.Parts.{told}
 use Rattle.sre_lines.proofs.program.run.Goals as goal

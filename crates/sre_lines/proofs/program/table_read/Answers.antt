@@ -1,4 +1,4 @@
--- Where a file is no table, that is told, with its cause where that is asked.
+-- Where a file is no table, that is reported, with its cause on request.
 use Rattle.std.proofs.Common.{inl, inr, refl, ap, ◌∙◌, [], ◌∷◌, Err}
 use Rattle.sre_lines.specs.declared.cases.CaseFault.TheVariants.{NotATable, NoMemory}
 use Rattle.sre_lines.proofs.Parts.{no_table}

@@ -1,4 +1,4 @@
--- One pair more is read.
+-- One more pair is read.
 use Rattle.std.proofs.Common.{rules, arith}
 use Rattle.sre_lines.proofs.TableFiles.{one_pair_more}
 use Rattle.sre_lines.proofs.table.paired.Goals as goal

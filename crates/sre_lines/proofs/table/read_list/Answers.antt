@@ -1,4 +1,4 @@
--- The list behind its name, on the first line.
+-- The list after its name, on the first line.
 use Rattle.std.proofs.Common.{rules, ◌≡◌, ◌++◌, ◌∷◌, subst}
 use Rattle.sre_lines.proofs.TableFiles.{list_read}
 use Rattle.sre_lines.proofs.table.read_list.Goals as goal

@@ -1,4 +1,4 @@
--- The four lists stand one behind the other, and nothing is left.
+-- The four lists follow one another, and nothing is left.
 use Rattle.std.specs.Prelude.{codes}
 use Rattle.sre_lines.specs.TableFiles.{list_text}
 use Rattle.sre_lines.proofs.Causes.{nothing}

@@ -1,4 +1,4 @@
--- A span more is written of the matches that were left.
+-- One more span is written of the matches that were left.
 use Rattle.std.proofs.Common.{rules, ◌∙◌, string_bytes, sym, subst}
 use Rattle.sre_engine.specs.Grammar.{Whole}
 use Rattle.sre_engine.specs.Codes.{words_of}
