@@ -1,23 +1,24 @@
 #!/usr/bin/env python3
-"""Runs the callers and commands that README.md, docs/CALLING.md, docs/PROGRAM.md and the pages of examples show, as a
-reader who copies them would.
+"""Runs the callers and commands that README.md, the pages for callers and those of examples show, as a reader who copies
+them would, in a copy of the repository.
 
-    callers.py [--prove] [NAME ..]     those of these names; with no name all of them, and the commands
+    callers.py [--prove] [NAME ..]     those of these names, or all; `commands` are the commands
     callers.py --names                 lists the names
 
 A caller is a whole program: a block of Rust that begins with its head comment. Above it the page has its name and what
 it lists in `crates.txt`; below it is its output, and its input where the page gives one. The other blocks of Rust of a
 section are one caller, too, by the section's name, as `Recipes`: their functions and lines are put into a program with
-a table, a code for `(\\w+)=(\\d+)`, an allocator, a text and an error type. Each is put beside the crates of a copy of
-the repository, where `rt try` builds and runs it, and proves nothing; with --prove `rt run` proves it first. If the
-page shows output, the caller has to print the same. A command is a line `$ python3.11 tools/words.py ..` with its
-output; it is run if that Python, and the program that it names, are found. So is `python3 tools/words.py --try ..`,
-whose status has to be 0. The status is 1 if one of them fails.
+a table, a code for `(\\w+)=(\\d+)`, an allocator, a text and an error type. `rt try` builds and runs each, and proves
+nothing; with --prove `rt run` proves it first. If the page shows output, the caller has to print the same.
+
+A command is a line of a block of the shell, or begins with `python3` in a sentence. All run as they are on the page,
+in its order, but with a new folder instead of /tmp, a virtual environment as `python3`, and an `rt lib` that takes the
+unproved archive of docs/PYTHON.md instead of proving one. A command has to print what the page shows, or else to end
+with status 0. The status is 1 if something fails.
 """
 import collections
 import os
 import re
-import shlex
 import shutil
 import subprocess
 import sys
@@ -29,14 +30,19 @@ from repository import ROOT, read, row_of, write
 
 PAGES = ("README.md", "docs/CALLING.md",
          *sorted(f"examples/{it}" for it in os.listdir(f"{ROOT}/examples") if it.endswith(".md")))
-COMMAND_PAGES = ("README.md", "docs/CALLING.md", "docs/PROGRAM.md")
+COMMAND_PAGES = ("README.md", *(f"docs/{it}.md" for it in ("CALLING", "PYTHON", "EMBEDDING", "PROGRAM")))
 
 # A line of crates.txt as a page gives it, by itself or in a sentence.
 LISTED = re.compile(r"(?:^|(?<=`))(\w+):\s+(sre_\w+(?:\s+\w+)*)(?=$|`)", re.M)
 BLOCK = re.compile(r"(?ms)^```(\w*)\n(.*?)^```$")
-COMMAND = re.compile(r"^\$ (python3\.11) (tools/words\.py .*)\n((?:(?!\$ ).*\n)*)", re.M)
-TRIED = re.compile(r"^python3 (tools/words\.py --try .*)$", re.M)
-PROGRAM = "crates/sre_cases/out/sre_cases"
+COMMANDS = re.compile(r"(?ms)^```sh\n(.*?)^```$|`(python3 [^`]*)`")
+SHOWN = re.compile(r"^\$ (.*)\n((?:(?!\$ ).*\n)*)", re.M)
+# What is run elsewhere: by hand, as callers, or by the full verification; and what answers a file that a reader has.
+RUN_ELSEWHERE = ("bash .ci/run", "cd crates/", "python3 tools/ca", "(cd crates/sre_cases")
+RT = """#!/bin/sh
+[ "$1" = lib ] || exec {rt} "$@"
+mkdir -p out && cp {room}/libsre_c.a out
+"""
 
 # Where a line of a part belongs: a `use`, an item, or the rest.
 USE = re.compile(r"use .*?;\n", re.S)
@@ -159,54 +165,64 @@ def answers(caller, folder, command):
 
 
 def commands():
-    """The commands of the pages that words.py answers: each with its words, and the output that the page shows."""
+    """The commands of the pages, each with the output that the page shows, if it does."""
     for page in COMMAND_PAGES:
-        for language, block in BLOCK.findall(read(f"{ROOT}/{page}")):
-            if language == "sh":
-                yield from ((it[1], shlex.split(it[2], comments=True), it[3]) for it in COMMAND.finditer(block))
-                yield from (("python3.11", shlex.split(it, comments=True), None) for it in TRIED.findall(block))
+        for block, inside in COMMANDS.findall(read(f"{ROOT}/{page}")):
+            lines = [(it, None) for it in (block or inside.replace("\n", " ")).splitlines()]
+            yield from (it for it in SHOWN.findall(block) or lines if not it[0].startswith(RUN_ELSEWHERE))
 
 
-def command_answers(python, words, written):
-    """Runs a command of a page, and returns whether it prints what the page shows."""
-    shown = " ".join(words)
-    found = found_pythons()[0].get(python.removeprefix("python"))
-    if not found or PROGRAM in words and not os.path.isfile(f"{ROOT}/{PROGRAM}"):
-        print(f"{shown}: not tried, as there is no {python if not found else PROGRAM}")
-        return True
-    with tempfile.TemporaryDirectory() as room:
-        words = [it.replace("/tmp", room) for it in words]
-        with open(f"{room}/table", "wb") as file:
-            subprocess.run([found, f"{ROOT}/tools/unicode.py", "--lines"], stdout=file, check=True)
-        ran = subprocess.run([found, *words], cwd=ROOT, capture_output=True, encoding="utf-8")
-    if ran.returncode or written not in (None, ran.stdout):
-        print(f"{shown}: the page shows\n{written}and it prints\n{ran.stdout}{ran.stderr}", end="")
-        return False
-    print(f"{shown}: {'runs' if written is None else 'prints what the page shows'}")
-    return True
+def prepare(room):
+    """Puts into a room what the commands find on a reader's machine: the environment in which they run."""
+    os.makedirs(f"{room}/bin")
+    os.makedirs(f"{room}/yours")
+    write(f"{room}/bin/rt", RT.format(rt=shutil.which("rt"), room=room))
+    os.chmod(f"{room}/bin/rt", 0o755)
+    python = next(iter(found_pythons()[0].values()), sys.executable)
+    subprocess.run([python, "-m", "venv", f"{room}/python"], check=True)
+    program = f"{room}/repository/crates/sre_cases/out/sre_cases"
+    os.makedirs(os.path.dirname(program))
+    subprocess.run([python, f"{ROOT}/tools/unproved.py", "sre_cases", program], check=True)
+    return {**os.environ, "PATH": f"{room}/bin:{room}/python/bin:{os.environ['PATH']}"}
+
+
+def commands_answer(room):
+    """Runs all commands, and returns whether each prints what its page shows."""
+    how = {"env": prepare(room), "stdin": subprocess.DEVNULL, "stderr": subprocess.STDOUT, "stdout": subprocess.PIPE}
+    held = []
+    for command, written in commands():
+        words = command.replace("/tmp/", f"{room}/").replace("/path/to", room)
+        ran = subprocess.run(["bash", "-c", words], cwd=f"{room}/repository", encoding="utf-8", **how)
+        held.append(not ran.returncode if written is None else ran.stdout == written)
+        came_to = "runs" if written is None else "prints what the page shows"
+        print(f"{command}: {came_to if held[-1] else f'FAILED, status {ran.returncode}'}", flush=True)
+        print("" if held[-1] else ran.stdout, end="")
+    return all(held)
 
 
 def main(names):
     command, names = ("run", names[1:]) if names[:1] == ["--prove"] else ("try", names)
     found = {it.name: it for page in PAGES for it in callers_of(page)}
+    known = [*found, "commands"]
     if names == ["--help"]:
         print(__doc__.strip())
         return 0
     if names == ["--names"]:
-        print(*found, sep="\n")
+        print(*known, sep="\n")
         return 0
-    unknown = [it for it in names if it not in found]
+    unknown = [it for it in names if it not in known]
     if unknown:
         print(f"callers.py: no caller is named {', '.join(unknown)}; --names lists them", file=sys.stderr)
         return 2
     if not shutil.which("rt"):
         print("callers.py: there is no rt on the path: the Rattle kit has it", file=sys.stderr)
         return 2
-    held = [] if names else [command_answers(*it) for it in commands()]
-    with tempfile.TemporaryDirectory() as folder:
-        shutil.copytree(f"{ROOT}/crates", f"{folder}/crates", ignore=shutil.ignore_patterns("out"))
-        shutil.copy(f"{ROOT}/crates.txt", folder)
-        held += [answers(found[it], folder, command) for it in names or found]
+    with tempfile.TemporaryDirectory() as room:
+        folder, left_out = f"{room}/repository", shutil.ignore_patterns("out", ".git", "__pycache__")
+        shutil.copytree(ROOT, folder, ignore=left_out)
+        put(found["settings"], folder)
+        held = [answers(found[it], folder, command) for it in names or found if it in found]
+        held += [commands_answer(room)] if "commands" in (names or known) else []
     return 0 if all(held) else 1
 
 

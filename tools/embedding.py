@@ -30,6 +30,8 @@ LINES = {
     "rs": ("rust", "mod sre;\nuse sre::{ASCII, Code};\nfn main() -> Result<(), u32> {\n", "Ok(())\n}\n"),
 }
 BLOCK = re.compile(r"(?ms)^```(\w*)\n(.*?)^```$")
+# How the page compiles its program in C, and the one in Rust.
+COMPILED = re.compile(r"(?m)^With `(.*)` it prints$")
 PYTHONS = ("3.11", "3.12", "3.13")
 CRATE = "sre_c"
 
@@ -143,11 +145,8 @@ class Embedding:
         return True
 
     def try_programs(self, library):
-        archive = f"{library}/libsre_c.a"
-        compilers = {
-            "c": ("settings.c", ["cc", "-std=c11", "-Wall", f"-I{library}", "settings.c", archive, "-o", "settings"]),
-            "rust": ("settings.rs", ["rustc", "--edition", "2021", "-C", f"link-arg={archive}", "settings.rs"]),
-        }
+        commands = [it.replace("/tmp/sre", library).split() for it in COMPILED.findall(read(PAGE))]
+        compilers = dict(zip(("c", "rust"), zip(("settings.c", "settings.rs"), commands)))
         found = list(programs())
         self.count(sorted(it[1] for it in found) == sorted([*compilers] * 2), "two pages have C and Rust")
         shutil.copy(f"{ROOT}/embedding/sre.rs", self.room)
