@@ -1,4 +1,4 @@
-"""The bars of docs/speed.svg, which `speed.py --svg` draws from the ratios that it measured."""
+"""Pictures as SVG: the bars of docs/speed.svg, and the elements of which `redos.py` draws another one."""
 import html
 import math
 
@@ -14,11 +14,18 @@ def element(kind, inside='', **values):
 
 
 def text(x, y, inside, **more):
-    return element('text', inside, x=x, y=y, fill=INK, **more)
+    return element('text', inside, x=x, y=y, **{'fill': INK, **more})
 
 
 def box(x, y, width, height, fill):
     return element('rect', x=x, y=y, width=width, height=height, rx=4, fill=fill)
+
+
+def svg(width, height, lines, **more):
+    """A picture of these elements."""
+    head = element('svg', xmlns='http://www.w3.org/2000/svg', viewBox=f'0 0 {width} {height}', width=width,
+                   height=height, font_family='sans-serif', font_size=14, **more).removesuffix('</svg>')
+    return '\n'.join([head, *lines, '</svg>', ''])
 
 
 def picture(rows, against):
@@ -39,6 +46,4 @@ def picture(rows, against):
             length = max(1, int(WIDTH * 4 * round(ratio, 2) / steps))
             lines += [box(LEFT, top, length, 11, fill)]
             numbers += [text(LEFT + length + 4, top + 10, f'{ratio:.2f}', **NUMBER)]
-    head = element('svg', xmlns='http://www.w3.org/2000/svg', viewBox=f'0 0 {width} {height}', width=width,
-                   height=height, font_family='sans-serif', font_size=14).removesuffix('</svg>')
-    return '\n'.join([head, *lines, *numbers, '</svg>', ''])
+    return svg(width, height, [*lines, *numbers])

@@ -3,16 +3,14 @@
 
     bounds.py PATTERN..            the bound at 100 and 10,000 characters, or why there is none
     bounds.py --of FILE            the same as a table, of the patterns of a file as examples/patterns.txt
-    bounds.py --parts PATTERN      what each instruction that may branch costs at a position of 100 characters
-    bounds.py --hold N SEED PATH   holds N random codes to the program `sre_probes` at PATH: its bound is the one
-                                   computed here, and each search is answered within it
+
+`cases.py` holds random codes to `sre_probes`: its bound is the one computed here, and each search is within it.
 """
 import random
-import re
-import sys
 
 import grammar
 import repository
+from ending import ended
 from grammar import NUMBER, UNLIMITED
 
 REPEATS = ("REPEAT_ONE", "MIN_REPEAT_ONE", "POSSESSIVE_REPEAT_ONE")
@@ -48,14 +46,14 @@ def within(item):
 
 
 class Bound:
-    """The bound of a code for a text of so many characters, and the parts of which it is the sum.
+    """The bound of a code for a text of so many characters.
 
     Items are gone over from the last to the first, since the steps up to an item that may branch count with those of
     the items before it.
     """
 
     def __init__(self, code, characters):
-        self.items, self.end, self.parts = grammar.Reader(code).tree, characters, []
+        self.items, self.end, self.cost = grammar.Reader(code).tree, characters, 0
         block = code[1] + 1 if code[0] == NUMBER["INFO"] else 0
         self.places, every = len(code) - block, [it for item in self.items for it in within(item)]
         for item in every:
@@ -92,8 +90,8 @@ class Bound:
         if most > MOST_STATES or most > FEW_STATES and rows > 2 ** 24 or self.places * rows > 2 ** 30:
             raise Unbounded(f"{most} counter states, for which there is no room")
 
-    def pay(self, item, loops, cost):
-        self.parts.append((item.place, item.name, loops * self.sides, cost))
+    def pay(self, loops, cost):
+        self.cost += loops * self.sides * cost
 
     def steps(self, items, follow, loops):
         """The steps up to the first item that may branch, where so many follow, under loops of so many states."""
@@ -107,21 +105,21 @@ class Bound:
         if item.name in REPEATS:
             low, high = item.words[1:3]
             ends = 0 if high == UNLIMITED or item.name == REPEATS[2] else max(0, min(high, self.end) - low)
-            self.pay(item, loops, (1 + ends) * (follow + 2))
+            self.pay(loops, (1 + ends) * (follow + 2))
             return 1
         if item.name == "BRANCH":
-            self.pay(item, loops, sum(self.steps(it, follow + 1, loops) + 2 for it in item.parts) + 1)
+            self.pay(loops, sum(self.steps(it, follow + 1, loops) + 2 for it in item.parts) + 1)
             return 1
         if item.name == "REPEAT":
             inside = loops * states(*item.words[1:3])
             body = self.steps(item.parts[0], 1, inside)
-            self.pay(item, loops, body + follow + 2)
-            self.pay(item, inside, body + follow + 1)
+            self.pay(loops, body + follow + 2)
+            self.pay(inside, body + follow + 1)
             return 1
         if item.name == "POSSESSIVE_REPEAT":
             body = self.steps(item.parts[0], 2, 1)
-            self.pay(item, loops, 1)
-            self.pay(item, loops * states(*item.words[1:3]), body + follow + 1)
+            self.pay(loops, 1)
+            self.pay(loops * states(*item.words[1:3]), body + follow + 1)
             return 1
         if item.name in SCOPES:
             return 2 + self.steps(item.parts[0], 2, 1) + follow
@@ -132,9 +130,8 @@ class Bound:
         for item in reversed(self.items):
             follow = self.of(item, follow, 1)
             most = max(most, follow)
-        cost = sum(loops * cost for _, _, loops, cost in self.parts)
         each = 1 + min(self.counts, self.end) // 8
-        number = (self.end + 1) * (32 + (1 + most + cost) * each) + 1
+        number = (self.end + 1) * (32 + (1 + most + self.cost) * each) + 1
         if number >= 2 ** 64:
             raise Unbounded("more than 64 bits")
         return number
@@ -152,25 +149,6 @@ def line(name, code):
     numbers = [bound(code, it) for it in (100, 10_000)]
     shown = [f"{number:,}" if number else f"none: {reason}" for number, reason in numbers]
     return f"| `{name}` | {' | '.join(shown if numbers[0][0] else shown[:1])} |"
-
-
-def compiled(source, flags=0):
-    """The code of a pattern, by CPython's own compiler; only the calls above need it."""
-    import words
-
-    return words.compiled(source, flags).words
-
-
-def patterns_in(path):
-    """The name and the code of each pattern of a file of patterns."""
-    import words
-
-    for block in re.split(r"\n\s*\n", repository.read(path)):
-        keys = re.findall(r"^(name|flags|pattern|bytes): ?(.*)$", block, re.M)
-        values, source = dict(keys), "\n".join(value for key, value in keys if key == "pattern")
-        if source:
-            flags = words.flags_of(values.get("flags", ""))
-            yield values["name"], compiled(source.encode("latin-1") if "bytes" in values else source, flags)
 
 
 def region(opcode, operands, body, closing, own):
@@ -232,31 +210,20 @@ def held(program, count, seed, tell):
 
 def shown(given):
     """What is printed of the patterns that are given, or of those of a file."""
-    if given[0] == "--parts":
-        priced = Bound(compiled(given[1]), 100)
-        yield f"{priced.number():,} steps suffice for 100 characters"
-        for place, name, loops, cost in sorted(priced.parts):
-            yield f"{place:5} {name:22} {cost:6} in each of {loops} states"
-        return
+    import words  # which ends an older Python
+
     yield "| Pattern | 100 characters | 10,000 characters |\n|---|---|---|"
-    for name, code in patterns_in(given[1]) if given[0] == "--of" else ((it, compiled(it)) for it in given):
-        yield line(name, code)
+    if given[0] == "--of":
+        yield from (line(it["name"][0], words.pattern_in(it).words) for it in words.blocks_of(given[1]))
+    else:
+        yield from (line(it, words.compiled(it, 0).words) for it in given)
 
 
 def main(given):
-    if len(given) == 4 and given[0] == "--hold" and given[1].isdigit() and given[2].isdigit():
-        return 0 if held(given[3], int(given[1]), int(given[2]), print) else 1
-    if not given or given[0] in ("--hold", "--help") or given[0] in ("--of", "--parts") and len(given) != 2:
-        print(__doc__.strip())
-        return 2
-    import words
-
-    try:
-        return words.status_of(lambda: [print(it) for it in shown(given)] and 0)
-    except Unbounded as reason:
-        print(f"no bound: {reason}")
-        return 1
+    if not given or given == ["--help"] or given[0] == "--of" and len(given) != 2:
+        return None
+    return print(*shown(given), sep="\n") or 0
 
 
 if __name__ == "__main__":
-    sys.exit(main(sys.argv[1:]))
+    ended(main)

@@ -1,6 +1,6 @@
 #!/usr/bin/env python3
-"""Runs the callers and commands that README.md, the pages for callers and those of examples show, as a reader who copies
-them would, in a copy of the repository.
+"""Runs the callers and commands that the pages for callers and those of examples show, as a reader who copies them
+would, in a copy of the repository.
 
     callers.py [--prove] [NAME ..]     those of these names, or all; `commands` are the commands
     callers.py --names                 lists the names
@@ -25,7 +25,7 @@ import sys
 import tempfile
 
 from embedding import found_pythons
-from ending import ended
+from ending import Fault, ended
 from repository import ROOT, read, row_of, write
 
 PAGES = ("README.md", "docs/CALLING.md",
@@ -205,18 +205,15 @@ def main(names):
     found = {it.name: it for page in PAGES for it in callers_of(page)}
     known = [*found, "commands"]
     if names == ["--help"]:
-        print(__doc__.strip())
-        return 0
+        return None
     if names == ["--names"]:
         print(*known, sep="\n")
         return 0
     unknown = [it for it in names if it not in known]
     if unknown:
-        print(f"callers.py: no caller is named {', '.join(unknown)}; --names lists them", file=sys.stderr)
-        return 2
+        raise Fault(f"no caller is named {', '.join(unknown)}; --names lists them")
     if not shutil.which("rt"):
-        print("callers.py: there is no rt on the path: the Rattle kit has it", file=sys.stderr)
-        return 2
+        raise Fault("there is no rt on the path: the Rattle kit has it")
     with tempfile.TemporaryDirectory() as room:
         folder, left_out = f"{room}/repository", shutil.ignore_patterns("out", ".git", "__pycache__")
         shutil.copytree(ROOT, folder, ignore=left_out)
@@ -227,4 +224,4 @@ def main(names):
 
 
 if __name__ == "__main__":
-    sys.exit(ended(main, sys.argv[1:]))
+    ended(main)

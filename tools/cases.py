@@ -3,29 +3,23 @@
 
     cases.py NAME=PATH..        tries all that the program NAME has to answer over each PATH where it was built
 
-Below crates/NAME/cases, tests/NAME/cases and, for `sre_cases`, in examples/ stand files for the program NAME.
-`{TEXT*N}` in a file of lines or answers is TEXT N times.
+Below crates/NAME/cases, tests/NAME/cases and, for `sre_cases`, in examples/ are files for the program NAME. `{TEXT*N}`
+in a file of lines or answers is TEXT N times, and each text of a .jsonl file has a character for a byte.
 
     X.txt           lines; X.expected has the answers, X.fault the line that the program ends with, if it has one, and
-                    X.flags the flags that stand before the file's name, if there are any. A file NAME.table lies where
-                    the program runs
+                    X.flags the flags before the file's name, if any. A file NAME.table is where the program runs
     files.jsonl     whole files, with the answers, the fault and the flags
-    no_cases.jsonl  lines that are no cases, each with its cause: it is tried as the fourth line of a file, with and
-                    without --explain
-    tables.jsonl    files that are no tables, each with its cause: it is tried as the table, with and without --explain
-    calls.jsonl     arguments, with the answers and the fault; `to` and `faults_to` name a file that is written in place
-                    of the two outputs
+    no_cases.jsonl  lines that are no cases, each with its cause: the fourth line of a file
+    tables.jsonl    files that are no tables, each with its cause; these two with and without --explain
+    calls.jsonl     arguments, with the answers and the fault; `to` and `faults_to` name files for the two outputs
 
-Each text of a .jsonl file has a character for a byte. Beside the files come lines that are made: random and changed
-words (`hostile.py`), and large ones (`large.py`). The lines of `sre_cases` are asked of finders and with lists told,
-too (`finders.py`), and each request of a finder is refused in turn (`refused.py`).
+To these come lines that are made: by `hostile.py`, `large.py`, `finders.py`, `bounds.py` and `refused.py`.
 """
 import json
 import os
 import re
 import shutil
 import subprocess
-import sys
 import tempfile
 
 import bounds
@@ -33,6 +27,7 @@ import finders
 import hostile
 import large
 import refused
+from ending import ended
 from repository import ROOT, read
 
 BEFORE, BEHIND = b"# all lines count\n\ncheck -\n", b"\ncheck -\n"
@@ -42,12 +37,6 @@ ANSWER, EXPLAINED = b"refused\n", b"refused Truncated 0\n"
 def expanded(text):
     """The text with each {TEXT*N} written out."""
     return re.sub(r"\{([^{}*]*)\*(\d+)\}", lambda it: it[1] * int(it[2]), text).encode()
-
-
-def proved():
-    """The program that is proved, as each compiler built it."""
-    out = f"{ROOT}/crates/sre_cases/out/sre_cases"
-    return {"sre_cases": [out, *(it for it in [f"{out}.by-rattle"] if os.path.isfile(it))]}
 
 
 def folders():
@@ -207,8 +196,7 @@ def main(words):
     for name, _, path in (it.partition("=") for it in words):
         programs.setdefault(name, []).append(os.path.realpath(path))
     if not programs or set(programs) - named:
-        print(__doc__.strip())
-        return 2
+        return None
     cases = Cases(print, programs)
     cases.run()
     print(f"{cases.passed} passed, {cases.failed} failed")
@@ -216,4 +204,4 @@ def main(words):
 
 
 if __name__ == "__main__":
-    sys.exit(main(sys.argv[1:]))
+    ended(main)

@@ -4,21 +4,19 @@
     dearest.py CRATE [--test] [--only PATH]..
 
 The crates below have to be built, as `rt check` in the crate's folder does. With --test the tests are proved, too, and
-with --only those functions alone. A check makes some modules for each function, and with `--incremental` it keeps each
-one once it is checked: so the times of these files tell what each module took. Of a function's seconds those of its
-steps are told, with what is alive at each of them (`Lts`), those of the goals that are searched for (`Proof`), and
-those of its answers (`Answers`). What is read for the first time stands in modules of its own, or in the first one that
-needs it. The status is that of the check.
+with --only those functions alone. A check with `--incremental` keeps each module once it is checked, so the times of
+these files tell what each took. Of a function these are its steps, with what is alive at each (`Lts`), its goals that
+are searched for (`Proof`), and its answers (`Answers`). What is read for the first time is in modules of its own, or in
+the first one that needs it. The status is that of the check.
 """
 import collections
 import glob
 import os
 import re
-import subprocess
-import sys
 import tempfile
 
-from repository import crates, kit
+from ending import ended
+from repository import crates, kit, run
 
 # What the check makes of a function.
 KINDS = {"steps": "Lts", "goals": "Proof", "answers": "Answers"}
@@ -40,13 +38,11 @@ def figures(crate, folder):
 def main(words):
     crate = crates().get("".join(words[:1]))
     if not crate:
-        print(__doc__.strip())
-        return 2
+        return None
     with tempfile.TemporaryDirectory(prefix="dearest-") as folder:
         command = [f"{kit()}/bin/rattle", "check", *crate.words(kit(), lambda it: f"{it.folder}/out/rlib"),
                    "--incremental", folder, *words[1:]]
-        check = subprocess.run(command, stdin=subprocess.DEVNULL, stdout=subprocess.PIPE, stderr=subprocess.STDOUT,
-                               cwd=crate.folder, text=True, errors="replace")
+        check = run(*command, cwd=crate.folder)
         found = figures(crate.name, folder)
     print(*re.findall(r"(?m)^.*(?:error|: (?:not proved|no proof)).*$|^(?:logic|only)=.*$", check.stdout), sep="\n")
     for name, it in sorted(found.items(), key=lambda it: -it[1]["all"])[:20]:
@@ -56,4 +52,4 @@ def main(words):
 
 
 if __name__ == "__main__":
-    sys.exit(main(sys.argv[1:]))
+    ended(main)

@@ -3,12 +3,11 @@
 
     embedding.py [LIBRARY]     over a folder that `python/build.py library` has made, or one that is made now
 
-The programs of docs/EMBEDDING.md and the lines in C and Rust of README.md are compiled and run, and have to print what
-the page says. The callers of embedding/bad_callers.c have to get a status for all that they pass. All run under
-valgrind, too. And the package of python/ is built for each Python that is found: the examples of docs/PYTHON.md and of
-README.md, the package's own tests, and CPython's `test_re` with the engine instead of `_sre` are run over it; with one
-Python the tests run by ctypes, too. Whatever is made is in a folder that is removed. A compiler or Python that was not
-found is named, and fails nothing. The status is 1 if something fails.
+The programs of docs/EMBEDDING.md and of README.md are compiled and run, also under valgrind, and print what the page
+says; so do the callers of embedding/bad_callers.c. The package of python/ is built for each Python that is found. The
+examples of docs/PYTHON.md and README.md, the package's own tests, and CPython's `test_re` with the engine instead of
+`_sre` run over it; with one Python the tests run by ctypes, too. A compiler or Python that was not found is named, and
+fails nothing. The status is 1 if something fails.
 """
 import glob
 import os
@@ -19,8 +18,8 @@ import sys
 import tempfile
 
 import kept
-from ending import ended
-from repository import PARTS, ROOT, crates, kit, read as text_of
+from ending import Fault, ended
+from repository import PARTS, ROOT, crates, kit, read as text_of, run, write
 
 PAGE = "docs/EMBEDDING.md"
 EXAMPLES = ("docs/PYTHON.md", "README.md")
@@ -43,9 +42,6 @@ def read(path):
     return text_of(f"{ROOT}/{path}")
 
 
-# ---- the library ----
-
-
 class Library:
     """The crate's archive, proved and built over crates that are proved, apart from the work tree. One that an earlier
     run built of the very same files is taken over (kept.py)."""
@@ -61,8 +57,7 @@ class Library:
                 shutil.copytree(f"{self.crate.folder}/{part}", f"{folder}/{part}")
         words = [f"{kit()}/bin/rattle", "build", *self.crate.words(kit(), self.rlibs)]
         words += ["--backend", "llvm", "--toolchain", f"{kit()}/toolchain"]
-        how = {"stdin": subprocess.DEVNULL, "stdout": subprocess.PIPE, "stderr": subprocess.STDOUT, "errors": "replace"}
-        ran = subprocess.run([*words, "-o", archive], cwd=folder, **how)
+        ran = run(*words, "-o", archive, cwd=folder)
         return ran.stdout if ran.returncode else None
 
     def archive(self, room):
@@ -76,9 +71,6 @@ class Library:
             return None, fault
         self.kept.keep(made)
         return made, False
-
-
-# ---- what is tried ----
 
 
 def found_pythons():
@@ -129,8 +121,7 @@ class Embedding:
 
     def ran(self, what, *words, writes=None, **named):
         """Runs a command, and counts it: it has to end well, and to write what is given."""
-        how = {"stdin": subprocess.DEVNULL, "stdout": subprocess.PIPE, "stderr": subprocess.STDOUT, "errors": "replace"}
-        done = subprocess.run(words, cwd=self.room, env={**os.environ, **named}, **how)
+        done = run(*words, cwd=self.room, env={**os.environ, **named})
         is_well = done.returncode == 0 and writes in (None, done.stdout)
         last = done.stdout.strip().rpartition("\n")[2][:120] if writes is None else ""
         if not self.count(is_well, f"{what}{f': {last}' if last and is_well else ''}"):
@@ -155,8 +146,7 @@ class Embedding:
             what = f"the program in {language} of {page}"
             if self.lacks(words[0], what):
                 continue
-            with open(f"{self.room}/{name}", "w", encoding="utf-8") as file:
-                file.write(source)
+            write(f"{self.room}/{name}", source)
             # a warning is no example
             if self.ran(f"{what} is compiled", *words, writes=""):
                 self.ran(what, f"{self.room}/settings", writes=written)
@@ -189,8 +179,7 @@ class Embedding:
         path = {"PYTHONPATH": site, "PYTHONDONTWRITEBYTECODE": "1"}
         examples = f"{self.room}/examples.txt"
         for page in EXAMPLES:
-            with open(examples, "w", encoding="utf-8") as file:
-                file.write("\n".join(it[1] for it in BLOCK.findall(read(page)) if it[0] == "python"))
+            write(examples, "\n".join(it[1] for it in BLOCK.findall(read(page)) if it[0] == "python"))
             self.ran(f"the examples of {page}, Python {version}", python, "-m", "doctest", examples, **path, writes="")
         tests = [python, "-W", "error", "-m", "unittest", "discover", "-s", f"{ROOT}/python/tests"]
         has_extension = bool(glob.glob(f"{site}/gaffsilver/_native*"))
@@ -236,12 +225,9 @@ class Embedding:
 
 def main(words):
     if len(words) > 1 or words[:1] == ["--help"]:
-        print(__doc__.strip())
-        return 0 if words == ["--help"] else 2
+        return None
     if words and not os.path.isfile(f"{words[0]}/libsre_c.a"):
-        print(f"embedding.py: {words[0]}/libsre_c.a: no such file; `python/build.py library {words[0]}` makes it",
-              file=sys.stderr)
-        return 2
+        raise Fault(f"{words[0]}/libsre_c.a: no such file; `python/build.py library {words[0]}` makes it")
     trials = Embedding(lambda line: print(line, flush=True))
     with tempfile.TemporaryDirectory(prefix="library-") as room:
         if not words:
@@ -252,4 +238,4 @@ def main(words):
 
 
 if __name__ == "__main__":
-    sys.exit(ended(main, sys.argv[1:]))
+    ended(main)

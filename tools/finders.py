@@ -1,15 +1,10 @@
-#!/usr/bin/env python3
 """Whether finders find what the machine finds, and lists change nothing: each case is asked of `sre_probes` four times.
-
-    finders.py PROGRAM FILE..      tries the cases of such files as `sre_cases` reads
 
 `shown CASE` asks the machine alone, `told CASE` the machine with a list of what each place of the words admits,
 `finder CASE` a finder, whose automata tell where the next match can begin, and `spans CASE` a finder of spans, and the
-machine for the marks of each match. The four answers have to be one. Lines of a file that are no match, search or walk
-are passed over.
+machine for the marks of each match. The four answers have to be one. Lines that are no match, search or walk are passed
+over.
 """
-import sys
-
 import repository
 
 PROBES = ("shown", "told", "finder", "spans")
@@ -25,15 +20,3 @@ def agree(program, lines, tell):
     if len(answers) != len(asked) * len(PROBES):
         tell(f"{program} has no answer to each of {len(asked)} lines")
     return not found and len(answers) == len(asked) * len(PROBES)
-
-
-def main(words):
-    if len(words) < 2:
-        print(__doc__.strip())
-        return 2
-    lines = [line for path in words[1:] for line in repository.read(path).splitlines()]
-    return 0 if agree(words[0], lines, print) else 1
-
-
-if __name__ == "__main__":
-    sys.exit(main(sys.argv[1:]))

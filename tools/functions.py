@@ -6,6 +6,8 @@ import functools
 import os
 import re
 
+from repository import read
+
 FUNCTION = re.compile(r'( *)(?:pub(?:\([\w:]+\))? )?(?:const )?(?:extern "C" )?fn (\w+)')
 TYPE = re.compile(r"(?m)^(?:pub(?:\([\w:]+\))? )?(?:struct|enum) (\w+)")
 OWN_METHODS = re.compile(r"impl(?:<.*?>)? (\w+)(?:<.*>)? \{")
@@ -38,9 +40,7 @@ def sources(folder):
     """The texts of a crate's sources, by their paths in its folder."""
     texts = {}
     for at, _, names in os.walk(f"{folder}/src"):
-        for path in (f"{at}/{it}" for it in names if it.endswith(".rt")):
-            with open(path, encoding="utf-8") as file:
-                texts[os.path.relpath(path, folder)] = file.read()
+        texts.update({os.path.relpath(f"{at}/{it}", folder): read(f"{at}/{it}") for it in names if it.endswith(".rt")})
     return texts
 
 

@@ -1,20 +1,15 @@
 #!/usr/bin/env python3
-"""The full verification: proofs, mutants, tests, the library in C, Rust and Python, and the case files.
+"""The full verification: proofs, mutants, tests, the library in C, Rust and Python, and the case files (docs/GATE.md).
 
     gate.py [quick]
 
-First come the looks at files (`standing.py`). `rt ci` proves each crate over a copy of `crates`, or takes over what an
-earlier run on this machine proved of the same files. Beside it run, each as soon as the crates below are proved: the
-mutants of each crate (`mutants.py`), and the static library as C, Rust and Python take it (`embedding.py`). Tests and
-probes are built without proofs, and run (`quick.py`). At the end the program answers the case files and made lines
-(`cases.py`). With `quick` nothing is proved. The last line is `N passed, M failed`.
+With `quick` nothing is proved. The last line is `N passed, M failed`.
 """
 import concurrent.futures
 import os
 import re
 import shutil
 import subprocess
-import sys
 import tempfile
 import threading
 import time
@@ -24,8 +19,9 @@ import embedding
 import mutants
 import quick
 import standing
+from ending import ended
 from quick import tell
-from repository import ROOT, crates
+from repository import ROOT, crates, read
 
 BEGAN = time.monotonic()
 
@@ -58,13 +54,6 @@ class Count:
         return f"minutes: {self.name} until {minutes(self.until)}{took}: {self.passed} passed, {self.failed} failed"
 
 
-def staged(folder):
-    """A copy of what `rt ci` reads. It refuses sources that are not in a crate of crates.txt, as those of the tests."""
-    shutil.copytree(f"{ROOT}/crates", f"{folder}/crates", ignore=shutil.ignore_patterns("out"))
-    for name in ("crates.txt", "HANDLES"):
-        shutil.copy2(f"{ROOT}/{name}", folder)
-
-
 class Prover:
     """`rt ci` over a copy, with its lines passed on. That crates are proved can be waited for."""
 
@@ -72,7 +61,10 @@ class Prover:
         self.count, self.folder, self.proved, self.taken_over = count, f"{folder}/repository", {}, 0
         self.rlibs, self.programs, self.last, self.idle_edits = f"{folder}/rlibs", [], "", 0
         self.changed, self.has_ended = threading.Condition(), False
-        staged(self.folder)
+        # rt ci refuses sources that are not in a crate of crates.txt, as those of the tests
+        shutil.copytree(f"{ROOT}/crates", f"{self.folder}/crates", ignore=shutil.ignore_patterns("out"))
+        for name in ("crates.txt", "HANDLES"):
+            shutil.copy2(f"{ROOT}/{name}", self.folder)
 
     def run(self):
         try:
@@ -151,11 +143,6 @@ def try_library(prover, count):
         count.check(False, f"embedding: not tried, since a crate below {crate.name} is not proved")
 
 
-def try_unproved(count):
-    """Builds the tests and the probes without proofs, and runs them."""
-    count.add(*quick.run(2, quick.OF_TESTS))
-
-
 def verified():
     """All phases, with what passed in each; and how many crates and mutants were taken over."""
     phases = [Count(it) for it in ("files", "proofs", "mutants", "tests", "library", "cases")]
@@ -169,7 +156,7 @@ def verified():
         # most of them wait: how many checks run at once rt and mutants.py know
         with concurrent.futures.ThreadPoolExecutor(len(crates()) + 3) as pool:
             proving = pool.submit(prover.run)
-            testing = pool.submit(try_unproved, tests)
+            testing = pool.submit(lambda: tests.add(*quick.run(2, quick.OF_TESTS)))
             with_mutants = filter(mutants.mutants_of, crates().values())
             tried = [pool.submit(try_mutants, it, prover, of_mutants) for it in with_mutants]
             building = pool.submit(try_library, prover, library)
@@ -184,19 +171,28 @@ def verified():
     return phases, prover.taken_over, sum(len(it.found) for it in judged if it.is_kept)
 
 
+def kit_at_hand():
+    """The kit, and how it differs from that of .ci/kit. What is proved in a logic is proved there by any kit."""
+    said = subprocess.run(["rt", "version"], capture_output=True, text=True, check=True).stdout.strip()
+    (name, logic), (own, own_logic) = (it.strip().partition(" logic ")[::2] for it in (said, read(f"{ROOT}/.ci/kit")))
+    if logic != own_logic:
+        return f"{name} has another logic than {own}, with which all was verified, so proofs may fail"
+    return said if name == own else f"{name} has the logic of {own}, with which all was verified, so it serves"
+
+
 def main(words):
-    if words == ["quick"]:
-        return quick.main([])
+    if words not in ([], ["quick"]):
+        return None
+    tell(f"kit: {kit_at_hand()}, cores: {os.cpu_count()}")
     if words:
-        print(__doc__.strip())
-        return 2
-    phases, crates_kept, mutants_kept = verified()
-    used = os.times()
-    version = subprocess.run(["rt", "version"], capture_output=True, text=True).stdout.strip()
-    tell(f"kit: {version}, cores: {os.cpu_count()}")
-    tell(f"taken over from earlier runs: {crates_kept} of {len(crates())} crates, {mutants_kept} mutants")
+        phases = [Count("all without proofs")]
+        phases[0].add(*quick.run(os.cpu_count()))
+    else:
+        phases, crates_kept, mutants_kept = verified()
+        tell(f"taken over from earlier runs: {crates_kept} of {len(crates())} crates, {mutants_kept} mutants")
     for phase in phases:
         tell(phase.told())
+    used = os.times()
     whole = used.children_user + used.children_system
     tell(f"minutes: all until {minutes(time.monotonic() - BEGAN)}, {minutes(whole)} of processors")
     passed, failed = (sum(getattr(it, what) for it in phases) for what in ("passed", "failed"))
@@ -205,4 +201,4 @@ def main(words):
 
 
 if __name__ == "__main__":
-    sys.exit(main(sys.argv[1:]))
+    ended(main)

@@ -1,17 +1,13 @@
-#!/usr/bin/env python3
 """Whether the header of sre_c declares what the crate exports: its statuses, its structs and its functions.
-
-    header.py    tells what one of them has and the other has not
 
 A caller in C compiles against include/sre.h alone, and nothing else compares it with the crate. So what the sources
 have is written here as C declares it, and compared with the header, declaration by declaration: each status by its
 number, each struct by its fields in order, each function by its parameters. A slice is a pointer and a count, and a
-`Global` is nothing. The gate asks for it (`standing.py`). The status is 1 where something differs.
+`Global` is nothing. The gate asks for it (`standing.py`).
 """
 import re
-import sys
 
-from repository import ROOT, read, told
+from repository import ROOT, read
 
 CRATE = f"{ROOT}/crates/sre_c"
 HEADER = "crates/sre_c/include/sre.h"
@@ -96,7 +92,3 @@ def unlike():
     marked = read(f"{CRATE}/src/lib.rt").count("no_mangle")
     if marked != sum(it.startswith("uint32_t (") for it in own.values()):
         yield f"crates/sre_c/src/lib.rt marks {marked} functions, and not all of them are read"
-
-
-if __name__ == "__main__":
-    sys.exit(told(sys.argv[1:], __doc__, None, unlike))

@@ -14,9 +14,8 @@ whole word. The status is 1 if something does not hold.
 import glob
 import os
 import re
-import signal
-import sys
 
+from ending import ended
 from functions import FUNCTION, extent
 from repository import PARTS, ROOT, read, rows, told
 
@@ -98,9 +97,14 @@ def stale():
         above.append((len(indent), path, own))
 
 
-if __name__ == "__main__":
-    signal.signal(signal.SIGPIPE, signal.SIG_DFL)  # a closed output ends it without a traceback
+def main(words):
     lists = {"files": heads, "items": items}
-    if len(sys.argv) == 2 and sys.argv[1] in lists:
-        sys.exit(print(*(f"{name}: {said}" for name, said in lists[sys.argv[1]]()), sep="\n"))
-    sys.exit(told(sys.argv[1:], __doc__, None, stale))
+    if not words:
+        return told(stale())
+    if words[1:] or words[0] not in lists:
+        return None
+    return print(*(f"{name}: {said}" for name, said in lists[words[0]]()), sep="\n") or 0
+
+
+if __name__ == "__main__":
+    ended(main)

@@ -1,43 +1,28 @@
 #!/usr/bin/env python3
-"""Mutants of public calls: the prover has to refuse each one, at the goal that it names.
+"""Mutants of public calls: the prover has to refuse each one, at the goal that it names (docs/GATE.md, "Mutants").
 
     mutants.py [CRATE..]     tries the mutants of these crates, or of all, over the crates below as they were built
     mutants.py --calls       prints a row for each public call: its mutants, and the clauses that refuse them
 
-A file crates/CRATE/wrong/CALL.edit has the mutants of one public call whose code is in that crate, each a block of
-lines 'WORD: TEXT':
-
-    title: what the mutant does wrong
-    fn: the function that is changed and has to be refused, by its path below the crate
-    goal: the goal of that function that has to stay open, as a check names it
-    cycle: the name of the function's cycle of calls, if it is in one
-    file: src/..
-    old: a text that is once in the function
-    new: the text that stands there instead; further pairs follow
-
-A function is proved from the contracts of those that it calls, so mutants of different functions are tried in one
-check: each is written into a copy of the crate, a second one of a function into a copy of the function. The proofs of
-all other functions are holes and their bodies panics, so nothing but their contracts is read. A mutant is refused only
-where its goal stays open in its own function, or an answer to that goal is no longer a proof; an answer that names what
-the mutant took away counts for nothing. A mutant changes code alone, never a contract, an attribute or ghost code. The
-shortest function goes along unchanged, too, and must not be refused. Where a check does not reach its end, its mutants
-are tried one by one. What a run on this machine judged of the very same files is taken over (`kept.py`). The status is
-0 where each mutant is refused as it must be.
+A file crates/CRATE/wrong/CALL.edit has a block for each mutant, in lines 'WORD: TEXT': title, fn, goal, file, old and
+new. Further pairs of old and new may follow, and `cycle` names the cycle of calls that the function is in. If a check
+does not reach its end, its mutants are tried one by one. What a run on this machine judged of the very same files is
+taken over (`kept.py`). The status is 0 if each mutant is refused as it must be, and each unchanged function is not.
 """
 import concurrent.futures
 import copy
 import os
 import re
 import subprocess
-import sys
 import tempfile
 import threading
 import time
 import typing
 
 import kept
+from ending import ended
 from functions import emptied, functions, sources
-from repository import PARTS, crates, kit, read
+from repository import PARTS, crates, kit, read, write
 
 # An answer that names what a mutant took away says nothing of the contract.
 TAKEN_AWAY = re.compile(r"has no field|is not in scope|has no `|was not admitted|stands by its signature")
@@ -131,13 +116,6 @@ class Mutant:
         return {**changed, own.file: f"{now[0]}{now[1]}\n{added}{now[2]}"}, placed
 
 
-def as_it_is(mutant):
-    """The mutant's function, unchanged: it goes along, and must not be refused."""
-    found = copy.copy(mutant)
-    found.title, found.pairs = "the function as it is", []
-    return found
-
-
 def mutants_of(crate):
     """The mutants of a crate, by its files and in their order."""
     folder, found = f"{crate.folder}/wrong", []
@@ -217,8 +195,7 @@ class Trial:
         with RUNNING, tempfile.TemporaryDirectory(prefix="mutants-") as folder:
             for path, text in self.files(made).items():
                 os.makedirs(os.path.dirname(f"{folder}/{path}"), exist_ok=True)
-                with open(f"{folder}/{path}", "w", encoding="utf-8") as file:
-                    file.write(text)
+                write(f"{folder}/{path}", text)
             only = [word for it in made.placed for word in ("--only", it.function)]
             words = ["nice", f"{kit()}/bin/rattle", "check", *self.words, "--allow-holes", "--progress", *only]
             return self.said(words, folder)
@@ -314,13 +291,16 @@ def tried(crate, rlibs):
     plain = [it for it in good if not it.cycle and it.function in functions(texts)]
     plain.sort(key=lambda it: len(functions(texts)[it.function].text(texts)))
     trial = Trial(crate, crate.words(kit(), rlibs))
-    for made in rounds([*good, *map(as_it_is, plain[:1])], texts):
+    # the shortest function goes along unchanged, and must not be refused
+    unchanged = [copy.copy(it) for it in plain[:1]]
+    for it in unchanged:
+        it.title, it.pairs = "the function as it is", []
+    for made in rounds([*good, *unchanged], texts):
         found += trial.judged(made)
     if all(is_well for is_well, _ in found):
-        with tempfile.NamedTemporaryFile("w", encoding="utf-8") as file:
-            file.write("\n".join(line for _, line in found))
-            file.flush()
-            store.keep(file.name)
+        with tempfile.TemporaryDirectory() as room:
+            write(f"{room}/judged", "\n".join(line for _, line in found))
+            store.keep(f"{room}/judged")
     return Judged(found, trial.seconds, trial.dearest, False)
 
 
@@ -344,8 +324,7 @@ def main(words):
         return 0
     known, failed = crates(), 0
     if not set(words) <= set(known):
-        print(__doc__.strip())
-        return 2
+        return None
     picked, dearest = [known[it] for it in words] or [it for it in known.values() if mutants_of(it)], []
     with concurrent.futures.ThreadPoolExecutor(os.cpu_count()) as pool:
         for judged in pool.map(lambda it: tried(it, lambda below: f"{below.folder}/out/rlib"), picked):
@@ -358,4 +337,4 @@ def main(words):
 
 
 if __name__ == "__main__":
-    sys.exit(main(sys.argv[1:]))
+    ended(main)

@@ -1,14 +1,4 @@
-#!/usr/bin/env python3
-"""The quick run: programs, tests and the library for C, built without their proofs, and all that they have to answer.
-
-    quick.py
-
-`sre_probes` and `sre_cases` answer all case files, examples and made lines (`cases.py`); the unit tests run; and the
-library is called from C, Rust and Python, CPython's `test_re` among its callers (`embedding.py`). Nothing is proved. The
-last line counts what passed, and the status is 1 where something failed.
-"""
-import os
-import resource
+"""Programs, tests and the library for C, built without their proofs, and all that they have to answer."""
 import sys
 import tempfile
 import threading
@@ -19,8 +9,8 @@ import cases
 import embedding
 import standing
 import unproved
-from ending import ended
-from repository import ROOT
+from ending import Fault
+from repository import ROOT, run
 
 PRINTING = threading.Lock()
 
@@ -58,9 +48,9 @@ class Quick:
         made, archive = f"{self.folder}/library", f"{self.folder}/lib{name}.a"
         self.repository.build(name, archive)
         words = [f"{ROOT}/python/build.py", "library", made, "--archive", archive]
-        joined = unproved.run(sys.executable, *words)
+        joined = run(sys.executable, *words)
         if joined.returncode:
-            raise unproved.Fault(f"the library cannot be put together: {joined.stdout}")
+            raise Fault("the library cannot be put together", *joined.stdout.splitlines())
         trials = embedding.Embedding(tell)
         trials.over(made)
         return trials.passed, trials.failed
@@ -70,8 +60,8 @@ class Quick:
         began = time.monotonic()
         try:
             passed, failed = how(self, name)
-        except unproved.Fault as fault:
-            tell(str(fault))
+        except Fault as fault:
+            tell("\n".join(fault.args))
             passed, failed = 0, 1
         tell(f"{name}: {passed} passed, {failed} failed, {time.monotonic() - began:.0f} seconds")
         return passed, failed
@@ -88,19 +78,3 @@ def run(jobs, steps=STEPS):
         quick = Quick(folder)
         ended = list(pool.map(lambda it: quick.step(*it), steps))
     return tuple(map(sum, zip(*ended)))
-
-
-def main(words):
-    if words:
-        print(__doc__.strip())
-        return 2
-    began, (passed, failed) = time.monotonic(), run(os.cpu_count())
-    used = [resource.getrusage(it) for it in (resource.RUSAGE_CHILDREN, resource.RUSAGE_SELF)]
-    taken = sum(it.ru_utime + it.ru_stime for it in used)
-    tell(f"seconds: {time.monotonic() - began:.0f}, {taken:.0f} of processors")
-    tell(f"{passed} passed, {failed} failed")
-    return 0 if passed and not failed else 1
-
-
-if __name__ == "__main__":
-    sys.exit(ended(main, sys.argv[1:]))

@@ -6,14 +6,15 @@
 Each pattern and engine has a process of its own, which ends once a search takes over two seconds. Of each length the
 best of three searches counts.
 """
-import html
 import math
 import re
 import subprocess
 import sys
 import time
 
-from ending import ended
+from bars import EDGE, PAPER, element, svg, text as written
+from ending import Fault, ended
+from repository import write
 
 # Where a pattern was published, the pattern, its flags, and a text of so many characters.
 CASES = {
@@ -41,7 +42,6 @@ LENGTHS = (10, 12, 14, 16, 18, 20, 22, 24, 26, 28, 30, 35, 40, 50, 100, 200, 500
            100000)
 MOST_SECONDS, TRIES = 2, 3
 
-PAPER, INK, EDGE = "#fcfcfa", "#1f2933", "#c9d1d9"
 LEFT, TOP, WIDTH, HEIGHT = 76, 84, 560, 336
 X, Y = (1, 5), (-6, 1)  # powers of ten: characters, seconds
 
@@ -80,13 +80,8 @@ def measured(engine, name):
     return [(int(length), float(seconds)) for length, seconds in (it.split() for it in said.splitlines())]
 
 
-def element(kind, inside="", **values):
-    shown = " ".join(f'{key.replace("_", "-")}="{value}"' for key, value in values.items())
-    return f"<{kind} {shown}>{html.escape(inside)}</{kind}>"
-
-
 def text(x, y, inside, **more):
-    return element("text", inside, x=f"{x:.0f}", y=f"{y:.0f}", **{"fill": INK, **more})
+    return written(f"{x:.0f}", f"{y:.0f}", inside, **more)
 
 
 def place(length, seconds):
@@ -122,9 +117,7 @@ def picture(rows):
         lines.append(element("path", d=f"M {points}", fill="none", stroke=ENGINES[engine], stroke_width=2))
         (x, y), (right, down, anchor) = place(*found[-1]), LABELS[engine, name]
         lines.append(text(x + right, y + down, name, font_size=12, fill=ENGINES[engine], text_anchor=anchor))
-    head = element("svg", xmlns="http://www.w3.org/2000/svg", role="img", width=800, height=476, viewBox="0 0 800 476",
-                   font_family="sans-serif", font_size=14).removesuffix("</svg>")
-    return "\n".join([head, element("title", "Time against length of text"), *lines, "</svg>", ""])
+    return svg(800, 476, [element("title", "Time against length of text"), *lines], role="img")
 
 
 def main(words):
@@ -132,18 +125,15 @@ def main(words):
         measure(*words)
         return 0
     if len(words) != 1 or words[0].startswith("-"):
-        print(__doc__.strip())
-        return 2
+        return None
     rows = [(engine, name, measured(engine, name)) for name in CASES for engine in ENGINES]
     for engine, name, found in rows:
         print(f"{engine}, {name}: {', '.join(f'{length} {seconds:.7f}' for length, seconds in found)}")
     if not all(found for _, _, found in rows):
-        print("redos.py: an engine has no times; PYTHONPATH has to name the package", file=sys.stderr)
-        return 1
-    with open(words[0], "w", encoding="utf-8") as file:
-        file.write(picture(rows))
+        raise Fault("an engine has no times; PYTHONPATH has to name the package")
+    write(words[0], picture(rows))
     return 0
 
 
 if __name__ == "__main__":
-    sys.exit(ended(main, sys.argv[1:]))
+    ended(main)

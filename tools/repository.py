@@ -1,6 +1,7 @@
 """What tools share: where the repository is, its crates, the kit that checks them, files, and how programs are run."""
 import functools
 import os
+import re
 import subprocess
 import tempfile
 
@@ -19,18 +20,18 @@ def write(path, text):
         file.write(text)
 
 
-def told(words, usage, renew, faults):
-    """The status of a tool that looks whether something stands. What does not is a line each, and the status is 1
-    behind lines; --write renews, where it can; other words give the usage, and the status 2."""
-    if words == ["--write"] and renew:
-        renew()
-    elif words:
-        print(usage.strip())
-        return 2
-    lines = list(faults())
+def run(*words, **how):
+    """How a command ended, and what it said on both outputs."""
+    how = {"stdin": subprocess.DEVNULL, "stdout": subprocess.PIPE, "stderr": subprocess.STDOUT, **how}
+    return subprocess.run(words, text=True, errors="replace", **how)
+
+
+def told(faults):
+    """The status of a tool that prints what does not hold: 1 if there is something."""
+    lines = list(faults)
     for line in lines:
         print(line)
-    return 1 if lines else 0
+    return int(bool(lines))
 
 
 def answers(program, lines):
@@ -46,6 +47,16 @@ def kit():
     """The toolchain's folder."""
     said = subprocess.run(["rt", "doc"], capture_output=True, text=True, check=True)
     return os.path.dirname(said.stdout.strip())
+
+
+def of_kit(names):
+    """These crates of the kit, and all below them: each with those that it lists."""
+    found = dict.fromkeys(names)
+    waiting = list(names)
+    for it in waiting:
+        found[it] = re.findall(r"(?m)^dep (\w+)$", read(f"{kit()}/rlibs/{it}.rlib/format"))
+        waiting += [dep for dep in found[it] if dep not in waiting]
+    return found
 
 
 class Crate:

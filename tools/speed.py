@@ -4,19 +4,15 @@
     speed.py [--runs N] [--repeat N] [--scale F] [--svg FILE]
     speed.py --instructions [--before PATH] [--beside PATH] [--characters N]
 
-Both take --program PATH and --only NAME,... For each line of WORK, without and with the information block: nanoseconds
-of processor time a character, the best of N runs, of the program and of CPython, and the ratio; below 1 the program is
-ahead. What reading the text takes is taken off: the time of a match of the empty pattern. An answer that is not
-CPython's is marked WRONG, and the status is then 1. Without one, --svg draws the ratios as bars. Texts are made by
-seeded generators, so they are the same each time. Run it on an idle machine; single lines swing by a tenth or more.
+Both take --program PATH and --only NAME,... For each line of WORK, without and with the INFO block: nanoseconds of
+processor time a character, the best of N runs, of the program and of CPython, and the ratio. The time of a match of the
+empty pattern, which is that of reading the text, is taken off. An answer that is not CPython's is marked WRONG, and the
+status is then 1. Without one, --svg draws the ratios as bars.
 
-Instructions a character do not swing. They are counted by cachegrind of valgrind, over N characters, and reading is
-taken off likewise. All else is counted, with the building of what a search rests on. --before counts an earlier build
-too, and --beside a program of another engine. That one gets two arguments, a file with a pattern and a file with a
-text, both UTF-8, and prints how many matches there are; a pattern that has none, and is tried at the text's start
-alone, tells what its reading takes. Lines that it may not be able to say, with looks, references and possessive runs,
-are left out, and so are those of single matches. At last come the geometric means of the ratios. It runs under CPython
-3.11 to 3.13.
+Instructions a character are counted by cachegrind of valgrind, likewise. --before counts an earlier build too, and
+--beside a program of another engine. That one gets two arguments, a file with a pattern and a file with a text, both
+UTF-8, and prints how many matches there are. It gets no single matches and no lines of APART. At last come the
+geometric means of the ratios. It runs under CPython 3.11 to 3.13.
 """
 import argparse
 import collections
@@ -33,6 +29,7 @@ import typing
 
 import bars
 import words
+from ending import ended
 from repository import write
 
 NOUNS = """
@@ -263,9 +260,9 @@ def measured(options, chosen, room):
     return int(wrong > 0)
 
 
-def main():
+def main(given):
     words.require_known_numbers()
-    options = arguments().parse_args()
+    options = arguments().parse_args(given)
     for program in filter(None, (options.program, options.before, options.beside)):
         words.require_program(program)
     chosen = [work for work in WORK if not options.only or work.name in options.only.split(',')]
@@ -274,4 +271,4 @@ def main():
 
 
 if __name__ == '__main__':
-    sys.exit(words.status_of(main))
+    ended(main)

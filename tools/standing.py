@@ -1,26 +1,21 @@
 #!/usr/bin/env python3
-"""What the repository has to keep whatever else changes: its tests, cases and mutants, the seal of refusals, its pages.
+"""What the repository has to keep whatever else changes (docs/GATE.md, "What may not vanish").
 
     standing.py            names what is missing or stale
     standing.py --write    writes today's numbers to .ci/counts
 
-Nothing else would notice that a test, a case line, a pattern or a mutant of a public call is gone. So .ci/counts has
-their numbers, none of which may fall, neither below the file nor in the file below what it was in a commit, but where
-its row says why: 'WHAT NUMBER # was GREATEST: REASON'. Each file in the folders of cases and mutants has to be one that
-a tool reads. HANDLES allows nothing. Every clause on memory rests on a seal: a crate that could state that an
-allocation failed could pass on any error. So only sre_growth is above the crate that has the fact, one line of one spec
-hands the fact on without its lemma, and the answers of the three growths alone cite the lemma. Pages that name files and
-the header for C have to agree with the code (`map.py`, `header.py`). The status is 1 where something is missing or
-stale.
+These are: the numbers of .ci/counts, whose rows may fall only with a reason, 'WHAT NUMBER # was GREATEST: REASON'; that
+a tool reads each file of cases and mutants; HANDLES, which allows nothing; the seal of allocation failures; and the
+pages and the header for C (`map.py`, `header.py`). The status is 1 if something is missing or stale.
 """
 import os
 import re
 import subprocess
-import sys
 
 import header
 import map as code_map
 import mutants
+from ending import ended
 from repository import ROOT, crates, read, rows, told
 
 COUNTS = f"{ROOT}/.ci/counts"
@@ -173,7 +168,7 @@ def unsealed():
     named, top = {}, f"{ROOT}/crates/"
     for path in files(top, ".rt", ".antt"):
         short = path[len(top):]
-        lines = [it for it in read(path).split("\n") if "sre_refusal_seal" in it and it.lstrip()[:2] not in ("//", "--")]
+        lines = [it for it in read(path).split("\n") if "sre_refusal_seal" in it and it.strip()[:2] not in ("//", "--")]
         if lines and not short.startswith("sre_refusal_seal/"):
             named[short] = lines
     if named != NAMED:
@@ -202,5 +197,13 @@ def write():
             file.write(f"{what} {numbers.get(what, 0)}{reasons.get(what, '')}\n")
 
 
+def main(words):
+    if words == ["--write"]:
+        write()
+    elif words:
+        return None
+    return told(fallen())
+
+
 if __name__ == "__main__":
-    sys.exit(told(sys.argv[1:], __doc__, write, fallen))
+    ended(main)

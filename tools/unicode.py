@@ -10,10 +10,11 @@
 CPython 3.11 to 3.13. Each has its own Unicode: 14.0, 15.0 and 15.1.
 """
 import _sre
-import os
 import re
 import sys
 import unicodedata
+
+from ending import ended
 
 if not hasattr(_sre, "unicode_tolower"):
     sys.exit(f"unicode.py: this is Python {sys.version.split()[0]}: run it with CPython 3.11, 3.12 or 3.13")
@@ -101,18 +102,9 @@ def main(words):
     elif words in ([], ["--lines"]):
         print(*(lines_of(lists()) if words else [file_of(lists())]), sep="\n")
     else:
-        print(__doc__.strip())
-        return 2
+        return None
     return 0
 
 
 if __name__ == "__main__":
-    try:
-        STATUS = main(sys.argv[1:])
-        sys.stdout.flush()
-    except OSError as error:
-        print(f"unicode.py: output failed: {error.strerror}", file=sys.stderr)
-        # what could not be written is not tried again at the end
-        os.dup2(os.open(os.devnull, os.O_WRONLY), 1)
-        STATUS = 2
-    sys.exit(STATUS)
+    ended(main)

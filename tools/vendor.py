@@ -18,8 +18,8 @@ import os
 import re
 import shutil
 import subprocess
-import sys
 
+from ending import Fault, ended
 from repository import PARTS, ROOT, crates, read, row_of, write
 
 DEFAULT = "sre_engine"
@@ -27,11 +27,7 @@ PART = re.compile(r"^# Gaffsilver begins.*?(?:^# Gaffsilver ends\n|\Z)", re.M | 
 BEGIN = "# Gaffsilver begins: commit {}; no crate but sre_growth may list sre_refusal_seal (docs/GUARANTEES.md there)"
 END = "# Gaffsilver ends"
 # What writes bytecode and tables, with the modules that it imports.
-TOOLS = ("words.py", "unicode.py", "constants.py", "grammar.py", "listing.py", "repository.py", "trees.py")
-
-
-class Fault(Exception):
-    """What ends the tool, with its lines."""
+TOOLS = ("words.py", "unicode.py", "constants.py", "ending.py", "grammar.py", "listing.py", "repository.py", "trees.py")
 
 
 def files_of(folder):
@@ -63,19 +59,11 @@ def copy(crate, folder):
         return f"{crate.name}: is the same already"
     for part in PARTS:
         shutil.rmtree(f"{folder}/{part}", ignore_errors=True)
-        if os.path.isdir(f"{crate.folder}/{part}"):
-            shutil.copytree(f"{crate.folder}/{part}", f"{folder}/{part}", copy_function=shutil.copyfile)
+    for path, text in files_of(crate.folder).items():
+        os.makedirs(os.path.dirname(f"{folder}/{path}"), exist_ok=True)
+        write(f"{folder}/{path}", text)
     shutil.copy(f"{ROOT}/LICENSE", folder)
     return f"{crate.name}: {len(files_of(folder))} files copied"
-
-
-def copy_tools(folder):
-    """Copies the tools that write bytecode and tables, and reports that."""
-    os.makedirs(folder, exist_ok=True)
-    for it in TOOLS:
-        shutil.copy(f"{ROOT}/tools/{it}", folder)
-    shutil.copy(f"{ROOT}/LICENSE", folder)
-    return f"tools/gaffsilver: {len(TOOLS)} files copied"
 
 
 def differing(taken, top, own):
@@ -123,7 +111,10 @@ def vendor(target, names, is_forced):
     if lost and not is_forced:
         raise Fault(*lost, "nothing is written; --force overwrites these")
     said = [copy(crate, f"{top}/{crate.name}") for crate in taken]
-    said.append(copy_tools(f"{target}/tools/gaffsilver"))
+    os.makedirs(f"{target}/tools/gaffsilver", exist_ok=True)
+    for path in ("LICENSE", *(f"tools/{it}" for it in TOOLS)):
+        shutil.copy(f"{ROOT}/{path}", f"{target}/tools/gaffsilver")
+    said.append(f"tools/gaffsilver: {len(TOOLS)} files copied")
     lines = [it for it in own if row_of(it)[0] not in wanted]
     write(listed, "\n".join([*lines, BEGIN.format(commit(taken)), *map(line_of, taken), END]) + "\n")
     print(*said, f"crates.txt: {len(taken)} lines", sep="\n")
@@ -131,9 +122,8 @@ def vendor(target, names, is_forced):
 
 
 def main(words):
-    if words == ["--help"] or not words:
-        print(__doc__.strip())
-        return 0 if words else 2
+    if words in ([], ["--help"]):
+        return None
     if words == ["--crates"]:
         print(*table(crates()), sep="\n")
         return 0
@@ -144,26 +134,5 @@ def main(words):
     return vendor(words[0], words[1:], is_forced)
 
 
-def guarded(words):
-    """The status of `main`; after a fault a line for each part of it, and 1."""
-    try:
-        status = main(words)
-        sys.stdout.flush()
-        return status
-    except Fault as fault:
-        lines = fault.args
-    except BrokenPipeError:
-        lines = []
-    except shutil.Error as error:
-        lines = [f"{error.args[0][0][1]}: {error.args[0][0][2]}"]
-    except (OSError, UnicodeError) as error:
-        lines = [f"{getattr(error, 'filename', None) or 'output failed'}: {getattr(error, 'strerror', None) or error}"]
-    for line in lines:
-        print(f"vendor.py: {line}", file=sys.stderr)
-    # what could not be written is not tried again at the end
-    os.dup2(os.open(os.devnull, os.O_WRONLY), 1)
-    return 1
-
-
 if __name__ == "__main__":
-    sys.exit(guarded(sys.argv[1:]))
+    ended(main, after_fault=1)

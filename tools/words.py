@@ -42,19 +42,19 @@ except ImportError:
 
 import constants
 import trees
+from ending import Fault, ended
 from grammar import CATEGORIES, NUMBER, OPCODES, POSITIONS, UNLIMITED, Reader
 from listing import Listing, unknown_letters
 from repository import ROOT, write
+
+# What Python says of patterns that a later one may read otherwise is no matter of the bytecode.
+warnings.simplefilter('ignore')
 
 # CPython 3.11, 3.12 and 3.13: the layouts of their bytecode were compared.
 MAGICS = (20220615, 20221023, 20230612)
 FLAGS = {'i': re.I, 'm': re.M, 's': re.S, 'x': re.X, 'a': re.A, 'u': re.U, 'L': re.L}
 VERBS = ('match', 'search', 'walk', 'check')
 KEYS = ('name', 'flags', 'verb', 'window', 'pattern', 'text', 'bytes')
-
-
-class Fault(Exception):
-    """What ends the program with a line for each of its arguments, and status 2."""
 
 
 def require_known_numbers():
@@ -72,50 +72,6 @@ def require_program(path):
     """Rejects a program that is not there, and says how it is built."""
     if shutil.which(path) is None:
         raise Fault(f'{path} is no program; `cd crates/sre_cases && rt run -- FILE` builds out/sre_cases there')
-
-
-def require_table(options):
-    """Rejects a table that no program is to read, or that cannot be read."""
-    if options.table:
-        if options.run is None:
-            raise Fault('--table names a table for the program: write --run PROGRAM as well')
-        with open(options.table[1], 'rb'):
-            pass
-
-
-def line_of(error):
-    """What went wrong with a file or with memory, without the number that Python puts in front."""
-    if isinstance(error, OSError) and error.strerror:
-        return f'{error.filename}: {error.strerror}' if error.filename is not None else error.strerror
-    return str(error)
-
-
-def status_of(main):
-    """The status that `main` returns, or 2 after the lines of a fault that ends it."""
-    # what Python says of patterns that a later one may read otherwise is no matter of the bytecode
-    warnings.simplefilter('ignore')
-    try:
-        if sys.stdout is None:
-            raise Fault('output failed: standard output is closed')
-        status = main()
-        sys.stdout.flush()
-        return status
-    except Fault as fault:
-        lines = fault.args
-    except RecursionError:
-        lines = ['the pattern is nested too deeply for this Python']
-    except KeyboardInterrupt:
-        lines = ['interrupted']
-    except BrokenPipeError:
-        lines = []
-    except (OSError, UnicodeError, subprocess.SubprocessError) as error:
-        lines = [line_of(error)]
-    for line in lines:
-        shown = ''.join(it if it.isprintable() else ascii(it)[1:-1] for it in line)
-        print(f'{COMMAND}: {shown}', file=sys.stderr)
-    with contextlib.suppress(AttributeError, OSError):  # what could not be written is not tried again at the end
-        os.dup2(os.open(os.devnull, os.O_WRONLY), sys.stdout.fileno())
-    return 2
 
 
 class Pattern(typing.NamedTuple):
@@ -246,26 +202,33 @@ def answer(pattern, asked):
     return 'yes {}..{} last {} marks {}'.format(*match.span(), match.lastindex or -1, shown)
 
 
-def block_of(lines):
-    """The values of a block by key, from its lines."""
-    fields = {key: [] for key in KEYS}
-    for line in lines:
-        key, colon, value = line.partition(':')
-        if not colon or key not in KEYS:
-            raise Fault(f'write one of {", ".join(KEYS)}, and a colon')
-        fields[key].append(value.removeprefix(' '))
-    return fields
+def blocks_of(path):
+    """The blocks of a file of patterns, between which are empty lines: the values of each by key."""
+    with open(path, encoding='utf-8', errors='surrogateescape') as file:
+        blocks = re.split(r'\n{2,}', file.read())
+    for lines in filter(None, ([it for it in block.split('\n') if it and it[0] != '#'] for block in blocks)):
+        fields = {key: [] for key in KEYS}
+        for key, colon, value in (line.partition(':') for line in lines):
+            if not colon or key not in KEYS:
+                raise Fault(f'{path}, the block of {lines[0]}: write one of {", ".join(KEYS)}, and a colon')
+            fields[key].append(value.removeprefix(' '))
+        yield fields
 
 
-def cases_of(lines, cut):
+def pattern_in(fields):
+    """The pattern of a block."""
+    source = characters('\n'.join(fields['pattern']), bool(fields['bytes']))
+    return compiled(source, flags_of(''.join(fields['flags'])))
+
+
+def cases_of(fields, cut):
     """The bytecode, the lines and the answers of a block."""
-    fields = block_of(lines)
     verb, is_bytes = ''.join(fields['verb']) or 'search', bool(fields['bytes'])
     if not (fields['name'] and fields['pattern'] and is_bytes != bool(fields['text'])
             and verb in ('match', 'search', 'walk', 'fullmatch')):
         raise Fault('a block has a name, a pattern, either text or bytes, and optionally a verb: '
                     'match, search, walk or fullmatch')
-    pattern = compiled(characters('\n'.join(fields['pattern']), is_bytes), flags_of(''.join(fields['flags'])))
+    pattern = pattern_in(fields)
     words = without_block(pattern.words, cut)
     asked = [Asked(verb.removeprefix('full'), characters(text, is_bytes, True),
                    window_of(''.join(fields['window']) or 'all'), verb == 'fullmatch')
@@ -275,19 +238,17 @@ def cases_of(lines, cut):
 
 
 def write_cases(path, name, cut):
-    """Writes NAME.txt and NAME.expected from a file of patterns, whose blocks have empty lines between them."""
+    """Writes NAME.txt and NAME.expected from a file of patterns."""
     opcodes, lines, answers = set(), [], []
-    with open(path, encoding='utf-8', errors='surrogateescape') as file:
-        blocks = re.split(r'\n{2,}', file.read())
-    for block in ([it for it in block.split('\n') if it and it[0] != '#'] for block in blocks):
-        if block:
-            try:
-                words, more_lines, more_answers = cases_of(block, cut)
-            except Fault as fault:
-                raise Fault(f'{path}, the block of {block[0]}: {fault}') from None
-            opcodes |= Reader(words).used & {*OPCODES}
-            lines += more_lines
-            answers += more_answers
+    for fields in blocks_of(path):
+        try:
+            words, more_lines, more_answers = cases_of(fields, cut)
+        except Fault as fault:
+            named = ''.join(fields['name'][:1]) or ''.join(fields['pattern'])
+            raise Fault(f'{path}, the block of {named}: {fault}') from None
+        opcodes |= Reader(words).used & {*OPCODES}
+        lines += more_lines
+        answers += more_answers
     version = '.'.join(map(str, sys.version_info[:3]))
     head = (f'Patterns in use. Words and answers are those of CPython {version}, as tools/words.py '
             f'wrote them from {path}. Executes {", ".join(sorted(opcodes, key=NUMBER.get))}.')
@@ -389,7 +350,10 @@ def one_case(options):
         require_program(options.run)
     if options.attempt and not (shutil.which('rt') and os.path.isdir(f'{ROOT}/crates/sre_cases')):
         raise Fault('--try needs the Rattle kit (`rt` on the path) and the folder crates/sre_cases')
-    require_table(options)
+    if options.table and options.run is None:
+        raise Fault('--table names a table for the program: write --run PROGRAM as well')
+    for path in options.table[1:]:
+        open(path, 'rb').close()
     if options.raw and (options.flags or options.no_block):
         raise Fault('--raw takes bytecode as it is, and neither --flags nor --no-block')
     pattern = None if options.raw else pattern_of(given[0], options)
@@ -424,9 +388,9 @@ def show_constants(options):
     print(constants.file_of(named, lambda it: without_block(it.words, options.no_block), FLAGS))
 
 
-def main():
+def main(given):
     require_known_numbers()
-    options = options_of(sys.argv[1:])
+    options = options_of(given)
     if options.tree is None and options.cases is None and not options.rust:
         return one_case(options)
     if options.run or options.attempt or options.items or options.raw or options.words and not options.rust:
@@ -441,4 +405,4 @@ def main():
 
 
 if __name__ == '__main__':
-    sys.exit(status_of(main))
+    ended(main)
