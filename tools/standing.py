@@ -16,7 +16,7 @@ import header
 import map as code_map
 import mutants
 from ending import ended
-from repository import ROOT, crates, read, rows, told
+from repository import ROOT, crates, kit, of_kit, read, rows, told
 
 COUNTS = f"{ROOT}/.ci/counts"
 # What is counted, how many there are, and where that fell: the greatest number before, and why.
@@ -37,6 +37,10 @@ NAMED = {
     "sre_growth/specs/Refusal.antt": ["pub use Rattle.sre_refusal_seal.specs.Seal.{Refused, one_refused}"],
     **{f"sre_growth/proofs/{it}/Answers.antt": ["use Rattle.sre_refusal_seal.specs.Seal.{refused}"] for it in GROWTHS},
 }
+
+# The crate with an allocator that refuses a request, for tests; and what gives a type the functions of an allocator, or
+# their trait another name.
+FAILING, ALLOCATOR = "sre_failing_allocator", re.compile(r"\bAllocator\s+(?:for|as)\b")
 
 
 def files(folder, *ends):
@@ -182,9 +186,24 @@ def unsealed():
                 yield f"the answers of sre_growth::{name} hand on more than goals: {line}"
 
 
+def refusing():
+    """What lets a body grow a list on an allocator that refuses at will, and blame memory."""
+    of_the_kit = {it for _, _, below in rows() for it in below} - {*crates()}
+    # what is below std is no crate's own, unless it is listed: std hands none of its allocators on but Global
+    for it in sorted(of_the_kit | {*of_kit(of_the_kit)} - {*of_kit(["std"])}):
+        if any(ALLOCATOR.search(read(path)) for path in files(f"{kit()}/rattle/{it}/src", ".rt")):
+            yield f"crates.txt lists {it}, or what lists it, which has an allocator of its own"
+    for name, _, below in rows():
+        if FAILING in below:
+            yield f"crates.txt: {name} lists {FAILING}, whose allocator refuses a request"
+        for path in files(f"{ROOT}/crates/{name}/src", ".rt"):
+            if name != FAILING and ALLOCATOR.search(read(path)):
+                yield f"{os.path.relpath(path, ROOT)} has an allocator of its own"
+
+
 def fallen():
     """All that is missing or stale."""
-    kept = [*missed(), *lowered(), *unread(), *widened(), *unsealed()]
+    kept = [*missed(), *lowered(), *unread(), *widened(), *unsealed(), *refusing()]
     return [*kept, *header.unlike(), *code_map.stale()]
 
 
