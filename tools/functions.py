@@ -1,6 +1,6 @@
 """The functions that a crate's sources have, as a check names them. The sources have the form that `rt fmt` gives.
 
-Methods of traits, functions that macros write and those inside others are left out.
+Functions that macros write and those inside others are left out.
 """
 import functools
 import os
@@ -11,14 +11,16 @@ from repository import read
 FUNCTION = re.compile(r'( *)(?:pub(?:\([\w:]+\))? )?(?:const )?(?:extern "C" )?fn (\w+)')
 TYPE = re.compile(r"(?m)^(?:pub(?:\([\w:]+\))? )?(?:struct|enum) (\w+)")
 OWN_METHODS = re.compile(r"impl(?:<.*?>)? (\w+)(?:<.*>)? \{")
+TRAITS_METHODS = re.compile(r"(?:unsafe )?impl(?:<(.*?)>)? (\w+)(?:<(.*)>)? for (.*) \{")
 
 
 class Function:
-    """A function: its path below the crate, its file, its first and last line there, with what is written on it, and
-    the name of its cycle, if it is in one."""
+    """A function: its path below the crate, its file, its first and last line there, with what is written on it, the
+    name of its cycle, if it is in one, and whether it is a trait's."""
 
-    def __init__(self, path, file, begin, end, cycle):
+    def __init__(self, path, file, begin, end, cycle, is_of_trait):
         self.path, self.file, self.begin, self.end, self.cycle = path, file, begin, end, cycle
+        self.is_of_trait = is_of_trait
 
     def parts(self, texts):
         """The text of its file in three parts: before it, it, and behind it."""
@@ -53,33 +55,41 @@ def extent(lines, at, indent):
     return begin, at if is_short else next(i for i in range(at, len(lines)) if lines[i] == f"{indent}}}")
 
 
+def name_of_impl(parameters, trait, arguments, of):
+    """How a check names a trait's impl: RefSliceU8StrDrive for `impl<'a> StrDrive for &'a [u8]`."""
+    listed = [it for it in (arguments or "").split(", ") if it not in re.findall(r"\w+", parameters or "")]
+    parts = [re.sub(r"'\w+ ?|<.*", "", it).replace("&", "ref ").replace("[", "slice ") for it in (of, trait, *listed)]
+    return "".join(it[0].upper() + it[1:] for it in re.findall(r"\w+", " ".join(parts)))
+
+
 @functools.lru_cache(maxsize=1024)
 def functions_of(file, text, owners):
     """The functions of one source, by their paths, where these are the modules of the crate's types."""
-    found, lines, owner, owners = {}, text.split("\n"), module_of(file), dict(owners)
+    found, lines, owner, of_trait, owners = {}, text.split("\n"), module_of(file), None, dict(owners)
     for at, line in enumerate(lines):
-        if re.match(r"(impl|(pub )?trait|(pub )?mod \w+ \{|macro_rules!)", line):
-            own = OWN_METHODS.match(line)
+        if re.match(r"((unsafe )?impl|(pub )?trait|(pub )?mod \w+ \{|macro_rules!)", line):
+            own, of_trait = OWN_METHODS.match(line), TRAITS_METHODS.match(line)
             owner = [*owners[own[1]], own[1]] if own and own[1] in owners else None
+            owner = [*module_of(file), name_of_impl(*of_trait.groups())] if of_trait else owner
         elif line.startswith("}"):
-            owner = module_of(file)
+            owner, of_trait = module_of(file), None
         head = FUNCTION.match(line)
         if head and owner is not None and len(head[1]) == (0 if owner == module_of(file) else 4):
             begin, end = extent(lines, at, head[1])
             cycle = re.search(r"#\[cycle\((\w+)\)\]", "\n".join(lines[begin:at]))
             path = "::".join([*owner, head[2]])
-            found[path] = Function(path, file, begin, end, cycle[1] if cycle else "")
+            found[path] = Function(path, file, begin, end, cycle[1] if cycle else "", bool(of_trait))
     return found
 
 
-def functions(texts):
-    """The functions of sources, by their paths."""
+def functions(texts, with_traits=False):
+    """The functions of sources, by their paths: those of traits' impls if they are asked for."""
     sources_of = {file: text for file, text in texts.items() if file.endswith(".rt")}
     owners = {(it, tuple(module_of(file))) for file, text in sources_of.items() for it in TYPE.findall(text)}
     found = {}
     for file, text in sources_of.items():
         found.update(functions_of(file, text, frozenset(owners)))
-    return found
+    return {path: it for path, it in found.items() if with_traits or not it.is_of_trait}
 
 
 def begin_of_body(lines, indent):

@@ -83,8 +83,10 @@ class Mutant:
         """The texts with the mutant in them; none where an old text is not once in its function."""
         texts = dict(texts)
         for file, old, new in self.pairs:
-            own = functions(texts).get(self.function)
-            parts = own.parts(texts) if own and own.file == file else ["", texts.get(file, ""), ""]
+            own = functions(texts, with_traits=True).get(self.function)
+            # what a trait's function does can be in an item beside it
+            is_inside = own and own.file == file and (old in own.text(texts) or not own.is_of_trait)
+            parts = own.parts(texts) if is_inside else ["", texts.get(file, ""), ""]
             if parts[1].count(old) != 1:
                 return None
             texts[file] = parts[0] + parts[1].replace(old, new) + parts[2]
