@@ -1,6 +1,6 @@
 -- A request asks the same with and without a list of its code's FIRST sets: what a search says of one holds of the
 -- other.
-use Rattle.std.proofs.Common.{◌≡◌, ℕ, Bool, List, Result, Ok, Err, IfErr, Bor}
+use Rattle.std.proofs.Common.{ℕ, Bool, List, Result, Bor}
 use Rattle.sre_chars.specs.declared.string.StrDrive.{Ghosts}
 use Rattle.sre_code.specs.Codes.{items_of}
 use Rattle.sre_request.specs.Admitting.{AllAdmitted}
@@ -9,9 +9,8 @@ use Rattle.sre_request.specs.declared.admitted.Admitted.{Admitted}
 use Rattle.sre_request.specs.declared.request.Request.{Request}
 use Rattle.sre_machine.specs.declared.allowance.Allowance.{Allowance}
 use Rattle.sre_machine.specs.declared.turns.Halt.{Halt}
-use Rattle.sre_machine.specs.declared.turns.Halt.TheVariants as halt
 use Rattle.sre_engine.specs.Answers.{Shown}
-use Rattle.sre_engine.specs.Costs.{SearchGivenUp, Charged}
+use Rattle.sre_engine.specs.Costs.{SearchCosts, Charged}
 use Rattle.sre_engine.specs.Searches.{Answered}
 
 module _ {S : Type 0} {text : Ghosts S} (r : Request S text) (list : Bor (List Admitted))
@@ -28,16 +27,11 @@ module _ {S : Type 0} {text : Ghosts S} (r : Request S text) (list : Bor (List A
     up_to_match = x.up_to_match;
   }
 
-  given_up_alike : (told : Result Bool Halt) (given left runs : ℕ)
-      → IfErr told (λ why. why ≡ halt.UsedUp → SearchGivenUp (carrying r list all) given left runs)
-      → IfErr told (λ why. why ≡ halt.UsedUp → SearchGivenUp r given left runs)
-  given_up_alike (Ok b) given left runs x = tt
-  given_up_alike (Err why) given left runs x = λ used.
-      let gone = x used in
-      record {
-        cost = λ pl.
-            gone.cost (record { plain = pl.plain; unmarked = pl.unmarked; room = pl.room; order = pl.order });
-      }
+  costs_alike : (given left runs : ℕ) → SearchCosts (carrying r list all) given left runs
+      → SearchCosts r given left runs
+  costs_alike given left runs x = record {
+    cost = λ pl. x.cost (record { plain = pl.plain; unmarked = pl.unmarked; room = pl.room; order = pl.order });
+  }
 
   pub charged_alike : (told : Result Bool Halt) (started runs : ℕ) (a a' : Allowance)
       → Charged (carrying r list all) told started runs a a' → Charged r told started runs a a'
@@ -46,5 +40,5 @@ module _ {S : Type 0} {text : Ghosts S} (r : Request S text) (list : Bor (List A
     fewer = x.fewer;
     spent = x.spent;
     halted = x.halted;
-    given_up = given_up_alike told _ _ started x.given_up;
+    cost = λ limited. costs_alike _ _ started (x.cost limited);
   }

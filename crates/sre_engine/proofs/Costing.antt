@@ -1,5 +1,5 @@
 -- How the costs of a search's runs add up.
-use Rattle.std.proofs.Common.{◌≡◌, ℕ, ◌+◌, ◌*◌, ◌≤◌, inl, inr, true, false, refl, arith}
+use Rattle.std.proofs.Common.{◌≡◌, ℕ, ◌+◌, ◌*◌, ◌≤◌, inl, inr, false, [], refl, arith}
 use Rattle.std.proofs.Common.{Result, Ok, Err, IfErr, IsErrAnd, sym, subst}
 use Rattle.std.proofs.Common.{add-mul, one-mul}
 use Rattle.std.proofs.Math.Nat.{mul-le-mul_right}
@@ -7,14 +7,12 @@ use Rattle.sre_chars.specs.declared.string.StrDrive.{Ghosts}
 use Rattle.sre_chars.specs.declared.string.StringCursor.{StringCursor}
 use Rattle.sre_request.specs.declared.request.Request.{Request}
 use Rattle.sre_request.specs.Requests.{start_of}
-use Rattle.sre_machine.specs.declared.turns.Halt.{Halt}
-use Rattle.sre_machine.specs.declared.turns.Halt.TheVariants as halt
-use Rattle.sre_engine.specs.Costs.{search_cost, most_tolls, most_waits, CostsUpTo, SearchGivenUp}
-use Rattle.sre_machine.specs.Allowances.{is_limited, Halted}
-use Rattle.sre_machine.specs.declared.allowance.Allowance.{Allowance}
+use Rattle.sre_request.specs.Runs.{run_of}
+use Rattle.sre_board.proofs.AccountLaws.{account_few}
+use Rattle.sre_engine.specs.Costs.{search_cost, most_tolls, most_waits, CostsUpTo, SearchCosts}
 use Rattle.sre_model.specs.TreePrices.{most_steps}
 use Rattle.sre_machine.specs.Memos.{MemoValue}
-use Rattle.sre_machine.specs.Paying.{Remembering, each_of, run_cost, RunGivenUp, RunSettles}
+use Rattle.sre_machine.specs.Paying.{Remembering, rows_from, each_of, run_cost, RunStops, RunSettles}
 
 -- what j runs cost, and what k more of them cost
 sum_of : (j k a s t m : ℕ) → ((j + k) * a + (s + t)) * m ≡ (j * a + s) * m + (k * a + t) * m
@@ -27,11 +25,6 @@ no_less : (j k a s t m : ℕ) → j ≤ k → s ≤ t → (j * a + s) * m ≤ (k
 no_less j k a s t m h l =
     let runs = mul-le-mul_right a h in
     mul-le-mul_right m (omega (arith, runs, l))
-
--- a run that gives up is limited
-pub gives_up_limited : (a : Allowance) (why : Halt) → Halted a why → why ≡ halt.UsedUp → is_limited a ≡ true
-gives_up_limited a (halt.Refused refusal) h e = absurd (cc e)
-gives_up_limited a halt.UsedUp h e = h.0
 
 -- what holds of an error that is passed on
 pub passed_on : {T E : Type 0} (result : Result T E) (e : E) (P : E → Type 0) → IsErrAnd result (λ y. y ≡ e) → P e
@@ -87,11 +80,11 @@ module _ {S : Type 0} {text : Ghosts S} (r : Request S text) where
     ];
   }
 
-  -- another run, which exceeds the limit: no more steps were waited and no more credits granted than from where the
-  -- memo begins
+  -- another run, which is the last: no more steps were waited and no more credits granted than from where the memo
+  -- begins
   costs_once : (begun m : MemoValue) (start : StringCursor) (given left after k : ℕ)
-      → CostsUpTo r begun m given left k → begun.waits ≤ most_waits r → RunGivenUp r start m left after
-      → start_of r ≤ start.position → SearchGivenUp r given after (k + 1)
+      → CostsUpTo r begun m given left k → begun.waits ≤ most_waits r → RunStops r start m left after
+      → start_of r ≤ start.position → SearchCosts r given after (k + 1)
   costs_once begun m start given left after k old waits run from = record {
     cost = λ pl. elim (old.cost pl) [
       | inl refused ↦ inl refused
@@ -134,9 +127,24 @@ module _ {S : Type 0} {text : Ghosts S} (r : Request S text) where
     upto = rw e (costs_run r old.begun m m' start given left after before old.upto run from);
   }
 
-  -- another run, which is given up
-  pub since_given_up : (m : MemoValue) (start : StringCursor) (given left after before runs : ℕ)
-      → CostsSince r m given left before → RunGivenUp r start m left after → start_of r ≤ start.position
-      → runs ≡ before + 1 → SearchGivenUp r given after runs
-  since_given_up m start given left after before runs old run from e =
+  -- another run, which is the last
+  pub since_stopped : (m : MemoValue) (start : StringCursor) (given left after before runs : ℕ)
+      → CostsSince r m given left before → RunStops r start m left after → start_of r ≤ start.position
+      → runs ≡ before + 1 → SearchCosts r given after runs
+  since_stopped m start given left after before runs old run from e =
       rw e (costs_once r old.begun m start given left after before old.upto old.waits run from)
+
+  -- no further run: the credits are paid by what the memory holds
+  pub since_ended : (m : MemoValue) (given left runs : ℕ) → CostsSince r m given left runs
+      → SearchCosts r given left runs
+  since_ended m given left runs old = record {
+    cost = λ pl. elim (old.upto.cost pl) [
+      | inl refused ↦ inl refused
+      | inr (inl x) ↦ inr (omega (arith, x.1, old.waits))
+      | inr (inr x) ↦
+          let few : x.1 ≤ most_tolls r pl =
+          account_few (run_of r) pl.plain (rows_from r pl) m.kept m.ends [] x.1 x.3.account in
+          let most = more r pl runs runs x.0 (most_tolls r pl) (omega arith) (omega (arith, x.2, few)) in
+          inr (omega (arith, most, x.5, old.waits))
+    ];
+  }

@@ -1,18 +1,23 @@
--- A search that memoizes each failure exceeds no sufficient step limit unless an allocation failed.
-use Rattle.std.proofs.Common.{◌≡◌, ℕ, ◌+◌, ◌-◌, ◌*◌, ◌≤◌, inl, inr, Bool, None, Result, Ok}
-use Rattle.std.proofs.Common.{Err, refl, ap}
-use Rattle.std.proofs.Common.{◌∙◌, subst, arith}
+-- A search that memoizes each failure takes at most its step bound, unless an allocation failed. So it exceeds no
+-- sufficient step limit.
+use Rattle.std.proofs.Common.{◌≡◌, ℕ, ◌+◌, ◌-◌, ◌*◌, ◌≤◌, ◌⊎◌, inl, inr, Bool, true, length, Option, None}
+use Rattle.std.proofs.Common.{Result, Ok, Err, IfOk, ap, ◌∙◌, subst, arith}
 use Rattle.std.proofs.Math.Nat.{mul-le-mul_right}
 use Rattle.sre_chars.specs.declared.string.StrDrive.{Ghosts}
 use Rattle.sre_growth.specs.Refusal.{Refused}
-use Rattle.sre_model.specs.Remembered.{kept_positions, sides, step_bound}
+use Rattle.sre_model.specs.Tree.{Tree}
+use Rattle.sre_model.specs.Grammar.{Whole}
+use Rattle.sre_model.specs.Found.{Asked}
+use Rattle.sre_model.specs.Remembered.{IsRemembered, kept_positions, sides, step_bound}
 use Rattle.sre_model.specs.TreePrices.{most_steps, cost_of}
 use Rattle.sre_request.specs.declared.request.Request.{Request}
 use Rattle.sre_request.specs.Requests.{start_of, end_of, asked_of, code_of}
+use Rattle.sre_code.specs.Codes.{words_of, items_of}
+use Rattle.sre_code.specs.declared.code.Code.{Code}
 use Rattle.sre_code.proofs.Checked.{items_whole}
 use Rattle.sre_engine.specs.Counts.{AreEnough, KeepsToSteps}
-use Rattle.sre_engine.specs.Costs.{Charged, SearchGivenUp, search_cost, most_tolls, most_waits}
-use Rattle.sre_machine.specs.Allowances.{left_of}
+use Rattle.sre_engine.specs.Costs.{Charged, SearchCosts, search_cost, most_tolls, most_waits}
+use Rattle.sre_machine.specs.Allowances.{is_limited, left_of}
 use Rattle.sre_machine.specs.declared.allowance.Allowance.{Allowance}
 use Rattle.sre_machine.specs.declared.turns.Halt.{Halt}
 use Rattle.sre_machine.specs.declared.turns.Halt.TheVariants as halt
@@ -33,45 +38,55 @@ few r pl runs l =
     ≤ f * (1 + most_steps t + cost_of (end_of r) 1 t 2 * sides t) = omega (arith, own) in
     omega (arith, mul-le-mul_right (each_of r pl) all, waits)
 
-module _ {S : Type 0} {text : Ghosts S} (r : Request S text) (given : ℕ)
-    (enough : AreEnough (asked_of r) (code_of r) given) where
-  -- each failure is memoized
-  abbrev remembering : Remembering r
-  remembering = record {
-    plain = record {
-      tree = enough.tree;
-      whole = items_whole (code_of r) enough.tree enough.whole;
-      no_reference = enough.remembered.no_reference;
-    };
-    unmarked = enough.remembered.unmarked;
-    room = record {
-      words = enough.remembered.room;
-      slots = enough.remembered.slots;
-      whole = enough.remembered.whole;
-    };
-    order = enough.remembered.order;
-  }
+-- a search where each failure is memoized takes at most its step bound
+costs_few : {S : Type 0} {text : Ghosts S} (r : Request S text) (given left runs : ℕ) → SearchCosts r given left runs
+    → runs ≤ end_of r + 1 - start_of r → (t : Tree) → Whole (words_of (code_of r)) t
+    → IsRemembered (length (items_of (code_of r))) t (asked_of r)
+    → Refused ⊎ (given ≤ left + step_bound t (asked_of r))
+costs_few r given left runs costs l t whole is =
+    let pl : Remembering r = record {
+      plain = record { tree = t; whole = items_whole (code_of r) t whole; no_reference = is.no_reference };
+      unmarked = is.unmarked;
+      room = record { words = is.room; slots = is.slots; whole = is.whole };
+      order = is.order;
+    } in
+    elim (costs.cost pl) [
+      | inl refused ↦ inl refused
+      | inr cost ↦ inr (omega (arith, cost, few r pl runs l))
+    ]
 
-  -- so they are not used up
-  never_given_up : (left runs : ℕ) → SearchGivenUp r given left runs → left ≡ 0 → runs ≤ end_of r + 1 - start_of r
-      → Refused
-  never_given_up left runs g none l = elim (g.cost remembering) [
-    | inl refused ↦ refused
-    | inr cost ↦ absurd (omega (arith, cost, none, few r remembering runs l, enough.more))
-  ]
+-- so a sufficient budget is not used up
+not_exceeded : {E : Type 0} (a : Asked) (code : Code) (answer : Result (Option Bool) E) (given left : ℕ)
+    → IfOk answer (λ b. b ≡ None → left ≡ 0)
+    → ((t : Tree) → Whole (words_of code) t → IsRemembered (length (items_of code)) t a
+    → Refused ⊎ (given ≤ left + step_bound t a))
+    → AreEnough a code given → IfOk answer (λ b. b ≡ None → Refused)
+not_exceeded a code (Ok b) given left used bounded enough = λ none.
+    elim (bounded enough.tree enough.whole enough.remembered) [
+      | inl refused ↦ refused
+      | inr l ↦ absurd (omega (arith, l, used none, enough.more))
+    ]
+not_exceeded a code (Err e) given left used bounded enough = tt
 
--- a search that exceeds its step limit keeps to it
-pub used_up : {S E : Type 0} {text : Ghosts S} (r : Request S text) (given : ℕ) (a a' : Allowance)
-    (told : Result Bool Halt) (started runs left : ℕ) → Charged r told started runs a a' → (why : Halt)
-    → told ≡ Err why → why ≡ halt.UsedUp → left_of a ≡ given → left ≡ left_of a'
-    → (AreEnough (asked_of r) (code_of r) given → started ≤ end_of r + 1 - start_of r)
-    → KeepsToSteps {E = E} (asked_of r) (code_of r) (Ok None) runs given left
-used_up r given a a' told started runs left charged why e used same own few =
-    let up = subst (λ t. Charged r t started runs a a') (e ∙ ap Err used) charged in
-    let cost = rw same at up.given_up refl in
-    record {
-      used = λ _. own ∙ up.halted.1;
-      spent = rw (← own) at (rw same at up.spent);
-      fewer = omega (arith, own, same, up.fewer);
-      enough = λ enough _. never_given_up r given enough (left_of a') started cost up.halted.1 (few enough);
-    }
+-- a call that charges a search to its budget keeps to it
+pub keeps_to : {S E : Type 0} {text : Ghosts S} (r : Request S text) (given : ℕ) (a a' : Allowance)
+    (told : Result Bool Halt) (started runs left : ℕ) (answer : Result (Option Bool) E)
+    → Charged r told started runs a a' → is_limited a ≡ true → left_of a ≡ given → left ≡ left_of a'
+    → started ≤ end_of r + 1 - start_of r → IfOk answer (λ b. b ≡ None → left_of a' ≡ 0)
+    → KeepsToSteps (asked_of r) (code_of r) answer runs given left
+keeps_to r given a a' told started runs left answer charged limited same own few used =
+    let bounded = costs_few r (left_of a) (left_of a') started (charged.cost limited) few in
+    rw (own, ← same) (record {
+      used = used;
+      spent = charged.spent;
+      fewer = charged.fewer;
+      bounded = bounded;
+      enough = not_exceeded (asked_of r) (code_of r) answer (left_of a) (left_of a') used bounded;
+    })
+
+-- no step is left where the limit is exceeded
+pub used_up : {S : Type 0} {text : Ghosts S} (r : Request S text) (a a' : Allowance) (told : Result Bool Halt)
+    (started runs : ℕ) → Charged r told started runs a a' → (why : Halt) → told ≡ Err why → why ≡ halt.UsedUp
+    → left_of a' ≡ 0
+used_up r a a' told started runs charged why e used =
+    (subst (λ t. Charged r t started runs a a') (e ∙ ap Err used) charged).halted.1

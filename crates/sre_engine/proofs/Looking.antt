@@ -23,13 +23,13 @@ use Rattle.sre_machine.specs.declared.turns.Halt.{Halt}
 use Rattle.sre_engine.specs.Answers.{Shown}
 use Rattle.sre_engine.specs.Counts.{SpentUpTo}
 use Rattle.sre_engine.specs.Candidates.{IsCandidate, ComparesFew, Failed}
-use Rattle.sre_engine.specs.Costs.{Charged}
+use Rattle.sre_engine.specs.Costs.{Charged, SearchCosts}
 use Rattle.sre_engine.specs.Prefixed.{IsLast, FitsAt}
 use Rattle.sre_engine.specs.Scans.{NoMatch}
 use Rattle.sre_engine.specs.Searches.{Answered, CountsInside}
 use Rattle.sre_engine.specs.declared.engine.candidates.Candidate.{Candidate}
 use Rattle.sre_engine.proofs.Answering.{NoneBefore, none_yet, none_at, some_at, span_at, found_first}
-use Rattle.sre_engine.proofs.Costing.{CostsSince, since_begin, since_run, since_given_up, gives_up_limited, passed_on}
+use Rattle.sre_engine.proofs.Costing.{CostsSince, since_begin, since_run, since_stopped, since_ended, passed_on}
 use Rattle.sre_engine.proofs.LeadingStarts.{none_joined, found_none_behind}
 use Rattle.sre_engine.proofs.MayStart.{RanBefore, ran_none, ran_later, ran_on, few_ran, counts_ran}
 use Rattle.sre_engine.proofs.Spending.{once_spent, run_spent}
@@ -78,6 +78,17 @@ module _ {S : Type 0} {text : Ghosts S} (r : Request S text) where
     again = old.again;
   }
 
+  -- what is charged where no further run is needed
+  pub charged_then : (n : RunnerValue) (given a : Allowance) (front : ℕ) → Searching r n given a front → (b : Bool)
+      → Charged r (Ok b) n.started (n.started + n.restarted) given a
+  charged_then n given a front old b = record {
+    limited = old.limited;
+    fewer = old.fewer;
+    spent = old.spent;
+    halted = tt;
+    cost = λ limited. since_ended r n.memo _ _ n.started (old.costs limited);
+  }
+
   -- where no start has a match the answer is no
   pub answered_no : (s : Shown) (p : ℕ) → ((t : Tree) → Whole (words_of (code_of r)) t → found (asked_of r) t ≡ None)
       → s.marks ≡ no_marks → RanBefore (asked_of r) (code_of r) s.started p → p ≤ end_of r + 1
@@ -117,6 +128,11 @@ module _ {S : Type 0} {text : Ghosts S} (r : Request S text) (n n' : RunnerValue
       (once_spent (asked_of r) (code_of r) c.literals c.cursor.position _ _ _ is.inside
       (λ t whole. costs.spent t (items_whole (code_of r) t whole))) began.started began.restarted
 
+  cost : is_limited given ≡ true → SearchCosts r (left_of given) (left_of a') n'.started
+  cost limited =
+      since_stopped r n.memo c.cursor _ _ _ n.started n'.started (old.costs limited)
+      (costs.stops (old.limited ∙ limited)) from began.started
+
   -- what is charged where it is not given up
   pub charged : (b : Bool) → Charged r (Ok b) n'.started (n'.started + n'.restarted) given a'
   charged b = record {
@@ -124,21 +140,18 @@ module _ {S : Type 0} {text : Ghosts S} (r : Request S text) (n n' : RunnerValue
     fewer = omega (arith, costs.fewer, old.fewer);
     spent = spent;
     halted = tt;
-    given_up = tt;
+    cost = cost;
   }
 
   -- and where it is
-  pub charged_given_up : (why : Halt) → told ≡ Err why → Halted a' why → (result : Result Bool Halt)
-      → IsErrAnd result (λ y. y ≡ why) → Charged r result n'.started (n'.started + n'.restarted) given a'
-  charged_given_up why e halts result passed = record {
+  pub charged_given_up : (why : Halt) → Halted a' why → (result : Result Bool Halt) → IsErrAnd result (λ y. y ≡ why)
+      → Charged r result n'.started (n'.started + n'.restarted) given a'
+  charged_given_up why halts result passed = record {
     limited = costs.limited ∙ old.limited;
     fewer = omega (arith, costs.fewer, old.fewer);
     spent = spent;
     halted = passed_on result why _ passed halts;
-    given_up = passed_on result why _ passed (λ used.
-        let limited = sym (costs.limited ∙ old.limited) ∙ gives_up_limited a' why halts used in
-        let run = rw e at costs.given_up in
-        since_given_up r n.memo c.cursor _ _ _ n.started n'.started (old.costs limited) (run used) from began.started);
+    cost = cost;
   }
 
   -- a state that shows no match
@@ -265,6 +278,11 @@ module _ {S : Type 0} {text : Ghosts S} (r : Request S text) (n n' : RunnerValue
             omega (arith, once.each t whole most within, mul-le-mul_right most few);
       }
 
+  once_cost : is_limited a ≡ true → SearchCosts r (left_of a) (left_of a') 1
+  once_cost limited =
+      since_stopped r n.memo start _ _ _ 0 1 (since_begin r n.memo (left_of a) memo.waits memo.closed)
+      (costs.stops limited) from refl
+
   -- what is charged where it is not given up
   pub once_charged : (b : Bool) → Charged r (Ok b) 1 2 a a'
   once_charged b = record {
@@ -272,20 +290,16 @@ module _ {S : Type 0} {text : Ghosts S} (r : Request S text) (n n' : RunnerValue
     fewer = costs.fewer;
     spent = twice_spent;
     halted = tt;
-    given_up = tt;
+    cost = once_cost;
   }
 
   -- and where it is
-  pub once_given_up : (why : Halt) → told ≡ Err why → Halted a' why → (result : Result Bool Halt)
-      → IsErrAnd result (λ y. y ≡ why) → Charged r result 1 2 a a'
-  once_given_up why e halts result passed = record {
+  pub once_given_up : (why : Halt) → Halted a' why → (result : Result Bool Halt) → IsErrAnd result (λ y. y ≡ why)
+      → Charged r result 1 2 a a'
+  once_given_up why halts result passed = record {
     limited = costs.limited;
     fewer = costs.fewer;
     spent = twice_spent;
     halted = passed_on result why _ passed halts;
-    given_up = passed_on result why _ passed (λ used.
-        let run = rw e at costs.given_up in
-        since_given_up r n.memo start _ _ _ 0 1 (since_begin r n.memo (left_of a) memo.waits memo.closed) (run used)
-        from
-        refl);
+    cost = once_cost;
   }

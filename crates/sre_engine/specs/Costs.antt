@@ -11,7 +11,6 @@ use Rattle.sre_model.specs.TreePrices.{most_steps}
 use Rattle.sre_machine.specs.Allowances.{is_limited, left_of, Halted}
 use Rattle.sre_machine.specs.declared.allowance.Allowance.{Allowance}
 use Rattle.sre_machine.specs.declared.turns.Halt.{Halt}
-use Rattle.sre_machine.specs.declared.turns.Halt.TheVariants as halt
 use Rattle.sre_machine.specs.Memos.{MemoValue}
 use Rattle.sre_machine.specs.Paying.{Remembering, HoldsBits, rows_from, each_of, window_of}
 use Rattle.sre_engine.specs.Counts.{SpentUpTo}
@@ -37,9 +36,9 @@ pub record CostsUpTo {S : Type 0} {text : Ghosts S} (r : Request S text) (begun 
       ⊎ ((tolls n : ℕ) × (tolls ≤ n) × HoldsBits r pl now n × (now.is_open ≡ true)
       × (given ≤ left + begun.waits + search_cost r pl runs tolls)))
 
--- a search that exceeded its limit: how many steps it took at most, where no allocation failed. They cost no more than
--- what its memo waits, and the credits that it pays
-pub record SearchGivenUp {S : Type 0} {text : Ghosts S} (r : Request S text) (given left runs : ℕ) : Type 0 where
+-- a search, whatever it tells: how many steps it takes at most, where no allocation fails. They cost no more than what
+-- its memo waits, and the credits that it pays
+pub record SearchCosts {S : Type 0} {text : Ghosts S} (r : Request S text) (given left runs : ℕ) : Type 0 where
   pub cost : (pl : Remembering r)
       → Refused ⊎ (given ≤ left + most_waits r + search_cost r pl runs (most_tolls r pl))
 
@@ -50,4 +49,4 @@ pub record Charged {S : Type 0} {text : Ghosts S} (r : Request S text) (told : R
   pub fewer : left_of a' ≤ left_of a
   pub spent : SpentUpTo (asked_of r) (code_of r) (left_of a) (left_of a') runs
   pub halted : IfErr told (Halted a')
-  pub given_up : IfErr told (λ why. why ≡ halt.UsedUp → SearchGivenUp r (left_of a) (left_of a') started)
+  pub cost : is_limited a ≡ true → SearchCosts r (left_of a) (left_of a') started

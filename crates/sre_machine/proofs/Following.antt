@@ -1,6 +1,6 @@
 -- Steps one after the other: what they cost at most, where all credits that are granted are paid.
-use Rattle.std.proofs.Common.{Option, ◌≢◌, ◌/◌, ◌≡◌, ℕ, ◌+◌, ◌*◌, ◌≤◌, ◌⊎◌, inl, inr, true}
-use Rattle.std.proofs.Common.{false, List, [], Result, Ok, Err, IfOk, IfErr}
+use Rattle.std.proofs.Common.{◌/◌, ◌≡◌, ℕ, ◌+◌, ◌*◌, ◌≤◌, ◌⊎◌, inl, inr, true}
+use Rattle.std.proofs.Common.{false, List, [], Result, Ok, Err, IfOk}
 use Rattle.std.proofs.Common.{refl, sym, ap, ◌∙◌, subst, arith}
 use Rattle.std.proofs.Common.{mul-le-mul, add-mul, one-mul}
 use Rattle.std.proofs.lemmas.Bool.{true≢false}
@@ -29,14 +29,12 @@ use Rattle.sre_code.proofs.Checked.{whole_items}
 use Rattle.sre_model.specs.Grammar.{Whole}
 use Rattle.sre_model.specs.References.{refers}
 use Rattle.sre_model.specs.RunCounts.{most_counts}
-use Rattle.sre_machine.specs.declared.turns.Decision.{Decision}
-use Rattle.sre_machine.specs.declared.turns.Decision.TheVariants.{Decided, Opened}
 use Rattle.sre_request.specs.Runs.{run_of}
 use Rattle.sre_machine.specs.Memos.{MemoValue, KeepsEndsOf, KeepsFrom}
-use Rattle.sre_machine.specs.Paying.{Pays, Remembering, rows_from, Within, Follows, Counts, GivenUp, Settles, Waited}
+use Rattle.sre_machine.specs.Paying.{Pays, Remembering, rows_from, Within, Follows, Counts, Stops, Settles, Waited}
 use Rattle.sre_turns.specs.Prices.{steps}
 use Rattle.sre_model.specs.TreePrices.{most_steps}
-use Rattle.sre_machine.specs.Paying.{HoldsBits, run_cost, each_of, RunGivenUp, RunSettles, AnewGivenUp}
+use Rattle.sre_machine.specs.Paying.{HoldsBits, run_cost, each_of, RunStops, RunSettles, AnewStops}
 use Rattle.sre_machine.specs.Paying.{AnewSettles}
 use Rattle.sre_turns.proofs.Start.{first_limit, started, behind_has}
 use Rattle.sre_turns.proofs.SettledMoves.{settled_behind}
@@ -146,10 +144,10 @@ module _ {S : Type 0} {text : Ghosts S} (r : Request S text) (all : List Way) (f
       ];
     }
 
-    -- the steps are used up
-    pub given_up : (n : Next) (b' : BoardValue) → Follows r all first n b b' m m' before turned
-        → GivenUp r all first b m before given left'
-    given_up n b' f = record {
+    -- what they all cost, this one too
+    pub stops : (n : Next) (b' : BoardValue) → Follows r all first n b b' m m' before turned
+        → (m.is_open ≡ false → given ≤ left' + m.waits) → Stops r all first b m before given left'
+    stops n b' f waited = record {
       cost = λ pl keeps limit x start none k h.
           let y = f.each limit x in
           elim (y.5.paid pl keeps start k h) [
@@ -167,6 +165,7 @@ module _ {S : Type 0} {text : Ghosts S} (r : Request S text) (all : List Way) (f
                   )
             ]
           ];
+      waited = waited;
     }
 
     -- the whole is decided, with no outcome
@@ -174,8 +173,8 @@ module _ {S : Type 0} {text : Ghosts S} (r : Request S text) (all : List Way) (f
         → m₁ ≡ record m' { waits = m₁.waits }
         → ((l : Limit) → Stands (run_of r) all l n b' → (more : Limit) × Grants l more × Pays r m₁ l m'' more
         × (Counted (run_of r) → (more.trying ≡ []) × Within (run_of r) more))
-        → Settles r all first b m m'' before given left'
-    settles n b' m₁ m'' f waits last = record {
+        → (m.is_open ≡ false → Waited m m'' given left') → Settles r all first b m m'' before given left'
+    settles n b' m₁ m'' f waits last waited = record {
       cost = λ pl keeps limit x start none k h.
           let y = f.each limit x in
           let w = last y.0 y.1 in
@@ -197,6 +196,7 @@ module _ {S : Type 0} {text : Ghosts S} (r : Request S text) (all : List Way) (f
               )
             ]
           ];
+      waited = waited;
     }
 
 -- a step that was waited for
@@ -230,28 +230,27 @@ module _ {S : Type 0} {text : Ghosts S} (r : Request S text) (all : List Way) (i
       mul-le-mul (omega (arith, few_steps pl)) (omega arith) in
       omega (arith, l, spent)
 
-  pub run_given_up : GivenUp r all (next.At i start) b m 0 left left'
-      → ((pl : Remembering r) → m.is_open ≡ false → left ≤ left' + m.waits) → RunGivenUp r start m left left'
-  run_given_up g waited = record {
+  pub run_stops : Stops r all (next.At i start) b m 0 left left' → RunStops r start m left left'
+  run_stops g = record {
     keeping = λ pl from keeps n h.
         let limit = first_limit (run_of r) i t start (start_of r) in
         elim (g.cost pl keeps limit (stands (start_of r) from) refl refl n h) [
           | inl refused ↦ inl refused
           | inr z ↦ inr (z.0, omega (arith, z.1), few_first pl z.0 z.2)
         ];
-    closed = λ pl from closed. inr (0, omega arith, omega (arith, waited pl closed));
+    closed = λ pl from closed. inr (0, omega arith, omega (arith, g.waited closed));
   }
 
   pub run_settles : (m' : MemoValue) → Settles r all (next.At i start) b m m' 0 left left'
-      → ((pl : Remembering r) → m.is_open ≡ false → Waited m m' left left') → RunSettles r start m m' left left'
-  run_settles m' g waited = record {
+      → RunSettles r start m m' left left'
+  run_settles m' g = record {
     keeping = λ pl from keeps n h.
         let limit = first_limit (run_of r) i t start (start_of r) in
         elim (g.cost pl keeps limit (stands (start_of r) from) refl refl n h) [
           | inl refused ↦ inl refused
           | inr z ↦ inr (z.0, z.1, omega (arith, z.2), z.3, z.4, few_first pl z.0 z.5)
         ];
-    closed = λ pl from closed. let w = waited pl closed in inr (inl (w.closed, w.turns));
+    closed = λ pl from closed. let w = g.waited closed in inr (inl (w.closed, w.turns));
   }
 
 -- a run with no outcome, where a refusal is not kept beyond it
@@ -287,8 +286,8 @@ module _ {S : Type 0} {text : Ghosts S} (r : Request S text) (start : StringCurs
     forked = tt;
   }
 
-  pub anew_given_up : (left' : ℕ) → RunGivenUp r start m left left' → AnewGivenUp r start left left'
-  anew_given_up left' g = record {
+  pub anew_stops : (left' : ℕ) → RunStops r start m left left' → AnewStops r start left left'
+  anew_stops left' g = record {
     cost = λ pl from. elim (g.keeping pl from keeps 0 (none_held pl)) [
       | inl refused ↦ inl refused
       | inr z ↦ inr (z.0, omega (arith, z.1), z.2)
@@ -307,13 +306,13 @@ module _ {S : Type 0} {text : Ghosts S} (r : Request S text) (start : StringCurs
 
 -- and what that says of the whole: the run before it was waited for
 module _ {S : Type 0} {text : Ghosts S} (r : Request S text) (start : StringCursor) (m : MemoValue)
-    (given stood left : ℕ) (closed : m.is_open ≡ false) (waited : Remembering r → given ≤ stood + m.waits) where
-  pub again_given_up : AnewGivenUp r start stood left → RunGivenUp r start m given left
-  again_given_up g = record {
+    (given stood left : ℕ) (closed : m.is_open ≡ false) (waited : given ≤ stood + m.waits) where
+  pub again_stops : AnewStops r start stood left → RunStops r start m given left
+  again_stops g = record {
     keeping = λ pl from kept n h. absurd (true≢false (sym kept ∙ closed));
     closed = λ pl from c. elim (g.cost pl from) [
       | inl refused ↦ inl refused
-      | inr z ↦ inr (z.0, z.1, omega (arith, z.2, waited pl))
+      | inr z ↦ inr (z.0, z.1, omega (arith, z.2, waited))
     ];
   }
 
@@ -322,7 +321,7 @@ module _ {S : Type 0} {text : Ghosts S} (r : Request S text) (start : StringCurs
     keeping = λ pl from kept n h. absurd (true≢false (sym kept ∙ closed));
     closed = λ pl from c. elim (g.cost pl from) [
       | inl refused ↦ inl refused
-      | inr z ↦ inr (inr (z.0, z.1, z.2, z.3, z.4, omega (arith, z.5, waited pl)))
+      | inr z ↦ inr (inr (z.0, z.1, z.2, z.3, z.4, omega (arith, z.5, waited)))
     ];
   }
 
@@ -340,26 +339,11 @@ begins_run r literals start b v whole behind stands inside fresh first from =
     (λ pl. settled_behind r.words r.subject pl.tree pl.whole first literals start.position no_marks v
     (behind pl.tree pl.whole) from inside)
 
--- what follows where a result is an error, or is none
-pub if_err : {T E : Type 0} {A B : E → Type 0} (x : Result T E) → ((e : E) → x ≡ Err e → A e → B e) → IfErr x A
-    → IfErr x B
-if_err (Ok t) f h = h
-if_err (Err e) f h = f e refl h
-
+-- what follows where a result is none
 pub if_ok : {T E : Type 0} {A B : T → Type 0} (x : Result T E) → ((t : T) → x ≡ Ok t → A t → B t) → IfOk x A
     → IfOk x B
 if_ok (Ok t) f h = f t refl h
 if_ok (Err e) f h = h
-
-pub err_at : {T E : Type 0} (A : E → Type 0) (x : Result T E) (e : E) → x ≡ Err e → IfErr x A → A e
-err_at {T} {E} A x e is h = subst (λ (y : Result T E). IfErr y A) is h
-
-pub ok_at : {T E : Type 0} (A : T → Type 0) (x : Result T E) (t : T) → x ≡ Ok t → IfOk x A → A t
-ok_at {T} {E} A x t is h = subst (λ (y : Result T E). IfOk y A) is h
-
--- what is decided is not to begin again
-pub not_opened : {found : Option StringCursor} (told : Decision) → told ≡ Decided found → told ≢ Opened
-not_opened told e o = let both = sym e ∙ o in absurd (cc)
 
 -- what a step goes over while failures are memoized counts for so much
 pub each_most : {S : Type 0} {text : Ghosts S} (r : Request S text) (code : Code) (most counted window passed : ℕ)

@@ -95,16 +95,23 @@ pub record Counts {S : Type 0} {text : Ghosts S} (r : Request S text) (m m' : Me
   pub spent : m.is_open ≡ true
       → Refused ⊎ ((m'.is_open ≡ true) × ((pl : Remembering r) → left ≤ left' + turned * each_of r pl))
 
--- steps that were used up while failures were memoized: how many there were at most, where no allocation failed
-pub record GivenUp {S : Type 0} {text : Ghosts S} (r : Request S text) (all : List Way) (first : Next) (b : BoardValue)
+-- failures were not memoized, and each step that was taken was waited for
+pub record Waited (m m' : MemoValue) (left left' : ℕ) : Type 0 where
+  pub closed : m'.is_open ≡ false
+  pub turns : left + m'.waits ≤ left' + m.waits
+
+-- however steps ended: how many there were at most, where no allocation failed; where failures were not memoized at
+-- first, each was waited for
+pub record Stops {S : Type 0} {text : Ghosts S} (r : Request S text) (all : List Way) (first : Next) (b : BoardValue)
     (m : MemoValue) (before left left' : ℕ) : Type 0 where
   pub cost : (pl : Remembering r) → m.is_open ≡ true → (limit : Limit) → Stands (run_of r) all limit first b
       → limit.start ≡ start_of r → limit.taken ≡ before → (n : ℕ) → Holding r pl m limit n
       → Refused ⊎ ((tolls : ℕ)
       × (tolls + n ≤ limit.tolls + most_paid (run_of r) pl.plain (rows_from r pl))
       × (left ≤ left' + (limit.granted + tolls + 1) * each_of r pl))
+  pub waited : m.is_open ≡ false → left ≤ left' + m.waits
 
--- steps by which the whole was decided, with no outcome: how many there were at most, and what the memory holds then
+-- steps by which the whole was decided, with no outcome: the same, and what the memory holds then
 pub record Settles {S : Type 0} {text : Ghosts S} (r : Request S text) (all : List Way) (first : Next) (b : BoardValue)
     (m m' : MemoValue) (before left left' : ℕ) : Type 0 where
   pub cost : (pl : Remembering r) → m.is_open ≡ true → (limit : Limit) → Stands (run_of r) all limit first b
@@ -113,11 +120,7 @@ pub record Settles {S : Type 0} {text : Ghosts S} (r : Request S text) (all : Li
       × (tolls + n ≤ limit.tolls + n')
       × Holds r pl m' [] n' × (m'.is_open ≡ true)
       × (left ≤ left' + (limit.granted + tolls + 1) * each_of r pl))
-
--- failures were not memoized, and each step that was taken was waited for
-pub record Waited (m m' : MemoValue) (left left' : ℕ) : Type 0 where
-  pub closed : m'.is_open ≡ false
-  pub turns : left + m'.waits ≤ left' + m.waits
+  pub waited : m.is_open ≡ false → Waited m m' left left'
 
 -- what a run counts for at most, by the credits that are granted to it
 abbrev pub run_cost : {S : Type 0} {text : Ghosts S} (r : Request S text) → Remembering r → ℕ → ℕ
@@ -127,8 +130,8 @@ run_cost r pl tolls = (1 + most_steps pl.plain.tree + tolls) * each_of r pl
 abbrev pub HoldsBits : {S : Type 0} {text : Ghosts S} (r : Request S text) → Remembering r → MemoValue → ℕ → Type 0
 HoldsBits r pl m n = Holds r pl m [] n
 
--- a run from a cursor that was given up: how many steps it took at most, where no allocation failed
-pub record RunGivenUp {S : Type 0} {text : Ghosts S} (r : Request S text) (start : StringCursor) (m : MemoValue)
+-- a run from a cursor, however it ended: how many steps it took at most, where no allocation failed
+pub record RunStops {S : Type 0} {text : Ghosts S} (r : Request S text) (start : StringCursor) (m : MemoValue)
     (left left' : ℕ) : Type 0 where
   pub keeping : (pl : Remembering r) → start_of r ≤ start.position → m.is_open ≡ true → (n : ℕ) → HoldsBits r pl m n
       → Refused
@@ -149,8 +152,8 @@ pub record RunSettles {S : Type 0} {text : Ghosts S} (r : Request S text) (start
       ⊎ ((tolls n' : ℕ) × (tolls ≤ n') × HoldsBits r pl m' n' × (m'.is_open ≡ true)
       × (left ≤ left' + m.waits + run_cost r pl tolls)))
 
--- a run that began again with failures memoized, of which there were none, and was given up
-pub record AnewGivenUp {S : Type 0} {text : Ghosts S} (r : Request S text) (start : StringCursor) (left left' : ℕ) :
+-- a run that began again with failures memoized, of which there were none
+pub record AnewStops {S : Type 0} {text : Ghosts S} (r : Request S text) (start : StringCursor) (left left' : ℕ) :
     Type 0 where
   pub cost : (pl : Remembering r) → start_of r ≤ start.position
       → Refused ⊎ ((tolls : ℕ) × (tolls ≤ most_paid (run_of r) pl.plain (rows_from r pl))

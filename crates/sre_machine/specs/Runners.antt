@@ -1,7 +1,7 @@
 -- What a runner has, and what an attempt of it preserves, counts and costs.
 -- Definitions for the contracts inside these crates; what sre_engine makes public does not rest on it.
 use Rattle.std.specs.Prelude.{⊤, ℕ, ◌+◌, ◌-◌, ◌*◌, ◌^◌, ◌≡◌, ◌<◌, ◌≤◌, Bool, true, false, Option, None, Some}
-use Rattle.std.specs.Prelude.{Result, Ok, Err, IfOk, IfErr}
+use Rattle.std.specs.Prelude.{Result, Ok, Err, IfOk}
 use Rattle.sre_chars.specs.declared.string.StrDrive.{Ghosts}
 use Rattle.sre_chars.specs.declared.string.StringCursor.{StringCursor}
 use Rattle.sre_model.specs.Tree.{Tree}
@@ -16,10 +16,9 @@ use Rattle.sre_request.specs.Requests.{asked_of, end_of}
 use Rattle.sre_request.specs.Runs.{run_of, Standing}
 use Rattle.sre_machine.specs.Allowances.{is_limited, left_of}
 use Rattle.sre_machine.specs.Memos.{MemoValue, Recalls}
-use Rattle.sre_machine.specs.Paying.{RunGivenUp, RunSettles}
+use Rattle.sre_machine.specs.Paying.{RunStops, RunSettles}
 use Rattle.sre_machine.specs.declared.allowance.Allowance.{Allowance}
 use Rattle.sre_machine.specs.declared.turns.Halt.{Halt}
-use Rattle.sre_machine.specs.declared.turns.Halt.TheVariants as halt
 
 -- the board on which it runs, what it remembers of failures, and how many runs were begun: those at a start, and those
 -- that began again there
@@ -71,6 +70,6 @@ pub record AttemptCosts {S : Type 0} {text : Ghosts S} (r : Request S text) (lit
   pub spent : (t : Tree) → WholeItems (run_of r).words t → left_of a ≤ left_of a'
       + (1 + n'.restarted - n.restarted)
       * (turns_of (run_of r).subject (behind_items literals t) start.position * most_each (asked_of r))
-  pub given_up : IfErr told (λ why. why ≡ halt.UsedUp → RunGivenUp r start n.memo (left_of a) (left_of a'))
+  pub stops : is_limited a ≡ true → RunStops r start n.memo (left_of a) (left_of a')
   pub settles : is_limited a ≡ true
       → IfOk told (λ found. found ≡ None → RunSettles r start n.memo n'.memo (left_of a) (left_of a'))

@@ -1,6 +1,6 @@
 -- What steps take off those that are left, and what a run of them costs.
 -- Definitions for the machine's contracts; what sre_engine makes public does not rest on it.
-use Rattle.std.specs.Prelude.{ℕ, ◌+◌, ◌*◌, ◌≡◌, ◌≢◌, ◌≤◌, Bool, true, false, Option, None, Some, List}
+use Rattle.std.specs.Prelude.{ℕ, ◌+◌, ◌*◌, ◌≡◌, ◌≤◌, Bool, true, false, Option, None, Some, List}
 use Rattle.std.specs.Prelude.{Result, Ok, Err, IfOk, IfErr}
 use Rattle.sre_chars.specs.declared.string.StrDrive.{Ghosts}
 use Rattle.sre_chars.specs.declared.string.StringCursor.{StringCursor}
@@ -17,8 +17,7 @@ use Rattle.sre_request.specs.Requests.{asked_of}
 use Rattle.sre_request.specs.Runs.{run_of}
 use Rattle.sre_machine.specs.Allowances.{is_limited, left_of}
 use Rattle.sre_machine.specs.Memos.{MemoValue}
-use Rattle.sre_machine.specs.Paying.{Remembering, GivenUp, Settles, Waited, RunGivenUp, RunSettles}
-use Rattle.sre_machine.specs.Paying.{AnewGivenUp, AnewSettles, IfDecided}
+use Rattle.sre_machine.specs.Paying.{Settles, RunStops, RunSettles, AnewStops, AnewSettles, IfDecided}
 use Rattle.sre_machine.specs.declared.allowance.Allowance.{Allowance}
 use Rattle.sre_machine.specs.declared.turns.Decision.{Decision}
 use Rattle.sre_machine.specs.declared.turns.Decision.TheVariants.{Decided, Opened}
@@ -71,39 +70,28 @@ pub record RunDecides {S : Type 0} {text : Ghosts S} (r : Request S text) (liter
       (λ found. Decides (run_of r) (outcomes (run_of r) (behind_items literals t) start) found b.marks))
   pub opened : OpensLimited told m a
 
--- turns within a limit that begin with no failure kept: each one was waited for
-pub record AreWaited (told : Result Decision Halt) (m m' : MemoValue) (left left' : ℕ) : Type 0 where
-  pub decided : IfOk told (λ d. d ≢ Opened → Waited m m' left left')
-  pub opened : IfOk told (λ d. d ≡ Opened → left ≤ left' + m.waits)
-  pub given_up : IfErr told (λ why. why ≡ halt.UsedUp → left ≤ left' + m.waits)
-
--- what turns cost by their limit, and by what failed in them
+-- what turns cost by their limit, and by what failed in them where there is no outcome
 pub record TurnsCost {S : Type 0} {text : Ghosts S} (r : Request S text) (all : List Way) (limit : ℕ) (first : Next)
     (b : BoardValue) (m m' : MemoValue) (before : ℕ) (told : Result Decision Halt) (a a' : Allowance) : Type 0 where
   pub spent : left_of a ≤ left_of a' + (limit + 1) * most_each (asked_of r)
-  pub given_up : IfErr told
-      (λ why. why ≡ halt.UsedUp → GivenUp r all first b m before (left_of a) (left_of a'))
   pub settles : is_limited a ≡ true → IfOk told
       (λ d. d ≡ Decided None → Settles r all first b m m' before (left_of a) (left_of a'))
-  pub waited : is_limited a ≡ true → m.is_open ≡ false → Remembering r
-      → AreWaited told m m' (left_of a) (left_of a')
 
 -- what a run costs from a cursor behind some literals
 pub record RunCosts {S : Type 0} {text : Ghosts S} (r : Request S text) (literals : ℕ) (start : StringCursor)
     (m m' : MemoValue) (told : Result Decision Halt) (a a' : Allowance) : Type 0 where
   pub spent : (t : Tree) → WholeItems (run_of r).words t → left_of a ≤ left_of a'
       + turns_of (run_of r).subject (behind_items literals t) start.position * most_each (asked_of r)
-  pub given_up : IfErr told (λ why. why ≡ halt.UsedUp → RunGivenUp r start m (left_of a) (left_of a'))
+  pub stops : is_limited a ≡ true → RunStops r start m (left_of a) (left_of a')
   pub settles : is_limited a ≡ true
       → IfOk told (λ d. d ≡ Decided None → RunSettles r start m m' (left_of a) (left_of a'))
-  pub waited : is_limited a ≡ true → m.is_open ≡ false → Remembering r
-      → IfOk told (λ d. d ≡ Opened → left_of a ≤ left_of a' + m.waits)
+  pub waited : is_limited a ≡ true → m.is_open ≡ false → left_of a ≤ left_of a' + m.waits
 
 -- and of a run that begins again, with failures kept, of which there are none yet
 pub record AnewCosts {S : Type 0} {text : Ghosts S} (r : Request S text) (literals : ℕ) (start : StringCursor)
     (m' : MemoValue) (told : Result (Option StringCursor) Halt) (a a' : Allowance) : Type 0 where
   pub spent : (t : Tree) → WholeItems (run_of r).words t → left_of a ≤ left_of a'
       + turns_of (run_of r).subject (behind_items literals t) start.position * most_each (asked_of r)
-  pub given_up : IfErr told (λ why. why ≡ halt.UsedUp → AnewGivenUp r start (left_of a) (left_of a'))
+  pub stops : is_limited a ≡ true → AnewStops r start (left_of a) (left_of a')
   pub settles : is_limited a ≡ true
       → IfOk told (λ found. found ≡ None → AnewSettles r start m' (left_of a) (left_of a'))

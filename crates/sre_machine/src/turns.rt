@@ -6,7 +6,7 @@ ghost use Rattle.sre_model.specs.TurnBounds.{most_each};
 ghost use Rattle.sre_turns.specs.Machine.{SaysAccepted, Decides};
 ghost use Rattle.sre_machine.specs.Allowances.{is_limited, left_of};
 ghost use Rattle.sre_machine.specs.Memos.{RecallsOf};
-ghost use Rattle.sre_machine.specs.Paying.{Remembering, each_of};
+ghost use Rattle.sre_machine.specs.Paying.{Remembering, each_of, Stops};
 ghost use Rattle.sre_machine.specs.Turns.{WithinTurns};
 ghost use Rattle.sre_machine.specs.Spending.{TurnsDecide, Spends, TurnsCost, end_if, decision_of, told_of};
 ghost use Rattle.sre_request.specs.Requests.{asked_of};
@@ -219,6 +219,8 @@ fn remembering_turns<L: Ledger, K: Plan, S: StrDrive, A: Allocator, const LIMITE
     ensures spends { Spends result allowed.old allowed.new }
     ensures costs { TurnsCost req.now K.all K.limit first board.old memo.old memo.new turned.old result allowed.old
         allowed.new }
+    ensures stops { is_limited allowed.old ≡ true → Stops req.now K.all first board.old memo.old turned.old
+        (left_of allowed.old) (left_of allowed.new) }
 {
     let waits = may_wait::<A, LIMITED>(memo);
     let mut next = first;
@@ -401,6 +403,8 @@ pub(crate) fn turns_from<L: Ledger, K: Plan, S: StrDrive, A: Allocator>(
     ensures spends { Spends result allowed.old allowed.new }
     ensures costs { TurnsCost req.now K.all K.limit (Next.At (2 * literals) start) board.old memo.old memo.new 0
         (told_of result ended.new) allowed.old allowed.new }
+    ensures stops { is_limited allowed.old ≡ true → Stops req.now K.all (Next.At (2 * literals) start) board.old
+        memo.old 0 (left_of allowed.old) (left_of allowed.new) }
 {
     let (book, share) = blank.open::<L>();
     let mut turned = Turned { book, share };

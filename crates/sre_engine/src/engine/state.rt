@@ -235,8 +235,9 @@ impl<A: Allocator + Copy> State<A> {
     /// code. Once a search, the memo also makes passes over the bytecode, and it allocates rows of bits for the whole
     /// range.
     ///
-    /// If the code meets the conditions of a step bound (`IsRemembered`), a budget above `step_bound` is exceeded only
-    /// if an allocation fails. `Code::step_bound` computes such a budget.
+    /// If the code meets the conditions of a step bound (`IsRemembered`), the call takes at most `step_bound` steps,
+    /// whatever the budget and the answer are, unless an allocation fails. So a budget above it is exceeded only if an
+    /// allocation fails. `Code::step_bound` computes such a budget.
     ///
     /// ```
     /// // The bytecode of `a`.

@@ -10,7 +10,7 @@ use Rattle.sre_machine.specs.Memos.{MemoValue}
 use Rattle.sre_machine.proofs.Taken.{stands_at, proceeds_taken, later_taken, end_taken}
 use Rattle.sre_machine.specs.Paying.{Pays}
 use Rattle.sre_machine.proofs.Paying.{pays_nothing}
-use Rattle.sre_machine.proofs.Following.{follows_on, given_up, settles, stands_there}
+use Rattle.sre_machine.proofs.Following.{follows_on, stops, settles, stands_there}
 use Rattle.sre_machine.proofs.Following.{counts_on, waited_on, same_memo, kept_memo}
 use Rattle.sre_machine.proofs.Ending.{kept_then, ended_then}
 use Rattle.sre_machine.specs.Turns.{KeepsBodyEnd}
@@ -316,28 +316,14 @@ pub returns-then-not-takes_turns-clause-costs : goal.returns-then-not-takes_turn
 returns-then-not-takes_turns-clause-costs g c = record {
   spent = last_spent _ _ _ _ _ _ c.turn.invariant.spent
       (omega (arith, c.takes_turns.ensures.spent, c.turns_due-turns.ensures.most)) c.turn.invariant.within;
-  given_up = λ _.
-      given_up c.args.req.now g.K.Plan.all c.args.first c.args.board.now c.args.memo.now
-      c.args.turned.now c.turn.memo c.turn.turned (left_of c.args.allowed.now) (left_of c.turn.allowed)
-      (left_of c.takes_turns.new.allowed) c.turns_due-turns.result c.turn.invariant.counts
-      c.turns_due-turns.ensures.each c.takes_turns.ensures.spent c.turn.next c.turn.board c.turn.invariant.follows;
   settles = λ _. tt;
-  waited = λ limited closed pl. record {
-    decided = tt;
-    opened = tt;
-    given_up = λ _.
-        let w = c.may_wait-waits.ensures.waits (c.requires.limits ∙ limited) closed in
-        let x = c.turn.invariant.waited w in
-        omega (arith, x.turns, c.takes_turns.ensures.spent, c.waits_on.ensures.waited c.if-not-waits_on.false w);
-  };
 }
 
 pub returns-in-None-clause-costs : goal.returns-in-None-clause-costs
 returns-in-None-clause-costs g c = record {
   spent = last_spent _ _ _ _ _ _ c.turn.invariant.spent
       (omega (arith, c.takes_turns.ensures.spent, c.turns_due-turns.ensures.most)) c.turn.invariant.within;
-  given_up = tt;
-  settles = λ _ _.
+  settles = λ limited _.
       let r = run_of c.args.req.now in
       let finishes = rw c.in-None.is at c.in_ok-after-in-Back.ensures.next in
       settles c.args.req.now g.K.Plan.all c.args.first c.args.board.now c.args.memo.now
@@ -347,16 +333,112 @@ returns-in-None-clause-costs g c = record {
       c.waits_on.new.memo c.back.new.memo c.turn.invariant.follows c.waits_on.ensures.same
       (λ l x.
       let y = (finishes g.K.Plan.all l (stands_there r _ l c.turn.next next.Back c.turn.board
-      c.turns_due-turns.new.board c.in-Back.is c.turns_due-turns.ensures.board x)).1 in (y.0, y.1, y.2 refl, y.3));
-  waited = λ limited closed pl. record {
-    decided = λ _.
-        let w = c.may_wait-waits.ensures.waits (c.requires.limits ∙ limited) closed in
-        waited_on c.args.memo.now c.turn.memo c.waits_on.new.memo c.back.new.memo (left_of c.args.allowed.now)
-        (left_of c.turn.allowed) (left_of c.takes_turns.new.allowed) c.turns_due-turns.result
-        (c.turn.invariant.waited w) c.waits_on.ensures.same
-        (c.waits_on.ensures.waited c.if-not-waits_on.false w) c.takes_turns.ensures.spent
-        (λ h. kept_memo c.waits_on.new.memo c.back.new.memo c.in_ok-after-in-Back.ensures.same);
-    opened = λ o. absurd (cc o);
-    given_up = tt;
-  };
+      c.turns_due-turns.new.board c.in-Back.is c.turns_due-turns.ensures.board x)).1 in (y.0, y.1, y.2 refl, y.3))
+      (λ closed.
+      let w = c.may_wait-waits.ensures.waits (c.requires.limits ∙ limited) closed in
+      waited_on c.args.memo.now c.turn.memo c.waits_on.new.memo c.back.new.memo (left_of c.args.allowed.now)
+      (left_of c.turn.allowed) (left_of c.takes_turns.new.allowed) c.turns_due-turns.result
+      (c.turn.invariant.waited w) c.waits_on.ensures.same
+      (c.waits_on.ensures.waited c.if-not-waits_on.false w) c.takes_turns.ensures.spent
+      (λ h. kept_memo c.waits_on.new.memo c.back.new.memo c.in_ok-after-in-Back.ensures.same));
 }
+
+pub returns-then-not-waits_on-clause-stops : goal.returns-then-not-waits_on-clause-stops
+returns-then-not-waits_on-clause-stops g c = λ limited.
+    stops c.args.req.now g.K.Plan.all c.args.first c.args.board.now c.args.memo.now c.args.turned.now c.turn.memo
+    c.turn.turned (left_of c.args.allowed.now) (left_of c.turn.allowed) (left_of c.turn.allowed) 0
+    c.turn.invariant.counts (λ _ _. omega arith) (omega arith) c.turn.next c.turn.board c.turn.invariant.follows
+    (λ closed. omega (
+      arith,
+      (c.turn.invariant.waited (c.may_wait-waits.ensures.waits (c.requires.limits ∙ limited) closed)).turns,
+    ))
+
+pub returns-then-not-takes_turns-clause-stops : goal.returns-then-not-takes_turns-clause-stops
+returns-then-not-takes_turns-clause-stops g c = λ limited.
+    stops c.args.req.now g.K.Plan.all c.args.first c.args.board.now c.args.memo.now c.args.turned.now c.turn.memo
+    c.turn.turned (left_of c.args.allowed.now) (left_of c.turn.allowed) (left_of c.takes_turns.new.allowed)
+    c.turns_due-turns.result c.turn.invariant.counts c.turns_due-turns.ensures.each c.takes_turns.ensures.spent
+    c.turn.next c.turn.board c.turn.invariant.follows
+    (λ closed.
+    let w = c.may_wait-waits.ensures.waits (c.requires.limits ∙ limited) closed in
+    omega (
+      arith,
+      (c.turn.invariant.waited w).turns,
+      c.takes_turns.ensures.spent,
+      c.waits_on.ensures.waited c.if-not-waits_on.false w,
+    ))
+
+pub returns-in_err-next-in-At-clause-stops : goal.returns-in_err-next-in-At-clause-stops
+returns-in_err-next-in-At-clause-stops g c = λ limited.
+    stops c.args.req.now g.K.Plan.all c.args.first c.args.board.now c.args.memo.now c.args.turned.now c.turn.memo
+    c.turn.turned (left_of c.args.allowed.now) (left_of c.turn.allowed) (left_of c.takes_turns.new.allowed)
+    c.turns_due-turns.result c.turn.invariant.counts c.turns_due-turns.ensures.each c.takes_turns.ensures.spent
+    c.turn.next c.turn.board c.turn.invariant.follows
+    (λ closed.
+    let w = c.may_wait-waits.ensures.waits (c.requires.limits ∙ limited) closed in
+    omega (
+      arith,
+      (c.turn.invariant.waited w).turns,
+      c.takes_turns.ensures.spent,
+      c.waits_on.ensures.waited c.if-not-waits_on.false w,
+    ))
+
+pub returns-in_err-next-in-Again-clause-stops : goal.returns-in_err-next-in-Again-clause-stops
+returns-in_err-next-in-Again-clause-stops g c = λ limited.
+    stops c.args.req.now g.K.Plan.all c.args.first c.args.board.now c.args.memo.now c.args.turned.now c.turn.memo
+    c.turn.turned (left_of c.args.allowed.now) (left_of c.turn.allowed) (left_of c.takes_turns.new.allowed)
+    c.turns_due-turns.result c.turn.invariant.counts c.turns_due-turns.ensures.each c.takes_turns.ensures.spent
+    c.turn.next c.turn.board c.turn.invariant.follows
+    (λ closed.
+    let w = c.may_wait-waits.ensures.waits (c.requires.limits ∙ limited) closed in
+    omega (
+      arith,
+      (c.turn.invariant.waited w).turns,
+      c.takes_turns.ensures.spent,
+      c.waits_on.ensures.waited c.if-not-waits_on.false w,
+    ))
+
+pub returns-in_err-after-in-Back-clause-stops : goal.returns-in_err-after-in-Back-clause-stops
+returns-in_err-after-in-Back-clause-stops g c = λ limited.
+    stops c.args.req.now g.K.Plan.all c.args.first c.args.board.now c.args.memo.now c.args.turned.now c.turn.memo
+    c.turn.turned (left_of c.args.allowed.now) (left_of c.turn.allowed) (left_of c.takes_turns.new.allowed)
+    c.turns_due-turns.result c.turn.invariant.counts c.turns_due-turns.ensures.each c.takes_turns.ensures.spent
+    c.turn.next c.turn.board c.turn.invariant.follows
+    (λ closed.
+    let w = c.may_wait-waits.ensures.waits (c.requires.limits ∙ limited) closed in
+    omega (
+      arith,
+      (c.turn.invariant.waited w).turns,
+      c.takes_turns.ensures.spent,
+      c.waits_on.ensures.waited c.if-not-waits_on.false w,
+    ))
+
+pub returns-in-None-clause-stops : goal.returns-in-None-clause-stops
+returns-in-None-clause-stops g c = λ limited.
+    stops c.args.req.now g.K.Plan.all c.args.first c.args.board.now c.args.memo.now c.args.turned.now c.turn.memo
+    c.turn.turned (left_of c.args.allowed.now) (left_of c.turn.allowed) (left_of c.takes_turns.new.allowed)
+    c.turns_due-turns.result c.turn.invariant.counts c.turns_due-turns.ensures.each c.takes_turns.ensures.spent
+    c.turn.next c.turn.board c.turn.invariant.follows
+    (λ closed.
+    let w = c.may_wait-waits.ensures.waits (c.requires.limits ∙ limited) closed in
+    omega (
+      arith,
+      (c.turn.invariant.waited w).turns,
+      c.takes_turns.ensures.spent,
+      c.waits_on.ensures.waited c.if-not-waits_on.false w,
+    ))
+
+pub returns-then-is_accepted-clause-stops : goal.returns-then-is_accepted-clause-stops
+returns-then-is_accepted-clause-stops g c = λ limited.
+    stops c.args.req.now g.K.Plan.all c.args.first c.args.board.now c.args.memo.now c.args.turned.now c.turn.memo
+    c.turn.turned (left_of c.args.allowed.now) (left_of c.turn.allowed) (left_of c.takes_turns.new.allowed)
+    c.turns_due-turns.result c.turn.invariant.counts c.turns_due-turns.ensures.each c.takes_turns.ensures.spent
+    c.turn.next c.turn.board c.turn.invariant.follows
+    (λ closed.
+    let w = c.may_wait-waits.ensures.waits (c.requires.limits ∙ limited) closed in
+    omega (
+      arith,
+      (c.turn.invariant.waited w).turns,
+      c.takes_turns.ensures.spent,
+      c.waits_on.ensures.waited c.if-not-waits_on.false w,
+    ))

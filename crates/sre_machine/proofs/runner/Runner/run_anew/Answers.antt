@@ -1,7 +1,7 @@
 use Rattle.std.proofs.Common.{ap}
 use Rattle.sre_machine.specs.Spending.{decision_of}
-use Rattle.sre_machine.proofs.Following.{anew_given_up, anew_settles}
-use Rattle.sre_machine.proofs.Halting.{never_found, passed_found}
+use Rattle.sre_machine.proofs.Following.{anew_stops, anew_settles}
+use Rattle.sre_machine.proofs.Halting.{never_found}
 use Rattle.sre_machine.proofs.runner.Runner.run_anew.Goals as goal
 
 pub run_once-requires-clause-remembers : goal.run_once-requires-clause-remembers
@@ -10,20 +10,30 @@ run_once-requires-clause-remembers g c = c.open.ensures.recalls (rw (← c.self.
 pub returns-in_err-run_once-clause-costs : goal.returns-in_err-run_once-clause-costs
 returns-in_err-run_once-clause-costs g c = record {
   spent = c.run_once.ensures.costs.spent;
-  given_up = passed_found c.from_residual.result c.run_once.new.ended c.in_err-run_once.field-0.0 _
-      c.from_residual.ensures.1
-      (λ used. anew_given_up c.args.req.now c.args.start c.open.new.self _ c.open.ensures.opened
-      c.open.ensures.empty c.open.ensures.first c.open.ensures.ends _ (c.in_err-run_once.ensures.costs.given_up used));
+  stops = λ limited.
+      anew_stops c.args.req.now c.args.start c.open.new.self _ c.open.ensures.opened c.open.ensures.empty
+      c.open.ensures.first c.open.ensures.ends _ (c.run_once.ensures.costs.stops limited);
   settles = λ _. never_found _ _ c.from_residual.result c.run_once.new.ended c.from_residual.ensures.1;
 }
 
 pub returns-in-Failed-clause-costs : goal.returns-in-Failed-clause-costs
 returns-in-Failed-clause-costs g c = record {
   spent = c.in_ok-run_once.ensures.costs.spent;
-  given_up = tt;
+  stops = λ limited.
+      anew_stops c.args.req.now c.args.start c.open.new.self _ c.open.ensures.opened c.open.ensures.empty
+      c.open.ensures.first c.open.ensures.ends _ (c.in_ok-run_once.ensures.costs.stops limited);
   settles = λ limited none.
       anew_settles c.args.req.now c.args.start c.open.new.self _ c.open.ensures.opened c.open.ensures.empty
       c.open.ensures.first c.open.ensures.ends c.run_once.new.self.memo _
       (c.in_ok-run_once.ensures.costs.settles limited
       (ap (λ e. decision_of e c.run_once.new.ended) c.in-Failed.is));
+}
+
+pub returns-in-Found-clause-costs : goal.returns-in-Found-clause-costs
+returns-in-Found-clause-costs g c = record {
+  spent = c.in_ok-run_once.ensures.costs.spent;
+  stops = λ limited.
+      anew_stops c.args.req.now c.args.start c.open.new.self _ c.open.ensures.opened c.open.ensures.empty
+      c.open.ensures.first c.open.ensures.ends _ (c.in_ok-run_once.ensures.costs.stops limited);
+  settles = λ _ none. absurd (cc none);
 }

@@ -2,7 +2,7 @@ use Rattle.std.proofs.Common.{◌≡◌, ◌+◌, ◌-◌, ◌∙◌, arith, ap}
 use Rattle.sre_machine.specs.Allowances.{left_of}
 use Rattle.sre_machine.specs.Runners.{RunnerValue}
 use Rattle.sre_machine.specs.Spending.{decision_of, found_of}
-use Rattle.sre_machine.proofs.Following.{again_given_up, again_settles, if_err, if_ok}
+use Rattle.sre_machine.proofs.Following.{again_stops, again_settles, if_ok}
 use Rattle.sre_machine.proofs.runner.Runner.run_from.Goals as goal
 
 pub returns-in-Opened-clause-costs : goal.returns-in-Opened-clause-costs
@@ -18,14 +18,13 @@ returns-in-Opened-clause-costs g c =
       limited = anew.spends.limited ∙ first.spends.limited;
       fewer = omega (arith, anew.spends.fewer, first.spends.fewer);
       spent = λ t w. rw two (omega (arith, anew.costs.spent t w, first.costs.spent t w));
-      given_up = if_err (found_of c.run_anew.result c.run_anew.new.ended)
-          (λ halt told gives used. again_given_up c.args.req.now c.args.start c.self.inside.memo
-          (left_of c.args.allowed.now) (left_of c.run_once.new.allowed) (left_of c.run_anew.new.allowed) opened.1
-          (λ pl. first.costs.waited opened.0 opened.1 pl is) (gives used))
-          anew.costs.given_up;
+      stops = λ limited.
+          again_stops c.args.req.now c.args.start c.self.inside.memo (left_of c.args.allowed.now)
+          (left_of c.run_once.new.allowed) (left_of c.run_anew.new.allowed) opened.1
+          (first.costs.waited limited opened.1) (anew.costs.stops (first.spends.limited ∙ limited));
       settles = λ limited. if_ok (found_of c.run_anew.result c.run_anew.new.ended)
           (λ found told gives none. again_settles c.args.req.now c.args.start c.self.inside.memo
           (left_of c.args.allowed.now) (left_of c.run_once.new.allowed) (left_of c.run_anew.new.allowed) opened.1
-          (λ pl. first.costs.waited opened.0 opened.1 pl is) c.run_anew.new.self.memo (gives none))
+          (first.costs.waited limited opened.1) c.run_anew.new.self.memo (gives none))
           (anew.costs.settles (first.spends.limited ∙ limited));
     })

@@ -10,10 +10,8 @@ use Rattle.sre_turns.proofs.Start.{first_limit}
 use Rattle.sre_request.specs.Runs.{run_of}
 use Rattle.sre_machine.specs.Paying.{Remembering}
 use Rattle.sre_turns.proofs.TreePrices.{steps_behind}
-use Rattle.sre_machine.proofs.Following.{begins_run, run_given_up, run_settles, if_err, if_ok, err_at, ok_at}
-use Rattle.sre_machine.proofs.Following.{not_opened, rested}
+use Rattle.sre_machine.proofs.Following.{begins_run, run_stops, run_settles, if_ok, rested}
 use Rattle.sre_machine.specs.Spending.{told_of}
-use Rattle.sre_machine.proofs.Halting.{untold}
 use Rattle.sre_machine.proofs.runner.Runner.run_once.Goals as goal
 
 pub turns_from-told-requires-clause-stands : goal.turns_from-told-requires-clause-stands
@@ -46,26 +44,19 @@ returns-clause-costs g c =
     let few = λ (pl : Remembering c.args.req.now).
     steps_behind r.words (2 * c.args.literals) c.args.literals pl.plain.tree
     (c.requires.may.behind pl.plain.tree pl.plain.whole) pl.plain.whole.1 in
-    let end = c.turns_from-told.new.ended in
-    let told = told_of c.turns_from-told.result end in
+    let told = told_of c.turns_from-told.result c.turns_from-told.new.ended in
     let costs = c.turns_from-told.ensures.costs in
     rw (← c.self.view_is) (record {
       spent = λ t w. rw (← whole-read _ t w) costs.spent;
-      given_up = if_err told
-          (λ halt is gives used. run_given_up c.args.req.now _ (2 * c.args.literals)
-          (behind_items c.args.literals (tree_of r.words)) c.args.start c.self.inside.board c.self.inside.memo _ _
-          begins few (gives used)
-          (λ pl closed. err_at _ told halt is
-          (costs.waited (err_at _ c.turns_from-told.result halt (untold c.turns_from-told.result end halt is)
-          c.turns_from-told.ensures.spends.used used).0 closed pl).given_up used))
-          costs.given_up;
+      stops = λ limited.
+          run_stops c.args.req.now _ (2 * c.args.literals) (behind_items c.args.literals (tree_of r.words))
+          c.args.start c.self.inside.board c.self.inside.memo _ _ begins few (c.turns_from-told.ensures.stops limited);
       settles = λ limited. if_ok told
           (λ d is settles none. rested c.args.req.now c.args.start c.self.inside.memo c.turns_from-told.new.memo
           c.rest.new.self _ _ c.rest.ensures.same
           (run_settles c.args.req.now _ (2 * c.args.literals)
           (behind_items c.args.literals (tree_of r.words)) c.args.start c.self.inside.board c.self.inside.memo _ _
-          begins few c.turns_from-told.new.memo (settles none)
-          (λ pl closed. ok_at _ told d is (costs.waited limited closed pl).decided (not_opened d none))))
+          begins few c.turns_from-told.new.memo (settles none)))
           (costs.settles limited);
-      waited = λ limited closed pl. (costs.waited limited closed pl).opened;
+      waited = λ limited. (c.turns_from-told.ensures.stops limited).waited;
     })

@@ -1,4 +1,4 @@
-use Rattle.std.proofs.Common.{◌≡◌, ◌≤◌, true, false, Some, None, refl, sym, subst, arith, rules}
+use Rattle.std.proofs.Common.{◌≡◌, ◌≤◌, true, false, Some, None, sym, subst, arith, rules}
 use Rattle.sre_model.specs.Found.{at_start}
 use Rattle.sre_code.specs.Codes.{words_of, hints_of}
 use Rattle.sre_request.specs.Requests.{start_of, end_of, code_of, asked_of, stands_in}
@@ -66,4 +66,4 @@ returns-in_err-end-clause-charged g c =
     let at : c.args.from.position ≡ start_of r = search rules in
     once_given_up r _ _ c.args.allowed.now _ 0 _ _ c.begin.ensures.started c.begin.ensures.restarted (omega (arith, at))
     (omega (arith, at, r.in_window.0)) c.begin.ensures.begins c.attempt-told.ensures.began c.in_err-end.ensures.costs
-    c.in_err-end.field-0.0 refl c.in_err-end.ensures.halted _ c.from_residual.ensures.1
+    c.in_err-end.field-0.0 c.in_err-end.ensures.halted _ c.from_residual.ensures.1

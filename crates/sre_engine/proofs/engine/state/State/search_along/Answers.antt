@@ -2,8 +2,8 @@ use Rattle.std.proofs.Common.{Ok, refl, ap, arith, rules}
 use Rattle.sre_request.specs.Requests.{code_of, asked_of}
 use Rattle.sre_engine.proofs.Hinting.{past_none}
 use Rattle.sre_engine.proofs.LeadingStarts.{none_joined, found_none_behind}
-use Rattle.sre_engine.proofs.Looking.{begins, ready, answered_no, charged, charged_given_up, answered_given_up}
-use Rattle.sre_engine.proofs.Looking.{failed, answered_yes, answered_over, searching_on}
+use Rattle.sre_engine.proofs.Looking.{begins, ready, answered_no, charged, charged_given_up, charged_then}
+use Rattle.sre_engine.proofs.Looking.{answered_given_up, failed, answered_yes, answered_over, searching_on}
 use Rattle.sre_engine.proofs.engine.state.State.search_along.Goals as goal
 
 pub candidate-init : goal.candidate-init
@@ -36,6 +36,12 @@ returns-clause-answers g c =
     ((c.next.ensures.none c.in_default.is).none t whole))
     (ap (λ b. b.marks) inv.fresh) inv.ran (omega (arith, inv.inside)) c.next.ensures.few
 
+pub returns-then-is_past-clause-charged : goal.returns-then-is_past-clause-charged
+returns-then-is_past-clause-charged g c = charged_then c.args.req.now _ _ _ _ c.candidate.invariant.searching _
+
+pub returns-clause-charged : goal.returns-clause-charged
+returns-clause-charged g c = charged_then c.args.req.now _ _ _ _ c.candidate.invariant.searching _
+
 pub attempt-requires-clause-ready : goal.attempt-requires-clause-ready
 attempt-requires-clause-ready g c = ready c.args.req.now _ _ _ _ c.candidate.invariant.searching
 
@@ -50,7 +56,7 @@ pub returns-in_err-end-clause-charged : goal.returns-in_err-end-clause-charged
 returns-in_err-end-clause-charged g c =
     charged_given_up c.args.req.now _ _ _ _ _ _ _ _ _ _ c.candidate.invariant.searching c.in-Some.ensures.some
     c.in-Some.ensures.few c.last_start-last.ensures (c.is_past.ensures.fits c.if-is_past.false) c.attempt.ensures.began
-    c.in_err-end.ensures.costs c.in_err-end.field-0.0 refl c.in_err-end.ensures.halted _ c.from_residual.ensures.1
+    c.in_err-end.ensures.costs c.in_err-end.field-0.0 c.in_err-end.ensures.halted _ c.from_residual.ensures.1
 
 pub returns-in-Some-2-clause-answers : goal.returns-in-Some-2-clause-answers
 returns-in-Some-2-clause-answers g c =

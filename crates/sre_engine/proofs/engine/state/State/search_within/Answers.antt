@@ -1,10 +1,22 @@
 use Rattle.std.proofs.Common.{refl}
 use Rattle.sre_engine.proofs.CountLaws.{once}
-use Rattle.sre_engine.proofs.Enough.{used_up}
+use Rattle.sre_engine.proofs.Enough.{keeps_to, used_up}
 use Rattle.sre_engine.proofs.engine.state.State.search_within.Goals as goal
+
+pub returns-in-Ok-clause-steps : goal.returns-in-Ok-clause-steps
+returns-in-Ok-clause-steps g c =
+    keeps_to c.args.req c.args.steps.now _ _ _ _ _ _ _ c.search_from-told.ensures.charged refl refl c.left.ensures
+    (once _ _ _ _ _ c.search_from-told.ensures.answers.counts) (λ none. absurd (cc none))
+
+pub returns-in-Err-Refused-clause-steps : goal.returns-in-Err-Refused-clause-steps
+returns-in-Err-Refused-clause-steps g c =
+    keeps_to c.args.req c.args.steps.now _ _ _ _ _ _ _ c.search_from-told.ensures.charged refl refl c.left.ensures
+    (once _ _ _ _ _ c.search_from-told.ensures.answers.counts) tt
 
 pub returns-in-Err-UsedUp-clause-steps : goal.returns-in-Err-UsedUp-clause-steps
 returns-in-Err-UsedUp-clause-steps g c =
     let up = c.in-Err-UsedUp in
-    used_up c.args.req c.args.steps.now _ _ _ _ _ _ c.search_from-told.ensures.charged up.field-0 up.is
-    (rw up.is at up.field-0-is) refl c.left.ensures (λ _. once _ _ _ _ _ c.search_from-told.ensures.answers.counts)
+    keeps_to c.args.req c.args.steps.now _ _ _ _ _ _ _ c.search_from-told.ensures.charged refl refl c.left.ensures
+    (once _ _ _ _ _ c.search_from-told.ensures.answers.counts)
+    (λ _. used_up c.args.req _ _ _ _ _ c.search_from-told.ensures.charged up.field-0 up.is
+    (rw up.is at up.field-0-is))
