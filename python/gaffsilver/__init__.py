@@ -21,7 +21,7 @@ from gaffsilver import _shared
 from gaffsilver._engine import Match, Pattern
 from gaffsilver._install import install, is_installed, uninstall
 from gaffsilver._shared import StepLimitExceeded
-from gaffsilver._words import compiler as _compiler, scanner_init as _scanner_init
+from gaffsilver._words import cached as _cached, caches as _caches, scanner_init as _scanner_init
 
 # `typing` copies names from `re` when it is imported, so only a type checker imports it here.
 TYPE_CHECKING = False
@@ -35,31 +35,13 @@ __all__ = [
     "uninstall",
 ]
 
-# The size of the cache of patterns, as in `re`. The pattern that was compiled first is evicted first.
-_MOST_KEPT = 512
-_kept: dict[tuple[type, Any, int], Any] = {}
-
 _CPythons_pattern = _re.Pattern
 
 
 def _compiled(pattern: Any, flags: int) -> Any:
-    flags = int(flags)
-    try:
-        return _kept[type(pattern), pattern, flags]
-    except KeyError:
-        pass
-    if type(pattern) is Pattern or type(pattern) is _CPythons_pattern:
-        if flags:
-            raise ValueError("cannot process flags argument with a compiled pattern")
-        return pattern if type(pattern) is Pattern else _compiled(pattern.pattern, pattern.flags)
-    if not isinstance(pattern, (str, bytes)):
-        raise TypeError("first argument must be string or compiled pattern")
-    made = _compiler.compile(pattern, flags)
-    if not flags & DEBUG:
-        while len(_kept) >= _MOST_KEPT:
-            _kept.pop(next(iter(_kept)), None)
-        _kept[type(pattern), pattern, flags] = made
-    return made
+    if type(pattern) is _CPythons_pattern:
+        pattern = _cached(pattern.pattern, pattern.flags)
+    return _cached(pattern, flags)
 
 
 def compile(
@@ -168,7 +150,8 @@ def subn(
 
 def purge() -> None:
     """Clears the caches of patterns and templates."""
-    _kept.clear()
+    for cache in _caches:
+        cache.clear()
     _shared.purge()
 
 
