@@ -206,11 +206,12 @@ class Pattern(metaclass=_Fixed):
 
     def scanner(self, string: Any, pos: int = 0, endpos: int = sys.maxsize, *, max_steps: int | None = None) -> Any:
         """A scanner, whose calls return one match after the other."""
-        made: Any = object.__new__(Scanner)
         pos, endpos = _size(pos), _size(endpos)
-        made.pattern, made._text, made._has_ended = self, _Text(self.pattern, string), False
-        made._asked = self._asked(made._text, pos, endpos, max_steps)
-        made._window = made._asked.start, made._asked.end
+        text = _Text(self.pattern, string)
+        asked = self._asked(text, pos, endpos, max_steps)
+        made: Any = object.__new__(Scanner)
+        made.pattern, made._text, made._asked, made._has_ended = self, text, asked, False
+        made._window = asked.start, asked.end
         return made
 
     def finditer(self, string: Any, pos: int = 0, endpos: int = sys.maxsize, *, max_steps: int | None = None) -> Any:
@@ -315,6 +316,7 @@ class Match(metaclass=_Fixed):
     __module__, __qualname__ = "re", "Match"
     __slots__ = ("re", "string", "pos", "endpos", "_row", "_str")
     __class_getitem__ = classmethod(types.GenericAlias)
+    __iter__ = None  # else `__getitem__` would make it iterable
 
     @property
     def regs(self) -> tuple[tuple[int, int], ...]:
@@ -386,7 +388,7 @@ class Match(metaclass=_Fixed):
         raise TypeError("cannot pickle 're.Match' object")
 
     def __repr__(self) -> str:
-        return f"<re.Match object; span={self.span()!r}, match={self.group()!r}>"
+        return f"<re.Match object; span={self.span()!r}, match={repr(self.group())[:50]}>"
 
 
 class Scanner(metaclass=_Fixed):

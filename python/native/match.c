@@ -239,7 +239,7 @@ static PyObject *repr(Match *self) {
   PyObject *whole = group_at(self, 0, Py_None);
   if (!whole)
     return NULL;
-  const char *form = "<re.Match object; span=(%zd, %zd), match=%R>";
+  const char *form = "<re.Match object; span=(%zd, %zd), match=%.50R>";
   PyObject *made = PyUnicode_FromFormat(form, self->row[0], self->row[1], whole);
   Py_DECREF(whole);
   return made;

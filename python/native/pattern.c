@@ -62,9 +62,11 @@ PyObject *pattern_compile(PyObject *module, PyObject *args) {
   self->indexgroup = Py_NewRef(indexgroup);
   self->pattern = source_of(pattern);
   self->words = words_of(list);
+  if (!self->pattern || !self->words || !check(self)) {
+    Py_DECREF(self);
+    return NULL;
+  }
   PyObject_GC_Track(self);
-  if (!self->pattern || !self->words || !check(self))
-    Py_CLEAR(self);
   return (PyObject *)self;
 }
 

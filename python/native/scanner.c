@@ -28,7 +28,8 @@ static PyObject *call_end(Reader *self, PyObject *match) {
   return match;
 }
 
-/* A new object of a type that begins with a Reader, over the range of a call; `asked` is its first request. */
+/* A new object of a type that begins with a Reader, over the range of a call; `asked` is its first request. The caller
+ * tracks it when it is whole, since a buffer's code in Python may look at all objects that are tracked. */
 static Reader *reader_new(PyTypeObject *type, Pattern *pattern, const Signature *signature, PyObject *const *args,
                           Py_ssize_t count, PyObject *names, sre_asked *asked) {
   PyObject *given[4] = {NULL};
@@ -37,9 +38,10 @@ static Reader *reader_new(PyTypeObject *type, Pattern *pattern, const Signature 
   if (!arguments_read(signature, args, count, names, given) || !arguments_size(given[1], 0, &pos) ||
       !arguments_size(given[2], PY_SSIZE_T_MAX, &endpos) || !arguments_steps(given[3], pattern->max_steps, &steps))
     return NULL;
-  Reader *self = (Reader *)type->tp_alloc(type, 0);
+  Reader *self = PyObject_GC_New(Reader, type);
   if (!self)
     return NULL;
+  memset((char *)self + sizeof(PyObject), 0, (size_t)type->tp_basicsize - sizeof(PyObject));
   if (!text_open(&self->text, pattern, given[0])) {
     Py_DECREF(self);
     return NULL;
@@ -75,8 +77,10 @@ typedef struct {
 PyObject *pattern_finditer(Pattern *pattern, PyObject *const *args, Py_ssize_t count, PyObject *names) {
   sre_asked asked;
   Matches *self = (Matches *)reader_new(&MatchesType, pattern, &of_finditer, args, count, names, &asked);
-  if (self)
-    walk_begin(&self->walk, pattern, &self->reader.text, &asked, 0);
+  if (!self)
+    return NULL;
+  walk_begin(&self->walk, pattern, &self->reader.text, &asked, 0);
+  PyObject_GC_Track(self);
   return (PyObject *)self;
 }
 
@@ -119,8 +123,10 @@ typedef struct {
 PyObject *pattern_scanner(Pattern *pattern, PyObject *const *args, Py_ssize_t count, PyObject *names) {
   sre_asked asked;
   Scanner *self = (Scanner *)reader_new(&ScannerType, pattern, &of_scanner, args, count, names, &asked);
-  if (self)
-    self->asked = asked;
+  if (!self)
+    return NULL;
+  self->asked = asked;
+  PyObject_GC_Track(self);
   return (PyObject *)self;
 }
 
