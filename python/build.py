@@ -136,6 +136,8 @@ def build_package(folder, library, python):
         return None
     into = f"{folder}/gaffsilver"
     shutil.copytree(f"{HERE}/gaffsilver", into, ignore=shutil.ignore_patterns("__pycache__"), dirs_exist_ok=True)
+    with open(f"{into}/_version.py", "w", encoding="utf-8") as file:
+        file.write(f'__version__ = "{version()}"\n')
     shutil.copyfile(f"{library}/libsre_c.so", f"{into}/libsre_c.so")
     lack = lack_of_extension(facts)
     if lack:

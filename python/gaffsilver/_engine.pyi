@@ -1,4 +1,5 @@
 """The engine's classes for a type checker."""
+from _typeshed import ReadableBuffer
 from types import GenericAlias
 from typing import Any, AnyStr, Callable, Generic, Iterator, Mapping, final, overload
 
@@ -46,22 +47,70 @@ class Pattern(Generic[AnyStr]):
     def groupindex(self) -> Mapping[str, int]: ...
     @property
     def max_steps(self) -> int | None: ...
+    @overload
+    def match(
+        self: Pattern[bytes], string: ReadableBuffer, pos: int = 0, endpos: int = ..., *, max_steps: int | None = None
+    ) -> Match[bytes] | None: ...
+    @overload
     def match(
         self, string: AnyStr, pos: int = 0, endpos: int = ..., *, max_steps: int | None = None
     ) -> Match[AnyStr] | None: ...
+    @overload
+    def fullmatch(
+        self: Pattern[bytes], string: ReadableBuffer, pos: int = 0, endpos: int = ..., *, max_steps: int | None = None
+    ) -> Match[bytes] | None: ...
+    @overload
     def fullmatch(
         self, string: AnyStr, pos: int = 0, endpos: int = ..., *, max_steps: int | None = None
     ) -> Match[AnyStr] | None: ...
+    @overload
+    def search(
+        self: Pattern[bytes], string: ReadableBuffer, pos: int = 0, endpos: int = ..., *, max_steps: int | None = None
+    ) -> Match[bytes] | None: ...
+    @overload
     def search(
         self, string: AnyStr, pos: int = 0, endpos: int = ..., *, max_steps: int | None = None
     ) -> Match[AnyStr] | None: ...
+    @overload
+    def findall(
+        self: Pattern[bytes], string: ReadableBuffer, pos: int = 0, endpos: int = ..., *, max_steps: int | None = None
+    ) -> list[Any]: ...
+    @overload
     def findall(
         self, string: AnyStr, pos: int = 0, endpos: int = ..., *, max_steps: int | None = None
     ) -> list[Any]: ...
+    @overload
+    def finditer(
+        self: Pattern[bytes], string: ReadableBuffer, pos: int = 0, endpos: int = ..., *, max_steps: int | None = None
+    ) -> Iterator[Match[bytes]]: ...
+    @overload
     def finditer(
         self, string: AnyStr, pos: int = 0, endpos: int = ..., *, max_steps: int | None = None
     ) -> Iterator[Match[AnyStr]]: ...
+    @overload
+    def scanner(
+        self: Pattern[bytes], string: ReadableBuffer, pos: int = 0, endpos: int = ..., *, max_steps: int | None = None
+    ) -> _Scanner[bytes]: ...
+    @overload
+    def scanner(
+        self, string: AnyStr, pos: int = 0, endpos: int = ..., *, max_steps: int | None = None
+    ) -> _Scanner[AnyStr]: ...
+    @overload
+    def split(
+        self: Pattern[bytes], string: ReadableBuffer, maxsplit: int = 0, *, max_steps: int | None = None
+    ) -> list[Any]: ...
+    @overload
     def split(self, string: AnyStr, maxsplit: int = 0, *, max_steps: int | None = None) -> list[Any]: ...
+    @overload
+    def sub(
+        self: Pattern[bytes],
+        repl: ReadableBuffer | Callable[[Match[bytes]], ReadableBuffer],
+        string: ReadableBuffer,
+        count: int = 0,
+        *,
+        max_steps: int | None = None,
+    ) -> bytes: ...
+    @overload
     def sub(
         self,
         repl: AnyStr | Callable[[Match[AnyStr]], AnyStr],
@@ -70,6 +119,16 @@ class Pattern(Generic[AnyStr]):
         *,
         max_steps: int | None = None,
     ) -> AnyStr: ...
+    @overload
+    def subn(
+        self: Pattern[bytes],
+        repl: ReadableBuffer | Callable[[Match[bytes]], ReadableBuffer],
+        string: ReadableBuffer,
+        count: int = 0,
+        *,
+        max_steps: int | None = None,
+    ) -> tuple[bytes, int]: ...
+    @overload
     def subn(
         self,
         repl: AnyStr | Callable[[Match[AnyStr]], AnyStr],
@@ -83,5 +142,12 @@ class Pattern(Generic[AnyStr]):
     def __deepcopy__(self, memo: Any, /) -> Pattern[AnyStr]: ...
     @classmethod
     def __class_getitem__(cls, item: Any, /) -> GenericAlias: ...
+
+@final
+class _Scanner(Generic[AnyStr]):
+    @property
+    def pattern(self) -> Pattern[AnyStr]: ...
+    def match(self) -> Match[AnyStr] | None: ...
+    def search(self) -> Match[AnyStr] | None: ...
 
 engine: Any

@@ -129,12 +129,25 @@ def _fill(pieces: list[Any], parts: Any, plain: Any, row: Row) -> None:
             pieces.append(part)
 
 
+def _made(kind: Any, **fields: Any) -> Any:
+    """An object, which cannot be changed any more."""
+    made = object.__new__(kind)
+    for name, value in fields.items():
+        object.__setattr__(made, name, value)
+    return made
+
+
+def _read_only(self: Any, name: str, *value: Any) -> None:
+    raise AttributeError("readonly attribute")
+
+
 class Pattern(metaclass=_Fixed):
     """Compiled regular expression object."""
 
     __module__, __qualname__ = "re", "Pattern"
     __slots__ = ("pattern", "flags", "groups", "_words", "_code", "_names", "_indexgroup", "_max_steps", "__weakref__")
     __class_getitem__ = classmethod(types.GenericAlias)
+    __setattr__ = __delattr__ = _read_only
 
     @property
     def groupindex(self) -> Any:
@@ -284,11 +297,8 @@ class Pattern(metaclass=_Fixed):
 
     def within(self, max_steps: Any, /) -> Any:
         """The same pattern with another step limit, for each call without one."""
-        made: Any = object.__new__(Pattern)
-        for name in Pattern.__slots__[:-1]:
-            setattr(made, name, getattr(self, name))
-        made._max_steps = _steps(max_steps, library.FOREVER)
-        return made
+        fields = {name: getattr(self, name) for name in Pattern.__slots__[:-1]}
+        return _made(Pattern, **{**fields, "_max_steps": _steps(max_steps, library.FOREVER)})
 
     def __copy__(self) -> Any:
         return self
@@ -316,6 +326,7 @@ class Match(metaclass=_Fixed):
     __module__, __qualname__ = "re", "Match"
     __slots__ = ("re", "string", "pos", "endpos", "_row", "_str")
     __class_getitem__ = classmethod(types.GenericAlias)
+    __setattr__ = __delattr__ = _read_only
     __iter__ = None  # else `__getitem__` would make it iterable
 
     @property
@@ -332,7 +343,10 @@ class Match(metaclass=_Fixed):
         return names[last] if last is not None and last < len(names) else None
 
     def _number(self, group: Any) -> int:
-        number = group.__index__() if hasattr(group, "__index__") else self.re._names.get(group, -1)
+        if hasattr(group, "__index__"):
+            number = operator.index(group)
+        else:  # without names any key is an unknown group
+            number = self.re._names.get(group, -1) if self.re._names else -1
         if not 0 <= number <= self.re.groups:
             raise IndexError("no such group")
         return number
@@ -374,9 +388,11 @@ class Match(metaclass=_Fixed):
 
     def expand(self, template: Any) -> Any:
         """A template filled in with the texts of groups, as by sub()."""
-        pieces: list[Any] = []
-        _fill(pieces, parts_of(self.re, template), self._plain, self._row)
-        return template[:0].join(pieces)
+        parts, pieces = parts_of(self.re, template), []
+        if sys.version_info >= (3, 12) and not isinstance(parts, list):
+            return parts
+        _fill(pieces, parts, self._plain, self._row)
+        return (template if sys.version_info >= (3, 12) else self._plain)[:0].join(pieces)
 
     def __copy__(self) -> Any:
         return self
@@ -417,22 +433,21 @@ class Scanner(metaclass=_Fixed):
 
 
 def _match(pattern: Any, text: _Text, window: tuple[int, int], row: Row) -> Any:
-    made: Any = object.__new__(Match)
-    made.re, made.string, made._row = pattern, text.string, row
-    made._str = text.plain if isinstance(text.string, str) else None
-    made.pos, made.endpos = window
-    return made
+    plain = text.plain if isinstance(text.string, str) else None
+    return _made(Match, re=pattern, string=text.string, pos=window[0], endpos=window[1], _row=row, _str=plain)
 
 
 def compile(pattern: Any, flags: int, code: list[int], groups: int, groupindex: Any, indexgroup: Any) -> Any:
     """A pattern from bytecode, with the arguments of `_sre.compile`."""
-    made: Any = object.__new__(Pattern)
-    made.pattern = pattern if pattern is None or isinstance(pattern, (str, bytes)) else bytes(memoryview(pattern))
-    made.flags, made.groups, made._names, made._indexgroup = int(flags), groups, groupindex, indexgroup
-    made._max_steps, made._words = library.FOREVER, bytes((c_uint32 * len(code))(*code))
-    table = library.table(not isinstance(made.pattern, bytes))
-    made._code = library.Code(library.bytes_of(made._words), len(code), library.pointer_to(table))
-    status = library.check_code(byref(made._code))
+    if not -(2**31) <= flags < 2**31:
+        raise OverflowError("Python int too large to convert to C int")
+    source = pattern if pattern is None or isinstance(pattern, (str, bytes)) else bytes(memoryview(pattern))
+    words, table = bytes((c_uint32 * len(code))(*code)), library.table(not isinstance(source, bytes))
+    checked = library.Code(library.bytes_of(words), len(code), library.pointer_to(table))
+    status = library.check_code(byref(checked))
     if status != library.YES:
         _fail(status)
-    return made
+    return _made(
+        Pattern, pattern=source, flags=int(flags), groups=groups, _words=words, _code=checked, _names=groupindex,
+        _indexgroup=indexgroup, _max_steps=library.FOREVER,
+    )

@@ -2,10 +2,12 @@
 from __future__ import annotations
 
 import copyreg
+import operator
 import re
+import sys
 
 from gaffsilver._engine import engine
-from gaffsilver._words import compiler, sre
+from gaffsilver._words import sre
 
 TYPE_CHECKING = False
 if TYPE_CHECKING:
@@ -40,15 +42,23 @@ def uninstall() -> None:
     engine.set_twins(None, None)
 
 
-def _compile_anew(pattern: Any, flags: int, max_steps: int | None) -> Any:
-    return compiler.compile(pattern, flags).within(max_steps)
-
-
 def _reduced(pattern: Any) -> tuple[Any, tuple[Any, ...]]:
     """How to unpickle a pattern: as one of `re` if the engine is installed, else as one of this package."""
-    if is_installed() and pattern.max_steps is None:
+    if pattern.max_steps is not None:
+        return operator.methodcaller("within", pattern.max_steps), (pattern.within(None),)
+    if is_installed():
         return re._compile, (pattern.pattern, pattern.flags)  # type: ignore[attr-defined]
-    return _compile_anew, (pattern.pattern, pattern.flags, pattern.max_steps)
+    return sys.modules["gaffsilver"].compile, (pattern.pattern, pattern.flags)
+
+
+def _reduced_class(kind: Any) -> Any:
+    """How to unpickle a class: each names the module `re`, but is found there only if the engine is installed."""
+    if is_installed():
+        return kind.__name__
+    import pkgutil
+
+    return pkgutil.resolve_name, (f"gaffsilver:{kind.__name__}",)
 
 
 copyreg.pickle(engine.Pattern, _reduced)
+copyreg.pickle(type(engine.Pattern), _reduced_class)  # type: ignore[arg-type]

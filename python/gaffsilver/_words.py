@@ -34,15 +34,14 @@ compiler = _own_compiler()
 # The caches of patterns: CPython 3.11 has the first alone.
 caches: tuple[dict[Any, Any], ...] = {}, {}
 
-
-def _over_the_engine(function: Any) -> Any:
-    """A function of `re`, but with this compiler, its patterns and caches of its own."""
-    names = {"_compiler": compiler, "Pattern": engine.Pattern, "_cache": caches[0], "_cache2": caches[1]}
-    return types.FunctionType(function.__code__, {**vars(re), **names}, function.__name__, function.__defaults__)
+# The names of `re`, but with this compiler, its patterns, and caches of its own.
+_names = {**vars(re), "_compiler": compiler, "Pattern": engine.Pattern, "_cache": caches[0], "_cache2": caches[1]}
 
 
-# The cache is that of `re`, which is safe under threads.
-cached = _over_the_engine(re._compile)  # type: ignore[attr-defined]
+def over_the_engine(function: Any) -> Any:
+    """A function of `re` that makes patterns of the engine."""
+    return types.FunctionType(function.__code__, _names, function.__name__, function.__defaults__)
 
-# The class is that of `re`, but its constructor calls this compiler.
-scanner_init = _over_the_engine(re.Scanner.__init__)  # type: ignore[attr-defined]
+
+# The pattern of a call, from a cache that is safe under threads.
+cached = _names["_compile"] = over_the_engine(re._compile)  # type: ignore[attr-defined]

@@ -19,8 +19,8 @@ static bool put_named(const Signature *signature, PyObject *name, PyObject *valu
 bool arguments_read(const Signature *signature, PyObject *const *args, Py_ssize_t count, PyObject *names,
                     PyObject **into) {
   if (count > signature->positional) {
-    PyErr_Format(PyExc_TypeError, "%s() takes at most %d positional arguments (%zd given)", signature->function,
-                 signature->positional, count);
+    PyErr_Format(PyExc_TypeError, "%s() takes at most %d argument%s (%zd given)", signature->function,
+                 signature->positional, signature->positional == 1 ? "" : "s", count);
     return false;
   }
   for (Py_ssize_t at = 0; at < count; at++)
@@ -39,7 +39,14 @@ bool arguments_read(const Signature *signature, PyObject *const *args, Py_ssize_
 }
 
 bool arguments_size(PyObject *given, Py_ssize_t otherwise, Py_ssize_t *into) {
-  *into = given ? PyNumber_AsSsize_t(given, PyExc_OverflowError) : otherwise;
+  *into = otherwise;
+  if (!given)
+    return true;
+  PyObject *number = PyNumber_Index(given);
+  if (!number)
+    return false;
+  *into = PyLong_AsSsize_t(number);
+  Py_DECREF(number);
   return *into != -1 || !PyErr_Occurred();
 }
 

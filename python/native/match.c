@@ -49,12 +49,12 @@ bool parts_append(PyObject *list, PyObject *parts, const Text *text, const size_
   return true;
 }
 
-PyObject *pieces_joined(const Text *text, PyObject *pieces) {
-  PyObject *empty = text->is_bytes ? PyBytes_FromStringAndSize(NULL, 0) : PyUnicode_New(0, 0);
+PyObject *pieces_joined(PyObject *pieces, bool is_bytes) {
+  PyObject *empty = is_bytes ? PyBytes_FromStringAndSize(NULL, 0) : PyUnicode_New(0, 0);
   if (!empty)
     return NULL;
   PyObject *joined =
-      text->is_bytes ? PyObject_CallMethod(empty, "join", "O", pieces) : PyUnicode_Join(empty, pieces);
+      is_bytes ? PyObject_CallMethod(empty, "join", "O", pieces) : PyUnicode_Join(empty, pieces);
   Py_DECREF(empty);
   return joined;
 }
@@ -101,7 +101,7 @@ static Py_ssize_t number_of(const Match *self, PyObject *group) {
   Py_ssize_t number = -1;
   if (PyIndex_Check(group)) {
     number = PyNumber_AsSsize_t(group, NULL);
-  } else {
+  } else if (PyDict_GET_SIZE(self->pattern->groupindex)) { /* without names any key is an unknown group */
     PyObject *found = PyDict_GetItemWithError(self->pattern->groupindex, group);
     if (found && PyLong_Check(found))
       number = PyLong_AsSsize_t(found);
@@ -212,6 +212,9 @@ static PyObject *span(Match *self, PyObject *const *args, Py_ssize_t count) {
   return span_asked(self, "span", args, count, &span) ? Py_BuildValue("(nn)", span.pos, span.endpos) : NULL;
 }
 
+/* Whether `expand` gives what its template is, str or bytes, or what the text is, as in CPython 3.11. */
+#define JOINS_AS_TEMPLATE (PY_VERSION_HEX >= 0x030C0000)
+
 static const Signature of_expand = {"expand", 1, 1, {"template"}};
 
 static PyObject *expand(Match *self, PyObject *const *args, Py_ssize_t count, PyObject *names) {
@@ -220,12 +223,12 @@ static PyObject *expand(Match *self, PyObject *const *args, Py_ssize_t count, Py
   if (!arguments_read(&of_expand, args, count, names, given))
     return NULL;
   PyObject *parts = PyObject_CallFunctionObjArgs(shared.parts_of, self->pattern, given[0], NULL);
-  if (!parts || !PyList_CheckExact(parts))
+  if (!parts || (JOINS_AS_TEMPLATE && !PyList_CheckExact(parts)))
     return parts;
   PyObject *pieces = PyList_New(0);
   if (pieces && text_open(&text, NULL, self->string)) {
     if (parts_append(pieces, parts, &text, (const size_t *)self->row))
-      expanded = pieces_joined(&text, pieces);
+      expanded = pieces_joined(pieces, JOINS_AS_TEMPLATE ? !PyUnicode_Check(given[0]) : text.is_bytes);
     text_close(&text);
   }
   Py_XDECREF(pieces);
@@ -246,11 +249,6 @@ static PyObject *repr(Match *self) {
 }
 
 /* ---- attributes ---- */
-
-static PyObject *get_string(Match *self, void *unused) { return Py_NewRef(self->string); }
-static PyObject *get_re(Match *self, void *unused) { return Py_NewRef((PyObject *)self->pattern); }
-static PyObject *get_pos(Match *self, void *unused) { return PyLong_FromSsize_t(self->window.pos); }
-static PyObject *get_endpos(Match *self, void *unused) { return PyLong_FromSsize_t(self->window.endpos); }
 
 static PyObject *get_lastindex(Match *self, void *unused) {
   return self->row[2] > 0 ? PyLong_FromSsize_t(self->row[2]) : Py_NewRef(Py_None);
@@ -275,11 +273,15 @@ static PyObject *get_regs(Match *self, void *unused) {
   return all;
 }
 
+static PyMemberDef members[] = {
+    {"string", T_OBJECT, offsetof(Match, string), READONLY, "The string passed to match() or search()."},
+    {"re", T_OBJECT, offsetof(Match, pattern), READONLY, "The regular expression object."},
+    {"pos", T_PYSSIZET, offsetof(Match, window.pos), READONLY, "Where the engine started to look."},
+    {"endpos", T_PYSSIZET, offsetof(Match, window.endpos), READONLY, "Where the engine stopped to look."},
+    {NULL},
+};
+
 static PyGetSetDef attributes[] = {
-    {"string", (getter)get_string, NULL, "The string passed to match() or search().", NULL},
-    {"re", (getter)get_re, NULL, "The regular expression object.", NULL},
-    {"pos", (getter)get_pos, NULL, "The index into the string at which the engine started to look.", NULL},
-    {"endpos", (getter)get_endpos, NULL, "The index into the string beyond which the engine did not go.", NULL},
     {"lastindex", (getter)get_lastindex, NULL, "The number of the group that was closed last, or None.", NULL},
     {"lastgroup", (getter)get_lastgroup, NULL, "The name of the group that was closed last, or None.", NULL},
     {"regs", (getter)get_regs, NULL, "The spans of the match and of its groups.", NULL},
@@ -321,5 +323,6 @@ PyTypeObject MatchType = {
     .tp_repr = (reprfunc)repr,
     .tp_as_mapping = &mapping,
     .tp_methods = methods,
+    .tp_members = members,
     .tp_getset = attributes,
 };

@@ -5,6 +5,7 @@
 #define PY_SSIZE_T_CLEAN
 #include <Python.h>
 #include <stdbool.h>
+#include <structmember.h>
 
 #include "sre.h"
 
@@ -147,7 +148,7 @@ PyObject *row_group(const Text *text, const size_t *row, Py_ssize_t group, PyObj
 bool parts_append(PyObject *list, PyObject *parts, const Text *text, const size_t *row);
 
 /* The concatenation of pieces: a str, or bytes. */
-PyObject *pieces_joined(const Text *text, PyObject *pieces);
+PyObject *pieces_joined(PyObject *pieces, bool is_bytes);
 
 /* ---- calls of a pattern that iterate (walks.c), and its iterators (scanner.c) ---- */
 

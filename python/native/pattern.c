@@ -190,19 +190,20 @@ static PyObject *compare(PyObject *one, PyObject *two, int how) {
 
 static PyObject *itself(PyObject *self, PyObject *unused) { return Py_NewRef(self); }
 
-static PyObject *get_pattern(Pattern *self, void *unused) { return Py_NewRef(self->pattern); }
-static PyObject *get_flags(Pattern *self, void *unused) { return PyLong_FromLong(self->flags); }
-static PyObject *get_groups(Pattern *self, void *unused) { return PyLong_FromSsize_t(self->groups); }
 static PyObject *get_groupindex(Pattern *self, void *unused) { return PyDictProxy_New(self->groupindex); }
 
 static PyObject *get_max_steps(Pattern *self, void *unused) {
   return self->max_steps == UINT64_MAX ? Py_NewRef(Py_None) : PyLong_FromUnsignedLongLong(self->max_steps);
 }
 
+static PyMemberDef members[] = {
+    {"pattern", T_OBJECT, offsetof(Pattern, pattern), READONLY, "The pattern string that was compiled."},
+    {"flags", T_INT, offsetof(Pattern, flags), READONLY, "The regex matching flags."},
+    {"groups", T_PYSSIZET, offsetof(Pattern, groups), READONLY, "The number of capturing groups in the pattern."},
+    {NULL},
+};
+
 static PyGetSetDef attributes[] = {
-    {"pattern", (getter)get_pattern, NULL, "The pattern string from which the RE object was compiled.", NULL},
-    {"flags", (getter)get_flags, NULL, "The regex matching flags.", NULL},
-    {"groups", (getter)get_groups, NULL, "The number of capturing groups in the pattern.", NULL},
     {"groupindex", (getter)get_groupindex, NULL, "A dictionary mapping group names to group numbers.", NULL},
     {"max_steps", (getter)get_max_steps, NULL, "The step limit of a call that names none, or None.", NULL},
     {NULL},
@@ -250,5 +251,6 @@ PyTypeObject PatternType = {
     .tp_richcompare = compare,
     .tp_weaklistoffset = offsetof(Pattern, weak_references),
     .tp_methods = methods,
+    .tp_members = members,
     .tp_getset = attributes,
 };

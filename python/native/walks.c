@@ -166,7 +166,7 @@ static PyObject *substituted(Pattern *self, const Signature *signature, PyObject
     PyObject *pieces = PyList_New(0);
     bool is_well = pieces && replace(&call, pieces, replacement, most, made);
     if (is_well)
-      joined = pieces_joined(&call.text, pieces);
+      joined = pieces_joined(pieces, call.text.is_bytes);
     Py_XDECREF(pieces);
     joined = end(&call, joined, is_well);
   }
