@@ -1,8 +1,8 @@
 /* An iteration over the matches of a range, read in batches, so that not every match costs a call. */
 #include "native.h"
 
-/* The most numbers of a batch. */
-#define MOST_NUMBERS 262144
+/* The most numbers of a batch. A signal is handled between two batches. */
+#define MOST_NUMBERS 32768
 
 /* The rows of the first batch: as many as are wanted, or as fit into `first`. */
 static size_t first_room(const Walk *walk, Py_ssize_t most) {
@@ -63,8 +63,11 @@ static void grow(Walk *walk) {
 
 const size_t *walk_next(Walk *walk) {
   if (walk->at == walk->count && walk->status == SRE_NO_ROOM) {
-    if (walk->count)
+    if (walk->count) {
       grow(walk);
+      if (PyErr_CheckSignals() < 0)
+        return NULL;
+    }
     if (!read_batch(walk))
       return NULL;
   }
