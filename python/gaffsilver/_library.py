@@ -157,4 +157,5 @@ def bytes_of(text: bytes) -> Any:
     return ctypes.cast(text, c_void_p)
 
 
-pointer_to = ctypes.pointer
+# A second interpreter clears the cache in which `ctypes.pointer` looks for this type.
+pointer_to = POINTER(Table)

@@ -50,17 +50,13 @@ static PyMethodDef functions[] = {
     {NULL},
 };
 
-static struct PyModuleDef definition = {
-    PyModuleDef_HEAD_INIT, "gaffsilver._native", "Pattern and Match over the proved engine.", -1, functions,
-};
-
 static bool read_shared(void) {
   PyObject *module = PyImport_ImportModule("gaffsilver._shared");
   if (!module)
     return false;
-  shared.step_limit_exceeded = PyObject_GetAttrString(module, "StepLimitExceeded");
-  shared.parts_of = PyObject_GetAttrString(module, "parts_of");
-  shared.repr_of = PyObject_GetAttrString(module, "repr_of");
+  Py_XSETREF(shared.step_limit_exceeded, PyObject_GetAttrString(module, "StepLimitExceeded"));
+  Py_XSETREF(shared.parts_of, PyObject_GetAttrString(module, "parts_of"));
+  Py_XSETREF(shared.repr_of, PyObject_GetAttrString(module, "repr_of"));
   Py_DECREF(module);
   return shared.step_limit_exceeded && shared.parts_of && shared.repr_of;
 }
@@ -75,12 +71,30 @@ static bool ready_types(void) {
          PyType_Ready(&ScannerType) == 0;
 }
 
-PyMODINIT_FUNC PyInit__native(void) {
-  if (!ready_types() || !read_shared())
-    return NULL;
-  PyObject *module = PyModule_Create(&definition);
-  if (module && (PyModule_AddObjectRef(module, "Pattern", (PyObject *)&PatternType) < 0 ||
-                 PyModule_AddObjectRef(module, "Match", (PyObject *)&MatchType) < 0))
-    Py_CLEAR(module);
-  return module;
+/* Types and what is shared belong to one interpreter: a second one would meet the errors and classes of the first. */
+static bool is_main_interpreter(void) {
+  if (PyInterpreterState_Get() == PyInterpreterState_Main())
+    return true;
+  PyErr_SetString(PyExc_ImportError, "gaffsilver._native can only be loaded by the main interpreter");
+  return false;
 }
+
+static int fill(PyObject *module) {
+  bool is_well = is_main_interpreter() && ready_types() && read_shared() &&
+                 PyModule_AddObjectRef(module, "Pattern", (PyObject *)&PatternType) == 0 &&
+                 PyModule_AddObjectRef(module, "Match", (PyObject *)&MatchType) == 0;
+  return is_well ? 0 : -1;
+}
+
+/* In two phases, since CPython 3.13 runs the init of a module of one phase in the main interpreter. */
+static PyModuleDef_Slot slots[] = {{Py_mod_exec, fill}, {0, NULL}};
+
+static struct PyModuleDef definition = {
+    PyModuleDef_HEAD_INIT,
+    .m_name = "gaffsilver._native",
+    .m_doc = "Pattern and Match over the proved engine.",
+    .m_methods = functions,
+    .m_slots = slots,
+};
+
+PyMODINIT_FUNC PyInit__native(void) { return PyModuleDef_Init(&definition); }
