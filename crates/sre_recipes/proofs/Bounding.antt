@@ -17,7 +17,7 @@ use Rattle.sre_engine.specs.declared.engine.search_iter.SearchIter.{SearchIter}
 use Rattle.sre_recipes.specs.declared.bounds.Bounds.{Bounds}
 use Rattle.sre_recipes.specs.Bounded.{first_of, AreLeft}
 use Rattle.sre_recipes.proofs.Steps.{walk_step}
-use Rattle.sre_recipes.specs.Limits.{is_spent, one_less, Goes, Takes, Stops, OutlastRest}
+use Rattle.sre_recipes.specs.Limits.{is_spent, one_less, Goes, Takes, Stops, OutlastRest, SpendsOn}
 
 -- where no step is taken, all are left
 pub left_all : (steps : Option ℕ) → AreLeft steps steps
@@ -90,12 +90,12 @@ pub takes_one : {S A : Type 0} {text : Ghosts S} (it next : SearchIter S A text)
     → after.most ≡ one_less between.most → after.limit_exceeded ≡ between.limit_exceeded → after.steps ≡ between.steps
     → Takes it next before after
 takes_one it next before between after wanted goes most used steps = record {
-  one = λ m ms.
-      one_taken before.most m ms wanted
-      ∙ ap (λ (n : Option ℕ). m ∷ first_of n ms) (sym (most ∙ ap one_less goes.most));
+  wanted = wanted;
+  most = most ∙ ap one_less goes.most;
   going = used ∙ goes.going;
   steps = subst (AreLeft before.steps) (sym steps) goes.steps;
   lasts = λ enough. subst (OutlastRest next) (sym steps) (goes.lasts enough);
+  spends = subst (SpendsOn it next before.steps) (sym steps) goes.spends;
 }
 
 -- a match comes off what is wanted of a walk whose words are still those that were asked for
@@ -105,7 +105,8 @@ pub taken_step : {S A : Type 0} {text : Ghosts S} (it next : SearchIter S A text
     → first_of before.most (left_of it t) ≡ match_shown (shown_of next) ∷ first_of after.most (left_of next t)
 taken_step it next before after words t gives takes same whole =
     ap (first_of before.most) (walk_step it next words t gives same whole)
-    ∙ takes.one (match_shown (shown_of next)) (left_of next t)
+    ∙ one_taken before.most (match_shown (shown_of next)) (left_of next t) takes.wanted
+    ∙ ap (λ (n : Option ℕ). match_shown (shown_of next) ∷ first_of n (left_of next t)) (sym takes.most)
 
 -- and none is left
 pub stopped : {S A : Type 0} {text : Ghosts S} (it : SearchIter S A text) (before after : Bounds) (words : List ℕ)

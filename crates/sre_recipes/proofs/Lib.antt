@@ -6,3 +6,4 @@ pub mod Written
 pub mod Bounding
 pub mod Outlasting
 pub mod Begun
+pub mod Following

@@ -2,6 +2,7 @@ pub mod Slices
 pub mod FoundTexts
 pub mod Captured
 pub mod Bounded
+pub mod Followed
 pub mod Pieces
 pub mod Templates
 pub mod Computed

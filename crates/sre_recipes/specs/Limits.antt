@@ -1,15 +1,16 @@
 -- How far an iteration is followed within bounds: definitions for private functions' contracts.
-use Rattle.std.specs.Prelude.{◌≡◌, ℕ, ◌-◌, nat_eq, Bool, true, false, List, [], ◌∷◌, Option, Some, None}
+use Rattle.std.specs.Prelude.{◌≡◌, ℕ, ◌+◌, ◌-◌, nat_eq, Bool, true, false, [], Option, Some, None}
 use Rattle.sre_chars.specs.declared.string.StrDrive.{Ghosts}
 use Rattle.sre_engine.specs.Tree.{Tree}
 use Rattle.sre_engine.specs.Grammar.{Whole}
-use Rattle.sre_engine.specs.Found.{Match}
 use Rattle.sre_engine.specs.Codes.{words_of}
 use Rattle.sre_engine.specs.Requests.{code_of, asked_of}
-use Rattle.sre_engine.specs.Iterators.{request_of, left_of, IsOver}
+use Rattle.sre_engine.specs.Answers.{match_shown}
+use Rattle.sre_engine.specs.Iterators.{request_of, shown_of, has_ended, left_of, IsOver}
 use Rattle.sre_engine.specs.declared.engine.search_iter.SearchIter.{SearchIter}
 use Rattle.sre_recipes.specs.declared.bounds.Bounds.{Bounds}
 use Rattle.sre_recipes.specs.Bounded.{first_of, AreLeft, Outlast}
+use Rattle.sre_recipes.specs.Followed.{Spends, AllSpend, Followed}
 
 -- whether no match is wanted any more, and how many are once one was taken
 abbrev pub is_spent : Option ℕ → Bool
@@ -24,31 +25,62 @@ one_less (Some n) = Some (n - 1)
 abbrev pub OutlastRest : {S A : Type 0} {text : Ghosts S} → SearchIter S A text → Option ℕ → Type 0
 OutlastRest it steps = Outlast (asked_of (request_of it)) (code_of (request_of it)) steps
 
+-- a search from where a walk stands finds the match that is shown then, within a budget of steps if there is one
+abbrev pub SpendsOn : {S A : Type 0} {text : Ghosts S} → SearchIter S A text → SearchIter S A text → Option ℕ → Option ℕ
+    → Type 0
+SpendsOn it next given left =
+    let m = match_shown (shown_of next) in
+    Spends (asked_of (request_of it)) (code_of (request_of it)) (m.start + 1) m.end (Some true) given left
+
+-- or it is the last one of the walk
+abbrev pub SpendsLast : {S A : Type 0} {text : Ghosts S} → SearchIter S A text → Bool → Option ℕ → Option ℕ → Type 0
+SpendsLast it exceeded given left =
+    has_ended it ≡ false → AllSpend (asked_of (request_of it)) (code_of (request_of it)) [] exceeded given left
+
+-- what a search within a budget spends: it exceeds the step limit, finds no match, or one
+abbrev pub SpendsWithin : {S A X : Type 0} {text : Ghosts S} → SearchIter S A text → SearchIter S A text
+    → Option (Option X) → ℕ → ℕ → Type 0
+SpendsWithin it next None given left = SpendsLast it true (Some given) (Some left)
+SpendsWithin it next (Some None) given left = SpendsLast it false (Some given) (Some left)
+SpendsWithin it next (Some (Some _)) given left = SpendsOn it next (Some given) (Some left)
+
+-- what is left of a walk is followed within bounds
+abbrev pub FollowedRest : {S A : Type 0} {text : Ghosts S} → SearchIter S A text → Bounds → Bounds → Type 0
+FollowedRest it before after =
+    Followed (asked_of (request_of it)) (code_of (request_of it)) before.most before.steps after
+
 -- one more match is looked for, within a budget of steps if there is one: a match comes
 pub record Goes {S A : Type 0} {text : Ghosts S} (it next : SearchIter S A text) (before after : Bounds) : Type 0 where
   pub most : after.most ≡ before.most
   pub going : after.limit_exceeded ≡ false
   pub steps : AreLeft before.steps after.steps
   pub lasts : OutlastRest it before.steps → OutlastRest next after.steps
+  pub spends : SpendsOn it next before.steps after.steps
 
 -- or none is left, unless the step limit was exceeded
 pub record Ends {S A : Type 0} {text : Ghosts S} (it : SearchIter S A text) (before after : Bounds) : Type 0 where
+  pub most : after.most ≡ before.most
   pub over : after.limit_exceeded ≡ false → IsOver it
   pub used : after.limit_exceeded ≡ true → after.steps ≡ Some 0
   pub steps : AreLeft before.steps after.steps
   pub lasts : OutlastRest it before.steps → after.limit_exceeded ≡ false
+  pub spends : SpendsLast it after.limit_exceeded before.steps after.steps
 
 -- a match was taken within bounds
 pub record Takes {S A : Type 0} {text : Ghosts S} (it next : SearchIter S A text) (before after : Bounds) : Type 0 where
-  pub one : (m : Match) (ms : List Match) → first_of before.most (m ∷ ms) ≡ m ∷ first_of after.most ms
+  pub wanted : is_spent before.most ≡ false
+  pub most : after.most ≡ one_less before.most
   pub going : after.limit_exceeded ≡ false
   pub steps : AreLeft before.steps after.steps
   pub lasts : OutlastRest it before.steps → OutlastRest next after.steps
+  pub spends : SpendsOn it next before.steps after.steps
 
 -- no match is left within bounds, unless the step limit was exceeded
 pub record Stops {S A : Type 0} {text : Ghosts S} (it : SearchIter S A text) (before after : Bounds) : Type 0 where
+  pub most : after.most ≡ before.most
   pub none : after.limit_exceeded ≡ false → (t : Tree) → Whole (words_of (code_of (request_of it))) t
       → first_of before.most (left_of it t) ≡ []
   pub used : after.limit_exceeded ≡ true → after.steps ≡ Some 0
   pub steps : AreLeft before.steps after.steps
   pub lasts : OutlastRest it before.steps → after.limit_exceeded ≡ false
+  pub spends : SpendsLast it after.limit_exceeded before.steps after.steps

@@ -5,7 +5,7 @@ ghost use Rattle.sre_engine.specs.Requests.{string_of};
 ghost use Rattle.sre_engine.specs.Iterators.{request_of, shown_of, Gives, IsOver, most_items};
 ghost use Rattle.sre_growth.specs.Refusal.{Refused};
 ghost use Rattle.sre_recipes.specs.Spans.{IsSpan};
-ghost use Rattle.sre_recipes.specs.Limits.{is_spent, one_less, Takes, Stops, Goes, Ends, OutlastRest};
+ghost use Rattle.sre_recipes.specs.Limits.{is_spent, one_less, Takes, Stops, Goes, Ends, OutlastRest, SpendsWithin};
 
 use crate::span::{Span, next_span, span_of};
 use sre_engine::{SearchIter, SreError, StrDrive};
@@ -77,6 +77,7 @@ fn next_span_within<S: StrDrive, A: Allocator + Copy>(
     ensures never { OutlastRest walk.old (Some steps.old) → IfOk result IsSome }
     ensures lasts { OutlastRest walk.old (Some steps.old) → IfOk result (λ told. IfSome told (λ next.
         IsSome next → OutlastRest walk.new (Some steps.new))) }
+    ensures spends { IfOk result (λ told. SpendsWithin walk.old walk.new told steps.old steps.new) }
     ensures refused { OnErr result Refused }
 {
     match walk.next_within(steps) {

@@ -1,17 +1,18 @@
 //! Replacement of all matches by the results of a closure.
 
 ghost use Rattle.std.specs.Prelude.{◌≡◌, ◌≤◌, ◌++◌, true, false, None, Some, Err, slice_range};
-ghost use Rattle.std.specs.Prelude.{IfOk, IfSome, IsSome, OnErr};
+ghost use Rattle.std.specs.Prelude.{is_none, IfOk, IfSome, IsSome, OnErr};
 ghost use Rattle.sre_engine.specs.Tree.{Tree};
 ghost use Rattle.sre_engine.specs.Grammar.{Whole};
 ghost use Rattle.sre_engine.specs.Found.{walk};
 ghost use Rattle.sre_engine.specs.Codes.{words_of};
 ghost use Rattle.sre_engine.specs.Requests.{string_of, start_of, end_of, code_of, asked_of};
-ghost use Rattle.sre_engine.specs.Iterators.{request_of, left_of};
+ghost use Rattle.sre_engine.specs.Iterators.{request_of, left_of, has_ended};
 ghost use Rattle.sre_growth.specs.Refusal.{Refused};
 ghost use Rattle.sre_recipes.specs.Computed.{Computes, ReplacedInOrder};
-ghost use Rattle.sre_recipes.specs.Limits.{OutlastRest};
+ghost use Rattle.sre_recipes.specs.Limits.{OutlastRest, FollowedRest};
 ghost use Rattle.sre_recipes.specs.Bounded.{first_of, AreLeft, Outlast};
+ghost use Rattle.sre_recipes.specs.Followed.{Followed};
 
 use crate::bounds::{Bounds, next_bounded};
 use crate::find::copied;
@@ -61,6 +62,7 @@ where
     F: FnMut(&CapturesOf<S, Global>) -> Result<S::New, AllocError>,
     requires callable { F.IsAlwaysCallable compute }
     requires going { bounds.old.limit_exceeded ≡ false }
+    requires begun { has_ended walk.old ≡ false }
     requires written { S.IsText output.old.items }
     ensures ok { (t : Tree) → Whole (words_of (code_of (request_of walk.old))) t → IfOk result (λ _.
         bounds.new.limit_exceeded ≡ false → (new : _)
@@ -73,6 +75,7 @@ where
     ensures used { IfOk result (λ _. bounds.new.limit_exceeded ≡ true → bounds.new.steps ≡ Some 0) }
     ensures steps { IfOk result (λ _. AreLeft bounds.old.steps bounds.new.steps) }
     ensures lasts { OutlastRest walk.old bounds.old.steps → IfOk result (λ _. bounds.new.limit_exceeded ≡ false) }
+    ensures followed { IfOk result (λ _. FollowedRest walk.old bounds.old bounds.new) }
     ensures refused { ((f : _) (c : _) (e : _) (g : _) → F.step f c (Err e) g → Refused) → OnErr result Refused }
 {
     let (text, stop) = (walk.req().string(), walk.req().end());
@@ -113,6 +116,8 @@ where
     ensures steps { IfOk result (λ _. AreLeft bounds.old.steps bounds.new.steps) }
     ensures lasts { Outlast (asked_of req.entry) (code_of req.entry) bounds.old.steps
         → IfOk result (λ _. bounds.new.limit_exceeded ≡ false) }
+    ensures followed { IfOk result (λ _.
+        Followed (asked_of req.entry) (code_of req.entry) bounds.old.most bounds.old.steps bounds.new) }
     ensures refused { ((f : _) (c : _) (e : _) (g : _) → F.step f c (Err e) g → Refused) → OnErr result Refused }
 {
     bounds.limit_exceeded = false;
@@ -141,6 +146,8 @@ where
     ensures steps { IfOk result (λ _. AreLeft bounds.old.steps bounds.new.steps) }
     ensures lasts { Outlast (asked_of req.entry) (code_of req.entry) bounds.old.steps
         → IfOk result (λ _. bounds.new.limit_exceeded ≡ false) }
+    ensures followed { IfOk result (λ _.
+        Followed (asked_of req.entry) (code_of req.entry) bounds.old.most bounds.old.steps bounds.new) }
     ensures refused { ((f : _) (c : _) (e : _) (g : _) → F.step f c (Err e) g → Refused) → OnErr result Refused }
 {
     let mut output = Vec::new(alloc);
@@ -210,6 +217,9 @@ where
     ensures steps { IfOk result (λ _. AreLeft bounds.old.steps bounds.new.steps) }
     ensures lasts { Outlast (asked_of req.now) (code_of req.now) bounds.old.steps → IfOk result IsSome }
     ensures unlimited { bounds.old.steps ≡ None → IfOk result IsSome }
+    ensures exceeded { IfOk result (λ told. bounds.new.limit_exceeded ≡ is_none told) }
+    ensures followed { IfOk result (λ _.
+        Followed (asked_of req.now) (code_of req.now) bounds.old.most bounds.old.steps bounds.new) }
     ensures refused { ((f : _) (c : _) (e : _) (g : _) → F.step f c (Err e) g → Refused) → OnErr result Refused }
 {
     let new = computed_text(alloc, copied(req), bounds, compute)?;

@@ -1,7 +1,7 @@
 //! Splitting: the pieces of text between matches.
 
 ghost use Rattle.std.specs.Prelude.{◌≡◌, ◌≤◌, ◌++◌, ◌∷◌, [], true, false, None, Some, map, slice_range};
-ghost use Rattle.std.specs.Prelude.{IfOk, IfSome, IsSome, OnErr};
+ghost use Rattle.std.specs.Prelude.{is_none, IfOk, IfSome, IsSome, OnErr};
 ghost use Rattle.std.specs.Option.{option_map};
 ghost use Rattle.sre_engine.specs.Tree.{Tree};
 ghost use Rattle.sre_engine.specs.Grammar.{Whole};
@@ -9,12 +9,13 @@ ghost use Rattle.sre_engine.specs.Found.{walk};
 ghost use Rattle.sre_engine.specs.Codes.{words_of};
 ghost use Rattle.sre_engine.specs.Requests.{string_of, start_of, end_of, code_of, asked_of};
 ghost use Rattle.sre_engine.specs.Answers.{match_shown};
-ghost use Rattle.sre_engine.specs.Iterators.{request_of, left_of};
+ghost use Rattle.sre_engine.specs.Iterators.{request_of, left_of, has_ended};
 ghost use Rattle.sre_growth.specs.Refusal.{Refused};
 ghost use Rattle.sre_recipes.specs.Spans.{IsSpan};
 ghost use Rattle.sre_recipes.specs.Pieces.{pieces_between, first_groups, pieces_and_groups};
-ghost use Rattle.sre_recipes.specs.Limits.{OutlastRest};
+ghost use Rattle.sre_recipes.specs.Limits.{OutlastRest, FollowedRest};
 ghost use Rattle.sre_recipes.specs.Bounded.{first_of, AreLeft, Outlast};
+ghost use Rattle.sre_recipes.specs.Followed.{Followed};
 
 use crate::bounds::{Bounds, next_bounded};
 use crate::find::copied;
@@ -52,7 +53,8 @@ fn add_pieces<S: Text, A: Allocator + Copy>(
     bounds: &mut Bounds,
     pieces: &mut Vec<S, A>,
 ) -> Result<(), SreError>
-    requires { bounds.old.limit_exceeded ≡ false }
+    requires going { bounds.old.limit_exceeded ≡ false }
+    requires begun { has_ended walk.old ≡ false }
     ensures ok { (t : Tree) → Whole (words_of (code_of (request_of walk.old))) t → IfOk result (λ _.
         bounds.new.limit_exceeded ≡ false → map S.text pieces.new.items
         ≡ map S.text pieces.old.items
@@ -61,6 +63,7 @@ fn add_pieces<S: Text, A: Allocator + Copy>(
     ensures used { IfOk result (λ _. bounds.new.limit_exceeded ≡ true → bounds.new.steps ≡ Some 0) }
     ensures steps { IfOk result (λ _. AreLeft bounds.old.steps bounds.new.steps) }
     ensures lasts { OutlastRest walk.old bounds.old.steps → IfOk result (λ _. bounds.new.limit_exceeded ≡ false) }
+    ensures followed { IfOk result (λ _. FollowedRest walk.old bounds.old bounds.new) }
     ensures refused { OnErr result Refused }
 {
     let (text, stop) = (walk.req().string(), walk.req().end());
@@ -88,6 +91,8 @@ fn add_all_pieces<S: Text, A: Allocator + Copy>(
     ensures steps { IfOk result (λ _. AreLeft bounds.old.steps bounds.new.steps) }
     ensures lasts { Outlast (asked_of req.entry) (code_of req.entry) bounds.old.steps
         → IfOk result (λ _. bounds.new.limit_exceeded ≡ false) }
+    ensures followed { IfOk result (λ _.
+        Followed (asked_of req.entry) (code_of req.entry) bounds.old.most bounds.old.steps bounds.new) }
     ensures refused { OnErr result Refused }
 {
     bounds.limit_exceeded = false;
@@ -152,6 +157,9 @@ pub fn split_bounded<S: Text, A: Allocator + Copy>(
     ensures steps { IfOk result (λ _. AreLeft bounds.old.steps bounds.new.steps) }
     ensures lasts { Outlast (asked_of req.now) (code_of req.now) bounds.old.steps → IfOk result IsSome }
     ensures unlimited { bounds.old.steps ≡ None → IfOk result IsSome }
+    ensures exceeded { IfOk result (λ told. bounds.new.limit_exceeded ≡ is_none told) }
+    ensures followed { IfOk result (λ _.
+        Followed (asked_of req.now) (code_of req.now) bounds.old.most bounds.old.steps bounds.new) }
     ensures refused { OnErr result Refused }
 {
     let mut pieces = Vec::new(alloc);
@@ -194,7 +202,8 @@ fn add_pieces_and_groups<S: Text, A: Allocator + Copy>(
     groups: usize,
     pieces: &mut Vec<Option<S>, A>,
 ) -> Result<(), SreError>
-    requires { bounds.old.limit_exceeded ≡ false }
+    requires going { bounds.old.limit_exceeded ≡ false }
+    requires begun { has_ended walk.old ≡ false }
     ensures ok { (t : Tree) → Whole (words_of (code_of (request_of walk.old))) t → IfOk result (λ _.
         bounds.new.limit_exceeded ≡ false → map (option_map S.text) pieces.new.items
         ≡ map (option_map S.text) pieces.old.items
@@ -203,6 +212,7 @@ fn add_pieces_and_groups<S: Text, A: Allocator + Copy>(
     ensures used { IfOk result (λ _. bounds.new.limit_exceeded ≡ true → bounds.new.steps ≡ Some 0) }
     ensures steps { IfOk result (λ _. AreLeft bounds.old.steps bounds.new.steps) }
     ensures lasts { OutlastRest walk.old bounds.old.steps → IfOk result (λ _. bounds.new.limit_exceeded ≡ false) }
+    ensures followed { IfOk result (λ _. FollowedRest walk.old bounds.old bounds.new) }
     ensures refused { OnErr result Refused }
 {
     let (text, stop) = (walk.req().string(), walk.req().end());
@@ -231,6 +241,8 @@ fn add_all_with_groups<S: Text, A: Allocator + Copy>(
     ensures steps { IfOk result (λ _. AreLeft bounds.old.steps bounds.new.steps) }
     ensures lasts { Outlast (asked_of req.entry) (code_of req.entry) bounds.old.steps
         → IfOk result (λ _. bounds.new.limit_exceeded ≡ false) }
+    ensures followed { IfOk result (λ _.
+        Followed (asked_of req.entry) (code_of req.entry) bounds.old.most bounds.old.steps bounds.new) }
     ensures refused { OnErr result Refused }
 {
     bounds.limit_exceeded = false;
@@ -290,6 +302,9 @@ pub fn split_groups_bounded<S: Text, A: Allocator + Copy>(
     ensures steps { IfOk result (λ _. AreLeft bounds.old.steps bounds.new.steps) }
     ensures lasts { Outlast (asked_of req.now) (code_of req.now) bounds.old.steps → IfOk result IsSome }
     ensures unlimited { bounds.old.steps ≡ None → IfOk result IsSome }
+    ensures exceeded { IfOk result (λ told. bounds.new.limit_exceeded ≡ is_none told) }
+    ensures followed { IfOk result (λ _.
+        Followed (asked_of req.now) (code_of req.now) bounds.old.most bounds.old.steps bounds.new) }
     ensures refused { OnErr result Refused }
 {
     let mut pieces = Vec::new(alloc);

@@ -1,18 +1,20 @@
 //! The text of one match, and the texts of all matches.
 
 ghost use Rattle.std.specs.Prelude.{◌≡◌, ◌≤◌, ◌++◌, ◌∷◌, [], true, false, None, Some, map, slice_range};
-ghost use Rattle.std.specs.Prelude.{is_some, IsSome, IfSome, IfOk, OnErr};
+ghost use Rattle.std.specs.Prelude.{is_none, is_some, IsSome, IfSome, IfOk, OnErr};
 ghost use Rattle.sre_engine.specs.Tree.{Tree};
 ghost use Rattle.sre_engine.specs.Grammar.{Whole};
+ghost use Rattle.sre_engine.specs.Marks.{no_marks};
 ghost use Rattle.sre_engine.specs.Found.{matched, found, walk};
 ghost use Rattle.sre_engine.specs.Codes.{words_of};
 ghost use Rattle.sre_engine.specs.Requests.{string_of, start_of, end_of, code_of, asked_of, stands_in};
 ghost use Rattle.sre_engine.specs.Answers.{answer_of, Spans};
-ghost use Rattle.sre_engine.specs.Iterators.{request_of, left_of};
+ghost use Rattle.sre_engine.specs.Iterators.{request_of, left_of, has_ended};
 ghost use Rattle.sre_growth.specs.Refusal.{Refused};
 ghost use Rattle.sre_recipes.specs.Slices.{slice_of, to_the_end};
-ghost use Rattle.sre_recipes.specs.Limits.{OutlastRest};
+ghost use Rattle.sre_recipes.specs.Limits.{OutlastRest, FollowedRest};
 ghost use Rattle.sre_recipes.specs.Bounded.{first_of, AreLeft, Outlast};
+ghost use Rattle.sre_recipes.specs.Followed.{Followed};
 
 use crate::bounds::{Bounds, next_bounded};
 use crate::slice::matched_text;
@@ -55,7 +57,8 @@ fn add_texts<S: Text, A: Allocator + Copy>(
     bounds: &mut Bounds,
     all: &mut Vec<S, A>,
 ) -> Result<(), SreError>
-    requires { bounds.old.limit_exceeded ≡ false }
+    requires going { bounds.old.limit_exceeded ≡ false }
+    requires begun { has_ended walk.old ≡ false }
     ensures ok { (t : Tree) → Whole (words_of (code_of (request_of walk.old))) t → IfOk result (λ _.
         bounds.new.limit_exceeded ≡ false → map S.text all.new.items
         ≡ map S.text all.old.items
@@ -64,6 +67,7 @@ fn add_texts<S: Text, A: Allocator + Copy>(
     ensures used { IfOk result (λ _. bounds.new.limit_exceeded ≡ true → bounds.new.steps ≡ Some 0) }
     ensures steps { IfOk result (λ _. AreLeft bounds.old.steps bounds.new.steps) }
     ensures lasts { OutlastRest walk.old bounds.old.steps → IfOk result (λ _. bounds.new.limit_exceeded ≡ false) }
+    ensures followed { IfOk result (λ _. FollowedRest walk.old bounds.old bounds.new) }
     ensures refused { OnErr result Refused }
 {
     let text = walk.req().string();
@@ -88,6 +92,8 @@ fn add_all_texts<S: Text, A: Allocator + Copy>(
     ensures steps { IfOk result (λ _. AreLeft bounds.old.steps bounds.new.steps) }
     ensures lasts { Outlast (asked_of req.entry) (code_of req.entry) bounds.old.steps
         → IfOk result (λ _. bounds.new.limit_exceeded ≡ false) }
+    ensures followed { IfOk result (λ _.
+        Followed (asked_of req.entry) (code_of req.entry) bounds.old.most bounds.old.steps bounds.new) }
     ensures refused { OnErr result Refused }
 {
     bounds.limit_exceeded = false;
@@ -149,6 +155,9 @@ pub fn find_bounded<S: Text, A: Allocator + Copy>(
     ensures steps { IfOk result (λ _. AreLeft bounds.old.steps bounds.new.steps) }
     ensures lasts { Outlast (asked_of req.now) (code_of req.now) bounds.old.steps → IfOk result IsSome }
     ensures unlimited { bounds.old.steps ≡ None → IfOk result IsSome }
+    ensures exceeded { IfOk result (λ told. bounds.new.limit_exceeded ≡ is_none told) }
+    ensures followed { IfOk result (λ _.
+        Followed (asked_of req.now) (code_of req.now) bounds.old.most bounds.old.steps bounds.new) }
     ensures refused { OnErr result Refused }
 {
     let mut all = Vec::new(alloc);
@@ -176,7 +185,7 @@ fn text_if<S: Text, A: Allocator + Copy>(found: bool, text: S, state: &State<A>)
 }
 
 /// Matches at the start of the range, as `State::pymatch` does. Returns the text of the match, which the state then
-/// shows, or `None` if there is none.
+/// shows, or `None` if there is none. After `None` or an error the state has no captures.
 ///
 /// # Errors
 ///
@@ -192,6 +201,8 @@ pub fn match_text<S: Text, A: Allocator + Copy>(
     ensures stands { IfOk result (λ text. IsSome text
         → S.stands (string_of req.now) state.new.cursor state.new.cursor.position) }
     ensures forward { IfOk result (λ text. IsSome text → state.new.start ≤ state.new.cursor.position) }
+    ensures no { IfOk result (λ text. text ≡ None → state.new.marks ≡ no_marks) }
+    ensures err { OnErr result (state.new.marks ≡ no_marks) }
     ensures refused { OnErr result Refused }
 {
     let _words = req.pattern_codes().words(); // has a tree
@@ -200,7 +211,7 @@ pub fn match_text<S: Text, A: Allocator + Copy>(
 }
 
 /// Searches the range, as `State::search` does. Returns the text of the match with the least start, which the state
-/// then shows, or `None` if there is none.
+/// then shows, or `None` if there is none. After `None` or an error the state has no captures.
 ///
 /// # Errors
 ///
@@ -216,6 +227,8 @@ pub fn search_text<S: Text, A: Allocator + Copy>(
     ensures stands { IfOk result (λ text. IsSome text
         → S.stands (string_of req.now) state.new.cursor state.new.cursor.position) }
     ensures forward { IfOk result (λ text. IsSome text → state.new.start ≤ state.new.cursor.position) }
+    ensures no { IfOk result (λ text. text ≡ None → state.new.marks ≡ no_marks) }
+    ensures err { OnErr result (state.new.marks ≡ no_marks) }
     ensures refused { OnErr result Refused }
 {
     let _words = req.pattern_codes().words(); // has a tree
@@ -248,7 +261,8 @@ pub fn is_match<S: StrDrive, A: Allocator + Copy>(
 }
 
 /// Returns whether a match goes from the start of the range to its end, as Python's `fullmatch` does, for a text of any
-/// type. The state then shows the match. The call ignores the request's `match_all`.
+/// type. The state then shows the match, and after `false` or an error it has no captures. The call ignores the
+/// request's `match_all`.
 ///
 /// # Errors
 ///
@@ -261,6 +275,8 @@ pub fn full_match<S: StrDrive, A: Allocator + Copy>(
         → IfOk result (λ b. answer_of b state.new ≡ matched (to_the_end (asked_of req.now)) t) }
     ensures cursor { IfOk result (λ b. b ≡ true → stands_in req.now state.new.cursor state.new.cursor.position) }
     ensures span { IfOk result (λ b. b ≡ true → Spans (start_of req.now) (end_of req.now) state.new) }
+    ensures no { IfOk result (λ b. b ≡ false → state.new.marks ≡ no_marks) }
+    ensures err { OnErr result (state.new.marks ≡ no_marks) }
     ensures refused { OnErr result Refused }
 {
     let mut req = copied(req);

@@ -1,21 +1,23 @@
 //! Matches with the texts of their groups.
 
 ghost use Rattle.std.specs.Prelude.{◌≡◌, ◌≤◌, ◌+◌, ◌^◌, ◌++◌, ◌∷◌, [], true, false, None, Some, length, map};
-ghost use Rattle.std.specs.Prelude.{slice_index_or, IfOk, IfSome, OnErr, IsSome};
+ghost use Rattle.std.specs.Prelude.{slice_index_or, is_none, is_some, IfOk, IfSome, OnErr, IsSome};
 ghost use Rattle.std.specs.List.{range_with_len};
 ghost use Rattle.std.specs.Option.{option_map};
 ghost use Rattle.sre_engine.specs.Tree.{Tree};
 ghost use Rattle.sre_engine.specs.Grammar.{Whole};
+ghost use Rattle.sre_engine.specs.Marks.{no_marks};
 ghost use Rattle.sre_engine.specs.Found.{matched, found, walk};
 ghost use Rattle.sre_engine.specs.Codes.{words_of};
 ghost use Rattle.sre_engine.specs.Requests.{string_of, code_of, asked_of};
-ghost use Rattle.sre_engine.specs.Answers.{match_shown};
-ghost use Rattle.sre_engine.specs.Iterators.{request_of, left_of};
+ghost use Rattle.sre_engine.specs.Answers.{match_shown, answer_of};
+ghost use Rattle.sre_engine.specs.Iterators.{request_of, left_of, has_ended};
 ghost use Rattle.sre_growth.specs.Refusal.{Refused};
 ghost use Rattle.sre_recipes.specs.Slices.{numbered_group, captured};
 ghost use Rattle.sre_recipes.specs.Captured.{captures_shown};
-ghost use Rattle.sre_recipes.specs.Limits.{OutlastRest};
+ghost use Rattle.sre_recipes.specs.Limits.{OutlastRest, FollowedRest};
 ghost use Rattle.sre_recipes.specs.Bounded.{first_of, AreLeft, Outlast};
+ghost use Rattle.sre_recipes.specs.Followed.{Followed};
 
 use crate::bounds::{Bounds, next_bounded};
 use crate::find::{copied, match_text, search_text};
@@ -96,8 +98,8 @@ pub(crate) fn shown_captures<S: Text, A: Allocator + Copy>(
     Ok(CapturesOf { groups })
 }
 
-/// Searches the range, as `State::search` does. Returns the match with the least start and its groups, or `None` if
-/// there is none. The state then shows the match.
+/// Searches the range, as `State::search` does. Returns the match with the least start and its groups. The state then
+/// shows the match, so `group_text` can follow. Returns `None` if there is none, and the state then has no captures.
 ///
 /// # Errors
 ///
@@ -110,6 +112,12 @@ pub fn search_captures<S: Text, A: Allocator + Copy>(
     ensures ok { (t : Tree) → Whole (words_of (code_of req.now)) t → IfOk result (λ all.
         option_map (captures_shown S.text) all
         ≡ option_map (captured (S.text (string_of req.now))) (found (asked_of req.now) t)) }
+    ensures answer { (t : Tree) → Whole (words_of (code_of req.now)) t
+        → IfOk result (λ all. answer_of (is_some all) state.new ≡ found (asked_of req.now) t) }
+    ensures stands { IfOk result (λ all. IsSome all
+        → S.stands (string_of req.now) state.new.cursor state.new.cursor.position) }
+    ensures forward { IfOk result (λ all. IsSome all → state.new.start ≤ state.new.cursor.position) }
+    ensures no { IfOk result (λ all. all ≡ None → state.new.marks ≡ no_marks) }
     ensures refused { OnErr result Refused }
 {
     let text = req.string();
@@ -119,8 +127,8 @@ pub fn search_captures<S: Text, A: Allocator + Copy>(
     }
 }
 
-/// Matches at the start of the range, as `State::pymatch` does. Returns the match and its groups, or `None` if there is
-/// none. The state then shows the match.
+/// Matches at the start of the range, as `State::pymatch` does. Returns the match and its groups. The state then shows
+/// the match, so `group_text` can follow. Returns `None` if there is none, and the state then has no captures.
 ///
 /// # Errors
 ///
@@ -133,6 +141,12 @@ pub fn match_captures<S: Text, A: Allocator + Copy>(
     ensures ok { (t : Tree) → Whole (words_of (code_of req.now)) t → IfOk result (λ all.
         option_map (captures_shown S.text) all
         ≡ option_map (captured (S.text (string_of req.now))) (matched (asked_of req.now) t)) }
+    ensures answer { (t : Tree) → Whole (words_of (code_of req.now)) t
+        → IfOk result (λ all. answer_of (is_some all) state.new ≡ matched (asked_of req.now) t) }
+    ensures stands { IfOk result (λ all. IsSome all
+        → S.stands (string_of req.now) state.new.cursor state.new.cursor.position) }
+    ensures forward { IfOk result (λ all. IsSome all → state.new.start ≤ state.new.cursor.position) }
+    ensures no { IfOk result (λ all. all ≡ None → state.new.marks ≡ no_marks) }
     ensures refused { OnErr result Refused }
 {
     match match_text(req, state)? {
@@ -165,7 +179,8 @@ fn add_each<S: Text, A: Allocator + Copy>(
     bounds: &mut Bounds,
     all: &mut Vec<CapturesOf<S, A>, A>,
 ) -> Result<(), SreError>
-    requires { bounds.old.limit_exceeded ≡ false }
+    requires going { bounds.old.limit_exceeded ≡ false }
+    requires begun { has_ended walk.old ≡ false }
     ensures ok { (t : Tree) → Whole (words_of (code_of (request_of walk.old))) t → IfOk result (λ _.
         bounds.new.limit_exceeded ≡ false → map (captures_shown S.text) all.new.items
         ≡ map (captures_shown S.text) all.old.items
@@ -174,6 +189,7 @@ fn add_each<S: Text, A: Allocator + Copy>(
     ensures used { IfOk result (λ _. bounds.new.limit_exceeded ≡ true → bounds.new.steps ≡ Some 0) }
     ensures steps { IfOk result (λ _. AreLeft bounds.old.steps bounds.new.steps) }
     ensures lasts { OutlastRest walk.old bounds.old.steps → IfOk result (λ _. bounds.new.limit_exceeded ≡ false) }
+    ensures followed { IfOk result (λ _. FollowedRest walk.old bounds.old bounds.new) }
     ensures refused { OnErr result Refused }
 {
     let text = walk.req().string();
@@ -198,6 +214,8 @@ fn add_all_captures<S: Text, A: Allocator + Copy>(
     ensures steps { IfOk result (λ _. AreLeft bounds.old.steps bounds.new.steps) }
     ensures lasts { Outlast (asked_of req.entry) (code_of req.entry) bounds.old.steps
         → IfOk result (λ _. bounds.new.limit_exceeded ≡ false) }
+    ensures followed { IfOk result (λ _.
+        Followed (asked_of req.entry) (code_of req.entry) bounds.old.most bounds.old.steps bounds.new) }
     ensures refused { OnErr result Refused }
 {
     bounds.limit_exceeded = false;
@@ -251,6 +269,9 @@ pub fn captures_bounded<S: Text, A: Allocator + Copy>(
     ensures steps { IfOk result (λ _. AreLeft bounds.old.steps bounds.new.steps) }
     ensures lasts { Outlast (asked_of req.now) (code_of req.now) bounds.old.steps → IfOk result IsSome }
     ensures unlimited { bounds.old.steps ≡ None → IfOk result IsSome }
+    ensures exceeded { IfOk result (λ told. bounds.new.limit_exceeded ≡ is_none told) }
+    ensures followed { IfOk result (λ _.
+        Followed (asked_of req.now) (code_of req.now) bounds.old.most bounds.old.steps bounds.new) }
     ensures refused { OnErr result Refused }
 {
     let mut all = Vec::new(alloc);

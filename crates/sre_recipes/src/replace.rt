@@ -1,7 +1,7 @@
 //! Replacement of all matches by a template.
 
 ghost use Rattle.std.specs.Prelude.{◌≡◌, ◌≤◌, ◌++◌, true, false, None, Some, slice_range};
-ghost use Rattle.std.specs.Prelude.{IfOk, IfSome, IsSome, OnErr};
+ghost use Rattle.std.specs.Prelude.{is_none, IfOk, IfSome, IsSome, OnErr};
 ghost use Rattle.std.specs.Str.{chars};
 ghost use Rattle.std.specs.String.{string_bytes};
 ghost use Rattle.sre_engine.specs.Tree.{Tree};
@@ -10,12 +10,13 @@ ghost use Rattle.sre_engine.specs.Found.{walk};
 ghost use Rattle.sre_engine.specs.Codes.{words_of};
 ghost use Rattle.sre_engine.specs.Requests.{string_of, start_of, end_of, code_of, asked_of};
 ghost use Rattle.sre_engine.specs.Answers.{match_shown};
-ghost use Rattle.sre_engine.specs.Iterators.{request_of, left_of};
+ghost use Rattle.sre_engine.specs.Iterators.{request_of, left_of, has_ended};
 ghost use Rattle.sre_growth.specs.Refusal.{Refused};
 ghost use Rattle.sre_recipes.specs.Spans.{IsSpan};
 ghost use Rattle.sre_recipes.specs.Templates.{piece_of, written, replaced};
-ghost use Rattle.sre_recipes.specs.Limits.{OutlastRest};
+ghost use Rattle.sre_recipes.specs.Limits.{OutlastRest, FollowedRest};
 ghost use Rattle.sre_recipes.specs.Bounded.{first_of, AreLeft, Outlast};
+ghost use Rattle.sre_recipes.specs.Followed.{Followed};
 
 use crate::bounds::{Bounds, next_bounded};
 use crate::find::copied;
@@ -136,6 +137,7 @@ fn append_replaced<S: Text, A: Allocator + Copy>(
     output: &mut Vec<u8, A>,
 ) -> Result<(), SreError>
     requires going { bounds.old.limit_exceeded ≡ false }
+    requires begun { has_ended walk.old ≡ false }
     requires written { S.IsText output.old.items }
     ensures ok { (t : Tree) → Whole (words_of (code_of (request_of walk.old))) t → IfOk result (λ _.
         bounds.new.limit_exceeded ≡ false → S.characters output.new.items
@@ -147,6 +149,7 @@ fn append_replaced<S: Text, A: Allocator + Copy>(
     ensures used { IfOk result (λ _. bounds.new.limit_exceeded ≡ true → bounds.new.steps ≡ Some 0) }
     ensures steps { IfOk result (λ _. AreLeft bounds.old.steps bounds.new.steps) }
     ensures lasts { OutlastRest walk.old bounds.old.steps → IfOk result (λ _. bounds.new.limit_exceeded ≡ false) }
+    ensures followed { IfOk result (λ _. FollowedRest walk.old bounds.old bounds.new) }
     ensures refused { OnErr result Refused }
 {
     let (text, stop) = (walk.req().string(), walk.req().end());
@@ -177,6 +180,8 @@ fn append_all<S: Text, A: Allocator + Copy>(
     ensures steps { IfOk result (λ _. AreLeft bounds.old.steps bounds.new.steps) }
     ensures lasts { Outlast (asked_of req.entry) (code_of req.entry) bounds.old.steps
         → IfOk result (λ _. bounds.new.limit_exceeded ≡ false) }
+    ensures followed { IfOk result (λ _.
+        Followed (asked_of req.entry) (code_of req.entry) bounds.old.most bounds.old.steps bounds.new) }
     ensures refused { OnErr result Refused }
 {
     bounds.limit_exceeded = false;
@@ -200,6 +205,8 @@ fn replaced_text<'t, A: Allocator + Copy>(
     ensures steps { IfOk result (λ _. AreLeft bounds.old.steps bounds.new.steps) }
     ensures lasts { Outlast (asked_of req.entry) (code_of req.entry) bounds.old.steps
         → IfOk result (λ _. bounds.new.limit_exceeded ≡ false) }
+    ensures followed { IfOk result (λ _.
+        Followed (asked_of req.entry) (code_of req.entry) bounds.old.most bounds.old.steps bounds.new) }
     ensures refused { OnErr result Refused }
 {
     let mut output = Vec::new(alloc);
@@ -222,6 +229,8 @@ fn replaced_bytes<'t, A: Allocator + Copy>(
     ensures steps { IfOk result (λ _. AreLeft bounds.old.steps bounds.new.steps) }
     ensures lasts { Outlast (asked_of req.entry) (code_of req.entry) bounds.old.steps
         → IfOk result (λ _. bounds.new.limit_exceeded ≡ false) }
+    ensures followed { IfOk result (λ _.
+        Followed (asked_of req.entry) (code_of req.entry) bounds.old.most bounds.old.steps bounds.new) }
     ensures refused { OnErr result Refused }
 {
     let mut output = Vec::new(alloc);
@@ -289,6 +298,9 @@ pub fn replace_bounded<A: Allocator + Copy>(
     ensures steps { IfOk result (λ _. AreLeft bounds.old.steps bounds.new.steps) }
     ensures lasts { Outlast (asked_of req.now) (code_of req.now) bounds.old.steps → IfOk result IsSome }
     ensures unlimited { bounds.old.steps ≡ None → IfOk result IsSome }
+    ensures exceeded { IfOk result (λ told. bounds.new.limit_exceeded ≡ is_none told) }
+    ensures followed { IfOk result (λ _.
+        Followed (asked_of req.now) (code_of req.now) bounds.old.most bounds.old.steps bounds.new) }
     ensures refused { OnErr result Refused }
 {
     let new = replaced_text(alloc, copied(req), bounds, &*template)?;
@@ -347,6 +359,9 @@ pub fn replace_bounded_bytes<A: Allocator + Copy>(
     ensures steps { IfOk result (λ _. AreLeft bounds.old.steps bounds.new.steps) }
     ensures lasts { Outlast (asked_of req.now) (code_of req.now) bounds.old.steps → IfOk result IsSome }
     ensures unlimited { bounds.old.steps ≡ None → IfOk result IsSome }
+    ensures exceeded { IfOk result (λ told. bounds.new.limit_exceeded ≡ is_none told) }
+    ensures followed { IfOk result (λ _.
+        Followed (asked_of req.now) (code_of req.now) bounds.old.most bounds.old.steps bounds.new) }
     ensures refused { OnErr result Refused }
 {
     let new = replaced_bytes(alloc, copied(req), bounds, &*template)?;

@@ -9,6 +9,7 @@ use Rattle.sre_recipes.specs.Captured.{captures_shown}
 use Rattle.sre_recipes.specs.Computed.{Computes}
 use Rattle.sre_recipes.specs.Bounded.{first_of}
 use Rattle.sre_recipes.proofs.Bounding.{left_on, taken_step, stopped}
+use Rattle.sre_recipes.proofs.Following.{follow_on, follow_end}
 use Rattle.sre_recipes.proofs.Steps.{walk_on, kept_on, next_start}
 use Rattle.sre_recipes.proofs.Written.{computed_step, computed_end}
 use Rattle.sre_recipes.proofs.compute.append_computed.Goals as goal
@@ -51,6 +52,10 @@ walk-preserved g c =
           left_on c.args.bounds.now.steps c.walk.bounds.steps c.next_bounded.new.bounds.steps c.walk.invariant.steps
           takes.steps;
       lasts = λ enough. takes.lasts (c.walk.invariant.lasts enough);
+      begun = gives.after;
+      followed = λ after rest.
+          c.walk.invariant.followed after
+          (follow_on c.walk.walk c.next_bounded.new.walk c.walk.bounds c.next_bounded.new.bounds after gives takes rest);
       callable = search of_calls;
       left = λ t tree.
           computed_step puts text c.walk.compute c.compute.new.self c.args.compute output
@@ -91,3 +96,9 @@ returns-clause-ok g c = λ t tree going.
 pub returns-clause-lasts : goal.returns-clause-lasts
 returns-clause-lasts g c = λ enough.
     (rw c.in_default.is at c.in_ok-span.ensures.gives).lasts (c.walk.invariant.lasts enough)
+
+pub returns-clause-followed : goal.returns-clause-followed
+returns-clause-followed g c =
+    c.walk.invariant.followed c.next_bounded.new.bounds
+    (follow_end c.walk.walk c.walk.bounds c.next_bounded.new.bounds (rw c.in_default.is at c.in_ok-span.ensures.gives)
+    c.walk.invariant.begun)

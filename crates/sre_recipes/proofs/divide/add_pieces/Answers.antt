@@ -8,6 +8,7 @@ use Rattle.sre_engine.specs.Answers.{match_shown}
 use Rattle.sre_recipes.specs.Pieces.{pieces_between}
 use Rattle.sre_recipes.specs.Bounded.{first_of}
 use Rattle.sre_recipes.proofs.Bounding.{left_on, taken_step, stopped}
+use Rattle.sre_recipes.proofs.Following.{follow_on, follow_end}
 use Rattle.sre_recipes.proofs.Steps.{walk_on, kept_on, next_start}
 use Rattle.sre_recipes.proofs.Written.{pieces_step, pieces_end}
 use Rattle.sre_recipes.proofs.divide.add_pieces.Goals as goal
@@ -40,6 +41,10 @@ walk-preserved g c =
           left_on c.args.bounds.now.steps c.walk.bounds.steps c.next_bounded.new.bounds.steps c.walk.invariant.steps
           takes.steps;
       lasts = λ enough. takes.lasts (c.walk.invariant.lasts enough);
+      begun = gives.after;
+      followed = λ after rest.
+          c.walk.invariant.followed after
+          (follow_on c.walk.walk c.next_bounded.new.walk c.walk.bounds c.next_bounded.new.bounds after gives takes rest);
       left = λ t tree.
           pieces_step text pieces (map shown c.add_piece.new.pieces.items) found
           (first_of c.walk.bounds.most (left_of before t))
@@ -86,3 +91,9 @@ returns-clause-ok g c = λ t tree going.
 pub returns-clause-lasts : goal.returns-clause-lasts
 returns-clause-lasts g c = λ enough.
     (rw c.in_default.is at c.in_ok-span.ensures.gives).lasts (c.walk.invariant.lasts enough)
+
+pub returns-clause-followed : goal.returns-clause-followed
+returns-clause-followed g c =
+    c.walk.invariant.followed c.next_bounded.new.bounds
+    (follow_end c.walk.walk c.walk.bounds c.next_bounded.new.bounds (rw c.in_default.is at c.in_ok-span.ensures.gives)
+    c.walk.invariant.begun)

@@ -3,10 +3,11 @@ use Rattle.sre_engine.specs.Tree.{Tree}
 use Rattle.sre_engine.specs.Grammar.{Whole}
 use Rattle.sre_engine.specs.Codes.{words_of}
 use Rattle.sre_engine.specs.Requests.{string_of, start_of, end_of, code_of}
-use Rattle.sre_engine.specs.Iterators.{request_of, left_of, most_items}
+use Rattle.sre_engine.specs.Iterators.{request_of, has_ended, left_of, most_items}
 use Rattle.sre_recipes.specs.Pieces.{pieces_between}
 use Rattle.sre_recipes.specs.Bounded.{first_of, AreLeft}
-use Rattle.sre_recipes.specs.Limits.{OutlastRest}
+use Rattle.sre_recipes.specs.declared.bounds.Bounds.{Bounds}
+use Rattle.sre_recipes.specs.Limits.{OutlastRest, FollowedRest}
 use Rattle.sre_recipes.specs.Spans.{StandsAt}
 use Rattle.sre_recipes.proofs.Steps.{Kept}
 use Rattle.sre_recipes.proofs.divide.add_pieces.Given as goal
@@ -20,6 +21,8 @@ invariant-walk g l =
       going : l.bounds.limit_exceeded ≡ false;
       steps : AreLeft l.fn.bounds.steps l.bounds.steps;
       lasts : OutlastRest l.fn.walk l.fn.bounds.steps → OutlastRest l.walk l.bounds.steps;
+      begun : has_ended l.walk ≡ false;
+      followed : (after : Bounds) → FollowedRest l.walk l.bounds after → FollowedRest l.fn.walk l.fn.bounds after;
       left : (t : Tree) → Whole (words_of (code_of asked)) t
           → map g.S.StrDrive.text l.pieces.items
           ++ pieces_between (g.S.StrDrive.text (string_of asked)) (start_of (request_of l.walk)) (end_of asked)

@@ -9,6 +9,7 @@ use Rattle.std.specs.Option.{option_map}
 use Rattle.sre_recipes.specs.Pieces.{first_groups, pieces_and_groups}
 use Rattle.sre_recipes.specs.Bounded.{first_of}
 use Rattle.sre_recipes.proofs.Bounding.{left_on, taken_step, stopped}
+use Rattle.sre_recipes.proofs.Following.{follow_on, follow_end}
 use Rattle.sre_recipes.proofs.Steps.{walk_on, kept_on, next_start}
 use Rattle.sre_recipes.proofs.Written.{groups_step, groups_end}
 use Rattle.sre_recipes.proofs.divide.add_pieces_and_groups.Goals as goal
@@ -47,6 +48,10 @@ walk-preserved g c =
           left_on c.args.bounds.now.steps c.walk.bounds.steps c.next_bounded.new.bounds.steps c.walk.invariant.steps
           takes.steps;
       lasts = λ enough. takes.lasts (c.walk.invariant.lasts enough);
+      begun = gives.after;
+      followed = λ after rest.
+          c.walk.invariant.followed after
+          (follow_on c.walk.walk c.next_bounded.new.walk c.walk.bounds c.next_bounded.new.bounds after gives takes rest);
       left = λ t tree.
           groups_step text several pieces longer found (first_of c.walk.bounds.most (left_of before t))
           (first_of c.next_bounded.new.bounds.most (left_of after t)) start (start_of (request_of after)) (end_of asked)
@@ -92,3 +97,9 @@ returns-clause-ok g c = λ t tree going.
 pub returns-clause-lasts : goal.returns-clause-lasts
 returns-clause-lasts g c = λ enough.
     (rw c.in_default.is at c.in_ok-span.ensures.gives).lasts (c.walk.invariant.lasts enough)
+
+pub returns-clause-followed : goal.returns-clause-followed
+returns-clause-followed g c =
+    c.walk.invariant.followed c.next_bounded.new.bounds
+    (follow_end c.walk.walk c.walk.bounds c.next_bounded.new.bounds (rw c.in_default.is at c.in_ok-span.ensures.gives)
+    c.walk.invariant.begun)

@@ -8,6 +8,7 @@ use Rattle.sre_recipes.specs.Slices.{slice_of}
 use Rattle.sre_recipes.specs.Spans.{IsSpan}
 use Rattle.sre_recipes.specs.Bounded.{first_of}
 use Rattle.sre_recipes.proofs.Bounding.{left_on, taken_step, stopped}
+use Rattle.sre_recipes.proofs.Following.{follow_on, follow_end}
 use Rattle.sre_recipes.proofs.Steps.{span_slice}
 use Rattle.sre_recipes.proofs.Written.{listed_step, none_left}
 use Rattle.sre_recipes.proofs.find.add_texts.Goals as goal
@@ -43,6 +44,10 @@ walk-preserved g c =
           left_on c.args.bounds.now.steps c.walk.bounds.steps c.next_bounded.new.bounds.steps c.walk.invariant.steps
           takes.steps;
       lasts = λ enough. takes.lasts (c.walk.invariant.lasts enough);
+      begun = gives.after;
+      followed = λ after rest.
+          c.walk.invariant.followed after
+          (follow_on c.walk.walk c.next_bounded.new.walk c.walk.bounds c.next_bounded.new.bounds after gives takes rest);
       left = λ t tree.
           listed_step (slice_of (g.S.StrDrive.text whole)) texts (map shown c.add_text.new.all.items) found
           (first_of c.walk.bounds.most (left_of before t))
@@ -70,3 +75,9 @@ returns-clause-ok g c = λ t tree going.
 pub returns-clause-lasts : goal.returns-clause-lasts
 returns-clause-lasts g c = λ enough.
     (rw c.in_default.is at c.in_ok-span.ensures.gives).lasts (c.walk.invariant.lasts enough)
+
+pub returns-clause-followed : goal.returns-clause-followed
+returns-clause-followed g c =
+    c.walk.invariant.followed c.next_bounded.new.bounds
+    (follow_end c.walk.walk c.walk.bounds c.next_bounded.new.bounds (rw c.in_default.is at c.in_ok-span.ensures.gives)
+    c.walk.invariant.begun)
