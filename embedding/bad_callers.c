@@ -109,6 +109,28 @@ static void no_steps(void) {
   let_go(&code);
 }
 
+/* A code with a step bound, one without, a text of any length, and a code that is none. The bound suffices. */
+static void step_bounds(void) {
+  uint64_t steps = 9;
+  sre_code code = code_of(running, COUNT(running));
+  CHECK(sre_step_bound(&code, 100, &steps) == SRE_YES && steps == 8687);
+  CHECK(sre_check_code(&code) == SRE_YES && sre_step_bound(&code, 28, &steps) == SRE_YES);
+  sre_asked asked = anywhere;
+  asked.steps = steps;
+  sre_found found = {0};
+  size_t marks[2];
+  CHECK(answer(&code, "xxxxxxxxxxxxxxxxxxxxxxxxxxxx", &asked, &found, marks, 2) == SRE_NO);
+  CHECK(sre_step_bound(&code, SIZE_MAX, &steps) == SRE_NO && steps == 0);
+  code.words_count--;
+  code.checked = false;
+  steps = 9;
+  CHECK(sre_step_bound(&code, 100, &steps) == SRE_NO_CODE && steps == 0);
+  let_go(&code);
+  code = code_of(referring, COUNT(referring));
+  CHECK(sre_step_bound(&code, 0, &steps) == SRE_NO && steps == 0);
+  let_go(&code);
+}
+
 /* ---- no room ---- */
 
 static void no_room(void) {
@@ -303,6 +325,7 @@ int main(void) {
   CHECK(sre_check_table(&ascii) == SRE_YES);
   windows();
   no_steps();
+  step_bounds();
   no_room();
   no_code();
   no_utf8();

@@ -80,6 +80,7 @@ const _: () = {
 
 unsafe extern "C" {
     fn sre_check_code(code: &mut Code<'_>) -> u32;
+    fn sre_step_bound(code: &Code<'_>, characters: usize, steps: &mut u64) -> u32;
     fn sre_answer_utf8(
         code: &Code<'_>,
         text: *const u8,
@@ -100,6 +101,15 @@ impl<'a> Code<'a> {
         // SAFETY: the code borrows the bytecode and the table.
         let status = unsafe { sre_check_code(&mut code) };
         if status == 1 { Ok(code) } else { Err(status) }
+    }
+
+    /// A step limit that suffices for any search in a text of at most so many code points, unless an allocation fails;
+    /// or the status, which is 0 if the code has no such bound.
+    pub fn step_bound(&self, characters: usize) -> Result<u64, u32> {
+        let mut steps = 0;
+        // SAFETY: the structs have the layout of `sre.h`.
+        let status = unsafe { sre_step_bound(self, characters, &mut steps) };
+        if status == 1 { Ok(steps) } else { Err(status) }
     }
 
     /// The first match in a text, with the start and end of each group in `marks`; or the status, which is 0 if there

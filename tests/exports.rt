@@ -31,6 +31,8 @@ fn main(rt: HostRuntime) -> Result<(), std::alloc::AllocError> {
         checked: false,
     };
     sre_check_code(alloc, &mut code);
+    let mut steps = 0;
+    sre_step_bound(alloc, &code, 0, &mut steps);
     let asked = SreAsked {
         start: 0,
         end: 0,

@@ -24,10 +24,10 @@
  *
  * Positions count characters. A character is a byte, a code point of UTF-8, or a number of 32 or of 16 bits.
  *
- * `steps` limits the steps of a call, and UINT64_MAX means no limit. A call over bytes or UTF-8 without a limit builds
- * lazy DFAs, if the range has some thousands of characters and the first steps of the backtracking machine did not
- * suffice. They find where a match can begin, or its start and end. The matches are the same. Each such call builds its
- * DFAs and frees them, so one call with many rows costs less than a call for each row.
+ * `steps` limits the steps of a call. UINT64_MAX means no limit, and is returned as it was given. A call over bytes or
+ * UTF-8 without a limit builds lazy DFAs, if the range has some thousands of characters and the first steps of the
+ * backtracking machine did not suffice. They find where a match can begin, or its start and end. The matches are the
+ * same. Each such call builds its DFAs and frees them, so one call with many rows costs less than a call for each row.
  */
 #ifndef SRE_H
 #define SRE_H
@@ -109,7 +109,7 @@ typedef struct sre_code {
 typedef struct sre_asked {
   size_t start; /* clamped to the end */
   size_t end;   /* clamped to the number of characters */
-  uint64_t steps; /* UINT64_MAX: no limit, and then the steps left mean nothing */
+  uint64_t steps; /* UINT64_MAX: no limit, and then no steps are counted */
   bool search;       /* search the range for the least start with a match, or match only at its start */
   bool match_all;    /* a match has to end at the end of the range */
   bool must_advance; /* no empty match at the start of the range */
@@ -140,6 +140,11 @@ uint32_t sre_check_table(sre_table *table);
 /* Checks bytecode: SRE_YES, SRE_NO_CODE, SRE_FAULTY_TABLE, SRE_MEMORY. It need not be called first, since the calls
  * below check bytecode and lists that are not `checked`. It saves each of them that check. */
 uint32_t sre_check_code(sre_code *code);
+
+/* The step bound of a code for texts of at most so many characters: a step limit that suffices for each match, search
+ * and row over any range of such a text, unless an allocation fails. SRE_YES, with `steps`; SRE_NO, there is none;
+ * SRE_NO_CODE; SRE_FAULTY_TABLE; SRE_MEMORY. `steps` is 0 except after SRE_YES. It is computed from the bytecode. */
+uint32_t sre_step_bound(const sre_code *code, size_t characters, uint64_t *steps);
 
 /* The match: SRE_YES, with `found` and its captures in `marks`; SRE_NO; SRE_NO_ROOM, with `found`, if the match has
  * more capture slots than `marks_count`; SRE_STEP_LIMIT; SRE_MEMORY; SRE_NO_CODE; SRE_NOT_UTF8; SRE_FAULTY_TABLE. */

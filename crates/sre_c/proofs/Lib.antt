@@ -1,4 +1,6 @@
 pub mod Telling
+pub mod Budgets
+pub mod RowBudgets
 pub mod Rows
 pub mod Walks
 pub mod Knowing

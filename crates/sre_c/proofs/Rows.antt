@@ -51,6 +51,24 @@ one_written all left m width place w u old new before is more row kept = record 
       before.in_rows) row;
 }
 
+-- with other steps noted
+abbrev pub with_steps : SreWalked → ℕ → ℕ → SreWalked
+with_steps w before left = record w { steps = left; steps_before = before }
+
+pub written_with : (all left : List Match) (width : ℕ) (w : SreWalked) (rows : List ℕ) (m n : ℕ)
+    → IsWritten all left width w rows → IsWritten all left width (with_steps w m n) rows
+written_with all left width w rows m n is =
+    record { written = is.written; both = is.both; count = is.count; in_rows = is.in_rows }
+
+pub so_far_with : {S : Type 0} {text : Ghosts S} (first next : Request S text) (width : ℕ) (w : SreWalked)
+    (rows : List ℕ) (m n : ℕ) → IsSoFar first next width w rows → IsSoFar first next width (with_steps w m n) rows
+so_far_with first next width w rows m n is = record {
+  written = λ t whole. written_with _ _ width w rows m n (is.written t whole);
+  code = is.code;
+  same = is.same;
+  inside = is.inside;
+}
+
 -- the next item is a match
 pub match_given : {S A : Type 0} {text : Ghosts S} (it next : SearchIter S A text) (told : Option Bool)
     → NextWithin it (Ok told) next → told ≡ Some true → Gives it next

@@ -1,11 +1,12 @@
 -- What is written of an iteration's request, in the terms of C.
-use Rattle.std.proofs.Common.{◌≡◌, ◌∙◌, ◌≤◌, ℕ, List, [], length, min, arith, sym, ap, subst}
+use Rattle.std.proofs.Common.{◌≡◌, ◌∙◌, ◌≤◌, ℕ, List, [], length, min, take, Bool, false, Option, Some, None, Ok}
+use Rattle.std.proofs.Common.{arith, sym, ap, subst}
 use Rattle.sre_chars.specs.declared.string.StrDrive.{Ghosts}
 use Rattle.sre_model.specs.Grammar.{Whole, IsCode}
 use Rattle.sre_model.specs.Found.{Asked, walk}
 use Rattle.sre_code.specs.Codes.{words_of}
 use Rattle.sre_request.specs.declared.request.Request.{Request}
-use Rattle.sre_engine.specs.Requests.{code_of, asked_of}
+use Rattle.sre_engine.specs.Requests.{end_of, code_of, asked_of}
 use Rattle.sre_c.specs.declared.status.Status.{Status}
 use Rattle.sre_c.specs.declared.status.Status.TheVariants.{No, Yes, StepLimit, Memory, NoCode, NoRoom}
 use Rattle.sre_c.specs.declared.status.Status.TheVariants.{NotUtf8, FaultyTable}
@@ -14,8 +15,9 @@ use Rattle.sre_c.specs.declared.types.SreAsked.{SreAsked}
 use Rattle.sre_c.specs.declared.types.SreWalked.{SreWalked}
 use Rattle.sre_c.specs.Known.{table_in}
 use Rattle.sre_c.specs.Given.{asked_in, IsEnough}
-use Rattle.sre_c.specs.Walked.{IsWritten, asked_next, IsUpTo, Walks}
-use Rattle.sre_c.specs.Rows.{IsSoFar, WritesRows}
+use Rattle.sre_c.specs.Budgets.{KeepsBudget, KeepBudget}
+use Rattle.sre_c.specs.Walked.{IsWritten, asked_next, IsUpTo, RowsLeave, LastLeaves, Walks}
+use Rattle.sre_c.specs.Rows.{IsSoFar, RowsKeep, LastKeeps, WritesRows}
 use Rattle.sre_c.proofs.Telling.{enough_of}
 
 module _ {S : Type 0} {text : Ghosts S} (first next : Request S text) (c : SreCode) (chars : List ℕ) (a : SreAsked)
@@ -37,15 +39,29 @@ module _ {S : Type 0} {text : Ghosts S} (first next : Request S text) (c : SreCo
       (subst (λ b. IsWritten (walk b t) (walk (asked_of next) t) width w rows) asked
       (so_far.written t (subst (λ ws. Whole ws t) (sym words) whole)))
 
+  rows_leave : (left : ℕ) → RowsKeep first w.count a.steps left → RowsLeave c chars a w left
+  rows_leave left rows_kept t whole =
+      subst (λ b. KeepBudget c.words.now b (take w.count (walk b t)) a.steps left) asked
+      (subst (λ ws. KeepBudget ws (asked_of first) (take w.count (walk (asked_of first) t)) a.steps left) words
+      (rows_kept.each t (subst (λ ws. Whole ws t) (sym words) whole)))
+
+  last_leaves : (told : Option Bool) → IsSoFar first next width w rows → LastKeeps first next w told
+      → LastLeaves c chars a w told
+  last_leaves told so_far kept =
+      subst (λ (b : Asked). KeepsBudget c.words.now b b.end (Ok told) w.steps_before w.steps) (next_is so_far)
+      (subst (λ ws. KeepsBudget ws (asked_of next) (end_of next) (Ok told) w.steps_before w.steps) words kept)
+
   -- what the status says
   pub walks_of : (status : Status) → WritesRows status first next a.steps width w rows
       → Walks status c chars a width w rows
   walks_of No said = (
     code,
     λ t whole. subst (λ b. IsWritten (walk b t) [] width w rows) asked
-        (said t (subst (λ ws. Whole ws t) (sym words) whole)),
+        (said.0 t (subst (λ ws. Whole ws t) (sym words) whole)),
+    rows_leave w.steps_before said.2,
+    last_leaves (Some false) said.1 said.3,
   )
-  walks_of NoRoom said = (code, up_to said.0, said.1)
+  walks_of NoRoom said = (code, up_to said.0, said.1, rows_leave w.steps said.2)
   walks_of StepLimit said = (
     code,
     up_to said.0,
@@ -54,8 +70,10 @@ module _ {S : Type 0} {text : Ghosts S} (first next : Request S text) (c : SreCo
         (subst (λ ws. IsEnough ws (asked_of next) w.steps_before) (sym (ap words_of said.0.code ∙ words))
         (subst (λ b. IsEnough c.words.now b w.steps_before) (sym (next_is said.0)) enough))),
     said.3,
+    rows_leave w.steps_before said.4,
+    last_leaves None said.0 said.5,
   )
-  walks_of Memory said = (said.0, up_to said.1)
+  walks_of Memory said = (said.0, up_to said.1, rows_leave w.steps_before said.2)
   walks_of Yes said = said
   walks_of NoCode said = absurd said
   walks_of NotUtf8 said = said

@@ -1,10 +1,11 @@
 -- What an export reports of a match.
 -- Public clauses rest on it.
-use Rattle.std.specs.Prelude.{ℕ, ◌≡◌, ◌<◌, ◌-◌, ◌^◌, List, length, slice_index, Option, Some, None}
+use Rattle.std.specs.Prelude.{ℕ, ◌≡◌, ◌<◌, ◌-◌, ◌^◌, List, length, slice_index, Bool, true, false, cond}
+use Rattle.std.specs.Prelude.{Option, Some, None, Ok}
 use Rattle.sre_model.specs.Tree.{Tree}
 use Rattle.sre_model.specs.Grammar.{Whole, IsCode}
 use Rattle.sre_model.specs.Marks.{mark_at}
-use Rattle.sre_model.specs.Found.{Match}
+use Rattle.sre_model.specs.Found.{Asked, Match}
 use Rattle.sre_growth.specs.Refusal.{Refused}
 use Rattle.sre_c.specs.declared.status.Status.{Status}
 use Rattle.sre_c.specs.declared.status.Status.TheVariants.{No, Yes, StepLimit, Memory, NoCode, NoRoom}
@@ -15,6 +16,7 @@ use Rattle.sre_c.specs.declared.types.SreFound.{SreFound}
 use Rattle.sre_c.specs.Known.{table_in}
 use Rattle.sre_c.specs.Given.{asked_in, model_of, OfTree, IsEnough}
 use Rattle.sre_c.specs.Checked.{IsFaulty}
+use Rattle.sre_c.specs.Budgets.{KeepsBudget}
 
 -- a mark as a number: the greatest of 64 bits where it is not set
 abbrev pub mark_number : Option ℕ → ℕ
@@ -39,19 +41,33 @@ pub record HasMatch (o : Option Match) (says : Match → Type 0) : Type 0 where
   pub there : o ≡ Some match
   pub said : says match
 
+-- the last start of a search, or the only one of a match
+abbrev pub last_start : Bool → Asked → ℕ
+last_start search a = cond search a.end a.start
+
+-- what is left of the steps once it is known whether there is a match, or the step limit was exceeded
+abbrev pub LeavesSteps : SreCode → List ℕ → SreAsked → Option Bool → ℕ → Type 0
+LeavesSteps c text a told left =
+    let asked : Asked = asked_in a (table_in c.table.now) text in
+    KeepsBudget c.words.now asked (last_start a.search asked) (Ok told) a.steps left
+
 -- the answer for the characters of a text, with room for so many marks; the step limit is exceeded only if no step is
 -- left, and not within a sufficient budget, unless an allocation failed
 abbrev pub Answers : Status → SreCode → List ℕ → SreAsked → ℕ → SreFound → List ℕ → Type 0
-Answers No c text a room f marks = IsCode c.words.now × OfTree c a text (λ asked t. model_of a asked t ≡ None)
+Answers No c text a room f marks =
+    IsCode c.words.now × OfTree c a text (λ asked t. model_of a asked t ≡ None)
+    × LeavesSteps c text a (Some false) f.steps
 Answers Yes c text a room f marks =
     IsCode c.words.now × OfTree c a text (λ asked t. HasMatch (model_of a asked t) (λ m. IsTold m f marks))
+    × LeavesSteps c text a (Some true) f.steps
 Answers NoRoom c text a room f marks =
     IsCode c.words.now × OfTree c a text (λ asked t. HasMatch (model_of a asked t) (λ m. IsFound m f))
-    × (room < f.marks)
+    × (room < f.marks) × LeavesSteps c text a (Some true) f.steps
 Answers StepLimit c text a room f marks =
     IsCode c.words.now × (f.steps ≡ 0)
     × (IsEnough c.words.now (asked_in a (table_in c.table.now) text) a.steps → Refused)
+    × LeavesSteps c text a None f.steps
 Answers Memory c text a room f marks = Refused
-Answers NoCode c text a room f marks = (t : Tree) → (Whole c.words.now t → ⊥)
-Answers FaultyTable c text a room f marks = IsFaulty c.table.now
+Answers NoCode c text a room f marks = ((t : Tree) → (Whole c.words.now t → ⊥)) × (f.steps ≡ a.steps)
+Answers FaultyTable c text a room f marks = IsFaulty c.table.now × (f.steps ≡ a.steps)
 Answers NotUtf8 c text a room f marks = ⊥

@@ -41,6 +41,6 @@ pub record IsEnough (words : List ℕ) (a : Asked) (steps : ℕ) : Type 0 where
   pub remembered : IsRemembered (length (behind_block words)) tree a
   pub more : step_bound tree a < steps
 
--- a fact of the characters of bytes that are UTF-8, or the status of bytes that are not
-abbrev pub InUtf8 : Status → List ℕ → (List ℕ → Type 0) → Type 0
-InUtf8 s bytes says = (IsUtf8 bytes × says (chars bytes)) ⊎ ((s ≡ NotUtf8) × (IsUtf8 bytes → ⊥))
+-- a fact of the characters of bytes that are UTF-8; or of bytes that are not the status, and that nothing was done
+abbrev pub InUtf8 : Status → List ℕ → (List ℕ → Type 0) → Type 0 → Type 0
+InUtf8 s bytes says nothing = (IsUtf8 bytes × says (chars bytes)) ⊎ ((s ≡ NotUtf8) × (IsUtf8 bytes → ⊥) × nothing)

@@ -2,6 +2,8 @@ pub mod Statuses
 pub mod Given
 pub mod Known
 pub mod Checked
+pub mod Budgets
 pub mod Answered
 pub mod Walked
 pub mod Rows
+pub mod Bounded

@@ -1,10 +1,11 @@
 -- How far an iteration of a request is written.
 -- Definitions for the contracts inside this crate; what it makes public does not rest on it.
-use Rattle.std.specs.Prelude.{ℕ, ◌≡◌, ◌≤◌, ◌<◌, ◌+◌, ◌*◌, ◌⊎◌, List, [], length}
+use Rattle.std.specs.Prelude.{ℕ, ◌≡◌, ◌≤◌, ◌<◌, ◌+◌, ◌*◌, ◌⊎◌, List, [], ◌∷◌, length, take, Bool, false, Option}
+use Rattle.std.specs.Prelude.{Some, None, Ok}
 use Rattle.sre_chars.specs.declared.string.StrDrive.{Ghosts}
 use Rattle.sre_model.specs.Tree.{Tree}
 use Rattle.sre_model.specs.Grammar.{Whole}
-use Rattle.sre_model.specs.Found.{walk}
+use Rattle.sre_model.specs.Found.{Asked, Match, walk, asked_after}
 use Rattle.sre_growth.specs.Refusal.{Refused}
 use Rattle.sre_code.specs.Codes.{words_of}
 use Rattle.sre_engine.specs.Requests.{end_of, code_of, asked_of}
@@ -15,6 +16,7 @@ use Rattle.sre_c.specs.declared.status.Status.TheVariants.{No, Yes, StepLimit, M
 use Rattle.sre_c.specs.declared.status.Status.TheVariants.{NotUtf8, FaultyTable}
 use Rattle.sre_c.specs.declared.types.SreWalked.{SreWalked}
 use Rattle.sre_c.specs.Walked.{IsWritten}
+use Rattle.sre_c.specs.Budgets.{KeepsBudget, KeepBudget}
 
 -- the matches of a request are those that are written, and those of the one that is asked next
 pub record IsSoFar {S : Type 0} {text : Ghosts S} (first next : Request S text) (width : ℕ) (w : SreWalked)
@@ -25,17 +27,43 @@ pub record IsSoFar {S : Type 0} {text : Ghosts S} (first next : Request S text) 
   pub same : asked_of next ≡ record (asked_of first) { start = w.start; must_advance = w.must_advance }
   pub inside : w.start ≤ end_of first
 
+-- what the searches for so many first matches of a request leave of the steps
+pub record RowsKeep {S : Type 0} {text : Ghosts S} (first : Request S text) (count given left : ℕ) : Type 0 where
+  pub each : (t : Tree) → Whole (words_of (code_of first)) t
+      → KeepBudget (words_of (code_of first)) (asked_of first) (take count (walk (asked_of first) t)) given left
+
+-- what the last search leaves, which found no match, or exceeded the step limit
+abbrev pub LastKeeps : {S : Type 0} {text : Ghosts S}
+    → Request S text → Request S text → SreWalked → Option Bool → Type 0
+LastKeeps first next w told =
+    KeepsBudget (words_of (code_of first)) (asked_of next) (end_of next) (Ok told) w.steps_before w.steps
+
+-- what is asked after some matches
+abbrev pub asked_behind : Asked → List Match → Asked
+asked_behind a [] = a
+asked_behind a (m ∷ ms) = asked_behind (asked_after a m) ms
+
+-- so many first matches of a request are behind the next one
+pub record IsBehind {S : Type 0} {text : Ghosts S} (first next : Request S text) (count : ℕ) : Type 0 where
+  pub each : (t : Tree) → Whole (words_of (code_of first)) t
+      → asked_of next ≡ asked_behind (asked_of first) (take count (walk (asked_of first) t))
+
 -- what a status says of rows that are written
 abbrev pub WritesRows : {S : Type 0} {text : Ghosts S}
     → Status → Request S text → Request S text → ℕ → ℕ → SreWalked → List ℕ → Type 0
 WritesRows No first next steps width w rows =
-    (t : Tree) → Whole (words_of (code_of first)) t → IsWritten (walk (asked_of first) t) [] width w rows
+    ((t : Tree) → Whole (words_of (code_of first)) t → IsWritten (walk (asked_of first) t) [] width w rows)
+    × IsSoFar first next width w rows × RowsKeep first w.count steps w.steps_before
+    × LastKeeps first next w (Some false)
 WritesRows NoRoom first next steps width w rows =
     IsSoFar first next width w rows × ((width ≡ 0) ⊎ (length rows < w.count * width + width))
+    × RowsKeep first w.count steps w.steps
 WritesRows StepLimit first next steps width w rows =
     IsSoFar first next width w rows × (w.steps ≡ 0)
     × (AreEnough (asked_of next) (code_of next) w.steps_before → Refused) × (w.count ≡ 0 → w.steps_before ≡ steps)
-WritesRows Memory first next steps width w rows = Refused × IsSoFar first next width w rows
+    × RowsKeep first w.count steps w.steps_before × LastKeeps first next w None
+WritesRows Memory first next steps width w rows =
+    Refused × IsSoFar first next width w rows × RowsKeep first w.count steps w.steps_before
 WritesRows Yes first next steps width w rows = ⊥
 WritesRows NoCode first next steps width w rows = ⊥
 WritesRows NotUtf8 first next steps width w rows = ⊥

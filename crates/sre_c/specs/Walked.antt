@@ -1,11 +1,12 @@
 -- What an export reports of an iteration.
 -- Public clauses rest on it.
 use Rattle.std.specs.Prelude.{ℕ, ◌≡◌, ◌<◌, ◌+◌, ◌-◌, ◌*◌, ◌^◌, ◌⊎◌, ◌==◌, if◌then◌else◌, ℤ, pos, negsuc}
-use Rattle.std.specs.Prelude.{List, [], ◌∷◌, ◌++◌, length, slice_index}
+use Rattle.std.specs.Prelude.{List, [], ◌∷◌, ◌++◌, length, slice_index, take, Bool, false, Option, Some, None}
+use Rattle.std.specs.Prelude.{Ok}
 use Rattle.sre_model.specs.Tree.{Tree}
 use Rattle.sre_model.specs.Grammar.{Whole, IsCode}
 use Rattle.sre_model.specs.Marks.{mark_at}
-use Rattle.sre_model.specs.Found.{Match, walk}
+use Rattle.sre_model.specs.Found.{Asked, Match, walk}
 use Rattle.sre_growth.specs.Refusal.{Refused}
 use Rattle.sre_c.specs.declared.status.Status.{Status}
 use Rattle.sre_c.specs.declared.status.Status.TheVariants.{No, Yes, StepLimit, Memory, NoCode, NoRoom}
@@ -17,6 +18,7 @@ use Rattle.sre_c.specs.Known.{table_in}
 use Rattle.sre_c.specs.Given.{asked_in, OfTree, IsEnough}
 use Rattle.sre_c.specs.Checked.{IsFaulty}
 use Rattle.sre_c.specs.Answered.{mark_number}
+use Rattle.sre_c.specs.Budgets.{KeepsBudget, KeepBudget}
 
 -- a last index as a number: the greatest of 64 bits where there is none
 abbrev pub index_number : ℤ → ℕ
@@ -66,20 +68,33 @@ begun_of a = record {
   must_advance = a.must_advance;
 }
 
+-- what the searches for the written matches leave of the steps
+abbrev pub RowsLeave : SreCode → List ℕ → SreAsked → SreWalked → ℕ → Type 0
+RowsLeave c text a w left = OfTree c a text (λ asked t.
+    KeepBudget c.words.now asked (take w.count (walk asked t)) a.steps left)
+
+-- what the last search leaves, which found no match, or exceeded the step limit
+abbrev pub LastLeaves : SreCode → List ℕ → SreAsked → SreWalked → Option Bool → Type 0
+LastLeaves c text a w told =
+    let asked : Asked = asked_in (asked_next a w) (table_in c.table.now) text in
+    KeepsBudget c.words.now asked asked.end (Ok told) w.steps_before w.steps
+
 -- the walk over the characters of a text, in rows of so many numbers; the step limit is exceeded only if no step is
 -- left, and not if those left before the last match sufficed for it, unless an allocation failed
 abbrev pub Walks : Status → SreCode → List ℕ → SreAsked → ℕ → SreWalked → List ℕ → Type 0
 Walks No c text a width w rows =
     IsCode c.words.now × OfTree c a text (λ asked t. IsWritten (walk asked t) [] width w rows)
+    × RowsLeave c text a w w.steps_before × LastLeaves c text a w (Some false)
 Walks NoRoom c text a width w rows =
     IsCode c.words.now × IsUpTo c text a width w rows
-    × ((width ≡ 0) ⊎ (length rows < w.count * width + width))
+    × ((width ≡ 0) ⊎ (length rows < w.count * width + width)) × RowsLeave c text a w w.steps
 Walks StepLimit c text a width w rows =
     IsCode c.words.now × IsUpTo c text a width w rows × (w.steps ≡ 0)
     × (IsEnough c.words.now (asked_in (asked_next a w) (table_in c.table.now) text) w.steps_before → Refused)
     × (w.count ≡ 0 → w.steps_before ≡ a.steps)
-Walks Memory c text a width w rows = Refused × IsUpTo c text a width w rows
-Walks NoCode c text a width w rows = ((t : Tree) → (Whole c.words.now t → ⊥)) × (w.count ≡ 0)
-Walks FaultyTable c text a width w rows = IsFaulty c.table.now × (w.count ≡ 0)
+    × RowsLeave c text a w w.steps_before × LastLeaves c text a w None
+Walks Memory c text a width w rows = Refused × IsUpTo c text a width w rows × RowsLeave c text a w w.steps_before
+Walks NoCode c text a width w rows = ((t : Tree) → (Whole c.words.now t → ⊥)) × (w ≡ begun_of a)
+Walks FaultyTable c text a width w rows = IsFaulty c.table.now × (w ≡ begun_of a)
 Walks Yes c text a width w rows = ⊥
 Walks NotUtf8 c text a width w rows = ⊥

@@ -10,8 +10,9 @@ ghost use Rattle.sre_engine.specs.Codes.{words_of, uni_of};
 ghost use Rattle.sre_engine.specs.Requests.{asked_of, code_of};
 ghost use Rattle.sre_engine.specs.Answers.{answer_of, match_shown};
 ghost use Rattle.sre_c.specs.Known.{table_in};
-ghost use Rattle.sre_c.specs.Given.{asked_in, IsEnough};
-ghost use Rattle.sre_c.specs.Answered.{mark_number, IsFound, IsTold, Answers};
+ghost use Rattle.sre_c.specs.Given.{asked_in};
+ghost use Rattle.sre_c.specs.Budgets.{no_limit, KeepsBudget};
+ghost use Rattle.sre_c.specs.Answered.{mark_number, last_start, IsFound, IsTold, Answers};
 
 use crate::asks::{Asks, NO_LIMIT, answered};
 use crate::check;
@@ -62,7 +63,6 @@ fn copy_marks(from: &[Option<usize>], marks: &mut [usize]) -> bool
 }
 
 // Whether there is a match at the start of the range, or with `search` at any start in it.
-#[tactic(auto, using(crate::proofs::Telling::enough_of))]
 fn ask<S: StrDrive, H: Asks<S>>(
     alloc: Global,
     how: &H,
@@ -74,10 +74,9 @@ fn ask<S: StrDrive, H: Asks<S>>(
     ensures answer { (t : Tree) → Whole (words_of (code_of request.entry)) t → IfOk result (λ told. IfSome told
         (λ b. answer_of b state.new
         ≡ cond search (found (asked_of request.entry) t) (matched (asked_of request.entry) t))) }
-    ensures used { IfOk result (λ told. told ≡ None → steps.new ≡ 0) }
-    ensures fewer { steps.new ≤ steps.old }
-    ensures enough { IsEnough (words_of (code_of request.entry)) (asked_of request.entry) steps.old
-        → IfOk result (λ told. told ≡ None → Refused) }
+    ensures steps { KeepsBudget (words_of (code_of request.entry)) (asked_of request.entry)
+        (last_start search (asked_of request.entry)) result steps.old steps.new }
+    ensures unlimited { steps.old ≡ no_limit → steps.new ≡ steps.old }
     ensures memory { OnErr result Refused }
 {
     if search {
@@ -118,6 +117,7 @@ fn answer_by<'a, S: StrDrive, H: Asks<S>>(
     requires steps { found.old.steps ≡ asked.now.steps }
     ensures answers { Answers result code.now (S.text text) asked.now (length marks.old) found.new marks.new }
     ensures steps { found.new.steps ≤ asked.now.steps }
+    ensures unlimited { asked.now.steps ≡ no_limit → found.new.steps ≡ asked.now.steps }
 {
     let code = match check::code(alloc, code, uni) {
         Ok(code) => code,
@@ -155,6 +155,7 @@ pub fn answer<'c, S: StrDrive, H: Asks<S>>(
 ) -> Status
     ensures answers { Answers result code.now (S.text text) asked.now (length marks.old) found.new marks.new }
     ensures steps { found.new.steps ≤ asked.now.steps }
+    ensures unlimited { asked.now.steps ≡ no_limit → found.new.steps ≡ asked.now.steps }
 {
     found.steps = asked.steps;
     match table(alloc, code.table) {

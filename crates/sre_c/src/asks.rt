@@ -6,9 +6,9 @@ ghost use Rattle.sre_model.specs.Grammar.{Whole};
 ghost use Rattle.sre_model.specs.Found.{found};
 ghost use Rattle.sre_growth.specs.Refusal.{Refused};
 ghost use Rattle.sre_engine.specs.Codes.{words_of};
-ghost use Rattle.sre_engine.specs.Requests.{string_of, asked_of, code_of};
+ghost use Rattle.sre_engine.specs.Requests.{string_of, end_of, asked_of, code_of};
 ghost use Rattle.sre_engine.specs.Answers.{answer_of};
-ghost use Rattle.sre_c.specs.Given.{IsEnough};
+ghost use Rattle.sre_c.specs.Budgets.{no_limit, KeepsBudget};
 ghost use Rattle.sre_c.specs.Rows.{Writes};
 
 use crate::next_match::{ByMachine, ByStarts, NextMatch};
@@ -28,6 +28,7 @@ pub const NO_LIMIT: u64 = u64::MAX;
 pub fn answered(found: Result<bool, SreError>) -> Result<Option<bool>, SreError>
     ensures known { IfOk found (λ f. result ≡ Ok (Some f)) }
     ensures failed { IfErr found (λ e. result ≡ Err e) }
+    ensures told { IfOk result (λ told. told ≢ None) }
 {
     match found {
         Ok(found) => Ok(Some(found)),
@@ -47,10 +48,9 @@ pub trait Asks<S: StrDrive> {
     ) -> Result<Option<bool>, SreError>
         ensures answer { (t : Tree) → Whole (words_of (code_of request.now)) t → IfOk result
             (λ told. IfSome told (λ b. answer_of b state.new ≡ found (asked_of request.now) t)) }
-        ensures used { IfOk result (λ told. told ≡ None → steps.new ≡ 0) }
-        ensures fewer { steps.new ≤ steps.old }
-        ensures enough { IsEnough (words_of (code_of request.now)) (asked_of request.now) steps.old
-            → IfOk result (λ told. told ≡ None → Refused) }
+        ensures steps { KeepsBudget (words_of (code_of request.now)) (asked_of request.now) (end_of request.now) result
+            steps.old steps.new }
+        ensures unlimited { steps.old ≡ no_limit → steps.new ≡ steps.old }
         ensures memory { OnErr result Refused };
 
     /// Writes the matches of a range, row by row, until there is no room for one more row, or no match.
@@ -64,7 +64,8 @@ pub trait Asks<S: StrDrive> {
     ) -> Status
         requires none { walked.old.count ≡ 0 }
         ensures rows { Writes result request.now walked.old.steps width walked.new rows.new }
-        ensures steps { walked.new.steps ≤ walked.old.steps };
+        ensures steps { walked.new.steps ≤ walked.old.steps }
+        ensures unlimited { walked.old.steps ≡ no_limit → walked.new.steps ≡ walked.old.steps };
 }
 
 /// The machine alone, for texts of any type.
@@ -80,7 +81,6 @@ pub struct InBytes;
 pub struct InText;
 
 impl<S: StrDrive> Asks<S> for Machine {
-    #[tactic(auto, using(crate::proofs::Telling::enough_of))]
     fn search(
         &self,
         _alloc: Global,
@@ -227,6 +227,7 @@ fn write_told<S: Haystack>(
     requires none { walked.old.count ≡ 0 }
     ensures rows { Writes result request.now walked.old.steps width walked.new rows.new }
     ensures steps { walked.new.steps ≤ walked.old.steps }
+    ensures unlimited { walked.old.steps ≡ no_limit → walked.new.steps ≡ walked.old.steps }
 {
     if width > 0 && rows.len() / width >= MANY_ROWS && is_long(request) {
         return write_by_automata(alloc, request, encoding, width, rows, walked);
@@ -255,6 +256,7 @@ fn write_by_automata<S: Haystack>(
     requires none { walked.old.count ≡ 0 }
     ensures rows { Writes result request.now walked.old.steps width walked.new rows.new }
     ensures steps { walked.new.steps ≤ walked.old.steps }
+    ensures unlimited { walked.old.steps ≡ no_limit → walked.new.steps ≡ walked.old.steps }
 {
     let finder = SpanFinder::new(alloc, request.pattern_codes(), encoding);
     if finder.tells_spans() {
@@ -279,6 +281,7 @@ fn write_by_spans<S: Haystack>(
     requires none { walked.old.count ≡ 0 }
     ensures rows { Writes result request.now walked.old.steps width walked.new rows.new }
     ensures steps { walked.new.steps ≤ walked.old.steps }
+    ensures unlimited { walked.old.steps ≡ no_limit → walked.new.steps ≡ walked.old.steps }
 {
     let Ok(request) = request.clone() else {
         unreachable!(); // it takes no memory
@@ -300,6 +303,7 @@ fn write_by<S: StrDrive, H: NextMatch<S>>(
     requires none { walked.old.count ≡ 0 }
     ensures rows { Writes result request.now walked.old.steps width walked.new rows.new }
     ensures steps { walked.new.steps ≤ walked.old.steps }
+    ensures unlimited { walked.old.steps ≡ no_limit → walked.new.steps ≡ walked.old.steps }
 {
     let Ok(request) = request.clone() else {
         unreachable!(); // it takes no memory

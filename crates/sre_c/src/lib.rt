@@ -11,7 +11,9 @@ ghost use Rattle.sre_c.specs.Known.{table_in};
 ghost use Rattle.sre_c.specs.Given.{InUtf8};
 ghost use Rattle.sre_c.specs.Checked.{TableChecked, CodeChecked};
 ghost use Rattle.sre_c.specs.Answered.{Answers};
-ghost use Rattle.sre_c.specs.Walked.{Walks};
+ghost use Rattle.sre_c.specs.Walked.{begun_of, Walks};
+ghost use Rattle.sre_c.specs.Budgets.{no_limit};
+ghost use Rattle.sre_c.specs.Bounded.{Bounds};
 
 mod answer;
 mod asks;
@@ -22,6 +24,7 @@ mod numbers;
 mod reading;
 mod spans;
 mod status;
+mod step_bound;
 mod table;
 mod types;
 mod walk;
@@ -33,6 +36,7 @@ use code::SreCode;
 use numbers::{Points, Units};
 use status::Status;
 use std::alloc::Global;
+use step_bound::step_bound;
 use table::check_table;
 use types::{SreAsked, SreFound, SreTable, SreWalked};
 use walk::{begun, walk};
@@ -56,6 +60,20 @@ pub extern "C" fn sre_check_code(alloc: Global, code: &mut SreCode<'_>) -> u32
     check_code(alloc, code).number()
 }
 
+/// The step bound of a code for texts of so many characters: a step limit that suffices for any range, unless an
+/// allocation fails. Writes 0 if there is none.
+#[unsafe(no_mangle)]
+pub extern "C" fn sre_step_bound(
+    alloc: Global,
+    code: &SreCode<'_>,
+    characters: usize,
+    steps: &mut u64,
+) -> u32
+    ensures bounds { Tells result (λ status. Bounds status code.now characters steps.new) }
+{
+    step_bound(alloc, code, characters, steps).number()
+}
+
 /// The match in bytes, each of which is a character. Positions are byte offsets.
 #[unsafe(no_mangle)]
 pub extern "C" fn sre_answer_bytes(
@@ -69,6 +87,7 @@ pub extern "C" fn sre_answer_bytes(
     ensures answers { Tells result (λ status.
         Answers status code.now text.now asked.now (length marks.old) found.new marks.new) }
     ensures steps { found.new.steps ≤ asked.now.steps }
+    ensures unlimited { asked.now.steps ≡ no_limit → found.new.steps ≡ asked.now.steps }
 {
     answer(alloc, &InBytes, code, text, asked, found, marks).number()
 }
@@ -85,8 +104,10 @@ pub extern "C" fn sre_answer_utf8(
 ) -> u32
     ensures answers { Tells result (λ status.
         InUtf8 status text.now (λ chars.
-        Answers status code.now chars asked.now (length marks.old) found.new marks.new)) }
+        Answers status code.now chars asked.now (length marks.old) found.new marks.new)
+        (found.new.steps ≡ asked.now.steps)) }
     ensures steps { found.new.steps ≤ asked.now.steps }
+    ensures unlimited { asked.now.steps ≡ no_limit → found.new.steps ≡ asked.now.steps }
 {
     let status = match str::from_utf8(text) {
         Ok(text) => answer(alloc, &InText, code, text, asked, found, marks),
@@ -111,6 +132,7 @@ pub extern "C" fn sre_answer_points(
     ensures answers { Tells result (λ status.
         Answers status code.now text.now asked.now (length marks.old) found.new marks.new) }
     ensures steps { found.new.steps ≤ asked.now.steps }
+    ensures unlimited { asked.now.steps ≡ no_limit → found.new.steps ≡ asked.now.steps }
 {
     answer(
         alloc,
@@ -137,6 +159,7 @@ pub extern "C" fn sre_answer_units(
     ensures answers { Tells result (λ status.
         Answers status code.now text.now asked.now (length marks.old) found.new marks.new) }
     ensures steps { found.new.steps ≤ asked.now.steps }
+    ensures unlimited { asked.now.steps ≡ no_limit → found.new.steps ≡ asked.now.steps }
 {
     answer(
         alloc,
@@ -164,6 +187,7 @@ pub extern "C" fn sre_walk_bytes(
     ensures walks { Tells result (λ status.
         Walks status code.now text.now asked.now width walked.new rows.new) }
     ensures steps { walked.new.steps ≤ asked.now.steps }
+    ensures unlimited { asked.now.steps ≡ no_limit → walked.new.steps ≡ asked.now.steps }
 {
     walk(alloc, &InBytes, code, text, asked, width, rows, walked).number()
 }
@@ -180,8 +204,10 @@ pub extern "C" fn sre_walk_utf8(
     walked: &mut SreWalked,
 ) -> u32
     ensures walks { Tells result (λ status.
-        InUtf8 status text.now (λ chars. Walks status code.now chars asked.now width walked.new rows.new)) }
+        InUtf8 status text.now (λ chars. Walks status code.now chars asked.now width walked.new rows.new)
+        (walked.new ≡ begun_of asked.now)) }
     ensures steps { walked.new.steps ≤ asked.now.steps }
+    ensures unlimited { asked.now.steps ≡ no_limit → walked.new.steps ≡ asked.now.steps }
 {
     let status = match str::from_utf8(text) {
         Ok(text) => walk(alloc, &InText, code, text, asked, width, rows, walked),
@@ -207,6 +233,7 @@ pub extern "C" fn sre_walk_points(
     ensures walks { Tells result (λ status.
         Walks status code.now text.now asked.now width walked.new rows.new) }
     ensures steps { walked.new.steps ≤ asked.now.steps }
+    ensures unlimited { asked.now.steps ≡ no_limit → walked.new.steps ≡ asked.now.steps }
 {
     walk(
         alloc,
@@ -235,6 +262,7 @@ pub extern "C" fn sre_walk_units(
     ensures walks { Tells result (λ status.
         Walks status code.now text.now asked.now width walked.new rows.new) }
     ensures steps { walked.new.steps ≤ asked.now.steps }
+    ensures unlimited { asked.now.steps ≡ no_limit → walked.new.steps ≡ asked.now.steps }
 {
     walk(
         alloc,

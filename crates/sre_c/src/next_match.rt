@@ -1,10 +1,11 @@
 //! How an iteration finds its next match.
 
-ghost use Rattle.std.specs.Prelude.{⊤};
+ghost use Rattle.std.specs.Prelude.{⊤, ◌≡◌};
 ghost use Rattle.sre_code.specs.declared.code.Code.{Code};
 ghost use Rattle.sre_engine.specs.Requests.{string_of, code_of, asked_of};
 ghost use Rattle.sre_engine.specs.Iterators.{request_of, shown_of, NextWithin};
 ghost use Rattle.sre_engine.specs.Counts.{KeepsToSteps, runs_of};
+ghost use Rattle.sre_c.specs.Budgets.{no_limit};
 
 use crate::asks::NO_LIMIT;
 use sre_engine::engine::{Nobody, Starts};
@@ -26,7 +27,8 @@ pub trait NextMatch<S: StrDrive> {
         ensures suits { suits self.new (string_of (request_of walk.new)) (code_of (request_of walk.new)) }
         ensures gives { NextWithin walk.old result walk.new }
         ensures steps { KeepsToSteps (asked_of (request_of walk.old)) (code_of (request_of walk.old)) result
-            (runs_of (shown_of walk.new)) steps.old steps.new };
+            (runs_of (shown_of walk.new)) steps.old steps.new }
+        ensures unlimited { steps.old ≡ no_limit → steps.new ≡ steps.old };
 }
 
 /// The machine, within the step budget.

@@ -96,7 +96,7 @@ pub fn write_spans<S: Haystack>(
     requires open { has_ended walk.old ≡ false }
     requires none { walked.old.count ≡ 0 }
     ensures rows { Writes result (request_of walk.old) walked.old.steps width walked.new rows.new }
-    ensures steps { walked.new.steps ≤ walked.old.steps }
+    ensures steps { walked.new.steps ≡ walked.old.steps }
 {
     let mut at = 0;
     note_next(walk, walked);

@@ -7,6 +7,7 @@ ghost use Rattle.sre_engine.specs.Answers.{match_shown};
 ghost use Rattle.sre_c.specs.Known.{table_in};
 ghost use Rattle.sre_c.specs.Walked.{index_number, entry_of, begun_of, IsRow, Walks};
 ghost use Rattle.sre_c.specs.Rows.{WritesRows};
+ghost use Rattle.sre_c.specs.Budgets.{no_limit};
 
 use crate::answer::{mark_number, request};
 use crate::asks::Asks;
@@ -69,6 +70,7 @@ fn note_next<S: StrDrive>(walk: &SearchIter<'_, S, Global>, walked: &mut SreWalk
 }
 
 /// Writes the remaining matches, row by row, until there is no room for one more row, or no match.
+#[tactic(auto, using(crate::proofs::RowBudgets::none_kept, crate::proofs::RowBudgets::none_behind))]
 pub fn write_rows<S: StrDrive, H: NextMatch<S>>(
     walk: &mut SearchIter<'_, S, Global>,
     how: &mut H,
@@ -82,6 +84,7 @@ pub fn write_rows<S: StrDrive, H: NextMatch<S>>(
     ensures rows { WritesRows result (request_of walk.old) (request_of walk.new) walked.old.steps width walked.new
         rows.new }
     ensures steps { walked.new.steps ≤ walked.old.steps }
+    ensures unlimited { walked.old.steps ≡ no_limit → walked.new.steps ≡ walked.old.steps }
 {
     let mut at = 0;
     note_next(walk, walked);
@@ -117,6 +120,7 @@ fn walk_by<'a, S: StrDrive, H: Asks<S>>(
     requires begun { walked.old ≡ begun_of asked.now }
     ensures walks { Walks result code.now (S.text text) asked.now width walked.new rows.new }
     ensures steps { walked.new.steps ≤ asked.now.steps }
+    ensures unlimited { asked.now.steps ≡ no_limit → walked.new.steps ≡ asked.now.steps }
 {
     let code = match check::code(alloc, code, uni) {
         Ok(code) => code,
@@ -140,6 +144,7 @@ pub fn walk<'c, S: StrDrive, H: Asks<S>>(
 ) -> Status
     ensures walks { Walks result code.now (S.text text) asked.now width walked.new rows.new }
     ensures steps { walked.new.steps ≤ asked.now.steps }
+    ensures unlimited { asked.now.steps ≡ no_limit → walked.new.steps ≡ asked.now.steps }
 {
     *walked = begun(asked);
     match table(alloc, code.table) {

@@ -10,7 +10,7 @@ invariant-matches g l =
     × (l.at ≡ l.walked.count * l.width)
     × (l.at ≤ length l.rows)
     × (length l.rows ≡ length l.fn.rows)
-    × (l.walked.steps ≤ l.fn.walked.steps)
+    × (l.walked.steps ≡ l.fn.walked.steps)
 
 abbrev pub decreases-matches : goal.decreases-matches
 decreases-matches g l = length l.rows - l.at

@@ -1,0 +1,28 @@
+-- What an export says of a step bound.
+-- Public clauses rest on it.
+use Rattle.std.specs.Prelude.{ℕ, ◌≡◌, length}
+use Rattle.sre_model.specs.Tree.{Tree}
+use Rattle.sre_model.specs.Grammar.{Whole, IsCode, behind_block}
+use Rattle.sre_growth.specs.Refusal.{Refused}
+use Rattle.sre_code.specs.StepBounds.{IsStepBound, HasNoStepBound}
+use Rattle.sre_c.specs.declared.status.Status.{Status}
+use Rattle.sre_c.specs.declared.status.Status.TheVariants.{No, Yes, StepLimit, Memory, NoCode, NoRoom}
+use Rattle.sre_c.specs.declared.status.Status.TheVariants.{NotUtf8, FaultyTable}
+use Rattle.sre_c.specs.declared.code.SreCode.{SreCode}
+use Rattle.sre_c.specs.Checked.{IsFaulty}
+
+-- the step bound of a code for texts of so many characters, or 0
+abbrev pub Bounds : Status → SreCode → ℕ → ℕ → Type 0
+Bounds Yes c characters steps =
+    IsCode c.words.now
+    × ((t : Tree) → Whole c.words.now t → IsStepBound (length (behind_block c.words.now)) t characters steps)
+Bounds No c characters steps =
+    IsCode c.words.now
+    × ((t : Tree) → Whole c.words.now t → HasNoStepBound (length (behind_block c.words.now)) t characters)
+    × (steps ≡ 0)
+Bounds Memory c characters steps = Refused × (steps ≡ 0)
+Bounds NoCode c characters steps = ((t : Tree) → (Whole c.words.now t → ⊥)) × (steps ≡ 0)
+Bounds FaultyTable c characters steps = IsFaulty c.table.now × (steps ≡ 0)
+Bounds StepLimit c characters steps = ⊥
+Bounds NoRoom c characters steps = ⊥
+Bounds NotUtf8 c characters steps = ⊥
