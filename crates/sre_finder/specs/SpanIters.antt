@@ -10,6 +10,7 @@ use Rattle.sre_model.specs.WalkBounds.{most_matches}
 use Rattle.sre_code.specs.Codes.{words_of}
 use Rattle.sre_request.specs.declared.request.Request.{Request}
 use Rattle.sre_request.specs.Requests.{code_of, asked_of}
+use Rattle.sre_patterns.specs.declared.encoding.Encoding.{Encoding}
 use Rattle.sre_growth.specs.Refusal.{Refused}
 use Rattle.sre_engine.specs.declared.engine.state.SreError.{SreError}
 use Rattle.sre_engine.specs.Answers.{Shown, MayTakeMemory}
@@ -26,6 +27,10 @@ shown_of it = it.state
 
 abbrev pub has_ended : {S A : Type 0} {text : Ghosts S} → SpanIter S A text → Bool
 has_ended it = it.ended
+
+-- how its finder reads texts
+abbrev pub encoding_of : {S A : Type 0} {text : Ghosts S} → SpanIter S A text → Encoding
+encoding_of it = it.finder.encoding
 
 -- what is asked at the start of the match that came last
 abbrev pub last_asked : {S A : Type 0} {text : Ghosts S} → SpanIter S A text → Asked
@@ -49,11 +54,14 @@ pub record GivesSpan {S A : Type 0} {text : Ghosts S} (it : SpanIter S A text) (
       → (marks : Marks) × (left_of it t ≡ match_with span.start span.end marks ∷ left_of next t)
       × (found (last_asked next) t ≡ Some (match_with span.start span.end marks))
   pub request : GoesOnBehind (request_of it) span.start span.end (request_of next)
+  pub encoding : encoding_of next ≡ encoding_of it
 
--- the walk has ended, for good, and the request is as it was
+-- the walk has ended, for good; the request, and what is asked at the start of the last match, are as they were
 pub record Ends {S A : Type 0} {text : Ghosts S} (it next : SpanIter S A text) : Type 0 where
   pub over : has_ended next ≡ true
   pub request : request_of next ≡ request_of it
+  pub last : last_asked next ≡ last_asked it
+  pub encoding : encoding_of next ≡ encoding_of it
 
 -- no match is left
 pub record IsOver {S A : Type 0} {text : Ghosts S} (it : SpanIter S A text) : Type 0 where

@@ -186,6 +186,7 @@ impl<'c> SpanFinder<'c> {
         requires known { EndStands (S.stands (string_of req.old)) self.old.end }
         requires stands { stands_in req.old cursor.old (start_of req.old) }
         ensures own { self.new.code ≡ code_of req.new }
+        ensures encoding { self.new.encoding ≡ self.old.encoding }
         ensures admitted { AllAdmitted (items_of (code_of req.new)) places.new }
         ensures known { EndStands (S.stands (string_of req.new)) self.new.end }
         ensures some { IfOk result (λ o. IfSome o (λ start. StepsFrom req.old start req.new)) }
@@ -220,6 +221,7 @@ impl<'c> SpanFinder<'c> {
         requires known { EndStands (S.stands (string_of req.old)) self.old.end }
         requires stands { stands_in req.old cursor.old (start_of req.old) }
         ensures own { self.new.code ≡ code_of req.new }
+        ensures encoding { self.new.encoding ≡ self.old.encoding }
         ensures admitted { AllAdmitted (items_of (code_of req.new)) places.new }
         ensures known { EndStands (S.stands (string_of req.new)) self.new.end }
         ensures some { IfOk result (λ o. IfSome o (λ start. StepsFrom req.old start req.new)) }

@@ -70,7 +70,8 @@ impl<'c, 'a, S: StrDrive, A: Allocator + Copy> Drop for SpanIter<'c, 'a, S, A> {
 
 impl<'c> SpanFinder<'c> {
     ghost use Rattle.sre_request.specs.Requests.{code_of};
-    ghost use Rattle.sre_finder.specs.SpanIters.{request_of, shown_of, has_ended};
+    ghost use Rattle.sre_request.specs.Requests.{asked_of};
+    ghost use Rattle.sre_finder.specs.SpanIters.{request_of, shown_of, has_ended, last_asked, encoding_of};
 
     /// Starts an iteration over the spans of the matches in the request's range. The state is unchanged until the first
     /// item.
@@ -83,6 +84,8 @@ impl<'c> SpanFinder<'c> {
         ensures req { request_of result ≡ req.entry }
         ensures state { shown_of result ≡ state }
         ensures open { has_ended result ≡ false }
+        ensures last { last_asked result ≡ asked_of req.entry }
+        ensures encoding { encoding_of result ≡ self.entry.encoding }
     {
         let mut finder = self;
         finder.reset();
@@ -103,7 +106,7 @@ impl<'c> SpanFinder<'c> {
 }
 
 impl<'c, 'a, S: StrDrive, A: Allocator + Copy> SpanIter<'c, 'a, S, A> {
-    ghost use Rattle.sre_finder.specs.SpanIters.{request_of, shown_of, has_ended, last_asked};
+    ghost use Rattle.sre_finder.specs.SpanIters.{request_of, shown_of, has_ended, last_asked, encoding_of};
 
     /// Returns the request of the remaining range. Until the iteration has ended, the remaining items are its matches.
     pub fn req(&self) -> &Request<'a, S>
@@ -120,8 +123,8 @@ impl<'c, 'a, S: StrDrive, A: Allocator + Copy> SpanIter<'c, 'a, S, A> {
     }
 
     /// Makes the state show the last item's match with its captures, by a run of the machine from its start. Returns
-    /// whether there is such a match: always `true` after an item. Before the first item, it searches for the first
-    /// match instead.
+    /// whether there is such a match: always `true` after an item, and after the end of an iteration that had one.
+    /// Before the first item, it searches for the first match instead.
     ///
     /// # Errors
     ///
@@ -137,6 +140,7 @@ impl<'c, 'a, S: StrDrive, A: Allocator + Copy> SpanIter<'c, 'a, S, A> {
         ensures req { request_of self.new ≡ request_of self.old }
         ensures last { last_asked self.new ≡ last_asked self.old }
         ensures ended { has_ended self.new ≡ has_ended self.old }
+        ensures encoding { encoding_of self.new ≡ encoding_of self.old }
     {
         let Ok(mut req) = self.req.clone() else {
             unreachable!(); // it does not allocate
@@ -152,7 +156,8 @@ impl<'c, 'a, S: StrDrive, A: Allocator + Copy> SpanIter<'c, 'a, S, A> {
 
     /// Drops the iteration and returns the finder, for use with another text.
     pub fn into_finder(self) -> SpanFinder<'c>
-        ensures { result.code ≡ code_of (request_of self.entry) }
+        ensures code { result.code ≡ code_of (request_of self.entry) }
+        ensures encoding { result.encoding ≡ encoding_of self.entry }
     {
         let SpanIter {
             finder,

@@ -1,5 +1,5 @@
-use Rattle.std.proofs.Common.{◌∙◌, sym, subst, arith}
-use Rattle.sre_request.specs.Requests.{string_of, start_of}
+use Rattle.std.proofs.Common.{◌∙◌, sym, subst, ap₂, arith}
+use Rattle.sre_request.specs.Requests.{string_of, start_of, asked_of}
 use Rattle.sre_finder.specs.Finders.{EndStands}
 use Rattle.sre_finder.proofs.span_finder.SpanFinder.walk.Goals as goal
 
@@ -18,3 +18,12 @@ invariant_of-result g c =
       admitted = c.new-places.ensures.admitted _;
       inside = omega (arith, at, c.start.ensures.value, c.start.ensures.in_window);
     }
+
+-- the first match is asked for from the range's start on
+pub returns-clause-last : goal.returns-clause-last
+returns-clause-last g c =
+    let asked = c.args.req in
+    let cursor = c.create_cursor-cursor.result in
+    let here = rw (c.string.ensures, c.start.ensures.value) at c.create_cursor-cursor.ensures in
+    let at = (g.met.S.StrDrive.stands_at (string_of asked) cursor (start_of asked) here).0 in
+    ap₂ (λ p b. record (asked_of asked) { start = p; must_advance = b }) at c.must_advance-advances.ensures

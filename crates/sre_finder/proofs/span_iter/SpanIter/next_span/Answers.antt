@@ -49,6 +49,7 @@ returns-in-Ok-Some-clause-gives g c =
                 ≡ Some (match_with start end gives.0)) c.position-start.ensures gives.2,
           );
       request = goes;
+      encoding = c.in-Ok-Some.ensures.encoding;
     }
 
 pub returns-in-Ok-Some-clause-falls : goal.returns-in-Ok-Some-clause-falls
