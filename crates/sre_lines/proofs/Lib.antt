@@ -11,3 +11,4 @@ pub mod Causes
 pub mod Parted
 pub mod LineAt
 pub mod TableFiles
+pub mod TableFaults

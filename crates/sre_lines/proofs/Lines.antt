@@ -27,29 +27,29 @@ lacks_at : (at x : ℕ) (xs : List ℕ) → x ≢ at → Lacks xs at → (k : �
 lacks_at at x xs differs none zero within is = differs is
 lacks_at at x xs differs none (suc k) within is = none (k, omega arith, is)
 
-lacks_cons : (at x : ℕ) (xs : List ℕ) → x ≢ at → Lacks xs at → Lacks (x ∷ xs) at
+pub lacks_cons : (at x : ℕ) (xs : List ℕ) → x ≢ at → Lacks xs at → Lacks (x ∷ xs) at
 lacks_cons at x xs differs none there = lacks_at at x xs differs none there.0 there.1 there.2
 
 lacks_append : (at : ℕ) (xs ys : List ℕ) → Lacks xs at → Lacks ys at → Lacks (xs ++ ys) at
 lacks_append at xs ys none none' there =
     elim (Contains-append_cases xs ys at there) [ inl front ↦ none front | inr back ↦ none' back ]
 
-lacks_nil : (at : ℕ) → Lacks [] at
+pub lacks_nil : (at : ℕ) → Lacks [] at
 lacks_nil at there = omega (arith, there.1)
 
 -- numbers hold neither spaces nor dots
-number_lacks : (n at : ℕ) → n < 2 ^ 64 → at < 48 → Lacks (decimal n) at
+pub number_lacks : (n at : ℕ) → n < 2 ^ 64 → at < 48 → Lacks (decimal n) at
 number_lacks n at fits low = decimal_lacks n at fits (λ range. omega (arith, range))
 
-pub words_lack : (words : List ℕ) → AreWords words → Lacks (words_text words) 32
-words_lack [] all = lacks_cons 32 45 [] (omega arith) (lacks_nil 32)
-words_lack (w ∷ []) all =
-    number_lacks w 32 (let fits = All-head (λ w. w < 2 ^ 32) w [] all in omega (arith, fits)) (omega arith)
-words_lack (w ∷ v ∷ more) all =
-    lacks_append 32 (decimal w) (44 ∷ words_text (v ∷ more))
-    (number_lacks w 32 (let fits = All-head (λ w. w < 2 ^ 32) w (v ∷ more) all in omega (arith, fits)) (omega arith))
-    (lacks_cons 32 44 (words_text (v ∷ more)) (omega arith)
-    (words_lack (v ∷ more) (All-tail (λ w. w < 2 ^ 32) w (v ∷ more) all)))
+pub words_lack : (at : ℕ) → at < 44 → (words : List ℕ) → AreWords words → Lacks (words_text words) at
+words_lack at low [] all = lacks_cons at 45 [] (omega arith) (lacks_nil at)
+words_lack at low (w ∷ []) all =
+    number_lacks w at (let fits = All-head (λ w. w < 2 ^ 32) w [] all in omega (arith, fits)) (omega arith)
+words_lack at low (w ∷ v ∷ more) all =
+    lacks_append at (decimal w) (44 ∷ words_text (v ∷ more))
+    (number_lacks w at (let fits = All-head (λ w. w < 2 ^ 32) w (v ∷ more) all in omega (arith, fits)) (omega arith))
+    (lacks_cons at 44 (words_text (v ∷ more)) (omega arith)
+    (words_lack at low (v ∷ more) (All-tail (λ w. w < 2 ^ 32) w (v ∷ more) all)))
 
 glyph_lacks : (d : ℕ) → digit_glyph false d ≢ 32
 glyph_lacks d = grind (arith, nat_tests)
@@ -130,7 +130,7 @@ after_words fields field left subject words text words_fit cut none is =
     cut_once 32 (words_text words)
     (bytes_text subject.text text ++ (32 ∷ window_text subject.window ++ (32 ∷ flags_text subject.flags))) field
     left
-    (words_lack words words_fit) none (is ∙ sym cut)
+    (words_lack 32 (omega arith) words words_fit) none (is ∙ sym cut)
 
 pub after_text : (fields field left : List ℕ) (subject : Subject) (text : List ℕ) → field ++ 32 ∷ left ≡ fields
     → Lacks field 32

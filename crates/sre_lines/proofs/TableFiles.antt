@@ -1,10 +1,19 @@
 -- A table's file, list by list.
-use Rattle.std.proofs.Common.{◌≡◌, ◌+◌, ◌*◌, ◌<◌, ℕ, suc, List, [], ◌∷◌, ◌++◌, length, get_or, take, refl, sym, ap, ◌∙◌}
-use Rattle.std.proofs.Common.{arith, append_assoc, add-one}
-use Rattle.std.proofs.lemmas.List.{append-nil}
+use Rattle.std.proofs.Common.{◌≡◌, ◌≢◌, ◌+◌, ◌*◌, ◌%◌, ◌<◌, ◌^◌, ℕ, suc, List, [], ◌∷◌, ◌++◌, length, get_or, take}
+use Rattle.std.proofs.Common.{refl, sym, ap, ap₂, ◌∙◌, arith, append_assoc, add-one}
+use Rattle.std.proofs.Common.{Option, Some, None, Bor}
+use Rattle.std.specs.Prelude.{codes, IfSome, IfNone}
+use Rattle.std.specs.Option.{MatchOption}
+use Rattle.std.specs.Fmt.{decimal}
+use Rattle.std.proofs.lemmas.Fmt.{decimal_injective}
+use Rattle.std.proofs.lemmas.List.{append_cancel_left}
+use Rattle.std.proofs.lemmas.List.Elements.{All-head, All-tail}
 use Rattle.std.proofs.Math.Seq.{take-suc}
-use Rattle.sre_lines.specs.Fields.{words_text}
-use Rattle.sre_lines.specs.TableFiles.{numbers_of, list_text}
+use Rattle.sre_lines.specs.Fields.{words_text, AreWords}
+use Rattle.sre_lines.specs.TableFiles.{numbers_of, list_text, LacksList, LeavesList}
+use Rattle.sre_lines.proofs.Cuts.{cut_once, uncut}
+use Rattle.sre_lines.proofs.Words.{numbers_text}
+use Rattle.sre_lines.proofs.Lines.{Lacks, lacks_cons, lacks_nil, number_lacks, words_lack}
 
 numbers_of-append : (ps qs : List (ℕ × ℕ)) → numbers_of (ps ++ qs) ≡ numbers_of ps ++ numbers_of qs
 numbers_of-append [] qs = refl
@@ -30,20 +39,99 @@ one_pair_more pairs numbers a b i so_far within first second =
       append_assoc,
     ) refl
 
--- a list's line, and what stands behind it
-pub list_read : (file line rest name field : List ℕ) (pairs : List (ℕ × ℕ)) → line ++ 10 ∷ rest ≡ file
-    → name ++ 32 ∷ field ≡ line → words_text (numbers_of pairs) ≡ field → list_text name pairs ++ rest ≡ file
-list_read file line rest name field pairs cut cut' written =
-    append_assoc name (32 ∷ words_text (numbers_of pairs) ++ 10 ∷ []) rest
-    ∙ ap (λ r. name ++ (32 ∷ r)) (append_assoc (words_text (numbers_of pairs)) (10 ∷ []) rest)
-    ∙ ap (λ f. name ++ (32 ∷ (f ++ 10 ∷ rest))) written
-    ∙ sym (append_assoc name (32 ∷ field) (10 ∷ rest))
-    ∙ ap (λ l. l ++ 10 ∷ rest) cut'
-    ∙ cut
+-- what follows a front, where a text begins with it
+module _ (file front : List ℕ) where
+  pub front_off : (r : Option (Bor (List ℕ)))
+      → MatchOption r ((rest : List ℕ) → file ≢ front ++ rest) (λ x. file ≡ front ++ x.now)
+      → IfSome r (λ x. front ++ x.now ≡ file)
+  front_off None m = tt
+  front_off (Some x) m = sym m
 
--- four lists, and nothing behind them
-pub four_read : (a b c d file file' file'' file''' rest : List ℕ) → a ++ file' ≡ file → b ++ file'' ≡ file'
-    → c ++ file''' ≡ file'' → d ++ rest ≡ file''' → rest ≡ [] → a ++ (b ++ (c ++ d)) ≡ file
-four_read a b c d file file' file'' file''' rest first second third fourth none =
-    let last : d ≡ file''' = sym (append-nil d) ∙ ap (λ r. d ++ r) (sym none) ∙ fourth in
-    ap (λ l. a ++ (b ++ (c ++ l))) last ∙ ap (λ l. a ++ (b ++ l)) third ∙ ap (λ l. a ++ l) second ∙ first
+  pub no_front : (r : Option (Bor (List ℕ)))
+      → MatchOption r ((rest : List ℕ) → file ≢ front ++ rest) (λ x. file ≡ front ++ x.now)
+      → IfNone r ((rest : List ℕ) → front ++ rest ≢ file)
+  no_front None m = λ rest is. m rest (sym is)
+  no_front (Some x) m = tt
+
+-- pairs have an even number of numbers
+numbers_even : (pairs : List (ℕ × ℕ)) → length (numbers_of pairs) ≡ 2 * length pairs
+numbers_even [] = refl
+numbers_even (p ∷ ps) = omega (arith, numbers_even ps)
+
+pub odd_is_no_pairs : (numbers : List ℕ) → length numbers % 2 ≢ 0 → (pairs : List (ℕ × ℕ)) → numbers_of pairs ≢ numbers
+odd_is_no_pairs numbers odd pairs is = odd (omega (arith, numbers_even pairs, ap length is))
+
+-- words have one text each
+fits_head : (w : ℕ) (ws : List ℕ) → AreWords (w ∷ ws) → w < 2 ^ 64
+fits_head w ws all = let fits = All-head (λ w. w < 2 ^ 32) w ws all in omega (arith, fits)
+
+tail_fits : (w : ℕ) (ws : List ℕ) → AreWords (w ∷ ws) → AreWords ws
+tail_fits w ws all = All-tail (λ w. w < 2 ^ 32) w ws all
+
+no_comma : (w : ℕ) (ws : List ℕ) → AreWords (w ∷ ws) → Lacks (decimal w) 44
+no_comma w ws all = number_lacks w 44 (fits_head w ws all) (omega arith)
+
+numbers_once : (w v : ℕ) (ws vs : List ℕ) → AreWords (w ∷ ws) → AreWords (v ∷ vs)
+    → numbers_text (w ∷ ws) ≡ numbers_text (v ∷ vs) → w ∷ ws ≡ v ∷ vs
+numbers_once w v [] [] all all' is =
+    ap (λ n. n ∷ []) (decimal_injective w v (fits_head w [] all) (fits_head v [] all') is)
+numbers_once w v [] (y ∷ vs) all all' is =
+    absurd (uncut 44 (decimal v) (numbers_text (y ∷ vs)) (decimal w) (no_comma w [] all) (sym is))
+numbers_once w v (x ∷ ws) [] all all' is =
+    absurd (uncut 44 (decimal w) (numbers_text (x ∷ ws)) (decimal v) (no_comma v [] all') is)
+numbers_once w v (x ∷ ws) (y ∷ vs) all all' is =
+    let parts = cut_once 44 (decimal w) (numbers_text (x ∷ ws)) (decimal v) (numbers_text (y ∷ vs))
+    (no_comma w (x ∷ ws) all) (no_comma v (y ∷ vs) all') is in
+    ap₂ (λ n ns. n ∷ ns)
+    (decimal_injective w v (fits_head w (x ∷ ws) all) (fits_head v (y ∷ vs) all') parts.0)
+    (numbers_once x y ws vs (tail_fits w (x ∷ ws) all) (tail_fits v (y ∷ vs) all') parts.1)
+
+-- some words are not `-`
+no_dash : (w : ℕ) (ws : List ℕ) → AreWords (w ∷ ws) → numbers_text (w ∷ ws) ≢ codes "-"
+no_dash w [] all is =
+    number_lacks w 45 (fits_head w [] all) (omega arith) (0, omega (arith, ap length is), rw is refl)
+no_dash w (v ∷ ws) all is =
+    uncut 44 (decimal w) (numbers_text (v ∷ ws)) (codes "-") (lacks_cons 44 45 [] (omega arith) (lacks_nil 44)) is
+
+words_once : (ws vs : List ℕ) → AreWords ws → AreWords vs → words_text ws ≡ words_text vs → ws ≡ vs
+words_once [] [] all all' is = refl
+words_once [] (v ∷ vs) all all' is = absurd (no_dash v vs all' (sym is))
+words_once (w ∷ ws) [] all all' is = absurd (no_dash w ws all is)
+words_once (w ∷ ws) (v ∷ vs) all all' is = numbers_once w v ws vs all all' is
+
+-- a field of words that are no pairs
+pub no_pairs : (field words : List ℕ) → words_text words ≡ field → AreWords words
+    → ((pairs : List (ℕ × ℕ)) → numbers_of pairs ≢ words) → (pairs : List (ℕ × ℕ)) → AreWords (numbers_of pairs)
+    → words_text (numbers_of pairs) ≢ field
+no_pairs field words read fit none pairs fit' is =
+    none pairs (words_once (numbers_of pairs) words fit' fit (is ∙ sym read))
+
+-- the field and the rest of a list with which a text begins
+parts_of : (file list field rest name : List ℕ) → name ++ list ≡ file → field ++ 10 ∷ rest ≡ list → Lacks field 10
+    → (pairs : List (ℕ × ℕ)) (more : List ℕ) → AreWords (numbers_of pairs) → list_text name pairs more ≡ file
+    → (words_text (numbers_of pairs) ≡ field) × (more ≡ rest)
+parts_of file list field rest name begins cut none pairs more fit is =
+    cut_once 10 (words_text (numbers_of pairs)) more field rest (words_lack 10 (omega arith) (numbers_of pairs) fit) none
+    (append_cancel_left name (words_text (numbers_of pairs) ++ 10 ∷ more) list (is ∙ sym begins) ∙ sym cut)
+
+pub list_leaves : (file list field rest name : List ℕ) → name ++ list ≡ file → field ++ 10 ∷ rest ≡ list
+    → Lacks field 10 → LeavesList name file rest
+list_leaves file list field rest name begins cut none = record {
+  left = λ pairs more fit is. (parts_of file list field rest name begins cut none pairs more fit is).1;
+}
+
+-- a list that has no line, or whose field is none of pairs
+pub no_line : (file list name : List ℕ) → name ++ list ≡ file → Lacks list 10 → LacksList name file
+no_line file list name begins none = record {
+  none = λ pairs more fit is.
+      uncut 10 (words_text (numbers_of pairs)) more list none
+      (append_cancel_left name (words_text (numbers_of pairs) ++ 10 ∷ more) list (is ∙ sym begins));
+}
+
+pub no_field : (file list field rest name : List ℕ) → name ++ list ≡ file → field ++ 10 ∷ rest ≡ list → Lacks field 10
+    → ((pairs : List (ℕ × ℕ)) → AreWords (numbers_of pairs) → words_text (numbers_of pairs) ≢ field)
+    → LacksList name file
+no_field file list field rest name begins cut none other = record {
+  none = λ pairs more fit is.
+      other pairs fit (parts_of file list field rest name begins cut none pairs more fit is).0;
+}

@@ -22,7 +22,8 @@ use Rattle.sre_lines.specs.declared.program.Call.{Call}
 use Rattle.sre_lines.specs.declared.program.Ending.{Ending}
 use Rattle.sre_lines.specs.declared.program.Ending.TheVariants.{AllAnswered, Told, Untold}
 use Rattle.sre_lines.specs.Answers.{fault_text, uni_text, IsFaultOfCases}
-use Rattle.sre_lines.specs.TableFiles.{table_text}
+use Rattle.sre_growth.specs.Refusal.{Refused}
+use Rattle.sre_lines.specs.TableFiles.{table_text, IsNoTable}
 use Rattle.sre_lines.specs.Causes.{IsCause, cause_text}
 use Rattle.sre_lines.specs.Lines.{lines_of, Answered, StopsAt, IsLineAt}
 use Rattle.sre_lines.specs.Output.{AppendsPart}
@@ -130,7 +131,7 @@ Tells old new name end (Untold fault) = AppendsPart old new (fault_text fault na
 abbrev pub IsTableEnd : Detail → List ℕ → List ℕ → Type 0
 IsTableEnd Plain file end = end ≡ 10 ∷ []
 IsTableEnd Explained file end =
-    (end ≡ codes ": not four lists of numbers\n")
+    (IsNoTable file × (end ≡ codes ": not four lists of numbers\n"))
     ⊎ ((table : Table) × (error : UniError) × (table_text table ≡ file) × (lists_fault table ≡ Some error)
     × (end ≡ codes ": " ++ uni_text error ++ 10 ∷ []))
 
@@ -163,9 +164,16 @@ IsTable Reads None table = table ≡ ascii_table
 IsTable Reads (Some name) table =
     (file : Vec ℕ Global) × Reads (string_bytes name) (Ok file) × (table_text table ≡ file.items)
 
+-- no table is written so, or one whose lists have a fault
+abbrev pub IsNotATable : List ℕ → Type 0
+IsNotATable file =
+    IsNoTable file
+    ⊎ ((table : Table) × (error : UniError) × (table_text table ≡ file) × (lists_fault table ≡ Some error))
+
 -- why a file gives no table
 abbrev pub IsTableFault : Reading → CaseFault → Type 0
-IsTableFault (Ok file) fault = (fault ≡ NotATable) ⊎ (fault ≡ NoMemory)
+IsTableFault (Ok file) fault =
+    ((fault ≡ NotATable) × IsNotATable file.items) ⊎ ((fault ≡ NoMemory) × Refused)
 IsTableFault (Err error) fault = IsFaultOf error CannotRead fault
 
 -- a run that has no table, since the file of this name gives none, which is told

@@ -13,7 +13,7 @@ ghost use Rattle.sre_lines.specs.Program.{IsFaultOf, IsCall, IsCallOf, IsEnd, Is
 ghost use Rattle.sre_chars.specs.Tables.{Table};
 ghost use Rattle.sre_chars.specs.Lists.{lists_fault};
 ghost use Rattle.sre_lines.specs.Program.{TellsFault, IsTableEnd, IsTableless, CallRun, end_of, status_of, ProgramRun};
-ghost use Rattle.sre_lines.specs.TableFiles.{table_text};
+ghost use Rattle.sre_lines.specs.TableFiles.{table_text, IsNoTable};
 
 use crate::cases::{CaseFault, Detail, answer_lines_by, write_line};
 use crate::cause::{cause_of, line_at};
@@ -305,7 +305,7 @@ fn table_read<E: Write>(
 
 // The end of the line for a file without the four lists.
 fn form_end(detail: Detail) -> &'static str
-    ensures { (file : List ℕ) → IsTableEnd detail file result.now }
+    ensures { (file : List ℕ) → IsNoTable file → IsTableEnd detail file result.now }
 {
     match detail {
         Detail::Plain => "\n",

@@ -4,11 +4,12 @@
 //! The name and a space are followed by numbers in the form of WORDS, two for each entry. An entry is a character and
 //! its other case, or the first and the last character of a range.
 
-ghost use Rattle.std.specs.Prelude.{◌≡◌, ◌≢◌, ◌++◌, Err, Some, IfOk};
+ghost use Rattle.std.specs.Prelude.{◌≡◌, ◌≢◌, ◌++◌, ℕ, List, Err, Some, IfOk, IfSome, IfNone};
+ghost use Rattle.sre_growth.specs.Refusal.{Refused};
 ghost use Rattle.sre_chars.specs.Tables.{Table};
 ghost use Rattle.sre_chars.specs.Lists.{lists_fault, table_with};
-ghost use Rattle.sre_lines.specs.Fields.{words_text};
-ghost use Rattle.sre_lines.specs.TableFiles.{list_text, table_text, numbers_of};
+ghost use Rattle.sre_lines.specs.Fields.{words_text, AreWords};
+ghost use Rattle.sre_lines.specs.TableFiles.{list_text, table_text, numbers_of, IsNoTable, LacksList, LeavesList};
 
 use crate::line::{LineFault, read_words, split_once};
 use sre_engine::{UniError, UniTable};
@@ -30,6 +31,8 @@ pub fn read_table(alloc: Global, file: &[u8]) -> Result<UniTable, TableFault>
     ensures read { IfOk result (λ table. table_text table ≡ file.now) }
     ensures lists { (error : UniError) → result ≡ Err (TableFault.Lists error) → (table : Table)
         × (table_text table ≡ file.now) × (lists_fault table ≡ Some error) }
+    ensures form { result ≡ Err TableFault.Form → IsNoTable file.now }
+    ensures memory { result ≡ Err TableFault.NoMemory → Refused }
 {
     match read_lists(alloc, file) {
         Ok(lists) => table_of(
@@ -57,11 +60,13 @@ struct Lists {
 fn read_lists(alloc: Global, file: &[u8]) -> Result<Lists, LineFault>
     ensures read { IfOk result (λ lists. table_text
         (table_with lists.lower.items lists.upper.items lists.alnum.items lists.digits.items) ≡ file.now) }
+    ensures refused { result ≡ Err LineFault.NotACase → IsNoTable file.now }
+    ensures memory { result ≡ Err LineFault.NoMemory → Refused }
 {
-    let (lower, rest) = read_list(alloc, file, b"lower")?;
-    let (upper, rest) = read_list(alloc, rest, b"upper")?;
-    let (alnum, rest) = read_list(alloc, rest, b"alnum")?;
-    let (digits, rest) = read_list(alloc, rest, b"digits")?;
+    let (lower, rest) = read_list(alloc, file, b"lower ")?;
+    let (upper, rest) = read_list(alloc, rest, b"upper ")?;
+    let (alnum, rest) = read_list(alloc, rest, b"alnum ")?;
+    let (digits, rest) = read_list(alloc, rest, b"digits ")?;
     if !rest.is_empty() {
         return Err(LineFault::NotACase);
     }
@@ -84,6 +89,8 @@ fn table_of(
     ensures table { IfOk result (λ table. table ≡ table_with lower.now upper.now alnum.now digits.now) }
     ensures lists { (error : UniError) → result ≡ Err (TableFault.Lists error)
         → lists_fault (table_with lower.now upper.now alnum.now digits.now) ≡ Some error }
+    ensures form { result ≢ Err TableFault.Form }
+    ensures memory { result ≡ Err TableFault.NoMemory → Refused }
 {
     let mut table = match UniTable::new(alloc, lower, upper, alnum) {
         Ok(table) => table,
@@ -99,6 +106,8 @@ fn table_of(
 fn fault_of(error: UniError) -> TableFault
     ensures memory { error ≡ UniError.Memory → result ≡ TableFault.NoMemory }
     ensures other { error ≢ UniError.Memory → result ≡ TableFault.Lists error }
+    ensures only { result ≡ TableFault.NoMemory → error ≡ UniError.Memory }
+    ensures form { result ≢ TableFault.Form }
 {
     match error {
         UniError::Memory => TableFault::NoMemory,
@@ -106,32 +115,43 @@ fn fault_of(error: UniError) -> TableFault
     }
 }
 
-// Reads the list with a name, and returns the rest of the file after its line.
+// Reads the list with a name, and returns the rest of the file after its line. A space ends the name.
 fn read_list<'f>(
     alloc: Global,
     file: &'f [u8],
     name: &[u8],
 ) -> Result<(Vec<(u32, u32)>, &'f [u8]), LineFault>
-    ensures read { IfOk result (λ found. list_text name.now found.0.items ++ found.1.now ≡ file.now) }
+    ensures read { IfOk result (λ found. list_text name.now found.0.items found.1.now ≡ file.now) }
+    ensures left { IfOk result (λ found. LeavesList name.now file.now found.1.now) }
+    ensures refused { result ≡ Err LineFault.NotACase → LacksList name.now file.now }
+    ensures memory { result ≡ Err LineFault.NoMemory → Refused }
 {
-    let Some((line, rest)) = split_once(file, b'\n') else {
+    let Some(list) = after(file, name) else {
         return Err(LineFault::NotACase);
     };
-    let Some((word, field)) = split_once(line, b' ') else {
+    let Some((field, rest)) = split_once(list, b'\n') else {
         return Err(LineFault::NotACase);
     };
-    if word != name {
-        return Err(LineFault::NotACase);
-    }
     match read_pairs(alloc, field) {
         Ok(pairs) => Ok((pairs, rest)),
         Err(fault) => Err(fault),
     }
 }
 
+// What follows `front` in a file that begins with it.
+fn after<'f>(file: &'f [u8], front: &[u8]) -> Option<&'f [u8]>
+    ensures rest { IfSome result (λ rest. front.now ++ rest.now ≡ file.now) }
+    ensures none { IfNone result ((rest : List ℕ) → front.now ++ rest ≢ file.now) }
+{
+    file.strip_prefix(front)
+}
+
 // Reads pairs, from a field with the numbers of all of them.
 fn read_pairs(alloc: Global, field: &[u8]) -> Result<Vec<(u32, u32)>, LineFault>
     ensures read { IfOk result (λ pairs. words_text (numbers_of pairs.items) ≡ field.now) }
+    ensures refused { result ≡ Err LineFault.NotACase → (pairs : List (ℕ × ℕ)) → AreWords (numbers_of pairs)
+        → words_text (numbers_of pairs) ≢ field.now }
+    ensures memory { result ≡ Err LineFault.NoMemory → Refused }
 {
     let mut numbers = Vec::new(alloc);
     match read_words(field, &mut numbers) {
@@ -143,6 +163,8 @@ fn read_pairs(alloc: Global, field: &[u8]) -> Result<Vec<(u32, u32)>, LineFault>
 // Groups numbers into pairs.
 fn paired(alloc: Global, numbers: &[u32]) -> Result<Vec<(u32, u32)>, LineFault>
     ensures read { IfOk result (λ pairs. numbers_of pairs.items ≡ numbers.now) }
+    ensures refused { result ≡ Err LineFault.NotACase → (pairs : List (ℕ × ℕ)) → numbers_of pairs ≢ numbers.now }
+    ensures memory { result ≡ Err LineFault.NoMemory → Refused }
 {
     if numbers.len() % 2 != 0 {
         return Err(LineFault::NotACase);
