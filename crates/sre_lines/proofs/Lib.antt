@@ -1,3 +1,4 @@
+pub mod AnswerTexts
 pub mod Cuts
 pub mod FileLines
 pub mod Flushed
