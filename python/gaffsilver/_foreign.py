@@ -4,7 +4,7 @@ from __future__ import annotations
 import operator
 import sys
 import types
-from ctypes import byref, c_size_t, c_uint32
+from ctypes import byref, c_size_t, c_uint32, c_uint64
 
 from gaffsilver import _library as library
 from gaffsilver._shared import StepLimitExceeded, parts_of, repr_of
@@ -299,6 +299,26 @@ class Pattern(metaclass=_Fixed):
         """The same pattern with another step limit, for each call without one."""
         fields = {name: getattr(self, name) for name in Pattern.__slots__[:-1]}
         return _made(Pattern, **{**fields, "_max_steps": _steps(max_steps, library.FOREVER)})
+
+    def step_bound(self, characters: Any, /) -> int | None:
+        """The step bound: a number of the engine's steps, as max_steps counts them, that is proved to suffice for one
+        match, search or step of an iteration over a text of at most so many characters (bytes of a bytes-like object),
+        unless an allocation fails. None if the pattern has no bound (docs/MEMOIZATION.md lists the cases, as a
+        back-reference), or none for so many characters."""
+        characters, steps = operator.index(characters), c_uint64()
+        if characters < 0:
+            raise ValueError("negative number of characters")
+        # a greater number is clipped, since no text is longer
+        status = library.step_bound(byref(self._code), min(characters, sys.maxsize), byref(steps))
+        if status not in (library.YES, library.NO):
+            _fail(status)
+        return steps.value if status == library.YES else None
+
+    @property
+    def is_bounded(self) -> bool:
+        """Whether the pattern has a step bound for the empty text. A pattern without one has none for any text;
+        step_bound(n) can still be None for a great n."""
+        return self.step_bound(0) is not None
 
     def __copy__(self) -> Any:
         return self

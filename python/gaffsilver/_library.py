@@ -96,6 +96,7 @@ def _of_text(what: str, *arguments: Any) -> tuple[Any, Any]:
 
 check_table = _function("sre_check_table", POINTER(Table))
 check_code = _function("sre_check_code", POINTER(Code))
+step_bound = _function("sre_step_bound", POINTER(Code), c_size_t, POINTER(c_uint64))
 answers = _of_text("answer", POINTER(Found), c_void_p, c_size_t)
 walks = _of_text("walk", c_size_t, c_void_p, c_size_t, POINTER(Walked))
 

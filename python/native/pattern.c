@@ -188,6 +188,40 @@ static PyObject *compare(PyObject *one, PyObject *two, int how) {
   return same < 0 ? NULL : PyBool_FromLong(same == (how == Py_EQ));
 }
 
+/* ---- the step bound ---- */
+
+/* The step bound for texts of at most so many characters, or None. */
+static PyObject *bound(const Pattern *self, size_t characters) {
+  uint64_t steps;
+  uint32_t status = sre_step_bound(&self->code, characters, &steps);
+  if (status == SRE_YES)
+    return PyLong_FromUnsignedLongLong(steps);
+  if (status == SRE_NO)
+    Py_RETURN_NONE;
+  engine_fail(status);
+  return NULL;
+}
+
+static PyObject *step_bound(Pattern *self, PyObject *given) {
+  Py_ssize_t characters = PyNumber_AsSsize_t(given, NULL); /* a greater number is clipped, since no text is longer */
+  if (characters >= 0)
+    return bound(self, (size_t)characters);
+  if (!PyErr_Occurred())
+    PyErr_SetString(PyExc_ValueError, "negative number of characters");
+  return NULL;
+}
+
+static PyObject *get_is_bounded(Pattern *self, void *unused) {
+  PyObject *steps = bound(self, 0);
+  if (!steps)
+    return NULL;
+  bool is_bounded = steps != Py_None;
+  Py_DECREF(steps);
+  return PyBool_FromLong(is_bounded);
+}
+
+/* ---- attributes and methods ---- */
+
 static PyObject *itself(PyObject *self, PyObject *unused) { return Py_NewRef(self); }
 
 static PyObject *get_groupindex(Pattern *self, void *unused) { return PyDictProxy_New(self->groupindex); }
@@ -206,6 +240,9 @@ static PyMemberDef members[] = {
 static PyGetSetDef attributes[] = {
     {"groupindex", (getter)get_groupindex, NULL, "A dictionary mapping group names to group numbers.", NULL},
     {"max_steps", (getter)get_max_steps, NULL, "The step limit of a call that names none, or None.", NULL},
+    {"is_bounded", (getter)get_is_bounded, NULL,
+     "Whether the pattern has a step bound for the empty text. A pattern without one has none for any text;\n"
+     "step_bound(n) can still be None for a great n.", NULL},
     {NULL},
 };
 
@@ -233,6 +270,12 @@ static PyMethodDef methods[] = {
      "subn($self, /, repl, string, count=0, *, max_steps=None)\n--\n\nThe tuple (new_string, number_of_subs_made)."},
     {"within", (PyCFunction)within, METH_O,
      "within($self, max_steps, /)\n--\n\nThe same pattern with another step limit, for each call that names none."},
+    {"step_bound", (PyCFunction)step_bound, METH_O,
+     "step_bound($self, characters, /)\n--\n\n"
+     "The step bound: a number of the engine's steps, as max_steps counts them, that is proved to suffice for one\n"
+     "match, search or step of an iteration over a text of at most so many characters (bytes of a bytes-like object),\n"
+     "unless an allocation fails. None if the pattern has no bound (docs/MEMOIZATION.md lists the cases, as a\n"
+     "back-reference), or none for so many characters."},
     {"__copy__", itself, METH_NOARGS, "__copy__($self, /)\n--\n\n"},
     {"__deepcopy__", itself, METH_O, "__deepcopy__($self, memo, /)\n--\n\n"},
     {"__class_getitem__", Py_GenericAlias, METH_O | METH_CLASS, "See PEP 585"},
