@@ -10,9 +10,12 @@ file to it: whoever has DIR needs no kit any more. `package` and `wheel` take su
 Python that runs this, or for those that are named, CPython 3.11 to 3.13. The extension in C wants a C compiler (`cc`,
 or what CC names) and the Python's headers. Where one of them is missing, a line says so, and the package asks the
 library by ctypes: the same answers, but slower.
+
+A wheel's files have the time of SOURCE_DATE_EPOCH, or else of the commit: a tree makes the same wheel each time.
 """
 import argparse
 import base64
+import calendar
 import hashlib
 import json
 import os
@@ -22,6 +25,7 @@ import shutil
 import subprocess
 import sys
 import tempfile
+import time
 import zipfile
 
 HERE = os.path.dirname(os.path.realpath(__file__))
@@ -39,7 +43,7 @@ import json, sys, sysconfig
 print(json.dumps({
     "version": sys.version_info[:2], "implementation": sys.implementation.name,
     "include": sysconfig.get_paths()["include"], "suffix": sysconfig.get_config_var("EXT_SUFFIX"),
-    "platform": sysconfig.get_platform(),
+    "platform": sysconfig.get_platform(), "has_lock": not sysconfig.get_config_var("Py_GIL_DISABLED"),
 }))
 """
 
@@ -49,7 +53,22 @@ Version: {version}
 Summary: Python's re over a regex engine whose answers are proved
 License: MIT
 Requires-Python: >=3.11,<3.14
-"""
+Classifier: Intended Audience :: Developers
+Classifier: License :: OSI Approved :: MIT License
+Classifier: Operating System :: POSIX :: Linux
+Classifier: Programming Language :: Python :: 3.11
+Classifier: Programming Language :: Python :: 3.12
+Classifier: Programming Language :: Python :: 3.13
+Classifier: Programming Language :: Python :: Implementation :: CPython
+Classifier: Topic :: Text Processing
+Classifier: Typing :: Typed
+Description-Content-Type: text/markdown
+
+{description}"""
+
+
+class Fault(Exception):
+    """What keeps the build from its end, in a line."""
 
 
 def read(path):
@@ -103,13 +122,19 @@ def build_library(folder, archive=None):
 
 
 def facts_of(python):
-    """What a Python tells of itself; None where it is none that the package is for."""
+    """What a Python tells of itself."""
     said = subprocess.run([python, "-c", ASKED], capture_output=True, text=True, check=True).stdout
     facts = json.loads(said)
-    if facts["implementation"] != "cpython" or not [3, 11] <= facts["version"] <= [3, 13]:
-        print(f"{python}: the package is for CPython 3.11 to 3.13")
-        return None
+    check_facts(python, facts)
     return facts
+
+
+def check_facts(python, facts):
+    """Refuses a Python that the package is not for."""
+    if facts["implementation"] != "cpython" or not [3, 11] <= facts["version"] <= [3, 13]:
+        raise Fault(f"{python}: the package is for CPython 3.11 to 3.13")
+    if not facts["has_lock"]:
+        raise Fault(f"{python}: the package is for a Python with the global lock, and this is a free-threaded build")
 
 
 def lack_of_extension(facts):
@@ -130,11 +155,8 @@ def build_extension(facts, library, into):
 
 
 def build_package(folder, library, python):
-    """Puts the package for a Python into a folder: whether it has the extension, or None where it is not for that."""
-    facts = facts_of(python)
-    if facts is None:
-        return None
-    into = f"{folder}/gaffsilver"
+    """Puts the package for a Python into a folder: what that told of itself, and whether the package has the extension."""
+    facts, into = facts_of(python), f"{folder}/gaffsilver"
     shutil.copytree(f"{HERE}/gaffsilver", into, ignore=shutil.ignore_patterns("__pycache__"), dirs_exist_ok=True)
     with open(f"{into}/_version.py", "w", encoding="utf-8") as file:
         file.write(f'__version__ = "{version()}"\n')
@@ -144,19 +166,39 @@ def build_package(folder, library, python):
         print(f"{python}: no extension, since {lack}; the package asks the library by ctypes")
     else:
         build_extension(facts, library, into)
-    return not lack
+    return facts, not lack
 
 
 # ---- the wheel ----
 
 
+def newest_change():
+    """The year, month and day of the newest change."""
+    return tuple(map(int, re.search(r"(?m)^## (\d+)-(\d+)-(\d+)", read(f"{ROOT}/CHANGELOG.md")).groups()))
+
+
 def version():
-    """The day of the newest change."""
-    return re.search(r"(?m)^## (\d+)-(\d+)-(\d+)", read(f"{ROOT}/CHANGELOG.md")).expand(r"\1.\2.\3")
+    return "{}.{}.{}".format(*newest_change())
 
 
-def tag_of(python, has_extension):
-    facts = facts_of(python)
+def metadata():
+    """The text of METADATA; what describes the package is the head of its page."""
+    return METADATA.format(version=version(), description=read(f"{ROOT}/docs/PYTHON.md").partition("\n## ")[0])
+
+
+def seconds_of_tree():
+    """The time of a wheel's files, in seconds since 1970: the one that is named, the commit's, or the newest change's."""
+    named = os.environ.get("SOURCE_DATE_EPOCH")
+    if not named and os.path.exists(f"{ROOT}/.git") and shutil.which("git"):
+        words = ["git", "-C", ROOT, "log", "-1", "--format=%ct"]
+        named = subprocess.run(words, capture_output=True, text=True).stdout.strip()
+    if named and not named.isdecimal():
+        raise Fault(f"SOURCE_DATE_EPOCH: {named} is no number of seconds")
+    # a zip file knows no time before 1980
+    return max(int(named or calendar.timegm((*newest_change(), 0, 0, 0))), calendar.timegm((1980, 1, 1, 0, 0, 0)))
+
+
+def tag_of(facts, has_extension):
     platform = re.sub(r"[-.]", "_", facts["platform"])
     name = "cp{}{}".format(*facts["version"])
     return f"{name}-{name}-{platform}" if has_extension else f"py3-none-{platform}"
@@ -168,29 +210,40 @@ def row(name, data):
     return f"{name},sha256={digest},{len(data)}\n"
 
 
+def files_in(folder):
+    """The bytes of each file in a folder, by its path there."""
+    files = {}
+    for at, _, names in os.walk(folder):
+        for path in (f"{at}/{name}" for name in names):
+            with open(path, "rb") as file:
+                files[os.path.relpath(path, folder)] = file.read()
+    return files
+
+
+def write_wheel(path, files, tag):
+    """Writes a wheel of these files, and of what tells of it: in one order, with one time, and modes that are fixed."""
+    info, when = f"gaffsilver-{version()}.dist-info", time.gmtime(seconds_of_tree())[:6]
+    files = dict(sorted(files.items()))
+    files[f"{info}/LICENSE"] = read(f"{ROOT}/LICENSE").encode()
+    files[f"{info}/METADATA"] = metadata().encode()
+    files[f"{info}/WHEEL"] = f"Wheel-Version: 1.0\nGenerator: build\nRoot-Is-Purelib: false\nTag: {tag}\n".encode()
+    rows = "".join(row(*it) for it in files.items())
+    files[f"{info}/RECORD"] = f"{rows}{info}/RECORD,,\n".encode()
+    with zipfile.ZipFile(path, "w") as wheel:
+        for name, data in files.items():
+            entry = zipfile.ZipInfo(name, when)
+            entry.external_attr = (0o100755 if name.endswith(".so") else 0o100644) << 16
+            wheel.writestr(entry, data, zipfile.ZIP_DEFLATED)
+
+
 def build_wheel(folder, library, python):
-    """Puts a wheel for a Python into a folder; its path, or None where the package is not for that Python."""
+    """Puts a wheel for a Python into a folder, and returns its path."""
+    os.makedirs(folder, exist_ok=True)
     with tempfile.TemporaryDirectory(prefix="wheel-") as room:
-        has_extension = build_package(room, library, python)
-        if has_extension is None:
-            return None
-        tag, info = tag_of(python, has_extension), f"gaffsilver-{version()}.dist-info"
-        files = {}
-        for at, _, names in os.walk(f"{room}/gaffsilver"):
-            for name in sorted(names):
-                with open(f"{at}/{name}", "rb") as file:
-                    files[os.path.relpath(f"{at}/{name}", room)] = file.read()
-        files[f"{info}/METADATA"] = METADATA.format(version=version()).encode()
-        files[f"{info}/WHEEL"] = f"Wheel-Version: 1.0\nGenerator: build\nRoot-Is-Purelib: false\nTag: {tag}\n".encode()
-        files[f"{info}/LICENSE"] = read(f"{ROOT}/LICENSE").encode()
-        rows = "".join(row(*it) for it in files.items())
-        files[f"{info}/RECORD"] = f"{rows}{info}/RECORD,,\n".encode()
-        os.makedirs(folder, exist_ok=True)
+        tag = tag_of(*build_package(room, library, python))
         path = f"{folder}/gaffsilver-{version()}-{tag}.whl"
-        with zipfile.ZipFile(path, "w", zipfile.ZIP_DEFLATED) as wheel:
-            for name, data in files.items():
-                wheel.writestr(name, data)
-        return path
+        write_wheel(path, files_in(room), tag)
+    return path
 
 
 def main(words):
@@ -211,21 +264,21 @@ def main(words):
         library = os.path.realpath(given.library or room)
         lacking = [it for it in ("libsre_c.a", "libsre_c.so", "sre.h") if not os.path.isfile(f"{library}/{it}")]
         if lacking:
-            lacks = " and no ".join(lacking)
-            print(f"build.py: {library} has no {lacks}: `build.py library` makes such a folder", file=sys.stderr)
-            return 1
+            raise Fault(f"{library} has no {' and no '.join(lacking)}: `build.py library` makes such a folder")
         if given.what == "package":
-            return int(build_package(given.folder, library, pythons[0]) is None)
-        made = [build_wheel(given.folder, library, it) for it in pythons]
-    for path in filter(None, made):
-        print(path)
-    return int(None in made)
+            build_package(given.folder, library, pythons[0])
+        else:
+            for it in pythons:
+                print(build_wheel(given.folder, library, it))
+    return 0
 
 
 def guarded(words):
-    """The status of `main`; after a fault of the system one line, and 1."""
+    """The status of `main`; after a fault one line, and 1."""
     try:
         return main(words)
+    except Fault as error:
+        line = error
     except subprocess.CalledProcessError as error:
         line = f"{error.cmd[0]} ended with status {error.returncode}"
     except OSError as error:
