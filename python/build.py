@@ -9,7 +9,7 @@
 file to it: whoever has DIR needs no kit any more. `package` and `wheel` take such a DIR, or make one. They are for the
 Python that runs this, or for those that are named, CPython 3.11 to 3.13. The extension in C wants a C compiler (`cc`,
 or what CC names) and the Python's headers. Where one of them is missing, a line says so, and the package asks the
-library by ctypes: the same answers, but slower.
+library by ctypes: the same answers, but slower. CFLAGS and LDFLAGS follow the flags that are set here.
 
 A wheel's files have the time of SOURCE_DATE_EPOCH, or else of the commit: a tree makes the same wheel each time.
 """
@@ -31,11 +31,27 @@ import zipfile
 HERE = os.path.dirname(os.path.realpath(__file__))
 ROOT = os.path.dirname(HERE)
 CRATE = f"{ROOT}/crates/sre_c"
-COMPILER = shlex.split(os.environ.get("CC", "cc"))
 
-FLAGS = ["-std=c11", "-O2", "-fPIC", "-shared", "-fvisibility=hidden", "-Wall", "-Wextra"]
+
+def words_of(name, otherwise=""):
+    """The words of a variable of the environment."""
+    return shlex.split(os.environ.get(name) or otherwise)
+
+
+COMPILER = words_of("CC", "cc")
+FLAGS = ["-std=c11", "-O2", "-fPIC", "-fvisibility=hidden", "-Wall", "-Wextra"]
 # What Python's own tables of methods do by design.
 FLAGS += ["-Wno-unused-parameter", "-Wno-missing-field-initializers", "-Wno-cast-function-type"]
+# Some compilers define the level themselves.
+FLAGS += ["-fstack-protector-strong", "-U_FORTIFY_SOURCE", "-D_FORTIFY_SOURCE=2", *words_of("CFLAGS")]
+LINKED = ["-shared", "-Wl,-z,relro,-z,now", *words_of("LDFLAGS")]
+
+# Where a program comes from that is not found.
+WANTED = {
+    "rt": "the Rattle kit has it; without a kit, name a library by --library",
+    "ar": "binutils has it",
+    COMPILER[0]: "a C compiler is needed, and CC names another",
+}
 
 # What a Python tells of itself.
 ASKED = """
@@ -77,7 +93,10 @@ def read(path):
 
 
 def run(*words, **how):
-    subprocess.run(words, check=True, **how)
+    """Runs a program, which has to end well, and returns how it ended."""
+    if not shutil.which(words[0]):
+        raise Fault(f"there is no {words[0]}: {WANTED.get(words[0], 'it is not found on the path')}")
+    return subprocess.run(words, check=True, text=True, **how)
 
 
 # ---- the library ----
@@ -85,7 +104,7 @@ def run(*words, **how):
 
 def heap_file():
     """The kit's archive of the functions by which Rattle calls malloc."""
-    said = subprocess.run(["rt", "doc"], capture_output=True, text=True, check=True).stdout.strip()
+    said = run("rt", "doc", stdout=subprocess.PIPE).stdout
     return f"{os.path.dirname(said)}/c/liblibc_c.a"
 
 
@@ -102,7 +121,7 @@ def joined(archives, into):
         for number, it in enumerate(archives):
             shutil.copyfile(it, f"{room}/{number}.a")
         script = "".join(f"addlib {number}.a\n" for number in range(len(archives)))
-        run("ar", "-M", input=f"create all.a\n{script}save\nend\n", text=True, cwd=room)
+        run("ar", "-M", input=f"create all.a\n{script}save\nend\n", cwd=room)
         shutil.copyfile(f"{room}/all.a", into)
 
 
@@ -113,7 +132,7 @@ def build_library(folder, archive=None):
     joined([archive or proved_archive(), heap_file()], made)
     shutil.copyfile(f"{CRATE}/include/sre.h", f"{folder}/sre.h")
     run(
-        *COMPILER, "-shared", "-o", f"{folder}/libsre_c.so", f"-Wl,--version-script={ROOT}/embedding/exports.map",
+        *COMPILER, *LINKED, "-o", f"{folder}/libsre_c.so", f"-Wl,--version-script={ROOT}/embedding/exports.map",
         "-Wl,--whole-archive", made, "-Wl,--no-whole-archive",
     )
 
@@ -123,7 +142,9 @@ def build_library(folder, archive=None):
 
 def facts_of(python):
     """What a Python tells of itself."""
-    said = subprocess.run([python, "-c", ASKED], capture_output=True, text=True, check=True).stdout
+    said = run(python, "-c", ASKED, stdout=subprocess.PIPE).stdout
+    if not said.startswith("{"):
+        raise Fault(f"{python}: this is no Python")
     facts = json.loads(said)
     check_facts(python, facts)
     return facts
@@ -150,7 +171,7 @@ def build_extension(facts, library, into):
     made = f"{into}/_native{facts['suffix']}"
     run(
         *COMPILER, *FLAGS, f"-I{library}", f"-I{facts['include']}", *sources, f"{library}/libsre_c.a", "-o", made,
-        f"-Wl,--version-script={HERE}/native/exports.map", "-Wl,--gc-sections",
+        *LINKED, f"-Wl,--version-script={HERE}/native/exports.map", "-Wl,--gc-sections",
     )
 
 
@@ -283,8 +304,6 @@ def guarded(words):
         line = f"{error.cmd[0]} ended with status {error.returncode}"
     except OSError as error:
         line = f"{error.filename}: {error.strerror}" if error.filename else str(error)
-        if error.filename == "rt":
-            line = "there is no rt on the path: the Rattle kit has it; without a kit, name a library by --library"
     except KeyboardInterrupt:
         line = "interrupted"
     print(f"build.py: {line}", file=sys.stderr)

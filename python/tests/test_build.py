@@ -31,7 +31,7 @@ class Building(unittest.TestCase):
     def library(self):
         """A folder that has what a library's has, in name."""
         folder = f"{self.room}/library"
-        os.makedirs(folder)
+        os.makedirs(folder, exist_ok=True)
         for name in ("libsre_c.a", "libsre_c.so", "sre.h"):
             with open(f"{folder}/{name}", "w", encoding="utf-8") as file:
                 file.write(name)
@@ -71,6 +71,33 @@ class Building(unittest.TestCase):
         ended = self.build("wheel", self.room, "--library", f"{self.room}/library", SOURCE_DATE_EPOCH="today")
         self.assertEqual(ended[0], 1)
         self.assertIn("SOURCE_DATE_EPOCH: today is no number of seconds", ended[1])
+
+    def test_faults_are_a_line(self):
+        library, one = self.library(), f"{self.room}/one"
+        given = ("--library", library)
+        for words, line in (
+            (("library", one), "there is no rt: the Rattle kit has it; without a kit, name a library by --library"),
+            (("library", one, "--archive", f"{library}/libsre_c.a"), "there is no rt: "),
+            (("wheel", one), "there is no rt: "),
+            (("wheel", one, "--library", self.room), f"{self.room} has no libsre_c.a and no libsre_c.so and no sre.h"),
+            (("wheel", f"{library}/sre.h", *given), f"{library}/sre.h: File exists"),
+            (("package", one, *given, "python0"), "there is no python0: it is not found on the path"),
+            (("package", one, *given, "/bin/true"), "/bin/true: this is no Python"),
+        ):
+            status, said = self.build(*words)
+            self.assertEqual((status, said.count("\n")), (1, 1), said)
+            self.assertIn(f"build.py: {line}", said)
+
+    def test_a_package_over_a_package(self):
+        for _ in range(2):
+            status, said = self.build("package", f"{self.room}/one", "--library", self.library(), CC="no-compiler")
+            self.assertEqual(status, 0, said)
+            self.assertIn("no extension, since there is no no-compiler", said)
+
+    def test_flags_of_the_environment_come_last(self):
+        how = {"capture_output": True, "text": True, "env": {"CFLAGS": "-O3 '-DA=b c'", "LDFLAGS": "-Wl,-z,lazy"}}
+        ran = subprocess.run([sys.executable, "-c", "from build import *; print(FLAGS[-2:], LINKED[-1])"], cwd=HERE, **how)
+        self.assertEqual(ran.stdout, "['-O3', '-DA=b c'] -Wl,-z,lazy\n")
 
     def test_pythons_that_are_refused(self):
         build.check_facts("it", FACTS)
