@@ -16,6 +16,7 @@ A wheel's files have the time of SOURCE_DATE_EPOCH, or else of the commit: a tre
 import argparse
 import base64
 import calendar
+import contextlib
 import hashlib
 import json
 import os
@@ -46,9 +47,12 @@ FLAGS += ["-Wno-unused-parameter", "-Wno-missing-field-initializers", "-Wno-cast
 FLAGS += ["-fstack-protector-strong", "-U_FORTIFY_SOURCE", "-D_FORTIFY_SOURCE=2", *words_of("CFLAGS")]
 LINKED = ["-shared", "-Wl,-z,relro,-z,now", *words_of("LDFLAGS")]
 
+# What the folder of a library has.
+LIBRARY = ("libsre_c.a", "libsre_c.so", "sre.h")
+
 # Where a program comes from that is not found.
 WANTED = {
-    "rt": "the Rattle kit has it; without a kit, name a library by --library",
+    "rt": "the Rattle kit has it; without a kit, name a library by --library or GAFFSILVER_LIBRARY",
     "ar": "binutils has it",
     COMPILER[0]: "a C compiler is needed, and CC names another",
 }
@@ -87,6 +91,9 @@ class Fault(Exception):
     """What keeps the build from its end, in a line."""
 
 
+FAULTS = (Fault, OSError, subprocess.CalledProcessError, KeyboardInterrupt)
+
+
 def read(path):
     with open(path, encoding="utf-8") as file:
         return file.read()
@@ -110,6 +117,8 @@ def heap_file():
 
 def proved_archive():
     """The crate's archive, proved and built."""
+    if not os.path.isdir(CRATE):
+        raise Fault(f"there is no {CRATE}: name a library by --library or GAFFSILVER_LIBRARY")
     run("rt", "lib", cwd=CRATE, stdout=sys.stderr)
     return f"{CRATE}/out/libsre_c.a"
 
@@ -135,6 +144,19 @@ def build_library(folder, archive=None):
         *COMPILER, *LINKED, "-o", f"{folder}/libsre_c.so", f"-Wl,--version-script={ROOT}/embedding/exports.map",
         "-Wl,--whole-archive", made, "-Wl,--no-whole-archive",
     )
+
+
+@contextlib.contextmanager
+def library_at(named, archive=None):
+    """The folder of a library: the one that is named, or else one that is made for now."""
+    with tempfile.TemporaryDirectory(prefix="library-") as room:
+        if not named:
+            build_library(room, archive)
+        library = os.path.realpath(named or room)
+        lacking = [it for it in LIBRARY if not os.path.isfile(f"{library}/{it}")]
+        if lacking:
+            raise Fault(f"{library} has no {' and no '.join(lacking)}: `build.py library` makes such a folder")
+        yield library
 
 
 # ---- the package ----
@@ -231,13 +253,15 @@ def row(name, data):
     return f"{name},sha256={digest},{len(data)}\n"
 
 
-def files_in(folder):
-    """The bytes of each file in a folder, by its path there."""
+def files_in(folder, part):
+    """The bytes of a file in a folder, or of each file below a part of it, by its path there."""
+    paths = [f"{folder}/{part}"] if os.path.isfile(f"{folder}/{part}") else []
+    for at, _, names in os.walk(f"{folder}/{part}"):
+        paths += [f"{at}/{name}" for name in names if not at.endswith("__pycache__")]
     files = {}
-    for at, _, names in os.walk(folder):
-        for path in (f"{at}/{name}" for name in names):
-            with open(path, "rb") as file:
-                files[os.path.relpath(path, folder)] = file.read()
+    for path in paths:
+        with open(path, "rb") as file:
+            files[os.path.relpath(path, folder)] = file.read()
     return files
 
 
@@ -263,7 +287,7 @@ def build_wheel(folder, library, python):
     with tempfile.TemporaryDirectory(prefix="wheel-") as room:
         tag = tag_of(*build_package(room, library, python))
         path = f"{folder}/gaffsilver-{version()}-{tag}.whl"
-        write_wheel(path, files_in(room), tag)
+        write_wheel(path, files_in(room, "gaffsilver"), tag)
     return path
 
 
@@ -272,20 +296,15 @@ def main(words):
     parser.add_argument("what", choices=["library", "package", "wheel"])
     parser.add_argument("folder")
     parser.add_argument("python", nargs="*", default=[])
-    parser.add_argument("--library", help="a folder that `library` has made")
+    named = os.environ.get("GAFFSILVER_LIBRARY")
+    parser.add_argument("--library", default=named, help="a folder that `library` has made; or GAFFSILVER_LIBRARY")
     parser.add_argument("--archive", help="the archive of sre_c that was built before")
     given = parser.parse_intermixed_args(words)
     pythons = given.python or [sys.executable]
     if given.what == "library":
         build_library(given.folder, given.archive)
         return 0
-    with tempfile.TemporaryDirectory(prefix="library-") as room:
-        if not given.library:
-            build_library(room, given.archive)
-        library = os.path.realpath(given.library or room)
-        lacking = [it for it in ("libsre_c.a", "libsre_c.so", "sre.h") if not os.path.isfile(f"{library}/{it}")]
-        if lacking:
-            raise Fault(f"{library} has no {' and no '.join(lacking)}: `build.py library` makes such a folder")
+    with library_at(given.library, given.archive) as library:
         if given.what == "package":
             build_package(given.folder, library, pythons[0])
         else:
@@ -294,20 +313,22 @@ def main(words):
     return 0
 
 
+def line_of(error):
+    """A fault in a line."""
+    if isinstance(error, subprocess.CalledProcessError):
+        return f"{error.cmd[0]} ended with status {error.returncode}"
+    if isinstance(error, OSError) and error.filename:
+        return f"{error.filename}: {error.strerror}"
+    return str(error) or "interrupted"
+
+
 def guarded(words):
     """The status of `main`; after a fault one line, and 1."""
     try:
         return main(words)
-    except Fault as error:
-        line = error
-    except subprocess.CalledProcessError as error:
-        line = f"{error.cmd[0]} ended with status {error.returncode}"
-    except OSError as error:
-        line = f"{error.filename}: {error.strerror}" if error.filename else str(error)
-    except KeyboardInterrupt:
-        line = "interrupted"
-    print(f"build.py: {line}", file=sys.stderr)
-    return 1
+    except FAULTS as error:
+        print(f"build.py: {line_of(error)}", file=sys.stderr)
+        return 1
 
 
 if __name__ == "__main__":

@@ -1,9 +1,11 @@
 """What `build.py` makes of a library that was built before, without a compiler and without a kit."""
+import glob
 import importlib.util
 import os
 import stat
 import subprocess
 import sys
+import tarfile
 import tempfile
 import unittest
 import zipfile
@@ -76,7 +78,7 @@ class Building(unittest.TestCase):
         library, one = self.library(), f"{self.room}/one"
         given = ("--library", library)
         for words, line in (
-            (("library", one), "there is no rt: the Rattle kit has it; without a kit, name a library by --library"),
+            (("library", one), "there is no rt: the Rattle kit has it; without a kit, name a library by --library or"),
             (("library", one, "--archive", f"{library}/libsre_c.a"), "there is no rt: "),
             (("wheel", one), "there is no rt: "),
             (("wheel", one, "--library", self.room), f"{self.room} has no libsre_c.a and no libsre_c.so and no sre.h"),
@@ -87,6 +89,36 @@ class Building(unittest.TestCase):
             status, said = self.build(*words)
             self.assertEqual((status, said.count("\n")), (1, 1), said)
             self.assertIn(f"build.py: {line}", said)
+
+    def asked(self, call, **named):
+        """How a call of the backend ended in its folder, as pip calls it, and what it said."""
+        words = [sys.executable, "-B", "-c", f"import backend; print(backend.{call})"]
+        ran = subprocess.run(words, cwd=HERE, capture_output=True, text=True, env={"PATH": self.room, **named})
+        return ran.returncode, ran.stdout.rpartition("\n")[0].rpartition("\n")[2], ran.stderr
+
+    def test_the_backend(self):
+        status, name, _ = self.asked(f"build_wheel({self.room!r})", GAFFSILVER_LIBRARY=self.library())
+        self.assertEqual(status, 0)
+        with zipfile.ZipFile(f"{self.room}/{name}") as wheel:
+            self.assertIsNone(wheel.testzip())
+        status, _, said = self.asked(f"build_wheel({self.room!r})")
+        self.assertEqual((status, said.count("\n")), (1, 1), said)
+        self.assertIn("there is no rt", said)
+
+    def test_the_sources_make_the_same_wheel(self):
+        """The archive of the sources has all that a wheel needs besides the library."""
+        _, name, _ = self.asked(f"build_sdist({self.room!r})", SOURCE_DATE_EPOCH="1000000000")
+        with tarfile.open(f"{self.room}/{name}") as archive:
+            archive.extractall(self.room, **({"filter": "data"} if hasattr(tarfile, "data_filter") else {}))
+        top = f"{self.room}/{name.removesuffix('.tar.gz')}"
+        for name in ("PKG-INFO", "LICENSE", "pyproject.toml", "python/native/module.c"):
+            self.assertTrue(os.path.isfile(f"{top}/{name}"), name)
+        words = ["wheel", f"{self.room}/two", "--library", self.library()]
+        how = {"env": {"PATH": self.room, "SOURCE_DATE_EPOCH": "1000000000"}, "check": True}
+        subprocess.run([sys.executable, f"{top}/python/build.py", *words], stdout=subprocess.DEVNULL, **how)
+        with open(self.wheel("one", SOURCE_DATE_EPOCH="1000000000"), "rb") as one:
+            with open(glob.glob(f"{self.room}/two/*.whl")[0], "rb") as two:
+                self.assertEqual(one.read(), two.read())
 
     def test_a_package_over_a_package(self):
         for _ in range(2):
