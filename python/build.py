@@ -191,8 +191,10 @@ def lack_of_extension(facts):
 def build_extension(facts, library, into):
     sources = sorted(f"{HERE}/native/{it}" for it in os.listdir(f"{HERE}/native") if it.endswith(".c"))
     made = f"{into}/_native{facts['suffix']}"
+    # asserts name files, wherever these are
+    named = [f"-ffile-prefix-map={it}=." for it in (HERE, facts["include"])]
     run(
-        *COMPILER, *FLAGS, f"-I{library}", f"-I{facts['include']}", *sources, f"{library}/libsre_c.a", "-o", made,
+        *COMPILER, *named, *FLAGS, f"-I{library}", f"-I{facts['include']}", *sources, f"{library}/libsre_c.a", "-o", made,
         *LINKED, f"-Wl,--version-script={HERE}/native/exports.map", "-Wl,--gc-sections",
     )
 
