@@ -4,13 +4,15 @@
     build.py library DIR [--archive FILE]            DIR/libsre_c.a, DIR/libsre_c.so and DIR/sre.h
     build.py package DIR [--library DIR] [PYTHON]    DIR/gaffsilver, to be put on a path
     build.py wheel DIR [--library DIR] [PYTHON ..]   a wheel in DIR for each Python, for `pip install`
+    build.py release DIR [--library DIR] [PYTHON ..] all that is published in DIR, with SHA256SUMS
 
 `library` proves and builds the crate `sre_c` by `rt lib`, or takes the archive that is named, and joins the kit's heap
-file to it: whoever has DIR needs no kit any more. `package` and `wheel` take such a DIR, or make one. They are for the
-Python that runs this, or for those that are named, CPython 3.11 to 3.13. The extension in C wants a C compiler (`cc`,
-or what CC names) and the Python's headers. Where one of them is missing, a line says so, and the package asks the
-library by ctypes: the same answers, but slower. CFLAGS and LDFLAGS follow the flags that are set here.
+file to it: whoever has DIR needs no kit any more. The others take such a DIR, or make one. They are for the Python that
+runs this, or for those that are named, CPython 3.11 to 3.13. The extension in C wants a C compiler (`cc`, or what CC
+names) and the Python's headers. Where one of them is missing, a line says so, and the package asks the library by
+ctypes: the same answers, but slower. CFLAGS and LDFLAGS follow the flags that are set here.
 
+`release` has the library, its module in Rust, and a wheel for each Python that is found, always with the extension.
 A wheel's files have the time of SOURCE_DATE_EPOCH, or else of the commit: a tree makes the same wheel each time.
 """
 import argparse
@@ -50,10 +52,12 @@ LINKED = ["-shared", "-Wl,-z,relro,-z,now", *words_of("LDFLAGS")]
 # What the folder of a library has.
 LIBRARY = ("libsre_c.a", "libsre_c.so", "sre.h")
 
+# Which libraries a shared object may need by manylinux2014.
+MANYLINUX = {"libc.so.6", "libm.so.6", "libdl.so.2", "libpthread.so.0", "librt.so.1", "ld-linux-x86-64.so.2"}
+
 # Where a program comes from that is not found.
 WANTED = {
     "rt": "the Rattle kit has it; without a kit, name a library by --library or GAFFSILVER_LIBRARY",
-    "ar": "binutils has it",
     COMPILER[0]: "a C compiler is needed, and CC names another",
 }
 
@@ -73,7 +77,6 @@ Version: {version}
 Summary: Python's re over a regex engine whose answers are proved
 License: MIT
 Requires-Python: >=3.11,<3.14
-Classifier: Intended Audience :: Developers
 Classifier: License :: OSI Approved :: MIT License
 Classifier: Operating System :: POSIX :: Linux
 Classifier: Programming Language :: Python :: 3.11
@@ -194,13 +197,13 @@ def build_extension(facts, library, into):
     # asserts name files, wherever these are
     named = [f"-ffile-prefix-map={it}=." for it in (HERE, facts["include"])]
     run(
-        *COMPILER, *named, *FLAGS, f"-I{library}", f"-I{facts['include']}", *sources, f"{library}/libsre_c.a", "-o", made,
-        *LINKED, f"-Wl,--version-script={HERE}/native/exports.map", "-Wl,--gc-sections",
+        *COMPILER, *named, *FLAGS, f"-I{library}", f"-I{facts['include']}", *sources, f"{library}/libsre_c.a",
+        "-o", made, *LINKED, f"-Wl,--version-script={HERE}/native/exports.map", "-Wl,--gc-sections",
     )
 
 
 def build_package(folder, library, python):
-    """Puts the package for a Python into a folder: what that told of itself, and whether the package has the extension."""
+    """Puts the package for a Python into a folder: what that told of itself, and whether there is the extension."""
     facts, into = facts_of(python), f"{folder}/gaffsilver"
     shutil.copytree(f"{HERE}/gaffsilver", into, ignore=shutil.ignore_patterns("__pycache__"), dirs_exist_ok=True)
     with open(f"{into}/_version.py", "w", encoding="utf-8") as file:
@@ -232,7 +235,7 @@ def metadata():
 
 
 def seconds_of_tree():
-    """The time of a wheel's files, in seconds since 1970: the one that is named, the commit's, or the newest change's."""
+    """The time of a wheel's files, in seconds since 1970: that of the environment, the commit or the newest change."""
     named = os.environ.get("SOURCE_DATE_EPOCH")
     if not named and os.path.exists(f"{ROOT}/.git") and shutil.which("git"):
         words = ["git", "-C", ROOT, "log", "-1", "--format=%ct"]
@@ -243,8 +246,27 @@ def seconds_of_tree():
     return max(int(named or calendar.timegm((*newest_change(), 0, 0, 0))), calendar.timegm((1980, 1, 1, 0, 0, 0)))
 
 
-def tag_of(facts, has_extension):
+def is_manylinux(headers):
+    """Whether a shared object with these headers, as objdump writes them, runs wherever manylinux2014 says."""
+    versions = re.findall(r"0x\w+ 0x\w+ \d+ (\S+)", headers)
+    known = [re.fullmatch(r"GLIBC_(\d+)\.(\d+)(\.\d+)?", it) for it in versions]
+    is_old = all(it and (int(it[1]), int(it[2])) <= (2, 17) for it in known)
+    return is_old and {"libc.so.6"} <= set(re.findall(r"NEEDED +(\S+)", headers)) <= MANYLINUX
+
+
+def headers_of(path):
+    """The headers of a shared object; none without objdump."""
+    if not shutil.which("objdump"):
+        return ""
+    return subprocess.run(["objdump", "-p", path], stdout=subprocess.PIPE, stderr=subprocess.DEVNULL, text=True).stdout
+
+
+def tag_of(facts, has_extension, folder):
+    """The tag of a wheel that has a package in a folder."""
     platform = re.sub(r"[-.]", "_", facts["platform"])
+    shared = [f"{folder}/{it}" for it in os.listdir(folder) if it.endswith(".so")]
+    if platform == "linux_x86_64" and all(is_manylinux(headers_of(it)) for it in shared):
+        platform = "manylinux2014_x86_64"
     name = "cp{}{}".format(*facts["version"])
     return f"{name}-{name}-{platform}" if has_extension else f"py3-none-{platform}"
 
@@ -270,9 +292,8 @@ def files_in(folder, part):
 def write_wheel(path, files, tag):
     """Writes a wheel of these files, and of what tells of it: in one order, with one time, and modes that are fixed."""
     info, when = f"gaffsilver-{version()}.dist-info", time.gmtime(seconds_of_tree())[:6]
-    files = dict(sorted(files.items()))
+    files = {**dict(sorted(files.items())), f"{info}/METADATA": metadata().encode()}
     files[f"{info}/LICENSE"] = read(f"{ROOT}/LICENSE").encode()
-    files[f"{info}/METADATA"] = metadata().encode()
     files[f"{info}/WHEEL"] = f"Wheel-Version: 1.0\nGenerator: build\nRoot-Is-Purelib: false\nTag: {tag}\n".encode()
     rows = "".join(row(*it) for it in files.items())
     files[f"{info}/RECORD"] = f"{rows}{info}/RECORD,,\n".encode()
@@ -287,31 +308,69 @@ def build_wheel(folder, library, python):
     """Puts a wheel for a Python into a folder, and returns its path."""
     os.makedirs(folder, exist_ok=True)
     with tempfile.TemporaryDirectory(prefix="wheel-") as room:
-        tag = tag_of(*build_package(room, library, python))
+        tag = tag_of(*build_package(room, library, python), f"{room}/gaffsilver")
         path = f"{folder}/gaffsilver-{version()}-{tag}.whl"
         write_wheel(path, files_in(room, "gaffsilver"), tag)
     return path
 
 
+# ---- the release ----
+
+
+def pythons_of_release():
+    """A Python of each version that the package is for, where it is found."""
+    sys.path.append(f"{ROOT}/tools")
+    from embedding import found_pythons
+
+    pythons, lacking = found_pythons()
+    for version in lacking:
+        print(f"no wheel for Python {version}, which is not found")
+    return list(pythons.values())
+
+
+def build_release(folder, library, pythons):
+    """Puts what is published into a folder: the library, its modules, its licence, wheels, and the sums of all."""
+    for path in (*(f"{library}/{it}" for it in LIBRARY), f"{ROOT}/embedding/sre.rs", f"{ROOT}/LICENSE"):
+        shutil.copy(path, folder)
+    for it in pythons:
+        if "-py3-none-" in build_wheel(folder, library, it):
+            raise Fault(f"{it}: a wheel of a release has the extension")
+    files = sorted(files_in(folder, ".").items())
+    sums = "".join(f"{hashlib.sha256(data).hexdigest()}  {name}\n" for name, data in files)
+    with open(f"{folder}/SHA256SUMS", "w", encoding="utf-8") as file:
+        file.write(sums)
+    print(sums, end="")
+
+
+def build(given, library):
+    """Makes over a library what is asked."""
+    pythons = given.python or [sys.executable]
+    if given.what == "package":
+        build_package(given.folder, library, pythons[0])
+    elif given.what == "wheel":
+        for it in pythons:
+            print(build_wheel(given.folder, library, it))
+    else:
+        build_release(given.folder, library, given.python or pythons_of_release())
+
+
 def main(words):
     parser = argparse.ArgumentParser(description=__doc__, formatter_class=argparse.RawDescriptionHelpFormatter)
-    parser.add_argument("what", choices=["library", "package", "wheel"])
+    parser.add_argument("what", choices=["library", "package", "wheel", "release"])
     parser.add_argument("folder")
     parser.add_argument("python", nargs="*", default=[])
     named = os.environ.get("GAFFSILVER_LIBRARY")
     parser.add_argument("--library", default=named, help="a folder that `library` has made; or GAFFSILVER_LIBRARY")
     parser.add_argument("--archive", help="the archive of sre_c that was built before")
     given = parser.parse_intermixed_args(words)
-    pythons = given.python or [sys.executable]
     if given.what == "library":
         build_library(given.folder, given.archive)
         return 0
+    os.makedirs(given.folder, exist_ok=True)
+    if given.what == "release" and os.listdir(given.folder):
+        raise Fault(f"{given.folder} is not empty: a release takes a folder of its own")
     with library_at(given.library, given.archive) as library:
-        if given.what == "package":
-            build_package(given.folder, library, pythons[0])
-        else:
-            for it in pythons:
-                print(build_wheel(given.folder, library, it))
+        build(given, library)
     return 0
 
 

@@ -18,6 +18,21 @@ spec.loader.exec_module(build)
 FACTS = {"version": [3, 13], "implementation": "cpython", "has_lock": True, "platform": "linux-x86_64"}
 
 
+# What objdump writes of a shared object.
+HEADERS = """
+Dynamic Section:
+  NEEDED               libc.so.6
+  SONAME               libit.so
+
+Version definitions:
+1 0x01 0x0865f4e6 libit.so
+Version References:
+  required from libc.so.6:
+    0x09691a75 0x00 03 GLIBC_2.2.5
+    0x06969194 0x00 02 GLIBC_2.14
+"""
+
+
 class Building(unittest.TestCase):
     def setUp(self):
         room = tempfile.TemporaryDirectory(prefix="build-")
@@ -83,6 +98,7 @@ class Building(unittest.TestCase):
             (("wheel", one), "there is no rt: "),
             (("wheel", one, "--library", self.room), f"{self.room} has no libsre_c.a and no libsre_c.so and no sre.h"),
             (("wheel", f"{library}/sre.h", *given), f"{library}/sre.h: File exists"),
+            (("release", self.room, *given), f"{self.room} is not empty"),
             (("package", one, *given, "python0"), "there is no python0: it is not found on the path"),
             (("package", one, *given, "/bin/true"), "/bin/true: this is no Python"),
         ):
@@ -126,9 +142,27 @@ class Building(unittest.TestCase):
             self.assertEqual(status, 0, said)
             self.assertIn("no extension, since there is no no-compiler", said)
 
+    def test_a_release_has_the_extension(self):
+        ended = self.build("release", f"{self.room}/one", sys.executable, "--library", self.library())
+        self.assertEqual(ended[0], 1)
+        self.assertIn("a wheel of a release has the extension", ended[1])
+
+    def test_what_manylinux_allows(self):
+        self.assertTrue(build.is_manylinux(HEADERS))
+        for old, new in (
+            ("GLIBC_2.14", "GLIBC_2.18"),
+            ("GLIBC_2.14", "GLIBC_PRIVATE"),
+            ("GLIBC_2.14", "GLIBC_ABI_DT_RELR"),
+            ("libc.so.6\n", "libc.so.6\n  NEEDED               libz.so.1\n"),
+            (" libc.so.6\n", " libc.musl-x86_64.so.1\n"),
+            (HEADERS, ""),
+        ):
+            self.assertFalse(build.is_manylinux(HEADERS.replace(old, new)), new)
+
     def test_flags_of_the_environment_come_last(self):
         how = {"capture_output": True, "text": True, "env": {"CFLAGS": "-O3 '-DA=b c'", "LDFLAGS": "-Wl,-z,lazy"}}
-        ran = subprocess.run([sys.executable, "-c", "from build import *; print(FLAGS[-2:], LINKED[-1])"], cwd=HERE, **how)
+        words = [sys.executable, "-B", "-c", "from build import *; print(FLAGS[-2:], LINKED[-1])"]
+        ran = subprocess.run(words, cwd=HERE, **how)
         self.assertEqual(ran.stdout, "['-O3', '-DA=b c'] -Wl,-z,lazy\n")
 
     def test_pythons_that_are_refused(self):
