@@ -10,7 +10,7 @@ import embedding
 import standing
 import unproved
 from ending import Fault
-from repository import ROOT, run
+from repository import ROOT, run as run_command
 
 PRINTING = threading.Lock()
 
@@ -48,7 +48,7 @@ class Quick:
         made, archive = f"{self.folder}/library", f"{self.folder}/lib{name}.a"
         self.repository.build(name, archive)
         words = [f"{ROOT}/python/build.py", "library", made, "--archive", archive]
-        joined = run(sys.executable, *words)
+        joined = run_command(sys.executable, *words)
         if joined.returncode:
             raise Fault("the library cannot be put together", *joined.stdout.splitlines())
         trials = embedding.Embedding(tell)
