@@ -3,6 +3,7 @@ pub mod Budgets
 pub mod RowBudgets
 pub mod Rows
 pub mod Walks
+pub mod Matches
 pub mod Knowing
 pub mod SpanRows
 pub mod OtherLimits
