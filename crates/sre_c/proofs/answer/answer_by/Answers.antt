@@ -36,7 +36,8 @@ returns-then-show-clause-answers g c =
     let left : KeepsBudget code.words.now asked (last_start given.search asked) (Ok (Some true)) given.steps
     c.ask-told.new.steps = search rules in
     let last = last_start given.search asked in
-    let kept = subst (KeepsBudget code.words.now asked last (Ok (Some true)) given.steps) (sym c.show.ensures.steps) left in
+    let keeps = KeepsBudget code.words.now asked last (Ok (Some true)) given.steps in
+    let kept = subst keeps (sym c.show.ensures.steps) left in
     let answer = answer_in code given text words (asked_of c.request-request.result) c.ask-told.new.state
     c.ask-told.result c.ask-told.ensures.answer own same true is in
     let found = match_in code given text words (asked_of c.request-request.result) c.ask-told.new.state
@@ -56,7 +57,8 @@ returns-in-Ok-Some-true-clause-answers g c =
     let left : KeepsBudget code.words.now asked (last_start given.search asked) (Ok (Some true)) given.steps
     c.ask-told.new.steps = search rules in
     let last = last_start given.search asked in
-    let kept = subst (KeepsBudget code.words.now asked last (Ok (Some true)) given.steps) (sym c.show.ensures.steps) left in
+    let keeps = KeepsBudget code.words.now asked last (Ok (Some true)) given.steps in
+    let kept = subst keeps (sym c.show.ensures.steps) left in
     let answer = answer_in code given text words (asked_of c.request-request.result) c.ask-told.new.state
     c.ask-told.result c.ask-told.ensures.answer own same true is in
     let found = match_in code given text words (asked_of c.request-request.result) c.ask-told.new.state
