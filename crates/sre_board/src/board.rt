@@ -265,7 +265,7 @@ impl<A: Allocator> Board<A> {
 
     /// Sets capture slot `n` to `position`. After an error only `clear` may follow.
     #[inline(always)]
-    pub fn set(&mut self, n: u32, position: usize) -> Result<(), Refusal>
+    pub fn set(&mut self, n: u32, position: usize) -> Result<(), Refusal<A>>
         ensures { IfOk result (λ _. self.new ≡ record self.old { marks = set_mark self.old.marks n position }) }
     {
         if self.choices.is_empty() {
@@ -277,7 +277,7 @@ impl<A: Allocator> Board<A> {
 
     /// Pushes a choice: to continue at a point and a cursor, with the present captures.
     #[inline(always)]
-    pub fn save(&mut self, point: Point, cursor: StringCursor) -> Result<(), Refusal>
+    pub fn save(&mut self, point: Point, cursor: StringCursor) -> Result<(), Refusal<A>>
         ensures { IfOk result (λ _. self.new ≡ record self.old {
           choices = choice point self.old.frames cursor self.old.marks ∷ self.old.choices;
         }) }
@@ -288,12 +288,12 @@ impl<A: Allocator> Board<A> {
     // Pushes a choice. If an allocation fails the stack is unchanged. Most lists have room for one more, so that is
     // tested first, and the choice is written at once.
     #[inline(always)]
-    fn add(&mut self, point: Point, cursor: StringCursor) -> Result<(), Refusal>
+    fn add(&mut self, point: Point, cursor: StringCursor) -> Result<(), Refusal<A>>
         ensures saved { IfOk result (λ _. self.new ≡ record self.old {
           choices = choice point self.old.frames cursor self.old.marks ∷ self.old.choices;
         }) }
         ensures left { OnErr result (self.new ≡ self.old) }
-        ensures refused { OnErr result Refused }
+        ensures refused { OnErr result (Refused A) }
     {
         if self.choices.len() < self.choices.capacity() {
             self.choices.push_reserved(Saved {
@@ -311,12 +311,12 @@ impl<A: Allocator> Board<A> {
 
     // Pushes a choice if the list has to grow.
     #[inline(never)]
-    fn add_grown(&mut self, point: Point, cursor: StringCursor) -> Result<(), Refusal>
+    fn add_grown(&mut self, point: Point, cursor: StringCursor) -> Result<(), Refusal<A>>
         ensures saved { IfOk result (λ _. self.new ≡ record self.old {
           choices = choice point self.old.frames cursor self.old.marks ∷ self.old.choices;
         }) }
         ensures left { OnErr result (self.new ≡ self.old) }
-        ensures refused { OnErr result Refused }
+        ensures refused { OnErr result (Refused A) }
     {
         let saved = Saved {
             point,
@@ -339,7 +339,7 @@ impl<A: Allocator> Board<A> {
           choices = Trying point self.old.frames cursor self.old.marks ∷ self.old.choices;
         } }
         ensures left { result ≡ false → self.new ≡ self.old }
-        ensures refused { result ≡ false → Refused }
+        ensures refused { result ≡ false → Refused A }
     {
         match self.add(mark_of(point), cursor) {
             Ok(()) => true,
@@ -349,7 +349,7 @@ impl<A: Allocator> Board<A> {
 
     /// Opens an atomic scope: pushes it, and sets the loops in progress aside until it ends.
     #[inline(always)]
-    pub fn begin_region(&mut self, region: Region, cursor: StringCursor) -> Result<(), Refusal>
+    pub fn begin_region(&mut self, region: Region, cursor: StringCursor) -> Result<(), Refusal<A>>
         ensures { IfOk result (λ _. self.new ≡ record self.old {
           frames = [];
           choices = Keep region self.old.frames cursor self.old.marks ∷ self.old.choices;
@@ -495,7 +495,7 @@ impl<A: Allocator> Board<A> {
 
     /// Begins a loop, or a body of one.
     #[inline(always)]
-    pub fn enter(&mut self, frame: Frame) -> Result<(), Refusal>
+    pub fn enter(&mut self, frame: Frame) -> Result<(), Refusal<A>>
         ensures { IfOk result (λ _. self.new ≡ record self.old { frames = frame ∷ self.old.frames }) }
     {
         self.frame = self.chains.push(frame, self.frame)?;

@@ -135,7 +135,7 @@ impl<A: Allocator> Chains<A> {
 
     /// Adds a chain, and returns its number.
     #[inline(always)]
-    pub(crate) fn push(&mut self, frame: Frame, parent: usize) -> Result<usize, Refusal>
+    pub(crate) fn push(&mut self, frame: Frame, parent: usize) -> Result<usize, Refusal<A>>
         requires { parent < length self.old }
         ensures chain { IfOk result (λ _. self.new ≡ self.old ++ (frame ∷ slice_index_or self.old parent []) ∷ []) }
         ensures kept { length self.old ≤ length self.new }

@@ -48,7 +48,7 @@ fn lengthen<T: Copy, A: Allocator>(
     list: &mut Vec<T, A>,
     least: usize,
     item: T,
-) -> Result<(), Refusal>
+) -> Result<(), Refusal<A>>
     ensures same { (i : ℕ) → slice_index_or list.new.items i item ≡ slice_index_or list.old.items i item }
     ensures still { length list.old.items ≤ length list.new.items }
     ensures length { IfOk result (λ _. least ≤ length list.new.items) }
@@ -105,7 +105,7 @@ impl<A: Allocator> Ends<A> {
     ///
     /// [`Refusal`] if an allocation fails. This end is not stored then, and all others stay.
     #[inline(always)]
-    pub fn keep(&mut self, number: usize, end: StringCursor) -> Result<(), Refusal>
+    pub fn keep(&mut self, number: usize, end: StringCursor) -> Result<(), Refusal<A>>
         ensures more { HoldsOneEndMore number end self.old self.new }
         ensures kept { KeepsEnds number end self.old self.new }
         ensures held { IfOk result (λ _. HoldsEnd self.new number end) }
@@ -129,7 +129,7 @@ impl<A: Allocator> Ends<A> {
         words: &[u32],
         board: &Board<A>,
         end: StringCursor,
-    ) -> Result<(), Refusal>
+    ) -> Result<(), Refusal<A>>
         ensures more { HoldsOpenMore failures.now words.now board.now.choices end self.old self.new }
         ensures kept { KeepsOpenEnds failures.now words.now board.now.choices end self.old self.new }
         ensures held { IfOk result (λ _. HoldsOpenEnds failures.now words.now board.now.choices end self.new) }
@@ -157,7 +157,7 @@ impl<A: Allocator> Ends<A> {
         saved: Saved,
         point: Point,
         end: StringCursor,
-    ) -> Result<(), Refusal>
+    ) -> Result<(), Refusal<A>>
         requires { saved.frame < length chains.now }
         ensures more { (m : Marks) → HoldsSpotMore failures.now words.now
             (spot_at point (slice_index_or chains.now saved.frame []) saved.cursor.position m) end
@@ -177,7 +177,7 @@ impl<A: Allocator> Ends<A> {
 
     // The page of a word, which is added if there is none.
     #[inline(always)]
-    fn page(&mut self, word: usize) -> Result<usize, Refusal>
+    fn page(&mut self, word: usize) -> Result<usize, Refusal<A>>
         requires { word + 1 < 2 ^ 64 }
         ensures same { SameEnds self.old self.new }
         ensures page { IfOk result (λ page. (0 < page) × (page_at self.new.pages word ≡ page)) }
@@ -192,7 +192,7 @@ impl<A: Allocator> Ends<A> {
 
     // Adds the page of a word that has none.
     #[inline(never)]
-    fn add_page(&mut self, word: usize) -> Result<usize, Refusal>
+    fn add_page(&mut self, word: usize) -> Result<usize, Refusal<A>>
         requires there { word < length self.old.pages }
         requires none { page_at self.old.pages word ≡ 0 }
         ensures same { SameEnds self.old self.new }

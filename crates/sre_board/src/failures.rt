@@ -101,7 +101,7 @@ fn set_number<A: Allocator>(
     places: usize,
     place: usize,
     number: u32,
-) -> Result<(), Refusal>
+) -> Result<(), Refusal<A>>
     requires { (place < places) × (places ≤ 2 ^ 32) }
     ensures set { IfOk result (λ _. slice_get numbers.new.items place ≡ Some number) }
     ensures others { (i n : ℕ) → i ≢ place → slice_get numbers.old.items i ≡ Some n
@@ -198,7 +198,7 @@ impl<A: Allocator> Failures<A> {
         point: Point,
         first: usize,
         end: usize,
-    ) -> Result<(), Refusal>
+    ) -> Result<(), Refusal<A>>
         ensures no_more { HoldsNoMore self.old self.new }
         ensures still { HoldsStill self.old self.new }
         ensures stay { BitsStay self.old self.new }
@@ -232,7 +232,7 @@ impl<A: Allocator> Failures<A> {
         place: usize,
         first: usize,
         end: usize,
-    ) -> Result<(), Refusal>
+    ) -> Result<(), Refusal<A>>
         requires none { HasNoRow self.old place }
         requires place { place_under point (repeats board.now.frames) ≡ Some place }
         ensures grows { Grows self.old self.new }
@@ -271,7 +271,7 @@ impl<A: Allocator> Failures<A> {
 
     // Appends the row of an address that has none, among `places` addresses, with its own bits.
     #[inline(always)]
-    fn push_row(&mut self, row: Row, places: usize) -> Result<(), Refusal>
+    fn push_row(&mut self, row: Row, places: usize) -> Result<(), Refusal<A>>
         requires base { row.base ≡ length self.old.bits }
         requires room { row.base + row.length ≤ 2 ^ 32 }
         requires end { row.end ≤ length self.old.shapes }

@@ -89,7 +89,7 @@ fn set_entry<A: Allocator>(
     raw: &mut Vec<Option<usize>, A>,
     entry: usize,
     position: usize,
-) -> Result<(), Refusal>
+) -> Result<(), Refusal<A>>
     requires { entry < 2 ^ 32 }
     ensures { IfOk result (λ _. raw.new.items ≡ slice_set (lengthened entry raw.old.items) entry (Some position)) }
 {
@@ -170,7 +170,7 @@ impl<A: Allocator> Marks<A> {
 
     // Sets slot `n` to `position`. On an error the captures are unchanged.
     #[inline(always)]
-    pub(crate) fn set(&mut self, n: u32, position: usize) -> Result<(), Refusal>
+    pub(crate) fn set(&mut self, n: u32, position: usize) -> Result<(), Refusal<A>>
         ensures { IfOk result (λ _. self.new ≡ set_mark self.old n position) }
     {
         set_entry(&mut self.raw, n as usize, position)?;

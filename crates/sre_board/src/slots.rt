@@ -127,7 +127,7 @@ pub(crate) fn add_shape<A: Allocator>(
     words: &[u32],
     chains: &Chains<A>,
     innermost: usize,
-) -> Result<usize, Refusal>
+) -> Result<usize, Refusal<A>>
     requires { innermost < length chains.now }
     ensures more { (more : List ℕ) × (shapes.new.items ≡ shapes.old.items ++ more) }
     ensures few { IfOk result (λ n. n ≤ 2 ^ 24) }

@@ -68,7 +68,7 @@ impl<A: Allocator> Trail<A> {
 
     // Sets slot `n` to `position`.
     #[inline(always)]
-    fn set(&mut self, n: u32, position: usize) -> Result<(), Refusal>
+    fn set(&mut self, n: u32, position: usize) -> Result<(), Refusal<A>>
         ensures set { IfOk result
             (λ _. self.new ≡ record { past = states self.old; now = set_mark self.old.now n position }) }
         ensures kept { length self.old.past ≤ length self.new.past }
@@ -86,7 +86,7 @@ impl<A: Allocator> Trail<A> {
         n: u32,
         position: usize,
         needed: usize,
-    ) -> Result<(), Refusal>
+    ) -> Result<(), Refusal<A>>
         requires { needed ≤ length self.old.past }
         ensures set { IfOk result (λ _. SetsMark n position needed self.old self.new) }
         ensures kept { length self.old.past ≤ length self.new.past }
@@ -104,7 +104,7 @@ impl<A: Allocator> Trail<A> {
 
     /// Sets slot `n` to `position` for good, and drops all changes.
     #[inline(always)]
-    pub(crate) fn set_for_good(&mut self, n: u32, position: usize) -> Result<(), Refusal>
+    pub(crate) fn set_for_good(&mut self, n: u32, position: usize) -> Result<(), Refusal<A>>
         ensures { IfOk result (λ _. self.new ≡ record { past = []; now = set_mark self.old.now n position }) }
     {
         self.changes.clear();

@@ -18,7 +18,7 @@ use entries::Entries;
 pub use entries::UniPair;
 use lists::{Lists, check_lent, checked_lists, checked_ranges, std_lists};
 use sre_growth::Refusal;
-use std::alloc::{AllocError, AllocFailed, Global};
+use std::alloc::{AllocError, AllocFailed, Allocator, Global};
 use std::marker::Model;
 use thiserror::Error;
 
@@ -56,13 +56,13 @@ impl UniError {
     }
 }
 
-impl From<Refusal> for UniError {
+impl<A: Allocator> From<Refusal<A>> for UniError {
     ghost use Rattle.std.specs.Prelude.{◌≡◌};
     ghost use Rattle.sre_chars.specs.declared.table.UniError.TheVariants.{Memory};
 
     ghost from_gives = { λ _ error. error ≡ Memory };
 
-    fn from(_refusal: Refusal) -> UniError {
+    fn from(_refusal: Refusal<A>) -> UniError {
         UniError::Memory
     }
 }
@@ -186,7 +186,7 @@ impl<'t> LentTable<'t> {
         ensures lawful { OnOk result (table_fault (table_of lower.now upper.now alnum.now) ≡ None) }
         ensures refused { IfErr result (λ error.
             option_or (table_fault (table_of lower.now upper.now alnum.now)) (Some UniError.Memory) ≡ Some error) }
-        ensures grows { table_fault (table_of lower.now upper.now alnum.now) ≡ None → OnErr result Refused }
+        ensures grows { table_fault (table_of lower.now upper.now alnum.now) ≡ None → OnErr result (Refused Global) }
     {
         let Lists {
             lower,
@@ -217,7 +217,7 @@ impl<'t> LentTable<'t> {
     pub fn from_std(alloc: Global) -> Result<LentTable<'t>, UniError>
         ensures digits { IfOk result (λ table. table.digits ≡ []) }
         ensures refused { IsOkUnless result UniError.Memory }
-        ensures grows { OnErr result Refused }
+        ensures grows { OnErr result (Refused Global) }
     {
         let Lists {
             lower,
@@ -296,7 +296,7 @@ impl<'t> LentTable<'t> {
         ensures unchanged { OnErr result (self.new ≡ self.old) }
         ensures refused { IfErr result (λ error.
             option_or (list_fault Listing.Ranges 0 digits.now) (Some UniError.Memory) ≡ Some error) }
-        ensures grows { list_fault Listing.Ranges 0 digits.now ≡ None → OnErr result Refused }
+        ensures grows { list_fault Listing.Ranges 0 digits.now ≡ None → OnErr result (Refused Global) }
     {
         self.digits = Entries::Kept(checked_ranges(self.alloc, digits)?);
         Ok(())

@@ -9,8 +9,8 @@ use Rattle.sre_model.specs.Width.{capped, width, item_width}
 use Rattle.sre_code.specs.Refusals.{place_of}
 use Rattle.sre_code.specs.Reading.{IsFault}
 use Rattle.sre_code.specs.Steps.{ItemAt, Closes, Remains, next, Exactly, Nowhere, IsEnd, IsInside, Leaves, Unclosed}
-use Rattle.sre_code.specs.Descent.{opened, Rest, StackRest, After, Same, Never, work, Fails, Pushes, ReadsOn, WholeFrom}
-use Rattle.sre_code.specs.Descent.{HasWhole}
+use Rattle.sre_code.specs.Descent.{opened, Rest, StackRest, After, Same, Never, work, Fails, Stacks, Pushes}
+use Rattle.sre_code.specs.Descent.{StepsOn, ReadsOn, WholeFrom, HasWhole}
 use Rattle.sre_code.specs.declared.code.error.CodeError.{CodeError}
 use Rattle.sre_code.specs.declared.code.error.CodeError.TheVariants.{Memory}
 use Rattle.sre_code.specs.declared.code.step.Part.{Part}
@@ -144,7 +144,7 @@ close_stops ws top d a fs i ae end n =
 reverse_push : (fs : List Open) (f : Open) → reverse (fs ++ f ∷ []) ≡ f ∷ reverse fs
 reverse_push fs f = reverse-append fs (f ∷ [])
 
-pushed : (ws : List ℕ) (s : Step) (old new : List Open) (q : Reached) → Pushes s old new (Ok q)
+pushed : (ws : List ℕ) (s : Step) (old new : List Open) (q : Reached) → Stacks s old new q
     → Same (After ws s (reverse old)) (StackRest ws q.place q.width new)
 pushed ws (Past p v) old new q e = record {
   to = λ W r. rest_moved ws p q.place v q.width W _ _ (sym e.0) (sym e.1) (ap reverse (sym e.2)) r;
@@ -160,62 +160,56 @@ same_then : (A B C : ℕ → Type 0) → Same A B → Same B C → Same A C
 same_then A B C x y = record { to = λ W a. y.to W (x.to W a); from = λ W d. x.from W (y.from W d) }
 
 falls_closing : (ws : List ℕ) (s : Step) (i : ℕ) (q : Reached) (old new : List Open) → Leaves ws i s
-    → Pushes s old new (Ok q) → work ws q.place new < work ws i old + 1
+    → Stacks s old new q → work ws q.place new < work ws i old + 1
 falls_closing ws (Past p v) i q old new l e = omega (arith, ap length e.2)
 falls_closing ws (Opens part p) i q old new l e = omega (arith, ap length e.2, length-append old (opened part ∷ []))
 
 falls_item : (ws : List ℕ) (s : Step) (f : Open) (i : ℕ) (q : Reached) (old new : List Open) → i < next s
-    → i < length ws → Pushes s (old ++ f ∷ []) new (Ok q) → work ws q.place new < work ws i old + 1
+    → i < length ws → Stacks s (old ++ f ∷ []) new q → work ws q.place new < work ws i old + 1
 falls_item ws (Past p v) f i q old new l there e = omega (arith, ap length e.2, length-append old (f ∷ []))
 falls_item ws (Opens part p) f i q old new l there e =
     omega (arith, ap length e.2, length-append (old ++ f ∷ []) (opened part ∷ []), length-append old (f ∷ []))
 
-memory : (ws : List ℕ) (A : ℕ → Type 0) (e : CodeError) → (e ≡ Memory) × Refused → Fails ws A e
+memory : {M : Type 0} (ws : List ℕ) (A : ℕ → Type 0) (e : CodeError) → (e ≡ Memory) × Refused M → Fails M ws A e
 memory ws A e m = record { never = λ ne. absurd (ne m.0); grows = λ _. m.1; within = omega (arith, ap place_of m.0) }
 
-push_fails : (ws : List ℕ) (A : ℕ → Type 0) (s : Step) (old new : List Open) (e : CodeError) → Pushes s old new (Err e)
-    → Fails ws A e
-push_fails ws A (Past p v) old new e m = memory ws A e m
-push_fails ws A (Opens part p) old new e m = memory ws A e m
-
 -- one turn
-pub step_closes : (ws : List ℕ) (r : Reached) (a : ℕ) (top : Open) (s : Step) (old new : List Open)
+pub step_closes : (M : Type 0) (ws : List ℕ) (r : Reached) (a : ℕ) (top : Open) (s : Step) (old new : List Open)
     (q : Result Reached CodeError)
     → a ≡ capped (top.width + r.width) → IsEnd ws top.part r.place → Leaves ws r.place s
-    → Exactly ws s (Closes ws top.part r.place a) → Pushes s old new q → ReadsOn ws r top old new q
-step_closes ws r a top s old new (Ok q) ae end l x e = (
+    → Exactly ws s (Closes ws top.part r.place a) → Pushes M s old new q → ReadsOn M ws r top old new q
+step_closes M ws r a top s old new (Ok q) ae end l x e = (
   same_then _ _ _ (close_turns ws s top r.width a (reverse old) r.place ae end x) (pushed ws s old new q e),
   falls_closing ws s r.place q old new l e,
 )
-step_closes ws r a top s old new (Err e) ae end l x m = push_fails ws _ s old new e m
+step_closes M ws r a top s old new (Err e) ae end l x m = memory ws _ e m
 
 item_pushed : (ws : List ℕ) (s : Step) (f : Open) (old new : List Open) (q : Reached)
-    → Pushes s (old ++ f ∷ []) new (Ok q) → Same (After ws s (f ∷ reverse old)) (StackRest ws q.place q.width new)
+    → Stacks s (old ++ f ∷ []) new q → Same (After ws s (f ∷ reverse old)) (StackRest ws q.place q.width new)
 item_pushed ws s f old new q e =
     let P : List Open → Type 0 = λ xs. Same (After ws s xs) (StackRest ws q.place q.width new) in
     subst P (reverse_push old f) (pushed ws s (old ++ f ∷ []) new q e)
 
-pub step_reads : (ws : List ℕ) (r : Reached) (a : ℕ) (top : Open) (s : Step) (old new : List Open)
+pub step_reads : (M : Type 0) (ws : List ℕ) (r : Reached) (a : ℕ) (top : Open) (s : Step) (old new : List Open)
     (q : Result Reached CodeError)
     → a ≡ capped (top.width + r.width) → IsInside ws top.part r.place → r.place < length ws → r.place < next s
-    → Exactly ws s (ItemAt ws r.place) → Pushes s (old ++ record { part = top.part; width = a } ∷ []) new q
-    → ReadsOn ws r top old new q
-step_reads ws r a top s old new (Ok q) ae inside there lt x e = (
+    → Exactly ws s (ItemAt ws r.place) → Pushes M s (old ++ record { part = top.part; width = a } ∷ []) new q
+    → ReadsOn M ws r top old new q
+step_reads M ws r a top s old new (Ok q) ae inside there lt x e = (
   same_then _ _ _ (item_turns ws s a top r.width (reverse old) r.place ae inside x)
       (item_pushed ws s (record { part = top.part; width = a }) old new q e),
   falls_item ws s (record { part = top.part; width = a }) r.place q old new lt there e,
 )
-step_reads ws r a top s old new (Err e) ae inside there lt x m =
-    push_fails ws _ s (old ++ record { part = top.part; width = a } ∷ []) new e m
+step_reads M ws r a top s old new (Err e) ae inside there lt x m = memory ws _ e m
 
-pub step_no_close : (ws : List ℕ) (i d a : ℕ) (top : Open) (old : List Open) (e : CodeError)
-    → a ≡ capped (top.width + d) → Unclosed ws top.part i a e → Fails ws (Rest ws i d (top ∷ reverse old)) e
+pub step_no_close : {M : Type 0} (ws : List ℕ) (i d a : ℕ) (top : Open) (old : List Open) (e : CodeError)
+    → a ≡ capped (top.width + d) → Unclosed ws top.part i a e → Fails M ws (Rest ws i d (top ∷ reverse old)) e
 step_no_close ws i d a top old e ae x =
     let stops = close_stops ws top d a (reverse old) i ae x.end x.nowhere in
     record { never = λ _. stops; grows = λ m. absurd (x.fault.1 m); within = x.fault.0 }
 
-pub step_no_item : (ws : List ℕ) (i d : ℕ) (top : Open) (old : List Open) (e : CodeError) → IsInside ws top.part i
-    → Nowhere (ItemAt ws i) → IsFault ws e → Fails ws (Rest ws i d (top ∷ reverse old)) e
+pub step_no_item : {M : Type 0} (ws : List ℕ) (i d : ℕ) (top : Open) (old : List Open) (e : CodeError)
+    → IsInside ws top.part i → Nowhere (ItemAt ws i) → IsFault ws e → Fails M ws (Rest ws i d (top ∷ reverse old)) e
 step_no_item ws i d top old e inside x f =
     let stops = item_stops ws top d (reverse old) i inside x in
     record { never = λ _. stops; grows = λ m. absurd (f.1 m); within = f.0 }
@@ -259,17 +253,17 @@ popped ws i d top items old e =
 
 pub descent_goes_on : (ws : List ℕ) (start : ℕ) (r q : Reached) (top : Open) (items old new : List Open)
     → Same (WholeFrom ws start) (StackRest ws r.place r.width items) → items ≡ old ++ top ∷ []
-    → ReadsOn ws r top old new (Ok q) → Same (WholeFrom ws start) (StackRest ws q.place q.width new)
+    → StepsOn ws r top old new q → Same (WholeFrom ws start) (StackRest ws q.place q.width new)
 descent_goes_on ws start r q top items old new inv e t =
     same_then _ _ _ inv (same_then _ _ _ (popped ws r.place r.width top items old e) t.0)
 
 pub descent_falls : (ws : List ℕ) (r q : Reached) (top : Open) (items old new : List Open) → items ≡ old ++ top ∷ []
-    → ReadsOn ws r top old new (Ok q) → work ws q.place new < work ws r.place items
+    → StepsOn ws r top old new q → work ws q.place new < work ws r.place items
 descent_falls ws r q top items old new e t = omega (arith, t.1, ap length e, length-append old (top ∷ []))
 
-pub descent_stops : (ws : List ℕ) (start i d : ℕ) (top : Open) (items old : List Open) (e : CodeError)
+pub descent_stops : {M : Type 0} (ws : List ℕ) (start i d : ℕ) (top : Open) (items old : List Open) (e : CodeError)
     → Same (WholeFrom ws start) (StackRest ws i d items) → items ≡ old ++ top ∷ []
-    → Fails ws (Rest ws i d (top ∷ reverse old)) e → Fails ws (WholeFrom ws start) e
+    → Fails M ws (Rest ws i d (top ∷ reverse old)) e → Fails M ws (WholeFrom ws start) e
 descent_stops ws start i d top items old e inv same t =
     record {
       never = λ ne. record { none = λ W b. (t.never ne).none W ((popped ws i d top items old same).to W (inv.to W b)) };
@@ -288,7 +282,7 @@ descent_ends ws start r items inv e = record {
 pub descent_items : (ws : List ℕ) (W : ℕ) → HasWhole ws 0 W → AreItems ws
 descent_items ws W b = (b.body.0.0, (b.body.0.1, b.body.1))
 
-pub descent_refused : (ws : List ℕ) (e : CodeError) (t : Tree) → Fails ws (WholeFrom ws 0) e → e ≢ Memory
+pub descent_refused : {M : Type 0} (ws : List ℕ) (e : CodeError) (t : Tree) → Fails M ws (WholeFrom ws 0) e → e ≢ Memory
     → ¬ (WholeItems ws t)
 descent_refused ws e t x ne w = (x.never ne).none (width t) ((t, w.0, refl), w.1)
 

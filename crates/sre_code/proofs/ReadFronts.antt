@@ -24,9 +24,10 @@ module _ (ws : List ℕ) (n : ℕ) (f : Fronts ws n) where
   behind : (t : Tree) → Whole ws t → WholeItems (drop n ws) t
   behind t w = subst (λ (xs : List ℕ). WholeItems xs t) (sym f.behind) w.1
 
-  pub front_refused : (e : CodeError) (t : Tree) → Fails (drop n ws) (WholeFrom (drop n ws) 0) e → e ≢ Memory
-      → ¬ (Whole ws t)
-  front_refused e t x ne w = descent_refused (drop n ws) e t x ne (behind t w)
+  pub front_refused : {M : Type 0} (items : List ℕ) (e : CodeError) (t : Tree) → items ≡ drop n ws
+      → Fails M items (WholeFrom items 0) e → e ≢ Memory → ¬ (Whole ws t)
+  front_refused items e t same x ne w =
+      descent_refused items e t x ne (subst (λ (xs : List ℕ). WholeItems xs t) (sym same) (behind t w))
 
   -- what is confirmed of a tree of that width is confirmed of the words' tree
   pub front_confirmed : (W : ℕ) (table : Table) (hints : Hints) → HasWhole (drop n ws) 0 W

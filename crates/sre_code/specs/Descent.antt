@@ -50,24 +50,30 @@ pub record Never (A : ℕ → Type 0) : Type 0 where
 abbrev pub work : List ℕ → ℕ → List Open → ℕ
 work ws i parts = 2 * (length ws - i) + length parts
 
--- memory was refused, that is a growth was, or nothing is as A says
-pub record Fails (ws : List ℕ) (A : ℕ → Type 0) (e : CodeError) : Type 0 where
+-- an allocation by an M failed, or nothing is as A says
+pub record Fails (M : Type 0) (ws : List ℕ) (A : ℕ → Type 0) (e : CodeError) : Type 0 where
   pub never : e ≢ Memory → Never A
-  pub grows : e ≡ Memory → Refused
+  pub grows : e ≡ Memory → Refused M
   pub within : place_of e ≤ length ws
 
 -- what a step opens is on the stack
-abbrev pub Pushes : Step → List Open → List Open → Result Reached CodeError → Type 0
-Pushes (Past p v) old new (Ok r) = (r.place ≡ p) × (r.width ≡ v) × (new ≡ old)
-Pushes (Opens part p) old new (Ok r) = (r.place ≡ p) × (r.width ≡ 0) × (new ≡ old ++ opened part ∷ [])
-Pushes s old new (Err e) = (e ≡ Memory) × Refused
+abbrev pub Stacks : Step → List Open → List Open → Reached → Type 0
+Stacks (Past p v) old new r = (r.place ≡ p) × (r.width ≡ v) × (new ≡ old)
+Stacks (Opens part p) old new r = (r.place ≡ p) × (r.width ≡ 0) × (new ≡ old ++ opened part ∷ [])
 
--- one step, in which the top was the innermost part over the old ones: what is left stays the same, and the work falls
-abbrev pub ReadsOn : List ℕ → Reached → Open → List Open → List Open → Result Reached CodeError → Type 0
-ReadsOn ws r top old new (Ok q) =
+abbrev pub Pushes : Type 0 → Step → List Open → List Open → Result Reached CodeError → Type 0
+Pushes M s old new (Ok r) = Stacks s old new r
+Pushes M s old new (Err e) = (e ≡ Memory) × Refused M
+
+-- after a step, in which the top was the innermost part over the old ones, what is left is the same, and the work less
+abbrev pub StepsOn : List ℕ → Reached → Open → List Open → List Open → Reached → Type 0
+StepsOn ws r top old new q =
     Same (Rest ws r.place r.width (top ∷ reverse old)) (StackRest ws q.place q.width new)
     × (work ws q.place new < work ws r.place old + 1)
-ReadsOn ws r top old new (Err e) = Fails ws (Rest ws r.place r.width (top ∷ reverse old)) e
+
+abbrev pub ReadsOn : Type 0 → List ℕ → Reached → Open → List Open → List Open → Result Reached CodeError → Type 0
+ReadsOn M ws r top old new (Ok q) = StepsOn ws r top old new q
+ReadsOn M ws r top old new (Err e) = Fails M ws (Rest ws r.place r.width (top ∷ reverse old)) e
 
 -- the words from start on are the items of a tree of width W, and SUCCESS as the last word
 abbrev pub WholeFrom : List ℕ → ℕ → ℕ → Type 0
@@ -78,6 +84,6 @@ pub record HasWhole (ws : List ℕ) (start W : ℕ) : Type 0 where
   pub body : WholeFrom ws start W
 
 -- the least width of the tree, or that there is none
-abbrev pub Descends : List ℕ → ℕ → Result ℕ CodeError → Type 0
-Descends ws start (Ok W) = HasWhole ws start W
-Descends ws start (Err e) = Fails ws (WholeFrom ws start) e
+abbrev pub Descends : Type 0 → List ℕ → ℕ → Result ℕ CodeError → Type 0
+Descends M ws start (Ok W) = HasWhole ws start W
+Descends M ws start (Err e) = Fails M ws (WholeFrom ws start) e

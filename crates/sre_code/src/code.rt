@@ -110,7 +110,7 @@ impl<'a> Code<'a> {
         ensures tree { OnOk result (IsCode words.now) }
         ensures refused { IfErr result (λ e. e ≢ CodeError.Memory → (tree : Tree) → ¬ (Whole words.now tree)) }
         ensures place { IfErr result (λ e. place_of e ≤ length words.now) }
-        ensures grows { IfErr result (λ e. e ≡ CodeError.Memory → Refused) }
+        ensures grows { IfErr result (λ e. e ≡ CodeError.Memory → Refused Global) }
     {
         Code::check_lent(alloc, words, uni)
     }
@@ -130,7 +130,7 @@ impl<'a> Code<'a> {
         ensures tree { OnOk result (IsCode words.now) }
         ensures refused { IfErr result (λ e. e ≢ CodeError.Memory → (tree : Tree) → ¬ (Whole words.now tree)) }
         ensures place { IfErr result (λ e. place_of e ≤ length words.now) }
-        ensures grows { IfErr result (λ e. e ≡ CodeError.Memory → Refused) }
+        ensures grows { IfErr result (λ e. e ≡ CodeError.Memory → Refused Global) }
     {
         check_in(alloc, words, uni)
     }

@@ -36,7 +36,7 @@ pub struct OwnedCode {
 fn copied(alloc: Global, words: &[u32]) -> Result<Vec<u32>, CodeError>
     ensures items { IfOk result (λ list. list.items ≡ words.now) }
     ensures memory { IfErr result (λ e. e ≡ CodeError.Memory) }
-    ensures grows { IfErr result (λ _. Refused) }
+    ensures grows { IfErr result (λ _. Refused Global) }
 {
     match sre_growth::from_slice(alloc, words) {
         Ok(list) => Ok(list),
@@ -66,7 +66,7 @@ fn checked_copy(alloc: Global, words: &[u32], uni: &UniTable) -> Result<CheckedC
     ensures tree { OnOk result (IsCode words.now) }
     ensures refused { IfErr result (λ e. e ≢ CodeError.Memory → (tree : Tree) → ¬ (Whole words.now tree)) }
     ensures place { IfErr result (λ e. place_of e ≤ length words.now) }
-    ensures grows { IfErr result (λ e. e ≡ CodeError.Memory → Refused) }
+    ensures grows { IfErr result (λ e. e ≡ CodeError.Memory → Refused Global) }
 {
     let code = Code::check(alloc, words, uni)?;
     let copy = copied(alloc, words)?;
@@ -100,7 +100,7 @@ impl OwnedCode {
         ensures tree { OnOk result (IsCode words.now) }
         ensures refused { IfErr result (λ e. e ≢ CodeError.Memory → (tree : Tree) → ¬ (Whole words.now tree)) }
         ensures place { IfErr result (λ e. place_of e ≤ length words.now) }
-        ensures grows { IfErr result (λ e. e ≡ CodeError.Memory → Refused) }
+        ensures grows { IfErr result (λ e. e ≡ CodeError.Memory → Refused Global) }
     {
         match checked_copy(alloc, words, &uni) {
             Ok(copy) => {

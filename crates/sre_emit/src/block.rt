@@ -105,7 +105,7 @@ fn leading(items: &[Item]) -> usize
 
 // The plain literals at the front, with MARK items between them skipped.
 #[tactic(auto, using(crate::proofs::Fronts::spread_laws))]
-fn spread<A: Allocator>(alloc: A, items: &[Item]) -> Result<Vec<u32, A>, Refusal>
+fn spread<A: Allocator>(alloc: A, items: &[Item]) -> Result<Vec<u32, A>, Refusal<A>>
     ensures { IfOk result (λ words. words.items ≡ spread (in_order (map item_of items.now))) }
 {
     let mut words = Vec::new(alloc);

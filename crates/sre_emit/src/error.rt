@@ -23,12 +23,12 @@ pub enum EmitError {
     BadPart,
 }
 
-impl From<Refusal> for EmitError {
+impl<A: Allocator> From<Refusal<A>> for EmitError {
     ghost use Rattle.sre_emit.specs.declared.error.EmitError.TheVariants.{Memory};
 
     ghost from_gives = { λ _ e. e ≡ Memory };
 
-    fn from(_refusal: Refusal) -> EmitError {
+    fn from(_refusal: Refusal<A>) -> EmitError {
         EmitError::Memory
     }
 }

@@ -1,6 +1,7 @@
 -- A request asks the same with and without a list of its code's FIRST sets: what a search says of one holds of the
 -- other.
-use Rattle.std.proofs.Common.{ℕ, Bool, List, Result, Bor}
+use Rattle.std.proofs.Common.{ℕ, Bool, List, Result, Ok, Bor}
+use Rattle.std.specs.declared.alloc.Allocator.{Ghosts as Memory}
 use Rattle.sre_chars.specs.declared.string.StrDrive.{Ghosts}
 use Rattle.sre_code.specs.Codes.{items_of}
 use Rattle.sre_request.specs.Admitting.{AllAdmitted}
@@ -11,11 +12,11 @@ use Rattle.sre_machine.specs.declared.allowance.Allowance.{Allowance}
 use Rattle.sre_machine.specs.declared.turns.Halt.{Halt}
 use Rattle.sre_engine.specs.Answers.{Shown}
 use Rattle.sre_engine.specs.Costs.{SearchCosts, Charged}
-use Rattle.sre_engine.specs.Searches.{Answered}
+use Rattle.sre_engine.specs.Searches.{Answered, AnsweredAtOnce}
 
 module _ {S : Type 0} {text : Ghosts S} (r : Request S text) (list : Bor (List Admitted))
     (all : AllAdmitted (items_of r.pattern_codes) list.now) where
-  pub answered_alike : (told : Result Bool Halt) (s : Shown) → Answered (carrying r list all) told s
+  pub answered_alike : {E : Type 0} (told : Result Bool E) (s : Shown) → Answered (carrying r list all) told s
       → Answered r told s
   answered_alike told s x = record {
     answer = x.answer;
@@ -27,13 +28,14 @@ module _ {S : Type 0} {text : Ghosts S} (r : Request S text) (list : Bor (List A
     up_to_match = x.up_to_match;
   }
 
-  costs_alike : (given left runs : ℕ) → SearchCosts (carrying r list all) given left runs
-      → SearchCosts r given left runs
+  costs_alike : {M : Type 0} (given left runs : ℕ) → SearchCosts M (carrying r list all) given left runs
+      → SearchCosts M r given left runs
   costs_alike given left runs x = record {
     cost = λ pl. x.cost (record { plain = pl.plain; unmarked = pl.unmarked; room = pl.room; order = pl.order });
   }
 
-  pub charged_alike : (told : Result Bool Halt) (started runs : ℕ) (a a' : Allowance)
+  pub charged_alike : {M : Type 0} {memory : Memory M} (told : Result Bool (Halt M memory)) (started runs : ℕ)
+      (a a' : Allowance)
       → Charged (carrying r list all) told started runs a a' → Charged r told started runs a a'
   charged_alike told started runs a a' x = record {
     limited = x.limited;
@@ -42,3 +44,16 @@ module _ {S : Type 0} {text : Ghosts S} (r : Request S text) (list : Bor (List A
     halted = x.halted;
     cost = λ limited. costs_alike _ _ started (x.cost limited);
   }
+
+-- the answer of a search without a run of the machine, which nothing can end early
+pub at_once : {S E : Type 0} {text : Ghosts S} (r : Request S text) (b : Bool) (s : Shown) → AnsweredAtOnce r b s
+    → Answered {E = E} r (Ok b) s
+at_once r b s x = record {
+  answer = x.answer;
+  cursor = x.cursor;
+  span = x.span;
+  no = x.no;
+  err = tt;
+  counts = x.counts;
+  up_to_match = x.up_to_match;
+}

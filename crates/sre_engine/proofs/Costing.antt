@@ -48,13 +48,13 @@ module _ {S : Type 0} {text : Ghosts S} (r : Request S text) where
       no_less j k (1 + most_steps pl.plain.tree) s t (each_of r pl) h l
 
   -- no run yet, and a memo that keeps no failures
-  pub costs_begin : (m : MemoValue) (left : ℕ) → m.is_open ≡ false → CostsUpTo r m m left left 0
+  pub costs_begin : {M : Type 0} (m : MemoValue) (left : ℕ) → m.is_open ≡ false → CostsUpTo M r m m left left 0
   costs_begin m left closed = record { cost = λ pl. inr (inl (closed, omega arith)) }
 
   -- another run with no outcome
-  pub costs_run : (begun m m' : MemoValue) (start : StringCursor) (given left after k : ℕ)
-      → CostsUpTo r begun m given left k → RunSettles r start m m' left after → start_of r ≤ start.position
-      → CostsUpTo r begun m' given after (k + 1)
+  pub costs_run : {M : Type 0} (begun m m' : MemoValue) (start : StringCursor) (given left after k : ℕ)
+      → CostsUpTo M r begun m given left k → RunSettles M r start m m' left after → start_of r ≤ start.position
+      → CostsUpTo M r begun m' given after (k + 1)
   costs_run begun m m' start given left after k old run from = record {
     cost = λ pl. elim (old.cost pl) [
       | inl refused ↦ inl refused
@@ -82,9 +82,9 @@ module _ {S : Type 0} {text : Ghosts S} (r : Request S text) where
 
   -- another run, which is the last: no more steps were waited and no more credits granted than from where the memo
   -- begins
-  costs_once : (begun m : MemoValue) (start : StringCursor) (given left after k : ℕ)
-      → CostsUpTo r begun m given left k → begun.waits ≤ most_waits r → RunStops r start m left after
-      → start_of r ≤ start.position → SearchCosts r given after (k + 1)
+  costs_once : {M : Type 0} (begun m : MemoValue) (start : StringCursor) (given left after k : ℕ)
+      → CostsUpTo M r begun m given left k → begun.waits ≤ most_waits r → RunStops M r start m left after
+      → start_of r ≤ start.position → SearchCosts M r given after (k + 1)
   costs_once begun m start given left after k old waits run from = record {
     cost = λ pl. elim (old.cost pl) [
       | inl refused ↦ inl refused
@@ -105,22 +105,23 @@ module _ {S : Type 0} {text : Ghosts S} (r : Request S text) where
   }
 
 -- the runs since some memo began
-pub record CostsSince {S : Type 0} {text : Ghosts S} (r : Request S text) (now : MemoValue) (given left runs : ℕ) :
+pub record CostsSince (M : Type 0) {S : Type 0} {text : Ghosts S} (r : Request S text) (now : MemoValue)
+    (given left runs : ℕ) :
     Type 0 where
   pub begun : MemoValue
   pub waits : begun.waits ≤ most_waits r
-  pub upto : CostsUpTo r begun now given left runs
+  pub upto : CostsUpTo M r begun now given left runs
 
 module _ {S : Type 0} {text : Ghosts S} (r : Request S text) where
   -- before any run
-  pub since_begin : (m : MemoValue) (left : ℕ) → m.waits ≤ most_waits r → m.is_open ≡ false
-      → CostsSince r m left left 0
+  pub since_begin : {M : Type 0} (m : MemoValue) (left : ℕ) → m.waits ≤ most_waits r → m.is_open ≡ false
+      → CostsSince M r m left left 0
   since_begin m left waits closed = record { begun = m; waits = waits; upto = costs_begin r m left closed }
 
   -- another run with no outcome
-  pub since_run : (m m' : MemoValue) (start : StringCursor) (given left after before runs : ℕ)
-      → CostsSince r m given left before → RunSettles r start m m' left after → start_of r ≤ start.position
-      → runs ≡ before + 1 → CostsSince r m' given after runs
+  pub since_run : {M : Type 0} (m m' : MemoValue) (start : StringCursor) (given left after before runs : ℕ)
+      → CostsSince M r m given left before → RunSettles M r start m m' left after → start_of r ≤ start.position
+      → runs ≡ before + 1 → CostsSince M r m' given after runs
   since_run m m' start given left after before runs old run from e = record {
     begun = old.begun;
     waits = old.waits;
@@ -128,15 +129,15 @@ module _ {S : Type 0} {text : Ghosts S} (r : Request S text) where
   }
 
   -- another run, which is the last
-  pub since_stopped : (m : MemoValue) (start : StringCursor) (given left after before runs : ℕ)
-      → CostsSince r m given left before → RunStops r start m left after → start_of r ≤ start.position
-      → runs ≡ before + 1 → SearchCosts r given after runs
+  pub since_stopped : {M : Type 0} (m : MemoValue) (start : StringCursor) (given left after before runs : ℕ)
+      → CostsSince M r m given left before → RunStops M r start m left after → start_of r ≤ start.position
+      → runs ≡ before + 1 → SearchCosts M r given after runs
   since_stopped m start given left after before runs old run from e =
       rw e (costs_once r old.begun m start given left after before old.upto old.waits run from)
 
   -- no further run: the credits are paid by what the memory holds
-  pub since_ended : (m : MemoValue) (given left runs : ℕ) → CostsSince r m given left runs
-      → SearchCosts r given left runs
+  pub since_ended : {M : Type 0} (m : MemoValue) (given left runs : ℕ) → CostsSince M r m given left runs
+      → SearchCosts M r given left runs
   since_ended m given left runs old = record {
     cost = λ pl. elim (old.upto.cost pl) [
       | inl refused ↦ inl refused

@@ -3,6 +3,7 @@
 use Rattle.std.proofs.Common.{◌≡◌, ℕ, ◌+◌, ◌-◌, ◌*◌, ◌≤◌, ◌⊎◌, inl, inr, Bool, true, length, Option, None}
 use Rattle.std.proofs.Common.{Result, Ok, Err, IfOk, ap, ◌∙◌, subst, arith}
 use Rattle.std.proofs.Math.Nat.{mul-le-mul_right}
+use Rattle.std.specs.declared.alloc.Allocator.{Ghosts as Memory}
 use Rattle.sre_chars.specs.declared.string.StrDrive.{Ghosts}
 use Rattle.sre_growth.specs.Refusal.{Refused}
 use Rattle.sre_model.specs.Tree.{Tree}
@@ -39,10 +40,11 @@ few r pl runs l =
     omega (arith, mul-le-mul_right (each_of r pl) all, waits)
 
 -- a search where each failure is memoized takes at most its step bound
-costs_few : {S : Type 0} {text : Ghosts S} (r : Request S text) (given left runs : ℕ) → SearchCosts r given left runs
+costs_few : {M S : Type 0} {text : Ghosts S} (r : Request S text) (given left runs : ℕ)
+    → SearchCosts M r given left runs
     → runs ≤ end_of r + 1 - start_of r → (t : Tree) → Whole (words_of (code_of r)) t
     → IsRemembered (length (items_of (code_of r))) t (asked_of r)
-    → Refused ⊎ (given ≤ left + step_bound t (asked_of r))
+    → Refused M ⊎ (given ≤ left + step_bound t (asked_of r))
 costs_few r given left runs costs l t whole is =
     let pl : Remembering r = record {
       plain = record { tree = t; whole = items_whole (code_of r) t whole; no_reference = is.no_reference };
@@ -56,37 +58,39 @@ costs_few r given left runs costs l t whole is =
     ]
 
 -- so a sufficient budget is not used up
-not_exceeded : {E : Type 0} (a : Asked) (code : Code) (answer : Result (Option Bool) E) (given left : ℕ)
+not_exceeded : (M : Type 0) {E : Type 0} (a : Asked) (code : Code) (answer : Result (Option Bool) E) (given left : ℕ)
     → IfOk answer (λ b. b ≡ None → left ≡ 0)
     → ((t : Tree) → Whole (words_of code) t → IsRemembered (length (items_of code)) t a
-    → Refused ⊎ (given ≤ left + step_bound t a))
-    → AreEnough a code given → IfOk answer (λ b. b ≡ None → Refused)
-not_exceeded a code (Ok b) given left used bounded enough = λ none.
+    → Refused M ⊎ (given ≤ left + step_bound t a))
+    → AreEnough a code given → IfOk answer (λ b. b ≡ None → Refused M)
+not_exceeded M a code (Ok b) given left used bounded enough = λ none.
     elim (bounded enough.tree enough.whole enough.remembered) [
       | inl refused ↦ refused
       | inr l ↦ absurd (omega (arith, l, used none, enough.more))
     ]
-not_exceeded a code (Err e) given left used bounded enough = tt
+not_exceeded M a code (Err e) given left used bounded enough = tt
 
 -- a call that charges a search to its budget keeps to it
-pub keeps_to : {S E : Type 0} {text : Ghosts S} (r : Request S text) (given : ℕ) (a a' : Allowance)
-    (told : Result Bool Halt) (started runs left : ℕ) (answer : Result (Option Bool) E)
+pub keeps_to : {M S E : Type 0} {memory : Memory M} {text : Ghosts S} (r : Request S text) (given : ℕ)
+    (a a' : Allowance)
+    (told : Result Bool (Halt M memory)) (started runs left : ℕ) (answer : Result (Option Bool) E)
     → Charged r told started runs a a' → is_limited a ≡ true → left_of a ≡ given → left ≡ left_of a'
     → started ≤ end_of r + 1 - start_of r → IfOk answer (λ b. b ≡ None → left_of a' ≡ 0)
-    → KeepsToSteps (asked_of r) (code_of r) answer runs given left
-keeps_to r given a a' told started runs left answer charged limited same own few used =
+    → KeepsToSteps M (asked_of r) (code_of r) answer runs given left
+keeps_to {M} r given a a' told started runs left answer charged limited same own few used =
     let bounded = costs_few r (left_of a) (left_of a') started (charged.cost limited) few in
     rw (own, ← same) (record {
       used = used;
       spent = charged.spent;
       fewer = charged.fewer;
       bounded = bounded;
-      enough = not_exceeded (asked_of r) (code_of r) answer (left_of a) (left_of a') used bounded;
+      enough = not_exceeded M (asked_of r) (code_of r) answer (left_of a) (left_of a') used bounded;
     })
 
 -- no step is left where the limit is exceeded
-pub used_up : {S : Type 0} {text : Ghosts S} (r : Request S text) (a a' : Allowance) (told : Result Bool Halt)
-    (started runs : ℕ) → Charged r told started runs a a' → (why : Halt) → told ≡ Err why → why ≡ halt.UsedUp
+pub used_up : {M S : Type 0} {memory : Memory M} {text : Ghosts S} (r : Request S text) (a a' : Allowance)
+    (told : Result Bool (Halt M memory))
+    (started runs : ℕ) → Charged r told started runs a a' → (why : Halt M memory) → told ≡ Err why → why ≡ halt.UsedUp
     → left_of a' ≡ 0
 used_up r a a' told started runs charged why e used =
     (subst (λ t. Charged r t started runs a a') (e ∙ ap Err used) charged).halted.1

@@ -2,6 +2,7 @@
 use Rattle.std.proofs.Common.{◌≡◌, ◌≤◌, ◌<◌, ◌+◌, ◌-◌, ℕ, Bool, true, false, Option, Some, None, Result, Ok, Err}
 use Rattle.std.proofs.Common.{IsErrAnd, refl, sym, ◌∙◌, subst, arith}
 use Rattle.std.proofs.Math.Nat.{mul-le-mul_right}
+use Rattle.std.specs.declared.alloc.Allocator.{Ghosts as Memory}
 use Rattle.sre_chars.specs.declared.string.StrDrive.{Ghosts}
 use Rattle.sre_chars.specs.declared.string.StringCursor.{StringCursor}
 use Rattle.sre_model.specs.Tree.{Tree}
@@ -35,8 +36,8 @@ use Rattle.sre_engine.proofs.MayStart.{RanBefore, ran_none, ran_later, ran_on, f
 use Rattle.sre_engine.proofs.Spending.{once_spent, run_spent}
 
 -- what a search knows from a front on: no start before it has a match, and what was run up to there
-pub record Searching {S : Type 0} {text : Ghosts S} (r : Request S text) (n : RunnerValue) (given now : Allowance)
-    (front : ℕ) : Type 0 where
+pub record Searching (M : Type 0) {S : Type 0} {text : Ghosts S} (r : Request S text) (n : RunnerValue)
+    (given now : Allowance) (front : ℕ) : Type 0 where
   pub fresh : n.board ≡ bare no_marks
   pub remembers : Recalls (run_of r) n.memo
   pub from : start_of r ≤ front
@@ -48,12 +49,13 @@ pub record Searching {S : Type 0} {text : Ghosts S} (r : Request S text) (n : Ru
   pub limited : is_limited now ≡ is_limited given
   pub fewer : left_of now ≤ left_of given
   pub spent : SpentUpTo (asked_of r) (code_of r) (left_of given) (left_of now) (n.started + n.restarted)
-  pub costs : is_limited given ≡ true → CostsSince r n.memo (left_of given) (left_of now) n.started
+  pub costs : is_limited given ≡ true → CostsSince M r n.memo (left_of given) (left_of now) n.started
 
 module _ {S : Type 0} {text : Ghosts S} (r : Request S text) where
   -- at the begin of a search
-  pub begins : (n : RunnerValue) (a : Allowance) (front : ℕ) → IsReady r n → Begins (start_of r) (end_of r) n.memo
-      → n.started ≡ 0 → n.restarted ≡ 0 → front ≡ start_of r → Searching r n a a front
+  pub begins : {M : Type 0} (n : RunnerValue) (a : Allowance) (front : ℕ) → IsReady r n → Begins (start_of r)
+      (end_of r) n.memo
+      → n.started ≡ 0 → n.restarted ≡ 0 → front ≡ start_of r → Searching M r n a a front
   begins n a front ready memo started restarted at = record {
     fresh = ready.fresh;
     remembers = ready.remembers;
@@ -70,7 +72,8 @@ module _ {S : Type 0} {text : Ghosts S} (r : Request S text) where
   }
 
   -- another run may begin
-  pub ready : (n : RunnerValue) (given a : Allowance) (front : ℕ) → Searching r n given a front → IsReady r n
+  pub ready : {M : Type 0} (n : RunnerValue) (given a : Allowance) (front : ℕ) → Searching M r n given a front
+      → IsReady r n
   ready n given a front old = record {
     fresh = old.fresh;
     remembers = old.remembers;
@@ -79,8 +82,9 @@ module _ {S : Type 0} {text : Ghosts S} (r : Request S text) where
   }
 
   -- what is charged where no further run is needed
-  pub charged_then : (n : RunnerValue) (given a : Allowance) (front : ℕ) → Searching r n given a front → (b : Bool)
-      → Charged r (Ok b) n.started (n.started + n.restarted) given a
+  pub charged_then : {M : Type 0} {memory : Memory M} (n : RunnerValue) (given a : Allowance) (front : ℕ)
+      → Searching M r n given a front → (b : Bool)
+      → Charged {M = M} {memory = memory} r (Ok b) n.started (n.started + n.restarted) given a
   charged_then n given a front old b = record {
     limited = old.limited;
     fewer = old.fewer;
@@ -90,9 +94,10 @@ module _ {S : Type 0} {text : Ghosts S} (r : Request S text) where
   }
 
   -- where no start has a match the answer is no
-  pub answered_no : (s : Shown) (p : ℕ) → ((t : Tree) → Whole (words_of (code_of r)) t → found (asked_of r) t ≡ None)
+  pub answered_no : {E : Type 0} (s : Shown) (p : ℕ) →
+      ((t : Tree) → Whole (words_of (code_of r)) t → found (asked_of r) t ≡ None)
       → s.marks ≡ no_marks → RanBefore (asked_of r) (code_of r) s.started p → p ≤ end_of r + 1
-      → ComparesFew (asked_of r) (code_of r) s.compared → Answered {E = Halt} r (Ok false) s
+      → ComparesFew (asked_of r) (code_of r) s.compared → Answered {E = E} r (Ok false) s
   answered_no s p none marks ran l few = record {
     answer = λ t whole. sym (none t whole);
     cursor = λ never. absurd (cc never);
@@ -105,9 +110,10 @@ module _ {S : Type 0} {text : Ghosts S} (r : Request S text) where
 
 -- A run at a candidate
 
-module _ {S : Type 0} {text : Ghosts S} (r : Request S text) (n n' : RunnerValue) (given a a' : Allowance)
-    (front compared : ℕ) (c : Candidate) (last : Option ℕ) (told : Result (Option StringCursor) Halt)
-    (old : Searching r n given a front)
+module _ {M S : Type 0} {memory : Memory M} {text : Ghosts S} (r : Request S text) (n n' : RunnerValue)
+    (given a a' : Allowance) (front compared : ℕ) (c : Candidate) (last : Option ℕ)
+    (told : Result (Option StringCursor) (Halt M memory))
+    (old : Searching M r n given a front)
     (is : IsCandidate (run_of r) (asked_of r) (code_of r) front c compared)
     (few : ComparesFew (asked_of r) (code_of r) compared)
     (is_last : IsLast (asked_of r) (code_of r) last) (fits : FitsAt last c.start)
@@ -128,13 +134,13 @@ module _ {S : Type 0} {text : Ghosts S} (r : Request S text) (n n' : RunnerValue
       (once_spent (asked_of r) (code_of r) c.literals c.cursor.position _ _ _ is.inside
       (λ t whole. costs.spent t (items_whole (code_of r) t whole))) began.started began.restarted
 
-  cost : is_limited given ≡ true → SearchCosts r (left_of given) (left_of a') n'.started
+  cost : is_limited given ≡ true → SearchCosts M r (left_of given) (left_of a') n'.started
   cost limited =
       since_stopped r n.memo c.cursor _ _ _ n.started n'.started (old.costs limited)
       (costs.stops (old.limited ∙ limited)) from began.started
 
   -- what is charged where it is not given up
-  pub charged : (b : Bool) → Charged r (Ok b) n'.started (n'.started + n'.restarted) given a'
+  pub charged : (b : Bool) → Charged {M = M} {memory = memory} r (Ok b) n'.started (n'.started + n'.restarted) given a'
   charged b = record {
     limited = costs.limited ∙ old.limited;
     fewer = omega (arith, costs.fewer, old.fewer);
@@ -144,8 +150,8 @@ module _ {S : Type 0} {text : Ghosts S} (r : Request S text) (n n' : RunnerValue
   }
 
   -- and where it is
-  pub charged_given_up : (why : Halt) → Halted a' why → (result : Result Bool Halt) → IsErrAnd result (λ y. y ≡ why)
-      → Charged r result n'.started (n'.started + n'.restarted) given a'
+  pub charged_given_up : (why : Halt M memory) → Halted a' why → (result : Result Bool (Halt M memory))
+      → IsErrAnd result (λ y. y ≡ why) → Charged r result n'.started (n'.started + n'.restarted) given a'
   charged_given_up why halts result passed = record {
     limited = costs.limited ∙ old.limited;
     fewer = omega (arith, costs.fewer, old.fewer);
@@ -155,7 +161,7 @@ module _ {S : Type 0} {text : Ghosts S} (r : Request S text) (n n' : RunnerValue
   }
 
   -- a state that shows no match
-  answered_without : (result : Result Bool Halt) (s : Shown) → s.started ≡ n'.started → s.compared ≡ compared
+  answered_without : (result : Result Bool (Halt M memory)) (s : Shown) → s.started ≡ n'.started → s.compared ≡ compared
       → CountsInside r s
   answered_without result s started compares =
       counts_ran (asked_of r) (code_of r) s (c.start + 1) _ _
@@ -163,7 +169,8 @@ module _ {S : Type 0} {text : Ghosts S} (r : Request S text) (n n' : RunnerValue
       (omega (arith, compares, few.few)) (λ plain. compares ∙ few.none plain)
 
   -- a run that is given up
-  pub answered_given_up : (why : Halt) (result : Result Bool Halt) → IsErrAnd result (λ y. y ≡ why) → (s : Shown)
+  pub answered_given_up : (why : Halt M memory) (result : Result Bool (Halt M memory)) → IsErrAnd result (λ y. y ≡ why)
+      → (s : Shown)
       → s.marks ≡ no_marks → s.started ≡ n'.started → s.compared ≡ compared → Answered r result s
   answered_given_up why (Ok b) passed s marks started compares = absurd passed
   answered_given_up why (Err y) passed s marks started compares = record {
@@ -176,8 +183,8 @@ module _ {S : Type 0} {text : Ghosts S} (r : Request S text) (n n' : RunnerValue
     up_to_match = tt;
   }
 
-  module _ (outcome : Option StringCursor) (decides : AttemptDecides r c.literals c.cursor.position (Ok outcome)
-      n'.board)
+  module _ (outcome : Option StringCursor)
+      (decides : AttemptDecides {E = Halt M memory} r c.literals c.cursor.position (Ok outcome) n'.board)
     where
       decided : (t : Tree) → Whole (words_of (code_of r)) t
           → Decides (run_of r) (outcomes (run_of r) t c.start) outcome n'.board.marks
@@ -191,7 +198,7 @@ module _ {S : Type 0} {text : Ghosts S} (r : Request S text) (n n' : RunnerValue
       }
 
       -- the first that is accepted is the match
-      pub answered_yes : (end : StringCursor) → outcome ≡ Some end → Answered {E = Halt} r (Ok true) (record {
+      pub answered_yes : (end : StringCursor) → outcome ≡ Some end → Answered {E = Halt M memory} r (Ok true) (record {
         marks = n'.board.marks;
         start = c.start;
         cursor = end;
@@ -228,7 +235,7 @@ module _ {S : Type 0} {text : Ghosts S} (r : Request S text) (n n' : RunnerValue
 
   -- no match from the start on
   pub answered_over : NoMatch (asked_of r) (code_of r) c.start (end_of r + 1) → (s : Shown) → s.marks ≡ no_marks
-      → s.started ≡ n'.started → s.compared ≡ compared → Answered {E = Halt} r (Ok false) s
+      → s.started ≡ n'.started → s.compared ≡ compared → Answered {E = Halt M memory} r (Ok false) s
   answered_over over s marks started compares =
       answered_no r s (c.start + 1)
       (λ t whole. found_none_behind (asked_of r) t c.start
@@ -239,7 +246,7 @@ module _ {S : Type 0} {text : Ghosts S} (r : Request S text) (n n' : RunnerValue
   -- the search goes on from a further start
   pub searching_on : (further : ℕ) → NoMatch (asked_of r) (code_of r) c.start further → c.start < further
       → further ≤ end_of r → n'.board ≡ bare no_marks → Recalls (run_of r) n'.memo → told ≡ Ok None
-      → Searching r n' given a' further
+      → Searching M r n' given a' further
   searching_on further passed on within fresh remembers e = record {
     fresh = fresh;
     remembers = remembers;
@@ -262,8 +269,8 @@ module _ {S : Type 0} {text : Ghosts S} (r : Request S text) (n n' : RunnerValue
 
 -- A match, of one run at one start
 
-module _ {S : Type 0} {text : Ghosts S} (r : Request S text) (n n' : RunnerValue) (a a' : Allowance) (literals : ℕ)
-    (start : StringCursor) (told : Result (Option StringCursor) Halt)
+module _ {M S : Type 0} {memory : Memory M} {text : Ghosts S} (r : Request S text) (n n' : RunnerValue)
+    (a a' : Allowance) (literals : ℕ) (start : StringCursor) (told : Result (Option StringCursor) (Halt M memory))
     (started : n.started ≡ 0) (restarted : n.restarted ≡ 0)
     (from : start_of r ≤ start.position) (inside : start.position ≤ end_of r)
     (memo : Begins (start_of r) (end_of r) n.memo)
@@ -278,13 +285,13 @@ module _ {S : Type 0} {text : Ghosts S} (r : Request S text) (n n' : RunnerValue
             omega (arith, once.each t whole most within, mul-le-mul_right most few);
       }
 
-  once_cost : is_limited a ≡ true → SearchCosts r (left_of a) (left_of a') 1
+  once_cost : is_limited a ≡ true → SearchCosts M r (left_of a) (left_of a') 1
   once_cost limited =
       since_stopped r n.memo start _ _ _ 0 1 (since_begin r n.memo (left_of a) memo.waits memo.closed)
       (costs.stops limited) from refl
 
   -- what is charged where it is not given up
-  pub once_charged : (b : Bool) → Charged r (Ok b) 1 2 a a'
+  pub once_charged : (b : Bool) → Charged {M = M} {memory = memory} r (Ok b) 1 2 a a'
   once_charged b = record {
     limited = costs.limited;
     fewer = costs.fewer;
@@ -294,7 +301,8 @@ module _ {S : Type 0} {text : Ghosts S} (r : Request S text) (n n' : RunnerValue
   }
 
   -- and where it is
-  pub once_given_up : (why : Halt) → Halted a' why → (result : Result Bool Halt) → IsErrAnd result (λ y. y ≡ why)
+  pub once_given_up : (why : Halt M memory) → Halted a' why → (result : Result Bool (Halt M memory)) → IsErrAnd result
+      (λ y. y ≡ why)
       → Charged r result 1 2 a a'
   once_given_up why halts result passed = record {
     limited = costs.limited;

@@ -1,6 +1,7 @@
 -- What a search that is limited costs at most, where no allocation fails.
 -- Definitions for the contracts inside this crate; what it makes public does not rest on it.
 use Rattle.std.specs.Prelude.{ℕ, ◌+◌, ◌*◌, ◌≤◌, ◌≡◌, ◌⊎◌, Bool, true, false, Result, IfErr}
+use Rattle.std.specs.declared.alloc.Allocator.{Ghosts as Memory}
 use Rattle.sre_chars.specs.declared.string.StrDrive.{Ghosts}
 use Rattle.sre_growth.specs.Refusal.{Refused}
 use Rattle.sre_board.specs.Accounts.{most_paid}
@@ -29,24 +30,25 @@ most_waits r = 32 * (window_of r + 1)
 
 -- runs with no outcome, from a memo that began to one that is there now: what they cost of the steps that were given,
 -- and, where failures are memoized by now, what the memory holds
-pub record CostsUpTo {S : Type 0} {text : Ghosts S} (r : Request S text) (begun now : MemoValue)
+pub record CostsUpTo (M : Type 0) {S : Type 0} {text : Ghosts S} (r : Request S text) (begun now : MemoValue)
     (given left runs : ℕ) : Type 0 where
   pub cost : (pl : Remembering r)
-      → Refused ⊎ (((now.is_open ≡ false) × (given + now.waits ≤ left + begun.waits))
+      → Refused M ⊎ (((now.is_open ≡ false) × (given + now.waits ≤ left + begun.waits))
       ⊎ ((tolls n : ℕ) × (tolls ≤ n) × HoldsBits r pl now n × (now.is_open ≡ true)
       × (given ≤ left + begun.waits + search_cost r pl runs tolls)))
 
 -- a search, whatever it tells: how many steps it takes at most, where no allocation fails. They cost no more than what
 -- its memo waits, and the credits that it pays
-pub record SearchCosts {S : Type 0} {text : Ghosts S} (r : Request S text) (given left runs : ℕ) : Type 0 where
+pub record SearchCosts (M : Type 0) {S : Type 0} {text : Ghosts S} (r : Request S text)
+    (given left runs : ℕ) : Type 0 where
   pub cost : (pl : Remembering r)
-      → Refused ⊎ (given ≤ left + most_waits r + search_cost r pl runs (most_tolls r pl))
+      → Refused M ⊎ (given ≤ left + most_waits r + search_cost r pl runs (most_tolls r pl))
 
 -- what a search of so many starts and runs charges
-pub record Charged {S : Type 0} {text : Ghosts S} (r : Request S text) (told : Result Bool Halt) (started runs : ℕ)
-    (a a' : Allowance) : Type 0 where
+pub record Charged {M S : Type 0} {memory : Memory M} {text : Ghosts S} (r : Request S text)
+    (told : Result Bool (Halt M memory)) (started runs : ℕ) (a a' : Allowance) : Type 0 where
   pub limited : is_limited a' ≡ is_limited a
   pub fewer : left_of a' ≤ left_of a
   pub spent : SpentUpTo (asked_of r) (code_of r) (left_of a) (left_of a') runs
   pub halted : IfErr told (Halted a')
-  pub cost : is_limited a ≡ true → SearchCosts r (left_of a) (left_of a') started
+  pub cost : is_limited a ≡ true → SearchCosts M r (left_of a) (left_of a') started

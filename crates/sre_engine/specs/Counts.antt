@@ -85,13 +85,14 @@ pub record AreEnough (a : Asked) (code : Code) (steps : ℕ) : Type 0 where
 
 -- what a search within a budget of steps does with it: without an answer no step is left; the steps that are left are
 -- no fewer than those that so many runs of the machine leave, and none is added. If each failure of the code is
--- memoized, it takes at most the step bound, whatever the budget and the answer are, unless an allocation failed; so a
--- sufficient budget is exceeded only if one failed
-pub record KeepsToSteps {E : Type 0} (a : Asked) (code : Code) (told : Result (Option Bool) E) (runs given left : ℕ) :
+-- memoized, it takes at most the step bound, whatever the budget and the answer are, unless an allocation by an M
+-- failed; so a sufficient budget is exceeded only if one failed
+pub record KeepsToSteps (M : Type 0) {E : Type 0} (a : Asked) (code : Code) (told : Result (Option Bool) E)
+    (runs given left : ℕ) :
     Type 0 where
   pub used : IfOk told (λ b. b ≡ None → left ≡ 0)
   pub spent : SpentUpTo a code given left runs
   pub fewer : left ≤ given
   pub bounded : (t : Tree) → Whole (words_of code) t → IsRemembered (length (items_of code)) t a
-      → Refused ⊎ (given ≤ left + step_bound t a)
-  pub enough : AreEnough a code given → IfOk told (λ b. b ≡ None → Refused)
+      → Refused M ⊎ (given ≤ left + step_bound t a)
+  pub enough : AreEnough a code given → IfOk told (λ b. b ≡ None → Refused M)

@@ -76,8 +76,8 @@ abbrev pub NextGives : {S A : Type 0} {text : Ghosts S}
     → SearchIter S A text → Option (Result (Unit {0}) SreError) → SearchIter S A text → Type 0
 NextGives it None next = IsOver it × Ends it next × NoneAgain it next
 NextGives it (Some (Ok _)) next = Gives it next × NoneAgain it next
-NextGives it (Some (Err _)) next =
-    (has_ended it ≡ false) × Refused × Ends it next × NoneAgain it next × MayTakeMemory (code_of (request_of it))
+NextGives {A = A} it (Some (Err _)) next =
+    (has_ended it ≡ false) × Refused A × Ends it next × NoneAgain it next × MayTakeMemory (code_of (request_of it))
 
 -- the walk stands where it stood, and goes on from there: there are no marks, and the request is as it was
 pub record Stays {S A : Type 0} {text : Ghosts S} (it next : SearchIter S A text) : Type 0 where
@@ -93,5 +93,5 @@ abbrev pub NextWithin : {S A : Type 0} {text : Ghosts S}
 NextWithin it (Ok (Some true)) next = Gives it next
 NextWithin it (Ok (Some false)) next = IsOver it × Ends it next
 NextWithin it (Ok None) next = Stays it next × MayTakeMemory (code_of (request_of it))
-NextWithin it (Err _) next =
-    (has_ended it ≡ false) × Refused × Ends it next × MayTakeMemory (code_of (request_of it))
+NextWithin {A = A} it (Err _) next =
+    (has_ended it ≡ false) × Refused A × Ends it next × MayTakeMemory (code_of (request_of it))

@@ -11,7 +11,6 @@ use Rattle.sre_model.specs.Anchors.{is_anchored}
 use Rattle.sre_code.specs.Codes.{words_of}
 use Rattle.sre_request.specs.declared.request.Request.{Request}
 use Rattle.sre_request.specs.Requests.{start_of, end_of, code_of, asked_of, stands_in}
-use Rattle.sre_machine.specs.declared.turns.Halt.{Halt}
 use Rattle.sre_engine.specs.Answers.{Shown, Spans, answer_of}
 use Rattle.sre_engine.specs.Counts.{CountsUpTo}
 use Rattle.sre_engine.specs.Walks.{StepsTo, GoesOn}
@@ -49,7 +48,7 @@ pub record Answered {S E : Type 0} {text : Ghosts S} (r : Request S text) (told 
 
 -- the same where it has no run of the machine, which alone may be given up
 abbrev pub AnsweredAtOnce : {S : Type 0} {text : Ghosts S} → Request S text → Bool → Shown → Type 0
-AnsweredAtOnce r b s = Answered {E = Halt} r (Ok b) s
+AnsweredAtOnce r b s = Answered {E = Unit {0}} r (Ok b) s
 
 -- a code that is anchored at the text's start is run once at most
 abbrev pub RunsOnceAnchored : {S : Type 0} {text : Ghosts S} → Request S text → Shown → Type 0

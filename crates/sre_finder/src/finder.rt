@@ -359,7 +359,7 @@ impl<'c> Finder<'c> {
     ) -> Result<bool, SreError>
         requires { self.old.code ≡ code_of req }
         ensures answers { Answered req.entry result state.new }
-        ensures refused { OnErr result Refused }
+        ensures refused { OnErr result (Refused A) }
         ensures anchored { RunsOnceAnchored req.entry state.new }
         ensures once { state.new.restarted ≡ 0 }
         ensures literal { OnErr result (MayTakeMemory (code_of req.entry)) }
@@ -392,7 +392,7 @@ impl<'c> Finder<'c> {
             (λ all. CountsOfWalk (asked_of req.entry) (code_of req.entry) (vec_len all) state.new) }
         ensures once { state.new.restarted ≡ 0 }
         ensures after { state.new.marks ≡ no_marks }
-        ensures refused { OnErr result Refused }
+        ensures refused { OnErr result (Refused A) }
         ensures code { self.new.code ≡ self.old.code }
     {
         self.reset();

@@ -193,7 +193,7 @@ impl<'c> SpanFinder<'c> {
         ensures none { IfOk result (λ o. o ≡ None → (req.new ≡ req.old) × FindsNone req.old) }
         ensures here { stands_in req.new cursor.new (start_of req.new) }
         ensures err { OnErr result (req.new ≡ req.old) }
-        ensures refused { OnErr result Refused }
+        ensures refused { OnErr result (Refused A) }
         ensures literal { OnErr result (MayTakeMemory (code_of req.old)) }
     {
         let from = *cursor;
@@ -228,7 +228,7 @@ impl<'c> SpanFinder<'c> {
         ensures none { IfOk result (λ o. o ≡ None → (req.new ≡ req.old) × FindsNone req.old) }
         ensures here { stands_in req.new cursor.new (start_of req.new) }
         ensures err { OnErr result (req.new ≡ req.old) }
-        ensures refused { OnErr result Refused }
+        ensures refused { OnErr result (Refused A) }
         ensures literal { OnErr result (MayTakeMemory (code_of req.old)) }
     {
         if self.exact.is_none() {

@@ -136,7 +136,7 @@ impl<'c, 'a, S: StrDrive, A: Allocator + Copy> SpanIter<'c, 'a, S, A> {
             stands_in (request_of self.old) end end.position) }
         ensures no { IfOk result (λ b. b ≡ false → (shown_of self.new).marks ≡ no_marks) }
         ensures err { OnErr result ((shown_of self.new).marks ≡ no_marks) }
-        ensures refused { OnErr result Refused }
+        ensures refused { OnErr result (Refused A) }
         ensures req { request_of self.new ≡ request_of self.old }
         ensures last { last_asked self.new ≡ last_asked self.old }
         ensures ended { has_ended self.new ≡ has_ended self.old }

@@ -1,8 +1,9 @@
 //! Growths of lists, whose failure is a value that nothing else makes.
 //!
-//! A [`Refusal`] carries the fact `Refused`: an allocation failed. The fact is sealed in the crate `sre_refusal_seal`,
-//! which only this crate uses. The three functions here state it only if std's own growth of the list failed. So a call
-//! whose error has the fact returns an error only if an allocation failed.
+//! A [`Refusal`] carries the fact `Refused A`: a list whose allocator has the type `A` could not grow. The fact is
+//! sealed in the crate `sre_refusal_seal`, which only this crate uses. The three functions here state it only if std's
+//! own growth of the list failed. So a call whose error has the fact returns an error only if an allocation by an `A`
+//! failed. A call that is generic in `A` has no other `A` than its caller's, and copies of it.
 //!
 //! Each function is a match on std's call that grows the list, which `push` makes only if the list is full. A reader
 //! has to trust no more than that.
@@ -16,12 +17,14 @@ ghost use prog.Memory.{size};
 ghost use denote.Param.{layout};
 
 use std::alloc::{AllocError, Allocator};
+use std::marker::PhantomData;
 
-/// The failure of an allocation. It carries the fact that one failed.
-#[derive(Clone, Copy, Debug)]
-pub struct Refusal {
+/// The failure of an allocation by an `A`. It carries the fact that one failed.
+#[derive(Drop)]
+pub struct Refusal<A: Allocator> {
     cause: AllocError,
-    pub ghost refused: { Refused } by { one_refused },
+    of: PhantomData<A>,
+    pub ghost refused: { Refused A } by { one_refused A },
 }
 
 /// Appends an item to a list.
@@ -30,7 +33,7 @@ pub struct Refusal {
 ///
 /// [`Refusal`], if the list was full and could not grow. The list is unchanged.
 #[inline(always)]
-pub fn push<T: Drop, A: Allocator>(list: &mut Vec<T, A>, item: T) -> Result<(), Refusal>
+pub fn push<T: Drop, A: Allocator>(list: &mut Vec<T, A>, item: T) -> Result<(), Refusal<A>>
     ensures items { list.new.items ≡ (if is_ok result then list.old.items ++ item ∷ [] else list.old.items) }
     ensures len { vec_len list.new ≡ (if is_ok result then vec_len list.old + 1 else vec_len list.old) }
     ensures full { OnErr result (vec_capacity list.old ≤ vec_len list.old) }
@@ -46,7 +49,7 @@ pub fn push<T: Drop, A: Allocator>(list: &mut Vec<T, A>, item: T) -> Result<(), 
             list.push_reserved(item);
             Ok(())
         }
-        Err(cause) => Err(Refusal { cause }),
+        Err(cause) => Err(Refusal { cause, of: PhantomData }),
     }
 }
 
@@ -63,7 +66,7 @@ pub fn resize<T: Copy, A: Allocator>(
     list: &mut Vec<T, A>,
     length: usize,
     value: T,
-) -> Result<(), Refusal>
+) -> Result<(), Refusal<A>>
     requires few { length ≤ 2 ^ 32 }
     requires small { size (layout T.row) ≤ 16 }
     ensures items { list.new.items ≡ (if is_ok result
@@ -74,7 +77,7 @@ pub fn resize<T: Copy, A: Allocator>(
 {
     match list.resize(length, value) {
         Ok(()) => Ok(()),
-        Err(cause) => Err(Refusal { cause }),
+        Err(cause) => Err(Refusal { cause, of: PhantomData }),
     }
 }
 
@@ -84,12 +87,12 @@ pub fn resize<T: Copy, A: Allocator>(
 ///
 /// [`Refusal`], if the allocation of the new list failed.
 #[inline(always)]
-pub fn from_slice<T: Copy, A: Allocator>(alloc: A, items: &[T]) -> Result<Vec<T, A>, Refusal>
+pub fn from_slice<T: Copy, A: Allocator>(alloc: A, items: &[T]) -> Result<Vec<T, A>, Refusal<A>>
     requires small { size (layout T.row) ≤ 16 }
     ensures { IfOk result (λ list. list.items ≡ items.now) }
 {
     match Vec::from_slice(alloc, items) {
         Ok(list) => Ok(list),
-        Err(cause) => Err(Refusal { cause }),
+        Err(cause) => Err(Refusal { cause, of: PhantomData }),
     }
 }

@@ -24,13 +24,13 @@ pub enum LineFault {
     NoMemory,
 }
 
-impl From<Refusal> for LineFault {
+impl<A: Allocator> From<Refusal<A>> for LineFault {
     ghost use Rattle.std.specs.Prelude.{◌≡◌};
     ghost use Rattle.sre_lines.specs.declared.line.LineFault.TheVariants.{NoMemory};
 
     ghost from_gives = { λ _ fault. fault ≡ NoMemory };
 
-    fn from(_refusal: Refusal) -> LineFault {
+    fn from(_refusal: Refusal<A>) -> LineFault {
         LineFault::NoMemory
     }
 }
@@ -112,7 +112,7 @@ pub fn read_case<A: Allocator>(line: &[u8], operands: &mut Operands<A>) -> Resul
     ensures lawful { IfOk result (λ case. IsCase case operands.new.words.items operands.new.text.items) }
     ensures refused { result ≡ Err LineFault.NotACase → (case : Case) (words text : List ℕ) → IsCase case words text
         → case_text case words text ≢ line.now }
-    ensures memory { result ≡ Err LineFault.NoMemory → Refused }
+    ensures memory { result ≡ Err LineFault.NoMemory → Refused A }
 {
     let Some((verb, fields)) = split_once(line, b' ') else {
         return Err(LineFault::NotACase);
@@ -152,7 +152,7 @@ fn read_subject<A: Allocator>(
     ensures subject { IfOk result (λ subject. IsSubject subject operands.new.text.items) }
     ensures refused { result ≡ Err LineFault.NotACase → (subject : Subject) (words text : List ℕ) → AreWords words
         → IsSubject subject text → words_text words ++ subject_text subject text ≢ fields.now }
-    ensures memory { result ≡ Err LineFault.NoMemory → Refused }
+    ensures memory { result ≡ Err LineFault.NoMemory → Refused A }
 {
     let Some((words, fields)) = split_once(fields, b' ') else {
         return Err(LineFault::NotACase);
@@ -186,7 +186,7 @@ pub(crate) fn read_words<A: Allocator>(
     ensures read { OnOk result (words_text words.new.items ≡ field.now) }
     ensures fit { OnOk result (AreWords words.new.items) }
     ensures refused { result ≡ Err LineFault.NotACase → (ws : List ℕ) → AreWords ws → words_text ws ≢ field.now }
-    ensures memory { result ≡ Err LineFault.NoMemory → Refused }
+    ensures memory { result ≡ Err LineFault.NoMemory → Refused A }
 {
     words.clear();
     if field == b"-".as_slice() {
@@ -207,7 +207,7 @@ fn push_word<A: Allocator>(digits: &[u8], words: &mut Vec<u32, A>) -> Result<(),
     ensures read { OnOk result
         ((w : ℕ) × (decimal w ≡ digits.now) × (words.new.items ≡ words.old.items ++ w ∷ []) × (w < 2 ^ 32)) }
     ensures refused { result ≡ Err LineFault.NotACase → (w : ℕ) → w < 2 ^ 32 → decimal w ≢ digits.now }
-    ensures memory { result ≡ Err LineFault.NoMemory → Refused }
+    ensures memory { result ≡ Err LineFault.NoMemory → Refused A }
 {
     let Some(word) = word_of(digits) else {
         return Err(LineFault::NotACase);
@@ -236,7 +236,7 @@ fn read_text<A: Allocator>(field: &[u8], text: &mut Vec<u8, A>) -> Result<TextFo
     ensures is_text { IfOk result (λ form. IsText form text.new.items) }
     ensures refused { result ≡ Err LineFault.NotACase → (form : TextForm) (bytes : List ℕ) → All (λ b. b < 256) bytes
         → IsText form bytes → bytes_text form bytes ≢ field.now }
-    ensures memory { result ≡ Err LineFault.NoMemory → Refused }
+    ensures memory { result ≡ Err LineFault.NoMemory → Refused A }
 {
     let Some((form, digits)) = split_once(field, b':') else {
         return Err(LineFault::NotACase);

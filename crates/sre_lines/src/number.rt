@@ -44,7 +44,7 @@ pub fn read_hex<A: Allocator>(digits: &[u8], bytes: &mut Vec<u8, A>) -> Result<(
     ensures fit { OnOk result (All (λ b. b < 256) bytes.new.items) }
     ensures refused { result ≡ Err LineFault.NotACase → (bs : List ℕ) → All (λ b. b < 256) bs
         → hex_text bs ≢ digits.now }
-    ensures memory { result ≡ Err LineFault.NoMemory → Refused }
+    ensures memory { result ≡ Err LineFault.NoMemory → Refused A }
 {
     bytes.clear();
     if digits.len() % 2 != 0 {

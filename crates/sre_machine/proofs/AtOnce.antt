@@ -24,9 +24,10 @@ use Rattle.sre_machine.proofs.Paying.{pays_left}
 module _ {S : Type 0} {text : Ghosts S} (r : Request S text) (point : Point) (cursor : StringCursor)
     (b c : BoardValue) (m m' : MemoValue) (keeping : Keeping) where
   -- a repeat that goes on inside an atomic scope whose ends are not memoized is in no code of which steps are counted
-  at_once : RunsAtOnce r point keeping c m' → keeping ≡ Unmarked → TriesOn r point cursor b m c m' → (all : List Way)
+  at_once : {M : Type 0} → RunsAtOnce r point keeping c m' → keeping ≡ Unmarked → TriesOn M r point cursor b m c m' →
+      (all : List Way)
       (l l' : Limit) → Arrives (run_of r) all l point cursor b → Goes (run_of r) all l' point cursor c
-      → Pays r m l m' l'
+      → Pays M r m l m' l'
   at_once run unmarked tries all l l' x y = record {
     paid = λ pl opened start n h.
         let here = spot point cursor c in
@@ -42,14 +43,14 @@ module _ {S : Type 0} {text : Ghosts S} (r : Request S text) (point : Point) (cu
 
   -- so a point that is executed is paid, where failures are not memoized, where it is no repeat without a greatest
   -- count, and there
-  pub paid_so : IsKeeping r keeping point b m
+  pub paid_so : {M : Type 0} → IsKeeping r keeping point b m
       → (keeping ≢ Nothing → (RunsOnAt (run_of r).words point → ⊥) ⊎ RunsAtOnce r point keeping c m')
-      → (keeping ≢ Nothing → RunsOnAt (run_of r).words point → TriesOn r point cursor b m c m') → (all : List Way)
+      → (keeping ≢ Nothing → RunsOnAt (run_of r).words point → TriesOn M r point cursor b m c m') → (all : List Way)
       (l l' : Limit) → Arrives (run_of r) all l point cursor b → Goes (run_of r) all l' point cursor c
-      → ((RunsOnAt (run_of r).words point → ⊥) → Pays r m l m' l') → Pays r m l m' l'
-  paid_so is off tries all l l' x y paid = go keeping refl
+      → ((RunsOnAt (run_of r).words point → ⊥) → Pays M r m l m' l') → Pays M r m l m' l'
+  paid_so {M} is off tries all l l' x y paid = go keeping refl
     where
-      go : (k : Keeping) → keeping ≡ k → Pays r m l m' l'
+      go : (k : Keeping) → keeping ≡ k → Pays M r m l m' l'
       go Nothing e = pays_left r m m' l l' (is.left e)
       go Marked e = pays_left r m m' l l' (λ opened. is.refers e)
       go Idle e = pays_left r m m' l l' (λ opened. is.refers_idly e)

@@ -46,8 +46,8 @@ each_inside P Q (x ∷ xs) rest all f = (
   each_inside P Q xs rest all.1 (λ y newer older e p. f y (x ∷ newer) older (ap (λ zs. x ∷ zs) e) p),
 )
 
-module _ {S : Type 0} {text : Ghosts S} (r : Request S text) (cursor : StringCursor) (b : BoardValue)
-    (m m' : MemoValue) (keeps : KeepsBodyEnd r cursor b m m') where
+module _ {M S : Type 0} {text : Ghosts S} (r : Request S text) (cursor : StringCursor) (b : BoardValue)
+    (m m' : MemoValue) (keeps : KeepsBodyEnd M r cursor b m m') where
   -- failures are memoized still
   stays_open : m.is_open ≡ true → m'.stopped ≡ false → m'.is_open ≡ true
   stays_open opened e = ap (λ (k : MemoValue). k.is_open) (keeps.same e) ∙ opened
@@ -57,11 +57,11 @@ module _ {S : Type 0} {text : Ghosts S} (r : Request S text) (cursor : StringCur
   still n c held = elim (keeps.kept n c held) [ inl same ↦ (c, same) | inr other ↦ (cursor, other.0) ]
 
   -- where no atomic scope ends nothing is granted
-  pub pays_kept_end : (l : Limit) → Pays r m l m' l
+  pub pays_kept_end : (l : Limit) → Pays M r m l m' l
   pays_kept_end l = record { paid = λ pl opened at n h. go pl opened n h m'.stopped refl }
     where
       go : (pl : Remembering r) → m.is_open ≡ true → (n : ℕ) → Holding r pl m l n → (stopped : Bool)
-          → m'.stopped ≡ stopped → Refused ⊎ ((n' : ℕ) × Holding r pl m' l n' × (m'.is_open ≡ true)
+          → m'.stopped ≡ stopped → Refused M ⊎ ((n' : ℕ) × Holding r pl m' l n' × (m'.is_open ≡ true)
           × (l.tolls + n ≤ l.tolls + n'))
       go pl opened n h true e = inl (keeps.refused e)
       go pl opened n h false e =
@@ -117,12 +117,12 @@ module _ {S : Type 0} {text : Ghosts S} (r : Request S text) (cursor : StringCur
               (bit_numbered m.kept (run_of r).words (record { inside = true; spot = y }) bit at),
         ))
 
-    pays_ended : Pays r m l m' (without_open b.choices l)
+    pays_ended : Pays M r m l m' (without_open b.choices l)
     pays_ended = record { paid = λ pl opened at n h. go pl opened n h m'.stopped refl }
       where
         go : (pl : Remembering r) → m.is_open ≡ true → (n : ℕ) → Holding r pl m l n → (stopped : Bool)
             → m'.stopped ≡ stopped
-            → Refused ⊎ ((n' : ℕ) × Holding r pl m' (without_open b.choices l) n' × (m'.is_open ≡ true)
+            → Refused M ⊎ ((n' : ℕ) × Holding r pl m' (without_open b.choices l) n' × (m'.is_open ≡ true)
             × (l.tolls + n ≤ l.tolls + n'))
         go pl opened n h true e = inl (keeps.refused e)
         go pl opened n h false e =
@@ -146,7 +146,7 @@ module _ {S : Type 0} {text : Ghosts S} (r : Request S text) (cursor : StringCur
 
     -- so the step that leaves it is paid
     pub ended_then : (n' : Next) (c : BoardValue) → Later (run_of r) all (without_open b.choices l) n' c
-        → Proceeds (run_of r) all l n' c (λ more. Pays r m l m' more)
+        → Proceeds (run_of r) all l n' c (λ more. Pays M r m l m' more)
     ended_then n' c later = (
       without_open b.choices l,
       record { turns = refl; taken = refl; granted = refl; start = refl },
@@ -156,5 +156,5 @@ module _ {S : Type 0} {text : Ghosts S} (r : Request S text) (cursor : StringCur
 
   -- and one that leaves no atomic scope
   pub kept_then : (all : List Way) (l : Limit) (n' : Next) (c : BoardValue) → Later (run_of r) all l n' c
-      → Proceeds (run_of r) all l n' c (λ more. Pays r m l m' more)
+      → Proceeds (run_of r) all l n' c (λ more. Pays M r m l m' more)
   kept_then all l n' c later = (l, grants_nothing l, later, pays_kept_end l)

@@ -47,8 +47,9 @@ stays_tried r point cursor b c false marked left x =
     subst (λ d. IsAt r point cursor d) (sym (left refl)) x
 
 -- an instruction is left at once
-pub left_at_once : {S : Type 0} {text : Ghosts S} (r : Request S text) (point : Point) (cursor : StringCursor)
-    (b c : BoardValue) (m m' : MemoValue) → GivesUp r point cursor b m c m' → LeavesOrStays r point cursor true b m c m'
+pub left_at_once : {M S : Type 0} {text : Ghosts S} (r : Request S text) (point : Point) (cursor : StringCursor)
+    (b c : BoardValue) (m m' : MemoValue) → GivesUp M r point cursor b m c m'
+        → LeavesOrStays M r point cursor true b m c m'
 left_at_once r point cursor b c m m' left = record {
   left = λ _. left;
   stays = λ told. absurd (true≢false told);
@@ -56,9 +57,9 @@ left_at_once r point cursor b c m m' left = record {
 }
 
 -- or is not
-pub stays_on : {S : Type 0} {text : Ghosts S} (r : Request S text) (point : Point) (cursor : StringCursor)
-    (b c : BoardValue) (m m' : MemoValue) → StaysAt r point cursor b c → GoesOn r point cursor b m c m'
-    → LeavesOrStays r point cursor false b m c m'
+pub stays_on : {M S : Type 0} {text : Ghosts S} (r : Request S text) (point : Point) (cursor : StringCursor)
+    (b c : BoardValue) (m m' : MemoValue) → StaysAt r point cursor b c → GoesOn M r point cursor b m c m'
+    → LeavesOrStays M r point cursor false b m c m'
 stays_on r point cursor b c m m' stays goes = record {
   left = λ told. absurd (true≢false (sym told));
   stays = λ _. stays;
@@ -66,36 +67,37 @@ stays_on r point cursor b c m m' stays goes = record {
 }
 
 -- an instruction that is gone on with takes its turn
-pub turn_goes_on : {S : Type 0} {text : Ghosts S} {E : Type 0} (r : Request S text) (point : Point)
+pub turn_goes_on : {M S : Type 0} {text : Ghosts S} {E : Type 0} (r : Request S text) (point : Point)
     (cursor : StringCursor) (b c d : BoardValue) (m m' : MemoValue) (result : Result Next E)
-    → GoesOn r point cursor b m c m'
+    → GoesOn M r point cursor b m c m'
     → ((all : List Way) (l l' : Limit) → Arrives (run_of r) all l point cursor b
     → Goes (run_of r) all l' point cursor c
-    → ((RunsOnAt (run_of r).words point → ⊥) → Pays r m l m' l') → Pays r m l m' l')
+    → ((RunsOnAt (run_of r).words point → ⊥) → Pays M r m l m' l') → Pays M r m l m' l')
     → IfOk result (λ after. TurnAt r point cursor c after d)
-    → IfOk result (λ after. Takes r point cursor b m after d m')
+    → IfOk result (λ after. Takes M r point cursor b m after d m')
 turn_goes_on r point cursor b c d m m' (Ok after) goes paid turn = λ all limit x.
     let g = goes all limit x in (g.0, g.1, turn all g.0 g.2, paid all limit g.0 x g.2 g.3)
 turn_goes_on r point cursor b c d m m' (Err e) goes paid turn = turn
 
 -- the same with one toll
-pub turn_tried : {S : Type 0} {text : Ghosts S} {E : Type 0} (r : Request S text) (place : ℕ) (cursor : StringCursor)
-    (b c d : BoardValue) (m m' : MemoValue) (result : Result Next E) → TriesOn r (Instruction place) cursor b m c m'
+pub turn_tried : {M S : Type 0} {text : Ghosts S} {E : Type 0} (r : Request S text) (place : ℕ) (cursor : StringCursor)
+    (b c d : BoardValue) (m m' : MemoValue) (result : Result Next E) → TriesOn M r (Instruction place) cursor b m c m'
     → IfOk result (λ after. TurnOnce r place cursor c after d)
-    → IfOk result (λ after. Takes r (Instruction place) cursor b m after d m')
+    → IfOk result (λ after. Takes M r (Instruction place) cursor b m after d m')
 turn_tried r place cursor b c d m m' (Ok after) goes turn = λ all limit x.
     let g = goes all limit x in (g.0, g.1, turn all g.0 g.2, g.3)
 turn_tried r place cursor b c d m m' (Err e) goes turn = turn
 
 -- where it is left, nothing is granted
-pub turn_left : {S : Type 0} {text : Ghosts S} (r : Request S text) (point : Point) (cursor : StringCursor)
-    (b c : BoardValue) (m m' : MemoValue) → GivesUp r point cursor b m c m' → Takes r point cursor b m next.Back c m'
+pub turn_left : {M S : Type 0} {text : Ghosts S} (r : Request S text) (point : Point) (cursor : StringCursor)
+    (b c : BoardValue) (m m' : MemoValue) → GivesUp M r point cursor b m c m'
+        → Takes M r point cursor b m next.Back c m'
 turn_left r point cursor b c m m' left all limit x =
     let g = left all limit x in (limit, grants_nothing limit, g.0, g.1)
 
 -- and where the body that it is in is known to end, the machine goes there
-pub turn_ended : {S : Type 0} {text : Ghosts S} (r : Request S text) (point : Point) (cursor end : StringCursor)
-    (b : BoardValue) (m : MemoValue) → EndsThere r point cursor b end → Takes r point cursor b m (next.Done end) b m
+pub turn_ended : {M S : Type 0} {text : Ghosts S} (r : Request S text) (point : Point) (cursor end : StringCursor)
+    (b : BoardValue) (m : MemoValue) → EndsThere r point cursor b end → Takes M r point cursor b m (next.Done end) b m
 turn_ended r point cursor end b m e all limit x = (
   limit,
   grants_nothing limit,

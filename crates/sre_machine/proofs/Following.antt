@@ -66,7 +66,7 @@ stands_there r all l n n' b b' next board x =
 module _ {S : Type 0} {text : Ghosts S} (r : Request S text) (all : List Way) (first : Next) (b : BoardValue)
     (m : MemoValue) (before : ℕ) where
   -- a memo that waits less keeps what it kept
-  pays_waited : (m' m₁ : MemoValue) (l : Limit) → m₁ ≡ record m' { waits = m₁.waits } → Pays r m' l m₁ l
+  pays_waited : {M : Type 0} (m' m₁ : MemoValue) (l : Limit) → m₁ ≡ record m' { waits = m₁.waits } → Pays M r m' l m₁ l
   pays_waited m' m₁ l same =
       pays_nothing r m' m₁ l l (ap (λ (k : MemoValue). k.kept) same) (
         ap (λ (k : MemoValue). k.ends) same,
@@ -76,10 +76,10 @@ module _ {S : Type 0} {text : Ghosts S} (r : Request S text) (all : List Way) (f
       (λ h. ap (λ (k : MemoValue). k.is_open) same ∙ h) refl refl
 
   -- a step more
-  pub follows_on : (n n' : Next) (b' b'' : BoardValue) (m' m₁ m'' : MemoValue) (turned counted : ℕ)
+  pub follows_on : {M : Type 0} (n n' : Next) (b' b'' : BoardValue) (m' m₁ m'' : MemoValue) (turned counted : ℕ)
       → counted ≡ turned + 1 → m₁ ≡ record m' { waits = m₁.waits }
-      → ((l : Limit) → Stands (run_of r) all l n b' → Proceeds (run_of r) all l n' b'' (λ more. Pays r m₁ l m'' more))
-      → Follows r all first n b b' m m' before turned → Follows r all first n' b b'' m m'' before counted
+      → ((l : Limit) → Stands (run_of r) all l n b' → Proceeds (run_of r) all l n' b'' (λ more. Pays M r m₁ l m'' more))
+      → Follows M r all first n b b' m m' before turned → Follows M r all first n' b b'' m m'' before counted
   follows_on n n' b' b'' m' m₁ m'' turned counted one waits turn f = record {
     each = λ limit x.
         let y = f.each limit x in
@@ -96,8 +96,9 @@ module _ {S : Type 0} {text : Ghosts S} (r : Request S text) (all : List Way) (f
   }
 
   -- a step for which nothing is granted
-  pub nothing_granted : (n' : Next) (b'' : BoardValue) (m' : MemoValue) (l : Limit) → Later (run_of r) all l n' b''
-      → Proceeds (run_of r) all l n' b'' (λ more. Pays r m' l m' more)
+  pub nothing_granted : {M : Type 0} (n' : Next) (b'' : BoardValue) (m' : MemoValue) (l : Limit) → Later
+      (run_of r) all l n' b''
+      → Proceeds (run_of r) all l n' b'' (λ more. Pays M r m' l m' more)
   nothing_granted n' b'' m' l x =
       (l, grants_nothing l, x, pays_nothing r m' m' l l refl (refl, refl, refl) (λ h. h) refl refl)
 
@@ -112,10 +113,10 @@ module _ {S : Type 0} {text : Ghosts S} (r : Request S text) (all : List Way) (f
       mul-le-mul (omega (arith, granted, none, same, within)) (omega arith) in
       omega (arith, l, spent)
 
-  module _ (m' : MemoValue) (turned given left left' due : ℕ) (counts : Counts r m m' given left turned)
+  module _ {M : Type 0} (m' : MemoValue) (turned given left left' due : ℕ) (counts : Counts M r m m' given left turned)
       (few : m'.is_open ≡ true → (pl : Remembering r) → due ≤ each_of r pl) (spent : left ≤ left' + due) where
     -- what one step more costs
-    spent_more : (pl : Remembering r) → m.is_open ≡ true → Refused ⊎ (given ≤ left' + (turned + 1) * each_of r pl)
+    spent_more : (pl : Remembering r) → m.is_open ≡ true → Refused M ⊎ (given ≤ left' + (turned + 1) * each_of r pl)
     spent_more pl keeps = elim (counts.spent keeps) [
       | inl refused ↦ inl refused
       | inr x ↦
@@ -126,7 +127,7 @@ module _ {S : Type 0} {text : Ghosts S} (r : Request S text) (all : List Way) (f
 
     -- a step is counted
     pub counts_on : (m'' : MemoValue) (counted : ℕ) → counted ≡ turned + 1
-        → (m'.is_open ≡ true → (m''.is_open ≡ true) ⊎ Refused) → Counts r m m'' given left' counted
+        → (m'.is_open ≡ true → (m''.is_open ≡ true) ⊎ Refused M) → Counts M r m m'' given left' counted
     counts_on m'' counted one keeps_on = record {
       spent = λ keeps. elim (counts.spent keeps) [
         | inl refused ↦ inl refused
@@ -145,8 +146,8 @@ module _ {S : Type 0} {text : Ghosts S} (r : Request S text) (all : List Way) (f
     }
 
     -- what they all cost, this one too
-    pub stops : (n : Next) (b' : BoardValue) → Follows r all first n b b' m m' before turned
-        → (m.is_open ≡ false → given ≤ left' + m.waits) → Stops r all first b m before given left'
+    pub stops : (n : Next) (b' : BoardValue) → Follows M r all first n b b' m m' before turned
+        → (m.is_open ≡ false → given ≤ left' + m.waits) → Stops M r all first b m before given left'
     stops n b' f waited = record {
       cost = λ pl keeps limit x start none k h.
           let y = f.each limit x in
@@ -169,11 +170,11 @@ module _ {S : Type 0} {text : Ghosts S} (r : Request S text) (all : List Way) (f
     }
 
     -- the whole is decided, with no outcome
-    pub settles : (n : Next) (b' : BoardValue) (m₁ m'' : MemoValue) → Follows r all first n b b' m m' before turned
+    pub settles : (n : Next) (b' : BoardValue) (m₁ m'' : MemoValue) → Follows M r all first n b b' m m' before turned
         → m₁ ≡ record m' { waits = m₁.waits }
-        → ((l : Limit) → Stands (run_of r) all l n b' → (more : Limit) × Grants l more × Pays r m₁ l m'' more
+        → ((l : Limit) → Stands (run_of r) all l n b' → (more : Limit) × Grants l more × Pays M r m₁ l m'' more
         × (Counted (run_of r) → (more.trying ≡ []) × Within (run_of r) more))
-        → (m.is_open ≡ false → Waited m m'' given left') → Settles r all first b m m'' before given left'
+        → (m.is_open ≡ false → Waited m m'' given left') → Settles M r all first b m m'' before given left'
     settles n b' m₁ m'' f waits last waited = record {
       cost = λ pl keeps limit x start none k h.
           let y = f.each limit x in
@@ -217,7 +218,8 @@ pub kept_memo : (m m' : MemoValue) → m' ≡ record m { kept = m'.kept; marked 
 kept_memo m m' e = (ap (λ (k : MemoValue). k.is_open) e, ap (λ (k : MemoValue). k.waits) e)
 
 -- a run from its first instruction on
-module _ {S : Type 0} {text : Ghosts S} (r : Request S text) (all : List Way) (i : ℕ) (t : Tree) (start : StringCursor)
+module _ {S : Type 0} {text : Ghosts S} (r : Request S text) (all : List Way) (i : ℕ) (t : Tree)
+    (start : StringCursor)
     (b : BoardValue) (m : MemoValue) (left left' : ℕ)
     (stands : (first : ℕ) → first ≤ start.position
     → Stands (run_of r) all (first_limit (run_of r) i t start first) (next.At i start) b)
@@ -230,7 +232,7 @@ module _ {S : Type 0} {text : Ghosts S} (r : Request S text) (all : List Way) (i
       mul-le-mul (omega (arith, few_steps pl)) (omega arith) in
       omega (arith, l, spent)
 
-  pub run_stops : Stops r all (next.At i start) b m 0 left left' → RunStops r start m left left'
+  pub run_stops : {M : Type 0} → Stops M r all (next.At i start) b m 0 left left' → RunStops M r start m left left'
   run_stops g = record {
     keeping = λ pl from keeps n h.
         let limit = first_limit (run_of r) i t start (start_of r) in
@@ -241,8 +243,8 @@ module _ {S : Type 0} {text : Ghosts S} (r : Request S text) (all : List Way) (i
     closed = λ pl from closed. inr (0, omega arith, omega (arith, g.waited closed));
   }
 
-  pub run_settles : (m' : MemoValue) → Settles r all (next.At i start) b m m' 0 left left'
-      → RunSettles r start m m' left left'
+  pub run_settles : {M : Type 0} (m' : MemoValue) → Settles M r all (next.At i start) b m m' 0 left left'
+      → RunSettles M r start m m' left left'
   run_settles m' g = record {
     keeping = λ pl from keeps n h.
         let limit = first_limit (run_of r) i t start (start_of r) in
@@ -254,11 +256,11 @@ module _ {S : Type 0} {text : Ghosts S} (r : Request S text) (all : List Way) (i
   }
 
 -- a run with no outcome, where a refusal is not kept beyond it
-pub rested : {S : Type 0} {text : Ghosts S} (r : Request S text) (start : StringCursor) (m m' m'' : MemoValue)
-    (left left' : ℕ) → m'' ≡ record m' { stopped = false } → RunSettles r start m m' left left'
-    → RunSettles r start m m'' left left'
-rested r start m m' m'' left left' same run =
-    subst (λ (k : MemoValue). RunSettles r start m k left left') (sym same)
+pub rested : {M S : Type 0} {text : Ghosts S} (r : Request S text) (start : StringCursor) (m m' m'' : MemoValue)
+    (left left' : ℕ) → m'' ≡ record m' { stopped = false } → RunSettles M r start m m' left left'
+    → RunSettles M r start m m'' left left'
+rested {M} r start m m' m'' left left' same run =
+    subst (λ (k : MemoValue). RunSettles M r start m k left left') (sym same)
     (record {
       keeping = λ pl from keeps n h. elim (run.keeping pl from keeps n h) [
         | inl refused ↦ inl refused
@@ -286,7 +288,7 @@ module _ {S : Type 0} {text : Ghosts S} (r : Request S text) (start : StringCurs
     forked = tt;
   }
 
-  pub anew_stops : (left' : ℕ) → RunStops r start m left left' → AnewStops r start left left'
+  pub anew_stops : {M : Type 0} (left' : ℕ) → RunStops M r start m left left' → AnewStops M r start left left'
   anew_stops left' g = record {
     cost = λ pl from. elim (g.keeping pl from keeps 0 (none_held pl)) [
       | inl refused ↦ inl refused
@@ -294,8 +296,8 @@ module _ {S : Type 0} {text : Ghosts S} (r : Request S text) (start : StringCurs
     ];
   }
 
-  pub anew_settles : (m' : MemoValue) (left' : ℕ) → RunSettles r start m m' left left'
-      → AnewSettles r start m' left left'
+  pub anew_settles : {M : Type 0} (m' : MemoValue) (left' : ℕ) → RunSettles M r start m m' left left'
+      → AnewSettles M r start m' left left'
   anew_settles m' left' g = record {
     cost = λ pl from.
         elim (g.keeping pl from keeps 0 (none_held pl)) [
@@ -307,7 +309,7 @@ module _ {S : Type 0} {text : Ghosts S} (r : Request S text) (start : StringCurs
 -- and what that says of the whole: the run before it was waited for
 module _ {S : Type 0} {text : Ghosts S} (r : Request S text) (start : StringCursor) (m : MemoValue)
     (given stood left : ℕ) (closed : m.is_open ≡ false) (waited : given ≤ stood + m.waits) where
-  pub again_stops : AnewStops r start stood left → RunStops r start m given left
+  pub again_stops : {M : Type 0} → AnewStops M r start stood left → RunStops M r start m given left
   again_stops g = record {
     keeping = λ pl from kept n h. absurd (true≢false (sym kept ∙ closed));
     closed = λ pl from c. elim (g.cost pl from) [
@@ -316,7 +318,8 @@ module _ {S : Type 0} {text : Ghosts S} (r : Request S text) (start : StringCurs
     ];
   }
 
-  pub again_settles : (m' : MemoValue) → AnewSettles r start m' stood left → RunSettles r start m m' given left
+  pub again_settles : {M : Type 0} (m' : MemoValue) → AnewSettles M r start m' stood left
+      → RunSettles M r start m m' given left
   again_settles m' g = record {
     keeping = λ pl from kept n h. absurd (true≢false (sym kept ∙ closed));
     closed = λ pl from c. elim (g.cost pl from) [

@@ -3,10 +3,9 @@ use Rattle.std.proofs.Common.{Result, Ok, Err, IfOk, Option, Bool}
 use Rattle.std.specs.Result.{IsErrAnd}
 use Rattle.sre_chars.specs.declared.string.StringCursor.{StringCursor}
 use Rattle.sre_machine.specs.Spending.{found_of}
-use Rattle.sre_machine.specs.declared.turns.Halt.{Halt}
 
 -- of what is given up nothing is found
-pub never_found : (P : Halt → Type 0) (Q : Option StringCursor → Type 0) (r : Result Bool Halt) (end : StringCursor)
-    → IsErrAnd r P → IfOk (found_of r end) Q
+pub never_found : {E : Type 0} (P : E → Type 0) (Q : Option StringCursor → Type 0) (r : Result Bool E)
+    (end : StringCursor)     → IsErrAnd r P → IfOk (found_of r end) Q
 never_found P Q (Ok x) end h = absurd h
 never_found P Q (Err e) end h = tt

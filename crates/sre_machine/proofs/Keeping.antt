@@ -57,11 +57,11 @@ module _ {S : Type 0} {text : Ghosts S} (r : Request S text) (point : Point) (p 
       a.roomy) a
 
 -- a mark is passed over, whose point is kept: nothing is granted
-pub pays_kept : {S : Type 0} {text : Ghosts S} (r : Request S text) (point : Point) (cursor : StringCursor)
+pub pays_kept : {M S : Type 0} {text : Ghosts S} (r : Request S text) (point : Point) (cursor : StringCursor)
     (b b' : BoardValue) (m m' : MemoValue) → b.choices ≡ Trying point b'.frames cursor b'.marks ∷ b'.choices
     → m' ≡ record m { kept = m'.kept; marked = m'.marked }
     → HoldsTried r (attempt b'.choices (spot point cursor b')) m.kept m'.kept
-    → (all : List Way) (limit : Limit) → Backs (run_of r) all limit b → Pays r m limit m' (without_tried limit)
+    → (all : List Way) (limit : Limit) → Backs (run_of r) all limit b → Pays M r m limit m' (without_tried limit)
 pays_kept r point cursor b b' m m' marked same keeps all limit x = record {
   paid = λ pl keeps_them at n h.
       let f = x.fares pl.plain in

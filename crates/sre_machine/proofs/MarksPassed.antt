@@ -36,15 +36,15 @@ module _ {S : Type 0} {text : Ghosts S} (r : Request S text) (point : Point) (cu
       tried_hopeless (run_of r) (asked_by_stop (asked_of r)) point cursor b b' m serves marked x.all x.limit x.backs
 
   -- the machine goes back under a limit that grants no more, and where failures are kept all is paid
-  abbrev GoesBackSo : Type 0 → MemoValue → MemoValue → List Way → Limit → BoardValue → Type 0
-  GoesBackSo Keeps first m all limit a =
-      (more : Limit) × Grants limit more × Backs (run_of r) all more a × (Keeps → Pays r first limit m more)
+  abbrev GoesBackSo : Type 0 → Type 0 → MemoValue → MemoValue → List Way → Limit → BoardValue → Type 0
+  GoesBackSo M Keeps first m all limit a =
+      (more : Limit) × Grants limit more × Backs (run_of r) all more a × (Keeps → Pays M r first limit m more)
 
-  pub passed_back : (Keeps : Type 0) (first m m' : MemoValue)
+  pub passed_back : {M : Type 0} (Keeps : Type 0) (first m m' : MemoValue)
       → (Keeps → (all : List Way) (limit : Limit) → Backs (run_of r) all limit b
-      → Pays r m limit m' (without_tried limit))
-      → (all : List Way) (limit : Limit) → GoesBackSo Keeps first m all limit b
-      → GoesBackSo Keeps first m' all limit b'
+      → Pays M r m limit m' (without_tried limit))
+      → (all : List Way) (limit : Limit) → GoesBackSo M Keeps first m all limit b
+      → GoesBackSo M Keeps first m' all limit b'
   passed_back Keeps first m m' pays all limit y = (
     without_tried y.0,
     grants_then limit y.0 (without_tried y.0) y.1

@@ -53,11 +53,12 @@ use Rattle.sre_machine.specs.Paying.{Pays, Remembering, Holding, rows_from}
 use Rattle.sre_machine.proofs.Paying.{pays_refused, pays_nothing, pays_left}
 
 -- failures are memoized still, or an allocation failed
-pub open_or_refused : (m m' : MemoValue) → m.is_open ≡ true → (m'.stopped ≡ false → m' ≡ record m { kept = m'.kept })
-    → (m'.stopped ≡ true → Refused) → (m'.is_open ≡ true) ⊎ Refused
-open_or_refused m m' keeps same refused = go m'.stopped refl
+pub open_or_refused : (M : Type 0) (m m' : MemoValue) → m.is_open ≡ true →
+    (m'.stopped ≡ false → m' ≡ record m { kept = m'.kept })
+    → (m'.stopped ≡ true → Refused M) → (m'.is_open ≡ true) ⊎ Refused M
+open_or_refused M m m' keeps same refused = go m'.stopped refl
   where
-    go : (stopped : Bool) → m'.stopped ≡ stopped → (m'.is_open ≡ true) ⊎ Refused
+    go : (stopped : Bool) → m'.stopped ≡ stopped → (m'.is_open ≡ true) ⊎ Refused M
     go true e = inr (refused e)
     go false e = inl (ap (λ (k : MemoValue). k.is_open) (same e) ∙ keeps)
 
@@ -112,22 +113,22 @@ few_split r (Instruction place) cursor b = split_few r.words r.subject.end place
 few_split r point cursor b = omega arith
 
 -- the address of a point was prepared under the loops of a backtrack stack
-pub record PreparedAt {S : Type 0} {text : Ghosts S} (r : Request S text) (point : Point) (b : BoardValue)
+pub record PreparedAt (M : Type 0) {S : Type 0} {text : Ghosts S} (r : Request S text) (point : Point) (b : BoardValue)
     (m m' : MemoValue) : Type 0 where
   pub makes : MakesRoom (run_of r).words m.first (end_of r) point (repeats b.frames) m m'
   pub same : m'.stopped ≡ false → m' ≡ record m { kept = m'.kept }
-  pub refused : m'.stopped ≡ true → Refused
+  pub refused : m'.stopped ≡ true → Refused M
 
 -- the same, as it is read off the request
-pub prepared_at : {S : Type 0} {text : Ghosts S} (r : Request S text) (point : Point) (b : BoardValue)
+pub prepared_at : {M S : Type 0} {text : Ghosts S} (r : Request S text) (point : Point) (b : BoardValue)
     (m m' : MemoValue) (ws : List ℕ) (end : ℕ) → ws ≡ (run_of r).words → end ≡ end_of r
     → MakesRoom ws m.first end point (repeats b.frames) m m' → (m'.stopped ≡ false → m' ≡ record m { kept = m'.kept })
-    → (m'.stopped ≡ true → Refused) → PreparedAt r point b m m'
+    → (m'.stopped ≡ true → Refused M) → PreparedAt M r point b m m'
 prepared_at r point b m m' ws end words stop makes same refused =
     record { makes = rw (words, stop) at makes; same = same; refused = refused }
 
-module _ {S : Type 0} {text : Ghosts S} (r : Request S text) (point : Point) (cursor : StringCursor) (b : BoardValue)
-    (m m' : MemoValue) (p : PreparedAt r point b m m') (forks : ForksThere r point) (all : List Way) (limit : Limit)
+module _ {M S : Type 0} {text : Ghosts S} (r : Request S text) (point : Point) (cursor : StringCursor) (b : BoardValue)
+    (m m' : MemoValue) (p : PreparedAt M r point b m m') (forks : ForksThere r point) (all : List Way) (limit : Limit)
     (x : Arrives (run_of r) all limit point cursor b) where
   abbrev here : Spot
   here = spot point cursor b
@@ -192,11 +193,11 @@ module _ {S : Type 0} {text : Ghosts S} (r : Request S text) (point : Point) (cu
   stays_open keeps e = ap (λ (k : MemoValue). k.is_open) (p.same e) ∙ keeps
 
   -- nothing is granted
-  pub pays_prepared : Pays r m limit m' limit
+  pub pays_prepared : Pays M r m limit m' limit
   pays_prepared = record { paid = λ pl keeps at n h. go pl keeps at n h m'.stopped refl }
     where
       go : (pl : Remembering r) → m.is_open ≡ true → limit.start ≡ start_of r → (n : ℕ) → Holding r pl m limit n
-          → (stopped : Bool) → m'.stopped ≡ stopped → Refused ⊎ ((n' : ℕ) × Holding r pl m' limit n'
+          → (stopped : Bool) → m'.stopped ≡ stopped → Refused M ⊎ ((n' : ℕ) × Holding r pl m' limit n'
           × (m'.is_open ≡ true) × (limit.tolls + n ≤ limit.tolls + n'))
       go pl keeps at n h true e = inl (p.refused e)
       go pl keeps at n h false e = inr (n, holds pl at n h e, stays_open keeps e, omega arith)
@@ -233,12 +234,12 @@ module _ {S : Type 0} {text : Ghosts S} (r : Request S text) (point : Point) (cu
     -- credits are granted, and the configuration's bit is taken in
     pays_tried : (k : ℕ) → k ≤ toll_at (run_of r) here
         → IsOpen m'.kept (run_of r).words (is_inside b.choices) here
-        → Pays r m limit m' (with_tried there (raised k limit))
+        → Pays M r m limit m' (with_tried there (raised k limit))
     pays_tried k few opened = record { paid = λ pl keeps at n h. go pl keeps at n h m'.stopped refl }
       where
         go : (pl : Remembering r) → m.is_open ≡ true → limit.start ≡ start_of r → (n : ℕ) → Holding r pl m limit n
             → (stopped : Bool) → m'.stopped ≡ stopped
-            → Refused ⊎ ((n' : ℕ) × Holding r pl m' (with_tried there (raised k limit)) n' × (m'.is_open ≡ true)
+            → Refused M ⊎ ((n' : ℕ) × Holding r pl m' (with_tried there (raised k limit)) n' × (m'.is_open ≡ true)
             × (limit.tolls + k + n ≤ limit.tolls + n'))
         go pl keeps at n h true e = inl (p.refused e)
         go pl keeps at n h false e =
@@ -262,12 +263,12 @@ module _ {S : Type 0} {text : Ghosts S} (r : Request S text) (point : Point) (cu
 
   -- a configuration has a bit, so of one that has none no credits are left to be paid
   pays_untried : (k : ℕ) → (HasBit m'.kept (run_of r).words (is_inside b.choices) here → ⊥)
-      → Pays r m limit m' (raised k limit)
+      → Pays M r m limit m' (raised k limit)
   pays_untried k none = record { paid = λ pl keeps at n h. go pl at n h m'.stopped refl }
     where
       go : (pl : Remembering r) → limit.start ≡ start_of r → (n : ℕ) → Holding r pl m limit n
           → (stopped : Bool) → m'.stopped ≡ stopped
-          → Refused ⊎ ((n' : ℕ) × Holding r pl m' (raised k limit) n' × (m'.is_open ≡ true)
+          → Refused M ⊎ ((n' : ℕ) × Holding r pl m' (raised k limit) n' × (m'.is_open ≡ true)
           × (limit.tolls + k + n ≤ limit.tolls + n'))
       go pl at n h true e = inl (p.refused e)
       go pl at n h false e =
@@ -286,7 +287,7 @@ module _ {S : Type 0} {text : Ghosts S} (r : Request S text) (point : Point) (cu
   -- an instruction without a bit is executed, and no mark is made
   module _ (none : HasBit m'.kept (run_of r).words (is_inside b.choices) here → ⊥) where
     pub goes_untried : (more : Limit) × Grants limit more × Goes (run_of r) all more point cursor b
-        × ((RunsOnAt (run_of r).words point → ⊥) → Pays r m limit m' more)
+        × ((RunsOnAt (run_of r).words point → ⊥) → Pays M r m limit m' more)
     goes_untried = (
       raised own limit,
       record { turns = refl; taken = refl; granted = refl; start = refl },
@@ -296,7 +297,7 @@ module _ {S : Type 0} {text : Ghosts S} (r : Request S text) (point : Point) (cu
 
     -- the same for a repeat that is split
     pub tries_untried : (more : Limit) × Grants limit more × Tries (run_of r) all more point cursor b
-        × Pays r m limit m' more
+        × Pays M r m limit m' more
     tries_untried = (
       split,
       record { turns = refl; taken = refl; granted = refl; start = refl },
@@ -307,7 +308,7 @@ module _ {S : Type 0} {text : Ghosts S} (r : Request S text) (point : Point) (cu
   module _ (recalls : RecallsOf r m) (untold : RefersToGroups r ⊎ NoEndTold r point cursor b m) (c : BoardValue)
       (made : Bool)
       (marked : made ≡ true → c ≡ record b { choices = Trying point b.frames cursor b.marks ∷ b.choices })
-      (left : made ≡ false → c ≡ b) (none : made ≡ false → Refused)
+      (left : made ≡ false → c ≡ b) (none : made ≡ false → Refused M)
       (opened : IsOpen m'.kept (run_of r).words (is_inside b.choices) here) where
     -- so many are few, but for a repeat without a greatest count
     few_units : (RunsOnAt (run_of r).words point → ⊥) → own ≤ toll_at (run_of r) here
@@ -315,12 +316,12 @@ module _ {S : Type 0} {text : Ghosts S} (r : Request S text) (point : Point) (cu
 
     -- so the instruction is executed, where its mark was made; it was not where an allocation failed
     pub goes_tried : (more : Limit) × Grants limit more × Goes (run_of r) all more point cursor c
-        × ((RunsOnAt (run_of r).words point → ⊥) → Pays r m limit m' more)
+        × ((RunsOnAt (run_of r).words point → ⊥) → Pays M r m limit m' more)
     goes_tried = go made refl
       where
         go : (told : Bool) → made ≡ told → (more : Limit) × Grants limit more
             × Goes (run_of r) all more point cursor c
-            × ((RunsOnAt (run_of r).words point → ⊥) → Pays r m limit m' more)
+            × ((RunsOnAt (run_of r).words point → ⊥) → Pays M r m limit m' more)
         go true e = (
           with_tried there (raised own limit),
           record { turns = refl; taken = refl; granted = refl; start = refl },
@@ -338,11 +339,11 @@ module _ {S : Type 0} {text : Ghosts S} (r : Request S text) (point : Point) (cu
 
     -- the same for a repeat that is split
     pub tries_tried : (more : Limit) × Grants limit more × Tries (run_of r) all more point cursor c
-        × Pays r m limit m' more
+        × Pays M r m limit m' more
     tries_tried = go made refl
       where
         go : (told : Bool) → made ≡ told → (more : Limit) × Grants limit more
-            × Tries (run_of r) all more point cursor c × Pays r m limit m' more
+            × Tries (run_of r) all more point cursor c × Pays M r m limit m' more
         go true e = (
           with_tried there split,
           record { turns = refl; taken = refl; granted = refl; start = refl },
@@ -360,9 +361,9 @@ module _ {S : Type 0} {text : Ghosts S} (r : Request S text) (point : Point) (cu
     (m m' : MemoValue) (all : List Way) (limit : Limit)
     (x : Arrives (run_of r) all limit point cursor b) where
   -- an instruction is executed, where it brings no credits
-  pub goes_freely : BringsNoTolls r point
+  pub goes_freely : {M : Type 0} → BringsNoTolls r point
       → (more : Limit) × Grants limit more × Goes (run_of r) all more point cursor b
-      × ((RunsOnAt (run_of r).words point → ⊥) → Pays r m limit m more)
+      × ((RunsOnAt (run_of r).words point → ⊥) → Pays M r m limit m more)
   goes_freely free =
       let code = run_code (run_of r) (spot point cursor b) x.runs in
       let k : ℕ = toll (run_of r).words (run_of r).subject.end code.0 point (repeats b.frames) in
@@ -376,9 +377,9 @@ module _ {S : Type 0} {text : Ghosts S} (r : Request S text) (point : Point) (cu
       )
 
   -- and where failures are not memoized
-  pub goes_forgetting : (m.is_open ≡ true → HasReference (run_of r).words)
+  pub goes_forgetting : {M : Type 0} → (m.is_open ≡ true → HasReference (run_of r).words)
       → (more : Limit) × Grants limit more × Goes (run_of r) all more point cursor b
-      × ((RunsOnAt (run_of r).words point → ⊥) → Pays r m limit m' more)
+      × ((RunsOnAt (run_of r).words point → ⊥) → Pays M r m limit m' more)
   goes_forgetting left =
       let code = run_code (run_of r) (spot point cursor b) x.runs in
       let k : ℕ = toll (run_of r).words (run_of r).subject.end code.0 point (repeats b.frames) in (
@@ -397,13 +398,13 @@ module _ {S : Type 0} {text : Ghosts S} (r : Request S text) (point : Point) (cu
   abbrev parted : Limit
   parted = raised (split_toll (run_of r).words point) limit
 
-  pub goes_marked : (more : Limit) × Grants limit more × Goes (run_of r) all more point cursor c
-      × ((RunsOnAt (run_of r).words point → ⊥) → Pays r m limit m' more)
-  goes_marked = go made refl
+  pub goes_marked : {M : Type 0} → (more : Limit) × Grants limit more × Goes (run_of r) all more point cursor c
+      × ((RunsOnAt (run_of r).words point → ⊥) → Pays M r m limit m' more)
+  goes_marked {M} = go made refl
     where
       go : (told : Bool) → made ≡ told → (more : Limit) × Grants limit more
           × Goes (run_of r) all more point cursor c
-          × ((RunsOnAt (run_of r).words point → ⊥) → Pays r m limit m' more)
+          × ((RunsOnAt (run_of r).words point → ⊥) → Pays M r m limit m' more)
       go true e =
           let code = run_code (run_of r) (spot point cursor b) x.runs in
           let k : ℕ = toll (run_of r).words (run_of r).subject.end code.0 point (repeats b.frames) in (
@@ -426,12 +427,12 @@ module _ {S : Type 0} {text : Ghosts S} (r : Request S text) (point : Point) (cu
           )
 
   -- the same for a repeat that is split
-  pub tries_marked : (more : Limit) × Grants limit more × Tries (run_of r) all more point cursor c
-      × Pays r m limit m' more
-  tries_marked = go made refl
+  pub tries_marked : {M : Type 0} → (more : Limit) × Grants limit more × Tries (run_of r) all more point cursor c
+      × Pays M r m limit m' more
+  tries_marked {M} = go made refl
     where
       go : (told : Bool) → made ≡ told → (more : Limit) × Grants limit more
-          × Tries (run_of r) all more point cursor c × Pays r m limit m' more
+          × Tries (run_of r) all more point cursor c × Pays M r m limit m' more
       go true e = (
         with_tried (attempt b.choices (spot point cursor b)) parted,
         record { turns = refl; taken = refl; granted = refl; start = refl },

@@ -31,8 +31,8 @@ module _ {S : Type 0} {text : Ghosts S} (r : Request S text) where
   }
 
   -- none is granted
-  pub pays_nothing : (m m' : MemoValue) (l l' : Limit) → m'.kept ≡ m.kept → EndsStay m m'
-      → (m.is_open ≡ true → m'.is_open ≡ true) → l'.trying ≡ l.trying → l'.tolls ≡ l.tolls → Pays r m l m' l'
+  pub pays_nothing : {M : Type 0} (m m' : MemoValue) (l l' : Limit) → m'.kept ≡ m.kept → EndsStay m m'
+      → (m.is_open ≡ true → m'.is_open ≡ true) → l'.trying ≡ l.trying → l'.tolls ≡ l.tolls → Pays M r m l m' l'
   pays_nothing m m' l l' same ends stays trying tolls = record {
     paid = λ pl keeps start n h. inr (
       n,
@@ -43,8 +43,8 @@ module _ {S : Type 0} {text : Ghosts S} (r : Request S text) where
   }
 
   -- one after the other
-  pub pays_then : (m m' m'' : MemoValue) (l l' l'' : Limit) → l.start ≡ l'.start → Pays r m l m' l'
-      → Pays r m' l' m'' l'' → Pays r m l m'' l''
+  pub pays_then : {M : Type 0} (m m' m'' : MemoValue) (l l' l'' : Limit) → l.start ≡ l'.start → Pays M r m l m' l'
+      → Pays M r m' l' m'' l'' → Pays M r m l m'' l''
   pays_then m m' m'' l l' l'' start first second = record {
     paid = λ pl keeps at n h. elim (first.paid pl keeps at n h) [
       | inl refused ↦ inl refused
@@ -56,12 +56,12 @@ module _ {S : Type 0} {text : Ghosts S} (r : Request S text) where
   }
 
   -- where memory was refused nothing is owed, nor where failures are not kept
-  pub pays_refused : (m m' : MemoValue) (l l' : Limit) → Refused → Pays r m l m' l'
+  pub pays_refused : {M : Type 0} (m m' : MemoValue) (l l' : Limit) → Refused M → Pays M r m l m' l'
   pays_refused m m' l l' refused = record { paid = λ pl keeps start n h. inl refused }
 
   -- where words have a reference nothing is promised
-  pub pays_left : (m m' : MemoValue) (l l' : Limit) → (m.is_open ≡ true → HasReference (run_of r).words)
-      → Pays r m l m' l'
+  pub pays_left : {M : Type 0} (m m' : MemoValue) (l l' : Limit) → (m.is_open ≡ true → HasReference (run_of r).words)
+      → Pays M r m l m' l'
   pays_left m m' l l' left = record {
     paid = λ pl keeps start n h.
         absurd (no_reference (run_of r).words pl.plain.tree pl.plain.whole pl.plain.no_reference (left keeps));

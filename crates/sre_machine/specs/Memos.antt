@@ -2,7 +2,6 @@
 use Rattle.std.specs.Prelude.{ℕ, ◌+◌, ◌-◌, ◌*◌, ◌^◌, ◌<◌, ◌≤◌, ◌≡◌, Bool, true, false, List, []}
 use Rattle.std.specs.Prelude.{Option, Some, None, negsuc}
 use Rattle.sre_chars.specs.declared.string.StrDrive.{Ghosts}
-use Rattle.sre_growth.specs.declared.Refusal.{Refusal}
 use Rattle.sre_model.specs.Tree.{Tree}
 use Rattle.sre_model.specs.Grammar.{WholeItems}
 use Rattle.sre_model.specs.LooksBehind.{backs}
@@ -53,11 +52,12 @@ pub record MemoValue : Type 0 where
   pub is_open : Bool
   pub stopped : Bool
 
-abbrev pub has_refusal : Option Refusal → Bool
+abbrev pub has_refusal : {R : Type 0} → Option R → Bool
 has_refusal None = false
 has_refusal (Some r) = true
 
-abbrev pub memo_of : Kept → MarkedValue → EndsTable → Bool → ℕ → ℕ → ℕ → ℕ → Bool → Option Refusal → MemoValue
+abbrev pub memo_of : {R : Type 0} → Kept → MarkedValue → EndsTable → Bool → ℕ → ℕ → ℕ → ℕ → Bool → Option R
+    → MemoValue
 memo_of k m e h f p w t o r = record {
   kept = k;
   marked = m;

@@ -65,10 +65,11 @@ abbrev pub each_of : {S : Type 0} {text : Ghosts S} (r : Request S text) → Rem
 each_of r pl = 1 + min (most_counts pl.plain.tree) (end_of r) / 8
 
 -- from one memo and limit to another the credits are paid, if failures were memoized and no allocation failed meanwhile
-pub record Pays {S : Type 0} {text : Ghosts S} (r : Request S text) (m : MemoValue) (l : Limit) (m' : MemoValue)
+pub record Pays (M : Type 0) {S : Type 0} {text : Ghosts S} (r : Request S text) (m : MemoValue) (l : Limit)
+    (m' : MemoValue)
     (l' : Limit) : Type 0 where
   pub paid : (pl : Remembering r) → m.is_open ≡ true → l.start ≡ start_of r → (n : ℕ) → Holding r pl m l n
-      → Refused ⊎ ((n' : ℕ) × Holding r pl m' l' n' × (m'.is_open ≡ true)
+      → Refused M ⊎ ((n' : ℕ) × Holding r pl m' l' n' × (m'.is_open ≡ true)
       × (l'.tolls + n ≤ l.tolls + n'))
 
 -- no more steps were taken than the potential allows
@@ -83,17 +84,18 @@ HoldsTried r x k k' =
     → Account (run_of r) pl.plain (rows_from r pl) k' es xs n
 
 -- from where some steps began the machine has come here, by so many more of them, and all credits are paid
-pub record Follows {S : Type 0} {text : Ghosts S} (r : Request S text) (all : List Way) (first next : Next)
+pub record Follows (M : Type 0) {S : Type 0} {text : Ghosts S} (r : Request S text) (all : List Way) (first next : Next)
     (b b' : BoardValue) (m m' : MemoValue) (before turned : ℕ) : Type 0 where
   pub each : (limit : Limit) → Stands (run_of r) all limit first b
       → (more : Limit) × Stands (run_of r) all more next b' × (limit.granted ≡ more.granted)
-      × (limit.start ≡ more.start) × (more.taken + before ≡ limit.taken + turned) × Pays r m limit m' more
+      × (limit.start ≡ more.start) × (more.taken + before ≡ limit.taken + turned) × Pays M r m limit m' more
 
 -- while failures are memoized each step counts for so much; if they are not any more, an allocation failed
-pub record Counts {S : Type 0} {text : Ghosts S} (r : Request S text) (m m' : MemoValue) (left left' turned : ℕ) :
+pub record Counts (M : Type 0) {S : Type 0} {text : Ghosts S} (r : Request S text) (m m' : MemoValue)
+    (left left' turned : ℕ) :
     Type 0 where
   pub spent : m.is_open ≡ true
-      → Refused ⊎ ((m'.is_open ≡ true) × ((pl : Remembering r) → left ≤ left' + turned * each_of r pl))
+      → Refused M ⊎ ((m'.is_open ≡ true) × ((pl : Remembering r) → left ≤ left' + turned * each_of r pl))
 
 -- failures were not memoized, and each step that was taken was waited for
 pub record Waited (m m' : MemoValue) (left left' : ℕ) : Type 0 where
@@ -102,21 +104,23 @@ pub record Waited (m m' : MemoValue) (left left' : ℕ) : Type 0 where
 
 -- however steps ended: how many there were at most, where no allocation failed; where failures were not memoized at
 -- first, each was waited for
-pub record Stops {S : Type 0} {text : Ghosts S} (r : Request S text) (all : List Way) (first : Next) (b : BoardValue)
+pub record Stops (M : Type 0) {S : Type 0} {text : Ghosts S} (r : Request S text) (all : List Way) (first : Next)
+    (b : BoardValue)
     (m : MemoValue) (before left left' : ℕ) : Type 0 where
   pub cost : (pl : Remembering r) → m.is_open ≡ true → (limit : Limit) → Stands (run_of r) all limit first b
       → limit.start ≡ start_of r → limit.taken ≡ before → (n : ℕ) → Holding r pl m limit n
-      → Refused ⊎ ((tolls : ℕ)
+      → Refused M ⊎ ((tolls : ℕ)
       × (tolls + n ≤ limit.tolls + most_paid (run_of r) pl.plain (rows_from r pl))
       × (left ≤ left' + (limit.granted + tolls + 1) * each_of r pl))
   pub waited : m.is_open ≡ false → left ≤ left' + m.waits
 
 -- steps by which the whole was decided, with no outcome: the same, and what the memory holds then
-pub record Settles {S : Type 0} {text : Ghosts S} (r : Request S text) (all : List Way) (first : Next) (b : BoardValue)
+pub record Settles (M : Type 0) {S : Type 0} {text : Ghosts S} (r : Request S text) (all : List Way) (first : Next)
+    (b : BoardValue)
     (m m' : MemoValue) (before left left' : ℕ) : Type 0 where
   pub cost : (pl : Remembering r) → m.is_open ≡ true → (limit : Limit) → Stands (run_of r) all limit first b
       → limit.start ≡ start_of r → limit.taken ≡ before → (n : ℕ) → Holding r pl m limit n
-      → Refused ⊎ ((tolls n' : ℕ)
+      → Refused M ⊎ ((tolls n' : ℕ)
       × (tolls + n ≤ limit.tolls + n')
       × Holds r pl m' [] n' × (m'.is_open ≡ true)
       × (left ≤ left' + (limit.granted + tolls + 1) * each_of r pl))
@@ -131,39 +135,43 @@ abbrev pub HoldsBits : {S : Type 0} {text : Ghosts S} (r : Request S text) → R
 HoldsBits r pl m n = Holds r pl m [] n
 
 -- a run from a cursor, however it ended: how many steps it took at most, where no allocation failed
-pub record RunStops {S : Type 0} {text : Ghosts S} (r : Request S text) (start : StringCursor) (m : MemoValue)
+pub record RunStops (M : Type 0) {S : Type 0} {text : Ghosts S} (r : Request S text) (start : StringCursor)
+    (m : MemoValue)
     (left left' : ℕ) : Type 0 where
   pub keeping : (pl : Remembering r) → start_of r ≤ start.position → m.is_open ≡ true → (n : ℕ) → HoldsBits r pl m n
-      → Refused
+      → Refused M
       ⊎ ((tolls : ℕ) × (tolls + n ≤ most_paid (run_of r) pl.plain (rows_from r pl))
       × (left ≤ left' + run_cost r pl tolls))
   pub closed : (pl : Remembering r) → start_of r ≤ start.position → m.is_open ≡ false
-      → Refused ⊎ ((tolls : ℕ) × (tolls ≤ most_paid (run_of r) pl.plain (rows_from r pl))
+      → Refused M ⊎ ((tolls : ℕ) × (tolls ≤ most_paid (run_of r) pl.plain (rows_from r pl))
       × (left ≤ left' + m.waits + run_cost r pl tolls))
 
 -- a run with no outcome: the same, and what the memory holds then; or failures were not memoized in it
-pub record RunSettles {S : Type 0} {text : Ghosts S} (r : Request S text) (start : StringCursor) (m m' : MemoValue)
+pub record RunSettles (M : Type 0) {S : Type 0} {text : Ghosts S} (r : Request S text) (start : StringCursor)
+    (m m' : MemoValue)
     (left left' : ℕ) : Type 0 where
   pub keeping : (pl : Remembering r) → start_of r ≤ start.position → m.is_open ≡ true → (n : ℕ) → HoldsBits r pl m n
-      → Refused ⊎ ((tolls n' : ℕ) × (tolls + n ≤ n') × HoldsBits r pl m' n'
+      → Refused M ⊎ ((tolls n' : ℕ) × (tolls + n ≤ n') × HoldsBits r pl m' n'
       × (m'.is_open ≡ true) × (left ≤ left' + run_cost r pl tolls))
   pub closed : (pl : Remembering r) → start_of r ≤ start.position → m.is_open ≡ false
-      → Refused ⊎ (((m'.is_open ≡ false) × (left + m'.waits ≤ left' + m.waits))
+      → Refused M ⊎ (((m'.is_open ≡ false) × (left + m'.waits ≤ left' + m.waits))
       ⊎ ((tolls n' : ℕ) × (tolls ≤ n') × HoldsBits r pl m' n' × (m'.is_open ≡ true)
       × (left ≤ left' + m.waits + run_cost r pl tolls)))
 
 -- a run that began again with failures memoized, of which there were none
-pub record AnewStops {S : Type 0} {text : Ghosts S} (r : Request S text) (start : StringCursor) (left left' : ℕ) :
+pub record AnewStops (M : Type 0) {S : Type 0} {text : Ghosts S} (r : Request S text) (start : StringCursor)
+    (left left' : ℕ) :
     Type 0 where
   pub cost : (pl : Remembering r) → start_of r ≤ start.position
-      → Refused ⊎ ((tolls : ℕ) × (tolls ≤ most_paid (run_of r) pl.plain (rows_from r pl))
+      → Refused M ⊎ ((tolls : ℕ) × (tolls ≤ most_paid (run_of r) pl.plain (rows_from r pl))
       × (left ≤ left' + run_cost r pl tolls))
 
 -- one with no outcome, and what the memory holds then
-pub record AnewSettles {S : Type 0} {text : Ghosts S} (r : Request S text) (start : StringCursor) (m : MemoValue)
+pub record AnewSettles (M : Type 0) {S : Type 0} {text : Ghosts S} (r : Request S text) (start : StringCursor)
+    (m : MemoValue)
     (left left' : ℕ) : Type 0 where
   pub cost : (pl : Remembering r) → start_of r ≤ start.position
-      → Refused ⊎ ((tolls n : ℕ) × (tolls ≤ n) × HoldsBits r pl m n
+      → Refused M ⊎ ((tolls n : ℕ) × (tolls ≤ n) × HoldsBits r pl m n
       × (m.is_open ≡ true) × (left ≤ left' + run_cost r pl tolls))
 
 -- what holds of what was decided

@@ -2,6 +2,7 @@
 -- Definitions for the contracts inside these crates; what sre_engine makes public does not rest on it.
 use Rattle.std.specs.Prelude.{⊤, ℕ, ◌+◌, ◌-◌, ◌*◌, ◌^◌, ◌≡◌, ◌<◌, ◌≤◌, Bool, true, false, Option, None, Some}
 use Rattle.std.specs.Prelude.{Result, Ok, Err, IfOk}
+use Rattle.std.specs.declared.alloc.Allocator.{Ghosts as Memory}
 use Rattle.sre_chars.specs.declared.string.StrDrive.{Ghosts}
 use Rattle.sre_chars.specs.declared.string.StringCursor.{StringCursor}
 use Rattle.sre_model.specs.Tree.{Tree}
@@ -51,25 +52,26 @@ pub record Began (limited : Bool) (n n' : RunnerValue) : Type 0 where
   pub never : limited ≡ false → n'.restarted ≡ n.restarted
 
 -- of what follows some literals the first accepted way is told, with its end and its marks
-pub record AttemptDecides {S : Type 0} {text : Ghosts S} (r : Request S text) (literals start : ℕ)
-    (told : Result (Option StringCursor) Halt) (b : BoardValue) : Type 0 where
+pub record AttemptDecides {E S : Type 0} {text : Ghosts S} (r : Request S text) (literals start : ℕ)
+    (told : Result (Option StringCursor) E) (b : BoardValue) : Type 0 where
   pub each : (t : Tree) → WholeItems (run_of r).words t
       → IfOk told (λ found. Decides (run_of r) (outcomes (run_of r) (behind_items literals t) start) found b.marks)
 
 -- where no way was found the board is empty
-abbrev pub ClearsUnfound : Result (Option StringCursor) Halt → BoardValue → Type 0
+abbrev pub ClearsUnfound : {E : Type 0} → Result (Option StringCursor) E → BoardValue → Type 0
 ClearsUnfound (Ok (Some end)) b = ⊤
 ClearsUnfound (Ok None) b = b ≡ bare no_marks
 ClearsUnfound (Err why) b = b ≡ bare no_marks
 
 -- what the turns of an attempt take off those that are left, by its runs and by what failed in them
-pub record AttemptCosts {S : Type 0} {text : Ghosts S} (r : Request S text) (literals : ℕ) (start : StringCursor)
-    (told : Result (Option StringCursor) Halt) (n n' : RunnerValue) (a a' : Allowance) : Type 0 where
+pub record AttemptCosts {M S : Type 0} {memory : Memory M} {text : Ghosts S} (r : Request S text) (literals : ℕ)
+    (start : StringCursor) (told : Result (Option StringCursor) (Halt M memory)) (n n' : RunnerValue)
+    (a a' : Allowance) : Type 0 where
   pub limited : is_limited a' ≡ is_limited a
   pub fewer : left_of a' ≤ left_of a
   pub spent : (t : Tree) → WholeItems (run_of r).words t → left_of a ≤ left_of a'
       + (1 + n'.restarted - n.restarted)
       * (turns_of (run_of r).subject (behind_items literals t) start.position * most_each (asked_of r))
-  pub stops : is_limited a ≡ true → RunStops r start n.memo (left_of a) (left_of a')
+  pub stops : is_limited a ≡ true → RunStops M r start n.memo (left_of a) (left_of a')
   pub settles : is_limited a ≡ true
-      → IfOk told (λ found. found ≡ None → RunSettles r start n.memo n'.memo (left_of a) (left_of a'))
+      → IfOk told (λ found. found ≡ None → RunSettles M r start n.memo n'.memo (left_of a) (left_of a'))

@@ -2,6 +2,7 @@
 -- Definitions for the machine's contracts; what sre_engine makes public does not rest on it.
 use Rattle.std.specs.Prelude.{ℕ, ◌+◌, ◌*◌, ◌≡◌, ◌≤◌, Bool, true, false, Option, None, Some, List}
 use Rattle.std.specs.Prelude.{Result, Ok, Err, IfOk, IfErr}
+use Rattle.std.specs.declared.alloc.Allocator.{Ghosts as Memory}
 use Rattle.sre_chars.specs.declared.string.StrDrive.{Ghosts}
 use Rattle.sre_chars.specs.declared.string.StringCursor.{StringCursor}
 use Rattle.sre_model.specs.Tree.{Tree}
@@ -39,59 +40,62 @@ decision_of Failed end = Decided None
 decision_of ways.Opened end = Opened
 
 -- the same of what a run tells, and of whether there is an accepted way
-abbrev pub told_of : Result Ending Halt → StringCursor → Result Decision Halt
+abbrev pub told_of : {E : Type 0} → Result Ending E → StringCursor → Result Decision E
 told_of (Ok e) end = Ok (decision_of e end)
 told_of (Err why) end = Err why
 
-abbrev pub found_of : Result Bool Halt → StringCursor → Result (Option StringCursor) Halt
+abbrev pub found_of : {E : Type 0} → Result Bool E → StringCursor → Result (Option StringCursor) E
 found_of (Ok found) end = Ok (end_if found end)
 found_of (Err why) end = Err why
 
 -- turns are taken off those that are left, and are used up only where they are limited and none is left
-pub record Spends {T : Type 0} (told : Result T Halt) (a a' : Allowance) : Type 0 where
+pub record Spends {T M : Type 0} {memory : Memory M} (told : Result T (Halt M memory)) (a a' : Allowance) : Type 0 where
   pub limited : is_limited a' ≡ is_limited a
   pub fewer : left_of a' ≤ left_of a
   pub used : IfErr told (λ why. why ≡ halt.UsedUp → (is_limited a ≡ true) × (left_of a' ≡ 0))
 
 -- turns end before the whole is decided only where they are limited and no failure is kept
-abbrev pub OpensLimited : Result Decision Halt → MemoValue → Allowance → Type 0
+abbrev pub OpensLimited : {E : Type 0} → Result Decision E → MemoValue → Allowance → Type 0
 OpensLimited told m a = IfOk told (λ d. d ≡ Opened → (is_limited a ≡ true) × (m.is_open ≡ false))
 
 -- turns tell the first accepted outcome, with its end and its marks, or they end before
-pub record TurnsDecide {S : Type 0} {text : Ghosts S} (r : Request S text) (all : List Way)
-    (told : Result Decision Halt) (b : BoardValue) (m : MemoValue) (a : Allowance) : Type 0 where
+pub record TurnsDecide {E S : Type 0} {text : Ghosts S} (r : Request S text) (all : List Way)
+    (told : Result Decision E) (b : BoardValue) (m : MemoValue) (a : Allowance) : Type 0 where
   pub found : IfOk told (λ d. IfDecided d (λ found. Decides (run_of r) all found b.marks))
   pub opened : OpensLimited told m a
 
 -- the same of a run of what follows some literals
-pub record RunDecides {S : Type 0} {text : Ghosts S} (r : Request S text) (literals start : ℕ)
-    (told : Result Decision Halt) (b : BoardValue) (m : MemoValue) (a : Allowance) : Type 0 where
+pub record RunDecides {E S : Type 0} {text : Ghosts S} (r : Request S text) (literals start : ℕ)
+    (told : Result Decision E) (b : BoardValue) (m : MemoValue) (a : Allowance) : Type 0 where
   pub found : (t : Tree) → WholeItems (run_of r).words t → IfOk told (λ d. IfDecided d
       (λ found. Decides (run_of r) (outcomes (run_of r) (behind_items literals t) start) found b.marks))
   pub opened : OpensLimited told m a
 
 -- what turns cost by their limit, and by what failed in them where there is no outcome
-pub record TurnsCost {S : Type 0} {text : Ghosts S} (r : Request S text) (all : List Way) (limit : ℕ) (first : Next)
-    (b : BoardValue) (m m' : MemoValue) (before : ℕ) (told : Result Decision Halt) (a a' : Allowance) : Type 0 where
+pub record TurnsCost {M S : Type 0} {memory : Memory M} {text : Ghosts S} (r : Request S text) (all : List Way)
+    (limit : ℕ) (first : Next) (b : BoardValue) (m m' : MemoValue) (before : ℕ)
+    (told : Result Decision (Halt M memory)) (a a' : Allowance) : Type 0 where
   pub spent : left_of a ≤ left_of a' + (limit + 1) * most_each (asked_of r)
   pub settles : is_limited a ≡ true → IfOk told
-      (λ d. d ≡ Decided None → Settles r all first b m m' before (left_of a) (left_of a'))
+      (λ d. d ≡ Decided None → Settles M r all first b m m' before (left_of a) (left_of a'))
 
 -- what a run costs from a cursor behind some literals
-pub record RunCosts {S : Type 0} {text : Ghosts S} (r : Request S text) (literals : ℕ) (start : StringCursor)
-    (m m' : MemoValue) (told : Result Decision Halt) (a a' : Allowance) : Type 0 where
+pub record RunCosts {M S : Type 0} {memory : Memory M} {text : Ghosts S} (r : Request S text) (literals : ℕ)
+    (start : StringCursor) (m m' : MemoValue) (told : Result Decision (Halt M memory)) (a a' : Allowance) :
+    Type 0 where
   pub spent : (t : Tree) → WholeItems (run_of r).words t → left_of a ≤ left_of a'
       + turns_of (run_of r).subject (behind_items literals t) start.position * most_each (asked_of r)
-  pub stops : is_limited a ≡ true → RunStops r start m (left_of a) (left_of a')
+  pub stops : is_limited a ≡ true → RunStops M r start m (left_of a) (left_of a')
   pub settles : is_limited a ≡ true
-      → IfOk told (λ d. d ≡ Decided None → RunSettles r start m m' (left_of a) (left_of a'))
+      → IfOk told (λ d. d ≡ Decided None → RunSettles M r start m m' (left_of a) (left_of a'))
   pub waited : is_limited a ≡ true → m.is_open ≡ false → left_of a ≤ left_of a' + m.waits
 
 -- and of a run that begins again, with failures kept, of which there are none yet
-pub record AnewCosts {S : Type 0} {text : Ghosts S} (r : Request S text) (literals : ℕ) (start : StringCursor)
-    (m' : MemoValue) (told : Result (Option StringCursor) Halt) (a a' : Allowance) : Type 0 where
+pub record AnewCosts {M S : Type 0} {memory : Memory M} {text : Ghosts S} (r : Request S text) (literals : ℕ)
+    (start : StringCursor) (m' : MemoValue) (told : Result (Option StringCursor) (Halt M memory))
+    (a a' : Allowance) : Type 0 where
   pub spent : (t : Tree) → WholeItems (run_of r).words t → left_of a ≤ left_of a'
       + turns_of (run_of r).subject (behind_items literals t) start.position * most_each (asked_of r)
-  pub stops : is_limited a ≡ true → AnewStops r start (left_of a) (left_of a')
+  pub stops : is_limited a ≡ true → AnewStops M r start (left_of a) (left_of a')
   pub settles : is_limited a ≡ true
-      → IfOk told (λ found. found ≡ None → AnewSettles r start m' (left_of a) (left_of a'))
+      → IfOk told (λ found. found ≡ None → AnewSettles M r start m' (left_of a) (left_of a'))

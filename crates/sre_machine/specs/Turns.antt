@@ -107,33 +107,36 @@ abbrev pub Proceeds : Run → List Way → Limit → Next → BoardValue → (Li
 Proceeds r all limit next c Paid = (more : Limit) × Grants limit more × Later r all more next c × Paid more
 
 -- the step of a point that was just come to
-abbrev pub Takes : {S : Type 0} {text : Ghosts S} → Request S text → Point → StringCursor → BoardValue → MemoValue
+abbrev pub Takes : Type 0 → {S : Type 0} {text : Ghosts S} → Request S text → Point → StringCursor → BoardValue
+    → MemoValue
     → Next → BoardValue → MemoValue → Type 0
-Takes r point cursor b m next c m' =
+Takes M r point cursor b m next c m' =
     (all : List Way) (limit : Limit) → Arrives (run_of r) all limit point cursor b
-    → Proceeds (run_of r) all limit next c (λ more. Pays r m limit m' more)
+    → Proceeds (run_of r) all limit next c (λ more. Pays M r m limit m' more)
 
 -- the same where the machine backtracks, and keeps what failed or does not
-abbrev pub Retreats : {S : Type 0} {text : Ghosts S} → Request S text → Bool → BoardValue → MemoValue → Next
+abbrev pub Retreats : Type 0 → {S : Type 0} {text : Ghosts S} → Request S text → Bool → BoardValue → MemoValue → Next
     → BoardValue → MemoValue → Type 0
-Retreats r keeps b m next c m' =
+Retreats M r keeps b m next c m' =
     (all : List Way) (limit : Limit) → Backs (run_of r) all limit b
-    → Proceeds (run_of r) all limit next c (λ more. keeps ≡ true → Pays r m limit m' more)
+    → Proceeds (run_of r) all limit next c (λ more. keeps ≡ true → Pays M r m limit m' more)
 
 -- nothing waits any more: there is no outcome, and nothing is tried
-abbrev pub Finishes : {S : Type 0} {text : Ghosts S} → Request S text → Bool → BoardValue → MemoValue → MemoValue
+abbrev pub Finishes : Type 0 → {S : Type 0} {text : Ghosts S} → Request S text → Bool → BoardValue → MemoValue
+    → MemoValue
     → Type 0
-Finishes r keeps b m m' =
+Finishes M r keeps b m m' =
     (all : List Way) (limit : Limit) → Backs (run_of r) all limit b
-    → (all ≡ []) × ((more : Limit) × Grants limit more × (keeps ≡ true → Pays r m limit m' more)
+    → (all ≡ []) × ((more : Limit) × Grants limit more × (keeps ≡ true → Pays M r m limit m' more)
     × (Counted (run_of r) → (more.trying ≡ []) × Within (run_of r) more))
 
 -- the point is left at once
-abbrev pub GivesUp : {S : Type 0} {text : Ghosts S} → Request S text → Point → StringCursor → BoardValue → MemoValue
+abbrev pub GivesUp : Type 0 → {S : Type 0} {text : Ghosts S} → Request S text → Point → StringCursor → BoardValue
+    → MemoValue
     → BoardValue → MemoValue → Type 0
-GivesUp r point cursor b m c m' =
+GivesUp M r point cursor b m c m' =
     (all : List Way) (limit : Limit) → Arrives (run_of r) all limit point cursor b
-    → Later (run_of r) all limit next.Back c × Pays r m limit m' limit
+    → Later (run_of r) all limit next.Back c × Pays M r m limit m' limit
 
 -- a repeat without a greatest count is at a point
 abbrev pub RunsOnAt : List ℕ → Point → Type 0
@@ -141,20 +144,22 @@ RunsOnAt ws (Instruction i) = RunsOn ws i
 RunsOnAt ws pt = ⊥
 
 -- it is executed, which is paid where it is no repeat without a greatest count
-abbrev pub GoesOn : {S : Type 0} {text : Ghosts S} → Request S text → Point → StringCursor → BoardValue → MemoValue
+abbrev pub GoesOn : Type 0 → {S : Type 0} {text : Ghosts S} → Request S text → Point → StringCursor → BoardValue
+    → MemoValue
     → BoardValue → MemoValue → Type 0
-GoesOn r point cursor b m c m' =
+GoesOn M r point cursor b m c m' =
     (all : List Way) (limit : Limit) → Arrives (run_of r) all limit point cursor b
     → (more : Limit) × Grants limit more × Goes (run_of r) all more point cursor c
-    × ((RunsOnAt (run_of r).words point → ⊥) → Pays r m limit m' more)
+    × ((RunsOnAt (run_of r).words point → ⊥) → Pays M r m limit m' more)
 
 -- the credits of a repeat that is split are granted for it
-abbrev pub TriesOn : {S : Type 0} {text : Ghosts S} → Request S text → Point → StringCursor → BoardValue → MemoValue
+abbrev pub TriesOn : Type 0 → {S : Type 0} {text : Ghosts S} → Request S text → Point → StringCursor → BoardValue
+    → MemoValue
     → BoardValue → MemoValue → Type 0
-TriesOn r point cursor b m c m' =
+TriesOn M r point cursor b m c m' =
     (all : List Way) (limit : Limit) → Arrives (run_of r) all limit point cursor b
     → (more : Limit) × Grants limit more × Tries (run_of r) all more point cursor c
-    × Pays r m limit m' more
+    × Pays M r m limit m' more
 
 -- the step of an instruction to which the credits of a repeat that is split were granted
 abbrev pub TurnOnce : {S : Type 0} {text : Ghosts S} → Request S text → ℕ → StringCursor → BoardValue → Next
@@ -175,11 +180,12 @@ ForksThere r Again = ⊤
 ForksThere r pt = ⊥
 
 -- a point is left at once, or else the machine stands there still and goes on with it
-pub record LeavesOrStays {S : Type 0} {text : Ghosts S} (r : Request S text) (point : Point) (cursor : StringCursor)
+pub record LeavesOrStays (M : Type 0) {S : Type 0} {text : Ghosts S} (r : Request S text) (point : Point)
+    (cursor : StringCursor)
     (leaves : Bool) (b : BoardValue) (m : MemoValue) (c : BoardValue) (m' : MemoValue) : Type 0 where
-  pub left : leaves ≡ true → GivesUp r point cursor b m c m'
+  pub left : leaves ≡ true → GivesUp M r point cursor b m c m'
   pub stays : leaves ≡ false → StaysAt r point cursor b c
-  pub goes : leaves ≡ false → GoesOn r point cursor b m c m'
+  pub goes : leaves ≡ false → GoesOn M r point cursor b m c m'
 
 -- under what marks failures are memoized for a point: where they are not, but the memo is open, the words refer to
 -- groups
@@ -238,10 +244,11 @@ NoEndTold r point cursor b m =
     → TellsEnd m.kept m.ends (run_of r).words true (spot point cursor b) end → ⊥
 
 -- where a body ends is memoized, or an allocation failed
-pub record KeepsBodyEnd {S : Type 0} {text : Ghosts S} (r : Request S text) (cursor : StringCursor) (b : BoardValue)
+pub record KeepsBodyEnd (M : Type 0) {S : Type 0} {text : Ghosts S} (r : Request S text) (cursor : StringCursor)
+    (b : BoardValue)
     (m m' : MemoValue) : Type 0 where
   pub same : m'.stopped ≡ false → m' ≡ record m { ends = m'.ends }
   pub kept : KeepsOpenEnds m.kept (run_of r).words b.choices cursor m.ends m'.ends
   pub held : KeepsEndsHere r b m → m'.stopped ≡ false
       → HoldsOpenEnds m.kept (run_of r).words b.choices cursor m'.ends
-  pub refused : m'.stopped ≡ true → Refused
+  pub refused : m'.stopped ≡ true → Refused M

@@ -238,7 +238,7 @@ fn alternatives(words: &[u32], list: &[Admitted], place: usize) -> AsciiSet
 pub fn admitted_by_place<A: Allocator + Copy>(
     alloc: A,
     words: &[u32],
-) -> Result<Vec<Admitted, A>, Refusal>
+) -> Result<Vec<Admitted, A>, Refusal<A>>
     ensures { IfOk result (λ list. AllAdmitted words.now list.items) }
 {
     let members = set_members(alloc, words)?;

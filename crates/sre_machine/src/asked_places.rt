@@ -249,7 +249,7 @@ fn alternatives(words: &[u32], list: &[AskedPlace], place: usize) -> AskedMarks
 /// # Errors
 ///
 /// [`Refusal`] if an allocation fails.
-fn ask_places<A: Allocator>(words: &[u32], list: &mut Vec<AskedPlace, A>) -> Result<(), Refusal>
+fn ask_places<A: Allocator>(words: &[u32], list: &mut Vec<AskedPlace, A>) -> Result<(), Refusal<A>>
     ensures { IfOk result (λ _. AllAsked words.now list.new.items) }
 {
     operands::know_words(words);
@@ -288,7 +288,7 @@ pub(crate) fn list_idle<A: Allocator>(
     words: &[u32],
     asked: &mut Vec<AskedPlace, A>,
     idle: &mut Vec<bool, A>,
-) -> Result<(), Refusal>
+) -> Result<(), Refusal<A>>
     ensures { AreIdle words.now idle.new.items }
 {
     idle.clear();

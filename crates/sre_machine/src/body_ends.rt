@@ -68,8 +68,8 @@ pub(super) fn keep_ends<S: StrDrive, A: Allocator>(
     ensures closed { memo.old.is_open ≡ false → memo.new ≡ memo.old }
     ensures same { memo.new.stopped ≡ false → memo.new ≡ record memo.old { ends = memo.new.ends } }
     ensures stopped { memo.old.stopped ≡ true → memo.new.stopped ≡ true }
-    ensures refused { memo.new.stopped ≡ true → Refused }
-    ensures still { memo.old.is_open ≡ true → memo.new.is_open ≡ true ⊎ Refused }
+    ensures refused { memo.new.stopped ≡ true → Refused A }
+    ensures still { memo.old.is_open ≡ true → memo.new.is_open ≡ true ⊎ Refused A }
 {
     if memo.is_open() && memo.keeps_ends() && board.is_inside() && is_unmarked(req, board) {
         memo.keep_ends(req.pattern_codes().items(), board, cursor);

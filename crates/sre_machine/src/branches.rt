@@ -363,7 +363,7 @@ fn alternatives_at_end<S: StrDrive, A: Allocator>(
     board: &mut Board<A>,
     place: usize,
     cursor: StringCursor,
-) -> Result<Next, Refusal>
+) -> Result<Next, Refusal<A>>
     requires { AtPoint req.now (Alternatives place) cursor }
     ensures { IfOk result (λ next. TurnAt req.now (Alternatives place) cursor board.old next board.new) }
 {
@@ -388,7 +388,7 @@ fn choose_alternative<S: StrDrive, A: Allocator>(
     first: Alternative,
     others: usize,
     cursor: StringCursor,
-) -> Result<Next, Refusal>
+) -> Result<Next, Refusal<A>>
     requires { ContinuesTo req.now (Instruction (first.length_word + 1)) cursor
         (Instruction first.place) first.cursor }
     ensures { IfOk result (λ next.
@@ -428,7 +428,7 @@ fn alternatives_before<S: StrDrive, A: Allocator, const ADMITTED: bool>(
     character: u32,
     after: StringCursor,
     cursor: StringCursor,
-) -> Result<Next, Refusal>
+) -> Result<Next, Refusal<A>>
     requires stands { AtPoint req.now (Alternatives start) cursor }
     requires read { ReadAt req.now cursor character after }
     ensures { IfOk result (λ next. TurnAt req.now (Alternatives start) cursor board.old next board.new) }
@@ -452,7 +452,7 @@ pub(super) fn alternatives<S: StrDrive, A: Allocator>(
     board: &mut Board<A>,
     start: usize,
     cursor: StringCursor,
-) -> Result<Next, Refusal>
+) -> Result<Next, Refusal<A>>
     requires { AtPoint req.now (Alternatives start) cursor }
     ensures { IfOk result (λ next. TurnAt req.now (Alternatives start) cursor board.old next board.new) }
 {
@@ -473,7 +473,7 @@ pub(super) fn branch<S: StrDrive, A: Allocator>(
     board: &mut Board<A>,
     place: usize,
     cursor: StringCursor,
-) -> Result<Next, Refusal>
+) -> Result<Next, Refusal<A>>
     requires opcode { OpcodeAt req.now place SreOpcode.BRANCH }
     requires room { place + 2 ^ 33 < 2 ^ 64 }
     requires stands { At req.now place cursor }

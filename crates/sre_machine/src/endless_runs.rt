@@ -168,7 +168,7 @@ pub(super) fn endless_run<S: StrDrive, A: Allocator>(
     board: &mut Board<A>,
     place: usize,
     cursor: StringCursor,
-) -> Result<Next, Refusal>
+) -> Result<Next, Refusal<A>>
     requires on { IsEndlessRun req.now place }
     requires stands { At req.now place cursor }
     ensures { IfOk result (λ next. TurnOnce req.now place cursor board.old next board.new) }
@@ -244,7 +244,7 @@ pub(super) fn later_run<S: StrDrive, A: Allocator>(
     place: usize,
     count: usize,
     start: StringCursor,
-) -> Result<Next, Refusal>
+) -> Result<Next, Refusal<A>>
     requires { AtPoint req.now (Longer place count) start }
     ensures { IfOk result (λ next. TurnAt req.now (Longer place count) start board.old next board.new) }
 {

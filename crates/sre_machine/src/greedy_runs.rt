@@ -76,7 +76,7 @@ fn shorter<S: StrDrive, A: Allocator>(
     wanted: Option<u32>,
     count: usize,
     start: StringCursor,
-) -> Result<Next, Refusal>
+) -> Result<Next, Refusal<A>>
     requires wanted { DemandedAt req.now tail wanted }
     requires stands { AtPoint req.now (Shorter tail count) start }
     ensures { IfOk result (λ next. TurnAt req.now (Shorter tail count) start board.old next board.new) }
@@ -105,7 +105,7 @@ pub(super) fn shorter_saved<S: StrDrive, A: Allocator>(
     tail: usize,
     count: usize,
     start: StringCursor,
-) -> Result<Next, Refusal>
+) -> Result<Next, Refusal<A>>
     requires { AtPoint req.now (Shorter tail count) start }
     ensures { IfOk result (λ next. TurnAt req.now (Shorter tail count) start board.old next board.new) }
 {
@@ -146,7 +146,7 @@ pub(super) fn repeat_one<S: StrDrive, A: Allocator>(
     board: &mut Board<A>,
     place: usize,
     cursor: StringCursor,
-) -> Result<Next, Refusal>
+) -> Result<Next, Refusal<A>>
     requires opcode { OpcodeAt req.now place SreOpcode.REPEAT_ONE }
     requires stands { At req.now place cursor }
     ensures { IfOk result (λ next. Turn req.now place cursor board.old next board.new) }

@@ -126,7 +126,7 @@ pub(super) fn longer<S: StrDrive, A: Allocator>(
     place: usize,
     count: usize,
     start: StringCursor,
-) -> Result<Next, Refusal>
+) -> Result<Next, Refusal<A>>
     requires { AtPoint req.now (Longer place count) start }
     ensures { IfOk result (λ next. TurnAt req.now (Longer place count) start board.old next board.new) }
 {
@@ -147,7 +147,7 @@ pub(super) fn min_repeat_one<S: StrDrive, A: Allocator>(
     board: &mut Board<A>,
     place: usize,
     cursor: StringCursor,
-) -> Result<Next, Refusal>
+) -> Result<Next, Refusal<A>>
     requires opcode { OpcodeAt req.now place SreOpcode.MIN_REPEAT_ONE }
     requires stands { At req.now place cursor }
     ensures { IfOk result (λ next. Turn req.now place cursor board.old next board.new) }

@@ -57,7 +57,7 @@ pub(super) fn repeat<S: StrDrive, A: Allocator, const STRIDES: bool>(
     board: &mut Board<A>,
     place: usize,
     cursor: StringCursor,
-) -> Result<Next, Refusal>
+) -> Result<Next, Refusal<A>>
     requires opcode { OpcodeAt req.now place SreOpcode.REPEAT }
     requires stands { AtOnBoard req.now (Instruction place) cursor board.old }
     ensures { IfOk result (λ next. Turn req.now place cursor board.old next board.new) }
@@ -86,7 +86,7 @@ fn body_or_end<S: StrDrive, A: Allocator>(
     place: usize,
     frame: Frame,
     cursor: StringCursor,
-) -> Result<Next, Refusal>
+) -> Result<Next, Refusal<A>>
     requires opcode { OpcodeAt req.now place SreOpcode.MAX_UNTIL }
     requires more { MayRepeat (run_of req.now).words frame cursor.position }
     requires stands { AtOnBoard req.now (Instruction place) cursor (with_loop frame board.old) }
@@ -119,7 +119,7 @@ fn strided<S: StrDrive, A: Allocator>(
     greatest: u32,
     frame: Frame,
     cursor: StringCursor,
-) -> Result<Next, Refusal>
+) -> Result<Next, Refusal<A>>
     requires opcode { OpcodeAt req.now place SreOpcode.MAX_UNTIL }
     requires greatest { Word (run_of req.now).words (frame.repeat + 3) greatest }
     requires more { MayRepeat (run_of req.now).words frame cursor.position }
@@ -139,7 +139,7 @@ fn further<S: StrDrive, A: Allocator, const STRIDES: bool>(
     place: usize,
     frame: Frame,
     cursor: StringCursor,
-) -> Result<Next, Refusal>
+) -> Result<Next, Refusal<A>>
     requires opcode { OpcodeAt req.now place SreOpcode.MAX_UNTIL }
     requires stands { AtOnBoard req.now (Instruction place) cursor (with_loop frame board.old) }
     ensures { IfOk result
@@ -170,7 +170,7 @@ pub(super) fn max_until<S: StrDrive, A: Allocator, const STRIDES: bool>(
     board: &mut Board<A>,
     place: usize,
     cursor: StringCursor,
-) -> Result<Next, Refusal>
+) -> Result<Next, Refusal<A>>
     requires opcode { OpcodeAt req.now place SreOpcode.MAX_UNTIL }
     requires stands { AtOnBoard req.now (Instruction place) cursor board.old }
     ensures { IfOk result (λ next. Turn req.now place cursor board.old next board.new) }
@@ -187,7 +187,7 @@ pub(super) fn min_until<S: StrDrive, A: Allocator>(
     board: &mut Board<A>,
     place: usize,
     cursor: StringCursor,
-) -> Result<Next, Refusal>
+) -> Result<Next, Refusal<A>>
     requires opcode { OpcodeAt req.now place SreOpcode.MIN_UNTIL }
     requires stands { AtOnBoard req.now (Instruction place) cursor board.old }
     ensures { IfOk result (λ next. Turn req.now place cursor board.old next board.new) }

@@ -131,7 +131,7 @@ fn mark<S: StrDrive, A: Allocator>(
     board: &mut Board<A>,
     place: usize,
     cursor: StringCursor,
-) -> Result<Next, Refusal>
+) -> Result<Next, Refusal<A>>
     requires opcode { OpcodeAt req.now place SreOpcode.MARK }
     requires stands { At req.now place cursor }
     ensures { IfOk result (λ next. Turn req.now place cursor board.old next board.new) }
@@ -246,7 +246,7 @@ pub(super) fn choose<S: StrDrive, A: Allocator>(
     place: usize,
     other: Point,
     cursor: StringCursor,
-) -> Result<Next, Refusal>
+) -> Result<Next, Refusal<A>>
     ensures { IfOk result (λ next. Chooses (run_of req.now) (Instruction place) other cursor board.old next board.new) }
 {
     board.save(other, cursor)?;
@@ -262,7 +262,7 @@ fn longer_saved<S: StrDrive, A: Allocator, const KEEPS: bool>(
     place: usize,
     count: usize,
     start: StringCursor,
-) -> Result<Next, Refusal>
+) -> Result<Next, Refusal<A>>
     requires { AtPoint req.now (Longer place count) start }
     ensures { IfOk result (λ next. TurnAt req.now (Longer place count) start board.old next board.new) }
 {
@@ -279,12 +279,12 @@ pub(super) fn back<S: StrDrive, A: Allocator, const KEEPS: bool>(
     req: &Request<'_, S>,
     board: &mut Board<A>,
     memo: &mut Memo<A>,
-) -> Result<Option<Next>, Refusal>
+) -> Result<Option<Next>, Refusal<A>>
     requires stands { IsBack (run_of req.now) board.old }
     requires remembers { RecallsOf req.now memo.old }
     ensures next { IfOk result (λ found. MatchOption found
-        (Finishes req.now KEEPS board.old memo.old memo.new)
-        (λ next. Retreats req.now KEEPS board.old memo.old next board.new memo.new)) }
+        (Finishes A req.now KEEPS board.old memo.old memo.new)
+        (λ next. Retreats A req.now KEEPS board.old memo.old next board.new memo.new)) }
     ensures remembers { RecallsOf req.now memo.new }
     ensures same { IfOk result (λ _. memo.new ≡ record memo.old { kept = memo.new.kept; marked = memo.new.marked }) }
 {
@@ -330,7 +330,7 @@ pub(super) fn instruction<S: StrDrive, A: Allocator, const STRIDES: bool, const 
     board: &mut Board<A>,
     place: usize,
     cursor: StringCursor,
-) -> Result<Next, Refusal>
+) -> Result<Next, Refusal<A>>
     requires { AtOnBoard req.now (Instruction place) cursor board.old }
     ensures { IfOk result (λ next. Turn req.now place cursor board.old next board.new) }
 {

@@ -157,7 +157,7 @@ fn known_end(end: usize, code: &Code<'_>) -> usize
 fn copy<A: Allocator>(
     list: &mut Vec<Option<usize>, A>,
     raw: &[Option<usize>],
-) -> Result<(), Refusal>
+) -> Result<(), Refusal<A>>
     ensures { IfOk result (λ _. list.new.items ≡ raw.now) }
 {
     list.clear();
@@ -215,7 +215,7 @@ impl<A: Allocator> Marked<A> {
     /// # Errors
     ///
     /// [`Refusal`] if an allocation fails. What is listed by then is right.
-    fn tell_places(&mut self, words: &[u32]) -> Result<(), Refusal>
+    fn tell_places(&mut self, words: &[u32]) -> Result<(), Refusal<A>>
         ensures idle { (self.new.idle ≡ self.old.idle) ⊎ AreIdle words.now self.new.idle }
         ensures marks { self.new.marks ≡ self.old.marks }
         ensures end { self.new.end ≡ self.old.end }
@@ -259,7 +259,7 @@ impl<A: Allocator> Marked<A> {
     /// # Errors
     ///
     /// [`Refusal`] if an allocation fails. No failure is memoized then, either.
-    fn adopt(&mut self, code: &Code<'_>, raw: &[Option<usize>]) -> Result<(), Refusal>
+    fn adopt(&mut self, code: &Code<'_>, raw: &[Option<usize>]) -> Result<(), Refusal<A>>
         ensures none { HoldsNone self.new.kept }
         ensures end { (self.new.end ≡ self.old.end)
             ⊎ ((g : ℕ) → Asks (items_of code.now) g → 2 * g + 1 < self.new.end) }
@@ -278,7 +278,7 @@ impl<A: Allocator> Marked<A> {
     /// # Errors
     ///
     /// [`Refusal`] if an allocation fails. What is memoized and listed by then is right.
-    pub(crate) fn meet(&mut self, code: &Code<'_>, raw: &[Option<usize>]) -> Result<(), Refusal>
+    pub(crate) fn meet(&mut self, code: &Code<'_>, raw: &[Option<usize>]) -> Result<(), Refusal<A>>
         ensures stays { MarkedStays self.old self.new ⊎ HoldsNone self.new.kept }
         ensures end { (self.new.end ≡ self.old.end)
             ⊎ ((g : ℕ) → Asks (items_of code.now) g → 2 * g + 1 < self.new.end) }
@@ -304,7 +304,7 @@ impl<A: Allocator> Marked<A> {
         point: Point,
         first: usize,
         end: usize,
-    ) -> Result<(), Refusal>
+    ) -> Result<(), Refusal<A>>
         ensures no_more { HoldsNoMore self.old.kept self.new.kept }
         ensures marks { self.new.marks ≡ self.old.marks }
         ensures end { self.new.end ≡ self.old.end }

@@ -83,7 +83,7 @@ pub struct Memo<A: Allocator> {
     // whether the memo is open
     is_open: bool,
     // why it closed: an allocation failed
-    refused: Option<Refusal>,
+    refused: Option<Refusal<A>>,
     // whether anything may be memoized; if not, all is as at the start of a search
     is_used: bool,
 }
@@ -245,7 +245,7 @@ impl<A: Allocator> Memo<A> {
     #[inline(always)]
     pub(crate) fn is_open(&self) -> bool
         ensures opened { result ≡ self.now.is_open }
-        ensures refused { self.now.stopped ≡ true → Refused }
+        ensures refused { self.now.stopped ≡ true → Refused A }
     {
         self.is_open
     }
@@ -316,7 +316,7 @@ impl<A: Allocator> Memo<A> {
         ensures ends { EndsStay self.old self.new }
         ensures same { self.new.stopped ≡ false → self.new ≡ record self.old { kept = self.new.kept } }
         ensures stopped { self.old.stopped ≡ true → self.new.stopped ≡ true }
-        ensures refused { self.new.stopped ≡ true → Refused }
+        ensures refused { self.new.stopped ≡ true → Refused A }
     {
         self.is_used = true;
         if let Err(refusal) = self.failures.prepare(words, board, point, self.first, end) {
@@ -326,12 +326,12 @@ impl<A: Allocator> Memo<A> {
 
     // Closes the memo, because an allocation failed.
     #[inline(always)]
-    fn close(&mut self, refusal: Refusal)
+    fn close(&mut self, refusal: Refusal<A>)
         ensures kept { self.new.kept ≡ self.old.kept }
         ensures marked { self.new.marked ≡ self.old.marked }
         ensures ends { EndsStay self.old self.new }
         ensures stopped { self.new.stopped ≡ true }
-        ensures refused { Refused }
+        ensures refused { Refused A }
     {
         self.patience = usize::MAX;
         self.waits = usize::MAX;
@@ -409,8 +409,8 @@ impl<A: Allocator> Memo<A> {
         ensures keeps { self.new.keeps_ends ≡ self.old.keeps_ends }
         ensures same { self.new.stopped ≡ false → self.new ≡ record self.old { ends = self.new.ends } }
         ensures stopped { self.old.stopped ≡ true → self.new.stopped ≡ true }
-        ensures refused { self.new.stopped ≡ true → Refused }
-        ensures still { self.old.is_open ≡ true → self.new.is_open ≡ true ⊎ Refused }
+        ensures refused { self.new.stopped ≡ true → Refused A }
+        ensures still { self.old.is_open ≡ true → self.new.is_open ≡ true ⊎ Refused A }
     {
         self.is_used = true;
         if let Err(refusal) = self.ends.keep_open(&self.failures, words, board, end) {
@@ -446,7 +446,7 @@ impl<A: Allocator> Memo<A> {
             ⊎ ((g : ℕ) → Asks (items_of code.now) g → 2 * g + 1 < self.new.marked.end) }
         ensures kept { self.new.kept ≡ self.old.kept }
         ensures ends { EndsStay self.old self.new }
-        ensures still { self.old.is_open ≡ true → self.new.is_open ≡ true ⊎ Refused }
+        ensures still { self.old.is_open ≡ true → self.new.is_open ≡ true ⊎ Refused A }
     {
         self.is_used = true;
         if let Err(refusal) = self.marked.meet(code, raw) {
@@ -469,7 +469,7 @@ impl<A: Allocator> Memo<A> {
         ensures end { self.new.marked.end ≡ self.old.marked.end }
         ensures idle { self.new.marked.idle ≡ self.old.marked.idle }
         ensures ends { EndsStay self.old self.new }
-        ensures still { self.old.is_open ≡ true → self.new.is_open ≡ true ⊎ Refused }
+        ensures still { self.old.is_open ≡ true → self.new.is_open ≡ true ⊎ Refused A }
     {
         self.is_used = true;
         if let Err(refusal) = self.marked.prepare(words, board, point, self.first, end) {

@@ -25,7 +25,7 @@ pub(super) fn possessive_repeat<S: StrDrive, A: Allocator>(
     board: &mut Board<A>,
     place: usize,
     cursor: StringCursor,
-) -> Result<Next, Refusal>
+) -> Result<Next, Refusal<A>>
     requires opcode { OpcodeAt req.now place SreOpcode.POSSESSIVE_REPEAT }
     requires stands { At req.now place cursor }
     ensures { IfOk result (λ next. Turn req.now place cursor board.old next board.new) }
@@ -44,7 +44,7 @@ pub(super) fn again<S: StrDrive, A: Allocator>(
     req: &Request<'_, S>,
     board: &mut Board<A>,
     cursor: StringCursor,
-) -> Result<Next, Refusal>
+) -> Result<Next, Refusal<A>>
     requires { AtOnBoard req.now Again cursor board.old }
     ensures { IfOk result (λ next. TurnAt req.now Again cursor board.old next board.new) }
 {

@@ -6,7 +6,7 @@ ghost use Rattle.sre_model.specs.Roles.{ToRefer, role};
 ghost use Rattle.sre_request.specs.Runs.{OpcodeAt};
 ghost use Rattle.sre_machine.specs.Turns.{At, Turn, AtOnBoard};
 
-use sre_board::Board;
+use sre_board::{Board, LOOK_SPEED};
 use sre_chars::constants::SreOpcode;
 use sre_chars::string::{StrDrive, StringCursor};
 use sre_reading::references::is_repeated;
@@ -43,14 +43,21 @@ pub(super) fn reference<S: StrDrive, A: Allocator>(
         return Next::Back;
     };
     let count = end - start;
-    board.pass(count.max(cursor.position().saturating_sub(start)));
     if !is_inside(cursor.position(), count, req.end()) {
         return Next::Back;
     }
+    // The way to the group and the equal characters are charged, and not the characters after the first that differ.
+    board.pass(cursor.position().saturating_sub(start) / LOOK_SPEED);
     let group = cursor_at(req, cursor, start);
     match is_repeated(req, opcode, group, cursor, count) {
-        Some(after) => Next::At(place + 2, after),
-        None => Next::Back,
+        Ok(after) => {
+            board.pass(count);
+            Next::At(place + 2, after)
+        }
+        Err(equal) => {
+            board.pass(equal);
+            Next::Back
+        }
     }
 }
 

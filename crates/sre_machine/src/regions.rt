@@ -27,7 +27,7 @@ pub(super) fn atomic_group<S: StrDrive, A: Allocator>(
     board: &mut Board<A>,
     place: usize,
     cursor: StringCursor,
-) -> Result<Next, Refusal>
+) -> Result<Next, Refusal<A>>
     requires opcode { OpcodeAt req.now place SreOpcode.ATOMIC_GROUP }
     requires stands { At req.now place cursor }
     ensures { IfOk result (λ next. Turn req.now place cursor board.old next board.new) }
@@ -44,7 +44,7 @@ pub(super) fn assert<S: StrDrive, A: Allocator>(
     board: &mut Board<A>,
     place: usize,
     cursor: StringCursor,
-) -> Result<Next, Refusal>
+) -> Result<Next, Refusal<A>>
     requires opcode { OpcodeAt req.now place SreOpcode.ASSERT }
     requires stands { At req.now place cursor }
     ensures { IfOk result (λ next. Turn req.now place cursor board.old next board.new) }
@@ -66,7 +66,7 @@ pub(super) fn assert_not<S: StrDrive, A: Allocator>(
     board: &mut Board<A>,
     place: usize,
     cursor: StringCursor,
-) -> Result<Next, Refusal>
+) -> Result<Next, Refusal<A>>
     requires opcode { OpcodeAt req.now place SreOpcode.ASSERT_NOT }
     requires stands { At req.now place cursor }
     ensures { IfOk result (λ next. Turn req.now place cursor board.old next board.new) }

@@ -125,7 +125,7 @@ impl<A: Allocator> Runner<A> {
         literals: usize,
         start: StringCursor,
         allowed: &mut Allowance,
-    ) -> Result<Option<StringCursor>, Halt>
+    ) -> Result<Option<StringCursor>, Halt<A>>
         requires stands { Standing req.now start }
         requires inside { start.position ≤ end_of req.now }
         requires behind { (t : Tree) → WholeItems (run_of req.now).words t
@@ -164,7 +164,7 @@ impl<A: Allocator> Runner<A> {
         start: StringCursor,
         allowed: &mut Allowance,
         ended: &mut StringCursor,
-    ) -> Result<bool, Halt>
+    ) -> Result<bool, Halt<A>>
         requires may { MayRun req.now literals start }
         requires ready { IsReady req.now self.old }
         ensures began { Began (is_limited allowed.old) self.old self.new }
@@ -192,7 +192,7 @@ impl<A: Allocator> Runner<A> {
         start: StringCursor,
         allowed: &mut Allowance,
         ended: &mut StringCursor,
-    ) -> Result<bool, Halt>
+    ) -> Result<bool, Halt<A>>
         requires may { MayRun req.now literals start }
         requires room { self.old.restarted + 1 < 2 ^ 64 }
         requires remembers { RecallsOf req.now self.old.memo }
@@ -223,7 +223,7 @@ impl<A: Allocator> Runner<A> {
         start: StringCursor,
         allowed: &mut Allowance,
         ended: &mut StringCursor,
-    ) -> Result<Ending, Halt>
+    ) -> Result<Ending, Halt<A>>
         requires may { MayRun req.now literals start }
         requires fresh { self.old.board ≡ bare no_marks }
         requires remembers { RecallsOf req.now self.old.memo }

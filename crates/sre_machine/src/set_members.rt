@@ -163,7 +163,7 @@ pub(crate) fn filled<T: Copy + Drop, A: Allocator>(
     alloc: A,
     count: usize,
     value: T,
-) -> Result<Vec<T, A>, Refusal>
+) -> Result<Vec<T, A>, Refusal<A>>
     ensures length { IfOk result (λ list. length list.items ≡ count) }
     ensures each { IfOk result (λ list. (i : ℕ) (x : T) → slice_get list.items i ≡ Some x → x ≡ value) }
 {
@@ -177,7 +177,7 @@ pub(crate) fn fill<T: Copy + Drop, A: Allocator>(
     list: &mut Vec<T, A>,
     count: usize,
     value: T,
-) -> Result<(), Refusal>
+) -> Result<(), Refusal<A>>
     ensures length { IfOk result (λ _. length list.new.items ≡ count) }
     ensures each { IfOk result (λ _. (i : ℕ) (x : T) → slice_get list.new.items i ≡ Some x → x ≡ value) }
 {
@@ -197,7 +197,7 @@ pub(crate) fn fill<T: Copy + Drop, A: Allocator>(
 pub(crate) fn set_members<A: Allocator>(
     alloc: A,
     words: &[u32],
-) -> Result<Vec<Option<AsciiSet>, A>, Refusal>
+) -> Result<Vec<Option<AsciiSet>, A>, Refusal<A>>
     ensures { IfOk result (λ list. AllTold words.now list.items) }
 {
     let mut list = filled(alloc, words.len(), None)?;

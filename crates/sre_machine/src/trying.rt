@@ -256,9 +256,9 @@ fn has_failed<S: StrDrive, A: Allocator>(
     requires serves { ServesThere req.now no_marks point cursor.position board.old }
     requires no_end { RefersToGroups req.now ⊎ NoEndTold req.now point cursor board.old memo.old }
     ensures remembers { RecallsOf req.now memo.new }
-    ensures leaves { LeavesOrStays req.now point cursor result board.old memo.old board.new memo.new }
-    ensures tries { result ≡ false → TriesOn req.now point cursor board.old memo.old board.new memo.new }
-    ensures still { memo.new.is_open ≡ true ⊎ Refused }
+    ensures leaves { LeavesOrStays A req.now point cursor result board.old memo.old board.new memo.new }
+    ensures tries { result ≡ false → TriesOn A req.now point cursor board.old memo.old board.new memo.new }
+    ensures still { memo.new.is_open ≡ true ⊎ Refused A }
 {
     let words = req.pattern_codes().items();
     memo.prepare(words, board, point, req.end());
@@ -286,9 +286,9 @@ fn has_failed_marked<S: StrDrive, A: Allocator>(
     requires refers { RefersToGroups req.now }
     requires tried { MayBeTried point }
     ensures remembers { RecallsOf req.now memo.new }
-    ensures leaves { LeavesOrStays req.now point cursor result board.old memo.old board.new memo.new }
-    ensures tries { result ≡ false → TriesOn req.now point cursor board.old memo.old board.new memo.new }
-    ensures still { memo.old.is_open ≡ true → memo.new.is_open ≡ true ⊎ Refused }
+    ensures leaves { LeavesOrStays A req.now point cursor result board.old memo.old board.new memo.new }
+    ensures tries { result ≡ false → TriesOn A req.now point cursor board.old memo.old board.new memo.new }
+    ensures still { memo.old.is_open ≡ true → memo.new.is_open ≡ true ⊎ Refused A }
 {
     let words = req.pattern_codes().items();
     memo.prepare_marked(words, board, point, req.end());
@@ -315,7 +315,7 @@ fn meet_marks<S: StrDrive, A: Allocator>(
     requires remembers { RecallsOf req.now memo.old }
     ensures remembers { RecallsOf req.now memo.new }
     ensures closed { memo.old.is_open ≡ false → memo.new ≡ memo.old }
-    ensures still { memo.old.is_open ≡ true → memo.new.is_open ≡ true ⊎ Refused }
+    ensures still { memo.old.is_open ≡ true → memo.new.is_open ≡ true ⊎ Refused A }
 {
     if memo.is_open() && may_branch_at(req, point, cursor) {
         memo.meets(&req.pattern_codes(), board.marks().raw());
@@ -339,11 +339,11 @@ fn is_hopeless<S: StrDrive, A: Allocator>(
     requires no_end { keeping ≡ Keeping.Unmarked → ForksThere req.now point
         → NoEndTold req.now point cursor board.old memo.old }
     ensures remembers { RecallsOf req.now memo.new }
-    ensures leaves { LeavesOrStays req.now point cursor result board.old memo.old board.new memo.new }
+    ensures leaves { LeavesOrStays A req.now point cursor result board.old memo.old board.new memo.new }
     ensures tries { result ≡ false → keeping ≢ Keeping.Nothing → RunsOnAt (run_of req.now).words point
-        → TriesOn req.now point cursor board.old memo.old board.new memo.new }
+        → TriesOn A req.now point cursor board.old memo.old board.new memo.new }
     ensures closed { memo.old.is_open ≡ false → memo.new ≡ memo.old }
-    ensures still { memo.old.is_open ≡ true → memo.new.is_open ≡ true ⊎ Refused }
+    ensures still { memo.old.is_open ≡ true → memo.new.is_open ≡ true ⊎ Refused A }
 {
     match keeping {
         Keeping::Nothing => {
@@ -409,14 +409,14 @@ pub(super) fn instruction_or_back<S: StrDrive, A: Allocator, const LIMITED: bool
     memo: &mut Memo<A>,
     place: usize,
     cursor: StringCursor,
-) -> Result<Next, Refusal>
+) -> Result<Next, Refusal<A>>
     requires stands { AtOnBoard req.now (Instruction place) cursor board.old }
     requires remembers { RecallsOf req.now memo.old }
     ensures turn { IfOk result (λ next.
-        Takes req.now (Instruction place) cursor board.old memo.old next board.new memo.new) }
+        Takes A req.now (Instruction place) cursor board.old memo.old next board.new memo.new) }
     ensures remembers { RecallsOf req.now memo.new }
     ensures closed { memo.old.is_open ≡ false → memo.new ≡ memo.old }
-    ensures still { memo.old.is_open ≡ true → memo.new.is_open ≡ true ⊎ Refused }
+    ensures still { memo.old.is_open ≡ true → memo.new.is_open ≡ true ⊎ Refused A }
 {
     let point = Point::Instruction(place);
     let keeping = keeping_at(req, board, memo, point, cursor);
@@ -441,13 +441,13 @@ pub(super) fn again_or_back<S: StrDrive, A: Allocator>(
     board: &mut Board<A>,
     memo: &mut Memo<A>,
     cursor: StringCursor,
-) -> Result<Next, Refusal>
+) -> Result<Next, Refusal<A>>
     requires stands { AtOnBoard req.now Again cursor board.old }
     requires remembers { RecallsOf req.now memo.old }
-    ensures turn { IfOk result (λ next. Takes req.now Again cursor board.old memo.old next board.new memo.new) }
+    ensures turn { IfOk result (λ next. Takes A req.now Again cursor board.old memo.old next board.new memo.new) }
     ensures remembers { RecallsOf req.now memo.new }
     ensures closed { memo.old.is_open ≡ false → memo.new ≡ memo.old }
-    ensures still { memo.old.is_open ≡ true → memo.new.is_open ≡ true ⊎ Refused }
+    ensures still { memo.old.is_open ≡ true → memo.new.is_open ≡ true ⊎ Refused A }
 {
     let keeping = keeping_at(req, board, memo, Point::Again, cursor);
     if let Some(end) = known_end(req, board, memo, keeping, Point::Again, cursor) {

@@ -98,21 +98,21 @@ impl Begun {
 }
 
 /// Why a run ended without an answer.
-#[derive(Clone, Copy, Debug)]
-pub enum Halt {
+#[derive(Drop)]
+pub enum Halt<A: Allocator> {
     /// An allocation failed.
-    Refused(Refusal),
+    Refused(Refusal<A>),
     /// The step limit is exceeded.
     UsedUp,
 }
 
-impl From<Refusal> for Halt {
+impl<A: Allocator> From<Refusal<A>> for Halt<A> {
     ghost use Rattle.std.specs.Prelude.{◌≢◌};
     ghost use Rattle.sre_machine.specs.declared.turns.Halt.TheVariants.{UsedUp};
 
     ghost from_gives = { λ _ halt. halt ≢ UsedUp };
 
-    fn from(refusal: Refusal) -> Halt {
+    fn from(refusal: Refusal<A>) -> Halt<A> {
         Halt::Refused(refusal)
     }
 }
@@ -209,7 +209,7 @@ fn remembering_turns<L: Ledger, K: Plan, S: StrDrive, A: Allocator, const LIMITE
     first: Next,
     turned: &mut Turned<L>,
     allowed: &mut Allowance,
-) -> Result<Decision, Halt>
+) -> Result<Decision, Halt<A>>
     requires limits { LIMITED ≡ is_limited allowed.old }
     requires within { turned.old ≤ K.limit }
     requires stands { WithinTurns req.now K.all (K.limit - turned.old) first board.old }
@@ -219,7 +219,7 @@ fn remembering_turns<L: Ledger, K: Plan, S: StrDrive, A: Allocator, const LIMITE
     ensures spends { Spends result allowed.old allowed.new }
     ensures costs { TurnsCost req.now K.all K.limit first board.old memo.old memo.new turned.old result allowed.old
         allowed.new }
-    ensures stops { is_limited allowed.old ≡ true → Stops req.now K.all first board.old memo.old turned.old
+    ensures stops { is_limited allowed.old ≡ true → Stops A req.now K.all first board.old memo.old turned.old
         (left_of allowed.old) (left_of allowed.new) }
 {
     let waits = may_wait::<A, LIMITED>(memo);
@@ -268,7 +268,7 @@ fn turns_on<L: Ledger, K: Plan, S: StrDrive, A: Allocator>(
     first: Next,
     turned: &mut Turned<L>,
     ended: &mut StringCursor,
-) -> Result<bool, Halt>
+) -> Result<bool, Halt<A>>
     requires within { turned.old ≤ K.limit }
     requires stands { WithinTurns req.now K.all (K.limit - turned.old) first board.old }
     requires remembers { RecallsOf req.now memo.old }
@@ -302,7 +302,7 @@ fn turns<L: Ledger, K: Plan, S: StrDrive, A: Allocator>(
     start: StringCursor,
     turned: &mut Turned<L>,
     ended: &mut StringCursor,
-) -> Result<bool, Halt>
+) -> Result<bool, Halt<A>>
     requires new { turned.old ≡ 0 }
     requires stands { WithinTurns req.now K.all K.limit (Next.At place start) board.old }
     requires remembers { RecallsOf req.now memo.old }
@@ -391,7 +391,7 @@ pub(crate) fn turns_from<L: Ledger, K: Plan, S: StrDrive, A: Allocator>(
     blank: Blank,
     allowed: &mut Allowance,
     ended: &mut StringCursor,
-) -> Result<Ending, Halt>
+) -> Result<Ending, Halt<A>>
     requires name { blank.name ≡ L.name }
     requires parts { blank.parts ≡ L.parts }
     requires some { 0 < blank.parts }
@@ -403,7 +403,7 @@ pub(crate) fn turns_from<L: Ledger, K: Plan, S: StrDrive, A: Allocator>(
     ensures spends { Spends result allowed.old allowed.new }
     ensures costs { TurnsCost req.now K.all K.limit (Next.At (2 * literals) start) board.old memo.old memo.new 0
         (told_of result ended.new) allowed.old allowed.new }
-    ensures stops { is_limited allowed.old ≡ true → Stops req.now K.all (Next.At (2 * literals) start) board.old
+    ensures stops { is_limited allowed.old ≡ true → Stops A req.now K.all (Next.At (2 * literals) start) board.old
         memo.old 0 (left_of allowed.old) (left_of allowed.new) }
 {
     let (book, share) = blank.open::<L>();

@@ -1,8 +1,8 @@
-//! Back-references: whether the characters of a group repeat at a cursor.
+//! Back-references: whether the characters of a group repeat at a cursor, and where they differ.
 //!
 //! The opcode is matched once, before a loop of its own that folds case as the opcode does.
 
-ghost use Rattle.std.specs.Prelude.{◌≡◌, ◌+◌, ◌≤◌, length, is_some, IfSome};
+ghost use Rattle.std.specs.Prelude.{◌≡◌, ◌+◌, ◌≤◌, length, is_ok, IfOk};
 ghost use Rattle.sre_model.specs.Tree.{Fold};
 ghost use Rattle.sre_model.specs.Characters.{folded};
 ghost use Rattle.sre_model.specs.Subject.{same_folded};
@@ -39,16 +39,16 @@ fn is_repeated_folded<S: StrDrive>(
     start: StringCursor,
     cursor: StringCursor,
     count: usize,
-) -> Option<StringCursor>
+) -> Result<StringCursor, usize>
     requires opcode { role opcode ≡ ToRefer }
     requires group { Standing req.now start }
     requires stands { Standing req.now cursor }
     requires in_text { start.position + count ≤ length (run_of req.now).subject.text }
     requires in_window { cursor.position + count ≤ end_of req.now }
     ensures repeated { (fold : Fold) → opcode ≡ reference_opcode fold
-        → is_some result ≡ same_folded (run_of req.now).subject fold count start.position cursor.position }
-    ensures position { IfSome result (λ behind. behind.position ≡ cursor.position + count) }
-    ensures stands { IfSome result (λ behind. Standing req.now behind) }
+        → is_ok result ≡ same_folded (run_of req.now).subject fold count start.position cursor.position }
+    ensures position { IfOk result (λ behind. behind.position ≡ cursor.position + count) }
+    ensures stands { IfOk result (λ behind. Standing req.now behind) }
 {
     let uni = req.pattern_codes().uni();
     let mut of_group = start;
@@ -58,33 +58,33 @@ fn is_repeated_folded<S: StrDrive>(
         let (expected, after_expected) = read_in_text(req, of_group);
         let (character, after) = read(req, here);
         if folded(uni, opcode, expected) != folded(uni, opcode, character) {
-            return None;
+            return Err(passed);
         }
         of_group = after_expected;
         here = after;
         passed += 1;
     }
-    Some(here)
+    Ok(here)
 }
 
 /// The cursor after so many characters of the range from a cursor on, if they equal those of a group from its start on,
-/// both folded as the opcode folds them.
+/// both folded as the opcode folds them. Otherwise the number of characters before the first that differ.
 pub fn is_repeated<S: StrDrive>(
     req: &Request<'_, S>,
     opcode: SreOpcode,
     start: StringCursor,
     cursor: StringCursor,
     count: usize,
-) -> Option<StringCursor>
+) -> Result<StringCursor, usize>
     requires opcode { role opcode ≡ ToRefer }
     requires group { Standing req.now start }
     requires stands { Standing req.now cursor }
     requires in_text { start.position + count ≤ length (run_of req.now).subject.text }
     requires in_window { cursor.position + count ≤ end_of req.now }
     ensures repeated { (fold : Fold) → opcode ≡ reference_opcode fold
-        → is_some result ≡ same_folded (run_of req.now).subject fold count start.position cursor.position }
-    ensures position { IfSome result (λ behind. behind.position ≡ cursor.position + count) }
-    ensures stands { IfSome result (λ behind. Standing req.now behind) }
+        → is_ok result ≡ same_folded (run_of req.now).subject fold count start.position cursor.position }
+    ensures position { IfOk result (λ behind. behind.position ≡ cursor.position + count) }
+    ensures stands { IfOk result (λ behind. Standing req.now behind) }
 {
     // An arm for each opcode, so that each loop knows its own.
     macro_rules! repeated_each {

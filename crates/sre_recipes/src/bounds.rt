@@ -78,7 +78,7 @@ fn next_span_within<S: StrDrive, A: Allocator + Copy>(
     ensures lasts { OutlastRest walk.old (Some steps.old) → IfOk result (λ told. IfSome told (λ next.
         IsSome next → OutlastRest walk.new (Some steps.new))) }
     ensures spends { IfOk result (λ told. SpendsWithin walk.old walk.new told steps.old steps.new) }
-    ensures refused { OnErr result Refused }
+    ensures refused { OnErr result (Refused A) }
 {
     match walk.next_within(steps) {
         Err(error) => Err(error),
@@ -98,7 +98,7 @@ fn next_limited<S: StrDrive, A: Allocator + Copy>(
         Gives walk.old walk.new
         × IsSpan (S.stands (string_of (request_of walk.old))) (shown_of walk.new) span.start span.end
         × Goes walk.old walk.new bounds.old bounds.new)) }
-    ensures refused { OnErr result Refused }
+    ensures refused { OnErr result (Refused A) }
 {
     let Some(steps) = bounds.steps else {
         return next_span(walk);
@@ -146,7 +146,7 @@ pub(crate) fn next_bounded<S: StrDrive, A: Allocator + Copy>(
         × IsSpan (S.stands (string_of (request_of walk.old))) (shown_of walk.new) span.start span.end
         × Takes walk.old walk.new bounds.old bounds.new)) }
     ensures falls { IfOk result (λ next. IsSome next → most_items walk.new < most_items walk.old) }
-    ensures refused { OnErr result Refused }
+    ensures refused { OnErr result (Refused A) }
 {
     if is_spent(bounds.most) {
         return Ok(None);

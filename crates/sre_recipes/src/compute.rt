@@ -41,7 +41,7 @@ fn append_new<S: Rewritten>(
         ++ S.shown new.now) }
     ensures written { IfOk result (λ _. S.IsText output.new.items) }
     ensures last { IfOk result (λ _. last.new ≡ span.now.end) }
-    ensures refused { OnErr result Refused }
+    ensures refused { OnErr result (Refused A) }
 {
     text.between(last, &span.start).append_to(output)?;
     S::append_new(new, output)?;
@@ -76,7 +76,7 @@ where
     ensures steps { IfOk result (λ _. AreLeft bounds.old.steps bounds.new.steps) }
     ensures lasts { OutlastRest walk.old bounds.old.steps → IfOk result (λ _. bounds.new.limit_exceeded ≡ false) }
     ensures followed { IfOk result (λ _. FollowedRest walk.old bounds.old bounds.new) }
-    ensures refused { ((f : _) (c : _) (e : _) (g : _) → F.step f c (Err e) g → Refused) → OnErr result Refused }
+    ensures refused { ((f : _) (c : _) (e : _) (g : _) → F.step f c (Err e) g → Refused A) → OnErr result (Refused A) }
 {
     let (text, stop) = (walk.req().string(), walk.req().end());
     let mut last = text.create_cursor(walk.req().start());
@@ -118,7 +118,7 @@ where
         → IfOk result (λ _. bounds.new.limit_exceeded ≡ false) }
     ensures followed { IfOk result (λ _.
         Followed (asked_of req.entry) (code_of req.entry) bounds.old.most bounds.old.steps bounds.new) }
-    ensures refused { ((f : _) (c : _) (e : _) (g : _) → F.step f c (Err e) g → Refused) → OnErr result Refused }
+    ensures refused { ((f : _) (c : _) (e : _) (g : _) → F.step f c (Err e) g → Refused A) → OnErr result (Refused A) }
 {
     bounds.limit_exceeded = false;
     let mut walk = SearchIter::new(req, State::new(alloc));
@@ -148,7 +148,7 @@ where
         → IfOk result (λ _. bounds.new.limit_exceeded ≡ false) }
     ensures followed { IfOk result (λ _.
         Followed (asked_of req.entry) (code_of req.entry) bounds.old.most bounds.old.steps bounds.new) }
-    ensures refused { ((f : _) (c : _) (e : _) (g : _) → F.step f c (Err e) g → Refused) → OnErr result Refused }
+    ensures refused { ((f : _) (c : _) (e : _) (g : _) → F.step f c (Err e) g → Refused A) → OnErr result (Refused A) }
 {
     let mut output = Vec::new(alloc);
     append_all_computed(alloc, req, bounds, compute, &mut output)?;
@@ -186,7 +186,7 @@ where
         (Computes S.text (λ f c r g. F.step f c r g) (λ r. S.shown r) (S.text (string_of req.now)))
         (S.text (string_of req.now)) compute (start_of req.now) (end_of req.now)
         (walk (asked_of req.now) t) (S.shown new)) }
-    ensures refused { ((f : _) (c : _) (e : _) (g : _) → F.step f c (Err e) g → Refused) → OnErr result Refused }
+    ensures refused { ((f : _) (c : _) (e : _) (g : _) → F.step f c (Err e) g → Refused A) → OnErr result (Refused A) }
 {
     let mut bounds = Bounds::none();
     computed_text(alloc, copied(req), &mut bounds, compute)
@@ -220,7 +220,7 @@ where
     ensures exceeded { IfOk result (λ told. bounds.new.limit_exceeded ≡ is_none told) }
     ensures followed { IfOk result (λ _.
         Followed (asked_of req.now) (code_of req.now) bounds.old.most bounds.old.steps bounds.new) }
-    ensures refused { ((f : _) (c : _) (e : _) (g : _) → F.step f c (Err e) g → Refused) → OnErr result Refused }
+    ensures refused { ((f : _) (c : _) (e : _) (g : _) → F.step f c (Err e) g → Refused A) → OnErr result (Refused A) }
 {
     let new = computed_text(alloc, copied(req), bounds, compute)?;
     if bounds.limit_exceeded {

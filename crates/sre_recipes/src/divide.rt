@@ -40,7 +40,7 @@ fn add_piece<S: Text, A: Allocator>(
         ≡ map S.text pieces.old.items
         ++ slice_range (S.text text) last.old.position span.now.start.position ∷ []) }
     ensures last { IfOk result (λ _. last.new ≡ span.now.end) }
-    ensures refused { OnErr result Refused }
+    ensures refused { OnErr result (Refused A) }
 {
     sre_growth::push(pieces, text.between(last, &span.start))?;
     *last = span.end;
@@ -64,7 +64,7 @@ fn add_pieces<S: Text, A: Allocator + Copy>(
     ensures steps { IfOk result (λ _. AreLeft bounds.old.steps bounds.new.steps) }
     ensures lasts { OutlastRest walk.old bounds.old.steps → IfOk result (λ _. bounds.new.limit_exceeded ≡ false) }
     ensures followed { IfOk result (λ _. FollowedRest walk.old bounds.old bounds.new) }
-    ensures refused { OnErr result Refused }
+    ensures refused { OnErr result (Refused A) }
 {
     let (text, stop) = (walk.req().string(), walk.req().end());
     let mut last = text.create_cursor(walk.req().start());
@@ -93,7 +93,7 @@ fn add_all_pieces<S: Text, A: Allocator + Copy>(
         → IfOk result (λ _. bounds.new.limit_exceeded ≡ false) }
     ensures followed { IfOk result (λ _.
         Followed (asked_of req.entry) (code_of req.entry) bounds.old.most bounds.old.steps bounds.new) }
-    ensures refused { OnErr result Refused }
+    ensures refused { OnErr result (Refused A) }
 {
     bounds.limit_exceeded = false;
     let mut walk = SearchIter::new(req, State::new(alloc));
@@ -121,7 +121,7 @@ pub fn split<S: Text, A: Allocator + Copy>(
         map S.text pieces.items
         ≡ pieces_between (S.text (string_of req.now)) (start_of req.now) (end_of req.now)
         (walk (asked_of req.now) t)) }
-    ensures refused { OnErr result Refused }
+    ensures refused { OnErr result (Refused A) }
 {
     let mut pieces = Vec::new(alloc);
     let mut bounds = Bounds::none();
@@ -160,7 +160,7 @@ pub fn split_bounded<S: Text, A: Allocator + Copy>(
     ensures exceeded { IfOk result (λ told. bounds.new.limit_exceeded ≡ is_none told) }
     ensures followed { IfOk result (λ _.
         Followed (asked_of req.now) (code_of req.now) bounds.old.most bounds.old.steps bounds.new) }
-    ensures refused { OnErr result Refused }
+    ensures refused { OnErr result (Refused A) }
 {
     let mut pieces = Vec::new(alloc);
     add_all_pieces(alloc, copied(req), bounds, &mut pieces)?;
@@ -187,7 +187,7 @@ fn add_with_groups<S: Text, A: Allocator + Copy>(
         ++ Some (slice_range (S.text text) last.old.position state.now.start) ∷ [])
         ++ first_groups (S.text text) groups (match_shown state.now)) }
     ensures last { IfOk result (λ _. last.new ≡ span.now.end) }
-    ensures refused { OnErr result Refused }
+    ensures refused { OnErr result (Refused A) }
 {
     sre_growth::push(pieces, Some(text.between(last, &span.start)))?;
     add_groups(pieces, text, state, 1, groups)?;
@@ -213,7 +213,7 @@ fn add_pieces_and_groups<S: Text, A: Allocator + Copy>(
     ensures steps { IfOk result (λ _. AreLeft bounds.old.steps bounds.new.steps) }
     ensures lasts { OutlastRest walk.old bounds.old.steps → IfOk result (λ _. bounds.new.limit_exceeded ≡ false) }
     ensures followed { IfOk result (λ _. FollowedRest walk.old bounds.old bounds.new) }
-    ensures refused { OnErr result Refused }
+    ensures refused { OnErr result (Refused A) }
 {
     let (text, stop) = (walk.req().string(), walk.req().end());
     let mut last = text.create_cursor(walk.req().start());
@@ -243,7 +243,7 @@ fn add_all_with_groups<S: Text, A: Allocator + Copy>(
         → IfOk result (λ _. bounds.new.limit_exceeded ≡ false) }
     ensures followed { IfOk result (λ _.
         Followed (asked_of req.entry) (code_of req.entry) bounds.old.most bounds.old.steps bounds.new) }
-    ensures refused { OnErr result Refused }
+    ensures refused { OnErr result (Refused A) }
 {
     bounds.limit_exceeded = false;
     let mut walk = SearchIter::new(req, State::new(alloc));
@@ -274,7 +274,7 @@ pub fn split_groups<S: Text, A: Allocator + Copy>(
         map (option_map S.text) pieces.items
         ≡ pieces_and_groups (S.text (string_of req.now)) groups (start_of req.now) (end_of req.now)
         (walk (asked_of req.now) t)) }
-    ensures refused { OnErr result Refused }
+    ensures refused { OnErr result (Refused A) }
 {
     let mut pieces = Vec::new(alloc);
     let mut bounds = Bounds::none();
@@ -305,7 +305,7 @@ pub fn split_groups_bounded<S: Text, A: Allocator + Copy>(
     ensures exceeded { IfOk result (λ told. bounds.new.limit_exceeded ≡ is_none told) }
     ensures followed { IfOk result (λ _.
         Followed (asked_of req.now) (code_of req.now) bounds.old.most bounds.old.steps bounds.new) }
-    ensures refused { OnErr result Refused }
+    ensures refused { OnErr result (Refused A) }
 {
     let mut pieces = Vec::new(alloc);
     add_all_with_groups(alloc, copied(req), bounds, groups, &mut pieces)?;

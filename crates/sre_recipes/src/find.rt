@@ -45,7 +45,7 @@ fn add_text<S: Text, A: Allocator>(
     ensures ok { IfOk result (λ _. map S.text all.new.items
         ≡ map S.text all.old.items
         ++ slice_range (S.text text) span.now.start.position span.now.end.position ∷ []) }
-    ensures refused { OnErr result Refused }
+    ensures refused { OnErr result (Refused A) }
 {
     sre_growth::push(all, text.between(&span.start, &span.end))?;
     Ok(())
@@ -68,7 +68,7 @@ fn add_texts<S: Text, A: Allocator + Copy>(
     ensures steps { IfOk result (λ _. AreLeft bounds.old.steps bounds.new.steps) }
     ensures lasts { OutlastRest walk.old bounds.old.steps → IfOk result (λ _. bounds.new.limit_exceeded ≡ false) }
     ensures followed { IfOk result (λ _. FollowedRest walk.old bounds.old bounds.new) }
-    ensures refused { OnErr result Refused }
+    ensures refused { OnErr result (Refused A) }
 {
     let text = walk.req().string();
     'walk: while let Some(span) = next_bounded(walk, bounds)? {
@@ -94,7 +94,7 @@ fn add_all_texts<S: Text, A: Allocator + Copy>(
         → IfOk result (λ _. bounds.new.limit_exceeded ≡ false) }
     ensures followed { IfOk result (λ _.
         Followed (asked_of req.entry) (code_of req.entry) bounds.old.most bounds.old.steps bounds.new) }
-    ensures refused { OnErr result Refused }
+    ensures refused { OnErr result (Refused A) }
 {
     bounds.limit_exceeded = false;
     let mut walk = SearchIter::new(req, State::new(alloc));
@@ -120,7 +120,7 @@ pub fn find_all<S: Text, A: Allocator + Copy>(
     ensures ok { (t : Tree) → Whole (words_of (code_of req.now)) t → IfOk result (λ all.
         map S.text all.items
         ≡ map (slice_of (S.text (string_of req.now))) (walk (asked_of req.now) t)) }
-    ensures refused { OnErr result Refused }
+    ensures refused { OnErr result (Refused A) }
 {
     let mut all = Vec::new(alloc);
     let mut bounds = Bounds::none();
@@ -158,7 +158,7 @@ pub fn find_bounded<S: Text, A: Allocator + Copy>(
     ensures exceeded { IfOk result (λ told. bounds.new.limit_exceeded ≡ is_none told) }
     ensures followed { IfOk result (λ _.
         Followed (asked_of req.now) (code_of req.now) bounds.old.most bounds.old.steps bounds.new) }
-    ensures refused { OnErr result Refused }
+    ensures refused { OnErr result (Refused A) }
 {
     let mut all = Vec::new(alloc);
     add_all_texts(alloc, copied(req), bounds, &mut all)?;
@@ -203,7 +203,7 @@ pub fn match_text<S: Text, A: Allocator + Copy>(
     ensures forward { IfOk result (λ text. IsSome text → state.new.start ≤ state.new.cursor.position) }
     ensures no { IfOk result (λ text. text ≡ None → state.new.marks ≡ no_marks) }
     ensures err { OnErr result (state.new.marks ≡ no_marks) }
-    ensures refused { OnErr result Refused }
+    ensures refused { OnErr result (Refused A) }
 {
     let _words = req.pattern_codes().words(); // has a tree
     let found = state.pymatch(req)?;
@@ -229,7 +229,7 @@ pub fn search_text<S: Text, A: Allocator + Copy>(
     ensures forward { IfOk result (λ text. IsSome text → state.new.start ≤ state.new.cursor.position) }
     ensures no { IfOk result (λ text. text ≡ None → state.new.marks ≡ no_marks) }
     ensures err { OnErr result (state.new.marks ≡ no_marks) }
-    ensures refused { OnErr result Refused }
+    ensures refused { OnErr result (Refused A) }
 {
     let _words = req.pattern_codes().words(); // has a tree
     let text = req.string();
@@ -254,7 +254,7 @@ pub fn is_match<S: StrDrive, A: Allocator + Copy>(
 ) -> Result<bool, SreError>
     ensures ok { (t : Tree) → Whole (words_of (code_of req.now)) t
         → IfOk result (λ b. b ≡ is_some (found (asked_of req.now) t)) }
-    ensures refused { OnErr result Refused }
+    ensures refused { OnErr result (Refused A) }
 {
     let mut state = State::new(alloc);
     state.search(copied(req))
@@ -277,7 +277,7 @@ pub fn full_match<S: StrDrive, A: Allocator + Copy>(
     ensures span { IfOk result (λ b. b ≡ true → Spans (start_of req.now) (end_of req.now) state.new) }
     ensures no { IfOk result (λ b. b ≡ false → state.new.marks ≡ no_marks) }
     ensures err { OnErr result (state.new.marks ≡ no_marks) }
-    ensures refused { OnErr result Refused }
+    ensures refused { OnErr result (Refused A) }
 {
     let mut req = copied(req);
     req.set_match_all(true);

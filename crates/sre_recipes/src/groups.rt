@@ -72,7 +72,7 @@ pub(crate) fn add_groups<S: Text, A: Allocator + Copy>(
     requires numbers { first + several ≤ 2 ^ 64 }
     ensures ok { IfOk result (λ _. map (option_map S.text) groups.new.items ≡ map (option_map S.text) groups.old.items
         ++ map (numbered_group (S.text text) (match_shown state.now)) (range_with_len first several)) }
-    ensures refused { OnErr result Refused }
+    ensures refused { OnErr result (Refused A) }
 {
     let mut count = 0;
     'group: while count < several {
@@ -90,7 +90,7 @@ pub(crate) fn shown_captures<S: Text, A: Allocator + Copy>(
 ) -> Result<CapturesOf<S, A>, SreError>
     requires { S.stands text state.now.cursor state.now.cursor.position }
     ensures ok { IfOk result (λ all. captures_shown S.text all ≡ captured (S.text text) (match_shown state.now)) }
-    ensures refused { OnErr result Refused }
+    ensures refused { OnErr result (Refused A) }
 {
     let mut groups = Vec::new(alloc);
     let several = state.marks().raw().len() / 2 + 1;
@@ -118,7 +118,7 @@ pub fn search_captures<S: Text, A: Allocator + Copy>(
         → S.stands (string_of req.now) state.new.cursor state.new.cursor.position) }
     ensures forward { IfOk result (λ all. IsSome all → state.new.start ≤ state.new.cursor.position) }
     ensures no { IfOk result (λ all. all ≡ None → state.new.marks ≡ no_marks) }
-    ensures refused { OnErr result Refused }
+    ensures refused { OnErr result (Refused A) }
 {
     let text = req.string();
     match search_text(req, state)? {
@@ -147,7 +147,7 @@ pub fn match_captures<S: Text, A: Allocator + Copy>(
         → S.stands (string_of req.now) state.new.cursor state.new.cursor.position) }
     ensures forward { IfOk result (λ all. IsSome all → state.new.start ≤ state.new.cursor.position) }
     ensures no { IfOk result (λ all. all ≡ None → state.new.marks ≡ no_marks) }
-    ensures refused { OnErr result Refused }
+    ensures refused { OnErr result (Refused A) }
 {
     match match_text(req, state)? {
         None => Ok(None),
@@ -165,7 +165,7 @@ fn add_captures<S: Text, A: Allocator + Copy>(
     requires { S.stands text state.now.cursor state.now.cursor.position }
     ensures ok { IfOk result (λ _. map (captures_shown S.text) all.new.items
         ≡ map (captures_shown S.text) all.old.items ++ captured (S.text text) (match_shown state.now) ∷ []) }
-    ensures refused { OnErr result Refused }
+    ensures refused { OnErr result (Refused A) }
 {
     let captures = shown_captures(alloc, text, state)?;
     sre_growth::push(all, captures)?;
@@ -190,7 +190,7 @@ fn add_each<S: Text, A: Allocator + Copy>(
     ensures steps { IfOk result (λ _. AreLeft bounds.old.steps bounds.new.steps) }
     ensures lasts { OutlastRest walk.old bounds.old.steps → IfOk result (λ _. bounds.new.limit_exceeded ≡ false) }
     ensures followed { IfOk result (λ _. FollowedRest walk.old bounds.old bounds.new) }
-    ensures refused { OnErr result Refused }
+    ensures refused { OnErr result (Refused A) }
 {
     let text = walk.req().string();
     'walk: while let Some(span) = next_bounded(walk, bounds)? {
@@ -216,7 +216,7 @@ fn add_all_captures<S: Text, A: Allocator + Copy>(
         → IfOk result (λ _. bounds.new.limit_exceeded ≡ false) }
     ensures followed { IfOk result (λ _.
         Followed (asked_of req.entry) (code_of req.entry) bounds.old.most bounds.old.steps bounds.new) }
-    ensures refused { OnErr result Refused }
+    ensures refused { OnErr result (Refused A) }
 {
     bounds.limit_exceeded = false;
     let mut walk = SearchIter::new(req, State::new(alloc));
@@ -244,7 +244,7 @@ pub fn all_captures<S: Text, A: Allocator + Copy>(
     ensures ok { (t : Tree) → Whole (words_of (code_of req.now)) t → IfOk result (λ all.
         map (captures_shown S.text) all.items
         ≡ map (captured (S.text (string_of req.now))) (walk (asked_of req.now) t)) }
-    ensures refused { OnErr result Refused }
+    ensures refused { OnErr result (Refused A) }
 {
     let mut all = Vec::new(alloc);
     let mut bounds = Bounds::none();
@@ -272,7 +272,7 @@ pub fn captures_bounded<S: Text, A: Allocator + Copy>(
     ensures exceeded { IfOk result (λ told. bounds.new.limit_exceeded ≡ is_none told) }
     ensures followed { IfOk result (λ _.
         Followed (asked_of req.now) (code_of req.now) bounds.old.most bounds.old.steps bounds.new) }
-    ensures refused { OnErr result Refused }
+    ensures refused { OnErr result (Refused A) }
 {
     let mut all = Vec::new(alloc);
     add_all_captures(alloc, copied(req), bounds, &mut all)?;

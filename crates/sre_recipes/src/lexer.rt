@@ -68,7 +68,7 @@ fn next_adjoining<S: Text, A: Allocator + Copy>(
     ensures gives { IfOk result (λ next. MatchOption next (NoneAdjoins walk.old) (λ span. Adjoins walk.old walk.new
         × IsSpan (S.stands (string_of (request_of walk.old))) (shown_of walk.new) span.start span.end)) }
     ensures falls { IfOk result (λ next. IsSome next → most_items walk.new < most_items walk.old) }
-    ensures refused { OnErr result Refused }
+    ensures refused { OnErr result (Refused A) }
 {
     let Some(span) = next_span(walk)? else {
         return Ok(None);
@@ -92,7 +92,7 @@ fn add_token<S: Text, A: Allocator + Copy>(
         ≡ map (lexeme_shown S.text) all.old.tokens.items
         ++ map (lexeme_of (S.text text)) (unless_empty (match_shown state.now))) }
     ensures end { IfOk result (λ _. StandsAt (S.stands text) all.new.end state.now.cursor.position) }
-    ensures refused { OnErr result Refused }
+    ensures refused { OnErr result (Refused A) }
 {
     if begins_at(span, &span.end) {
         return Ok(());
@@ -116,7 +116,7 @@ fn add_tokens<S: Text, A: Allocator + Copy>(
     ensures end { (t : Tree) → Whole (words_of (code_of (request_of walk.old))) t → IfOk result (λ _.
         StandsAt (S.stands (string_of (request_of walk.old))) all.new.end
         (reached (start_of (request_of walk.old)) (adjoining (start_of (request_of walk.old)) (left_of walk.old t)))) }
-    ensures refused { OnErr result Refused }
+    ensures refused { OnErr result (Refused A) }
 {
     let text = walk.req().string();
     'walk: while let Some(span) = next_adjoining(walk, &all.end)? {
@@ -140,7 +140,7 @@ fn add_all_tokens<S: Text, A: Allocator + Copy>(
     ensures end { (t : Tree) → Whole (words_of (code_of req.entry)) t → IfOk result (λ _.
         StandsAt (S.stands (string_of req.entry)) all.new.end
         (reached (start_of req.entry) (adjoining (start_of req.entry) (walk (asked_of req.entry) t)))) }
-    ensures refused { OnErr result Refused }
+    ensures refused { OnErr result (Refused A) }
 {
     let mut walk = SearchIter::new(req, State::new(alloc));
     add_tokens(&mut walk, all)
@@ -166,7 +166,7 @@ pub fn tokens_of<S: Text, A: Allocator + Copy>(
     ensures end { (t : Tree) → Whole (words_of (code_of req.now)) t → IfOk result (λ all.
         S.stands (string_of req.now) all.end
         (reached (start_of req.now) (token_matches (asked_of req.now) t))) }
-    ensures refused { OnErr result Refused }
+    ensures refused { OnErr result (Refused A) }
 {
     let mut all = TokensOf {
         tokens: Vec::new(alloc),

@@ -75,7 +75,7 @@ fn append_piece<S: Text, A: Allocator + Copy>(
         S.characters output.new.items
         ≡ S.characters output.old.items ++ piece_of S.text (S.text text) (match_shown state.now) piece) }
     ensures written { IfOk result (λ _. S.IsText output.new.items) }
-    ensures refused { OnErr result Refused }
+    ensures refused { OnErr result (Refused A) }
 {
     piece_text(text, state, span, piece).append_to(output)
 }
@@ -94,7 +94,7 @@ fn append_replacement<S: Text, A: Allocator + Copy>(
         S.characters output.new.items
         ≡ S.characters output.old.items ++ written S.text (S.text text) template.now (match_shown state.now)) }
     ensures written { IfOk result (λ _. S.IsText output.new.items) }
-    ensures refused { OnErr result Refused }
+    ensures refused { OnErr result (Refused A) }
 {
     'piece: for piece in template {
         append_piece(output, text, state, span, *piece)?;
@@ -121,7 +121,7 @@ fn append_match<S: Text, A: Allocator + Copy>(
         ++ written S.text (S.text text) template.now (match_shown state.now)) }
     ensures written { IfOk result (λ _. S.IsText output.new.items) }
     ensures last { IfOk result (λ _. last.new ≡ span.now.end) }
-    ensures refused { OnErr result Refused }
+    ensures refused { OnErr result (Refused A) }
 {
     text.between(last, &span.start).append_to(output)?;
     append_replacement(output, text, state, span, template)?;
@@ -150,7 +150,7 @@ fn append_replaced<S: Text, A: Allocator + Copy>(
     ensures steps { IfOk result (λ _. AreLeft bounds.old.steps bounds.new.steps) }
     ensures lasts { OutlastRest walk.old bounds.old.steps → IfOk result (λ _. bounds.new.limit_exceeded ≡ false) }
     ensures followed { IfOk result (λ _. FollowedRest walk.old bounds.old bounds.new) }
-    ensures refused { OnErr result Refused }
+    ensures refused { OnErr result (Refused A) }
 {
     let (text, stop) = (walk.req().string(), walk.req().end());
     let mut last = text.create_cursor(walk.req().start());
@@ -182,7 +182,7 @@ fn append_all<S: Text, A: Allocator + Copy>(
         → IfOk result (λ _. bounds.new.limit_exceeded ≡ false) }
     ensures followed { IfOk result (λ _.
         Followed (asked_of req.entry) (code_of req.entry) bounds.old.most bounds.old.steps bounds.new) }
-    ensures refused { OnErr result Refused }
+    ensures refused { OnErr result (Refused A) }
 {
     bounds.limit_exceeded = false;
     let mut walk = SearchIter::new(req, State::new(alloc));
@@ -207,7 +207,7 @@ fn replaced_text<'t, A: Allocator + Copy>(
         → IfOk result (λ _. bounds.new.limit_exceeded ≡ false) }
     ensures followed { IfOk result (λ _.
         Followed (asked_of req.entry) (code_of req.entry) bounds.old.most bounds.old.steps bounds.new) }
-    ensures refused { OnErr result Refused }
+    ensures refused { OnErr result (Refused A) }
 {
     let mut output = Vec::new(alloc);
     append_all(alloc, req, bounds, template, &mut output)?;
@@ -231,7 +231,7 @@ fn replaced_bytes<'t, A: Allocator + Copy>(
         → IfOk result (λ _. bounds.new.limit_exceeded ≡ false) }
     ensures followed { IfOk result (λ _.
         Followed (asked_of req.entry) (code_of req.entry) bounds.old.most bounds.old.steps bounds.new) }
-    ensures refused { OnErr result Refused }
+    ensures refused { OnErr result (Refused A) }
 {
     let mut output = Vec::new(alloc);
     append_all(alloc, req, bounds, template, &mut output)?;
@@ -262,7 +262,7 @@ pub fn replace_all<A: Allocator + Copy>(
         ≡ replaced (chars (string_of req.now).now)
         (written (λ s. chars s.now) (chars (string_of req.now).now) template.now)
         (start_of req.now) (end_of req.now) (walk (asked_of req.now) t)) }
-    ensures refused { OnErr result Refused }
+    ensures refused { OnErr result (Refused A) }
 {
     let mut bounds = Bounds::none();
     replaced_text(alloc, copied(req), &mut bounds, &*template)
@@ -301,7 +301,7 @@ pub fn replace_bounded<A: Allocator + Copy>(
     ensures exceeded { IfOk result (λ told. bounds.new.limit_exceeded ≡ is_none told) }
     ensures followed { IfOk result (λ _.
         Followed (asked_of req.now) (code_of req.now) bounds.old.most bounds.old.steps bounds.new) }
-    ensures refused { OnErr result Refused }
+    ensures refused { OnErr result (Refused A) }
 {
     let new = replaced_text(alloc, copied(req), bounds, &*template)?;
     if bounds.limit_exceeded {
@@ -334,7 +334,7 @@ pub fn replace_all_bytes<A: Allocator + Copy>(
         new.items
         ≡ replaced (string_of req.now).now (written (λ s. s.now) (string_of req.now).now template.now)
         (start_of req.now) (end_of req.now) (walk (asked_of req.now) t)) }
-    ensures refused { OnErr result Refused }
+    ensures refused { OnErr result (Refused A) }
 {
     let mut bounds = Bounds::none();
     replaced_bytes(alloc, copied(req), &mut bounds, &*template)
@@ -362,7 +362,7 @@ pub fn replace_bounded_bytes<A: Allocator + Copy>(
     ensures exceeded { IfOk result (λ told. bounds.new.limit_exceeded ≡ is_none told) }
     ensures followed { IfOk result (λ _.
         Followed (asked_of req.now) (code_of req.now) bounds.old.most bounds.old.steps bounds.new) }
-    ensures refused { OnErr result Refused }
+    ensures refused { OnErr result (Refused A) }
 {
     let new = replaced_bytes(alloc, copied(req), bounds, &*template)?;
     if bounds.limit_exceeded {

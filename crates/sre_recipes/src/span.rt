@@ -58,7 +58,7 @@ pub(crate) fn next_span<S: StrDrive, A: Allocator + Copy>(
     ensures gives { IfOk result (λ next. MatchOption next (IsOver walk.old) (λ span. Gives walk.old walk.new
         × IsSpan (S.stands (string_of (request_of walk.old))) (shown_of walk.new) span.start span.end)) }
     ensures falls { IfOk result (λ next. IsSome next → most_items walk.new < most_items walk.old) }
-    ensures refused { OnErr result Refused }
+    ensures refused { OnErr result (Refused A) }
 {
     match walk.next() {
         None => Ok(None),

@@ -38,7 +38,7 @@ pub trait Text: StrDrive {
         ensures ok { IfOk result (λ _.
             characters output.new.items ≡ characters output.old.items ++ Self.text self.now) }
         ensures written { IfOk result (λ _. IsText output.new.items) }
-        ensures refused { OnErr result Refused };
+        ensures refused { OnErr result (Refused A) };
 
     // The empty list of bytes encodes the empty text.
     ghost none: { IsText [] };
@@ -69,7 +69,7 @@ pub trait Rewritten: Text {
         ensures ok { IfOk result (λ _.
             Self.characters output.new.items ≡ Self.characters output.old.items ++ shown new.now) }
         ensures written { IfOk result (λ _. Self.IsText output.new.items) }
-        ensures refused { OnErr result Refused };
+        ensures refused { OnErr result (Refused A) };
 }
 
 // The slice of a `str` from one cursor to another.
@@ -94,7 +94,7 @@ fn at_end(text: &str, cursor: &StringCursor) -> bool
 // Appends bytes one by one with `sre_growth`, whose errors prove that an allocation failed.
 fn append_bytes<A: Allocator>(output: &mut Vec<u8, A>, bytes: &[u8]) -> Result<(), SreError>
     ensures ok { IfOk result (λ _. output.new.items ≡ output.old.items ++ bytes.now) }
-    ensures refused { OnErr result Refused }
+    ensures refused { OnErr result (Refused A) }
 {
     for byte in bytes {
         sre_growth::push(output, *byte)?;
@@ -107,7 +107,7 @@ fn append_text<A: Allocator>(output: &mut Vec<u8, A>, text: &str) -> Result<(), 
     requires { IsUtf8 output.old.items }
     ensures ok { IfOk result (λ _. chars output.new.items ≡ chars output.old.items ++ chars text.now) }
     ensures utf8 { IfOk result (λ _. IsUtf8 output.new.items) }
-    ensures refused { OnErr result Refused }
+    ensures refused { OnErr result (Refused A) }
 {
     append_bytes(output, text.as_bytes())?;
     Ok(())
@@ -180,7 +180,7 @@ impl<'t> Rewritten for &'t str {
         ensures ok { IfOk result (λ _.
             chars output.new.items ≡ chars output.old.items ++ chars (string_bytes new.now)) }
         ensures written { IfOk result (λ _. IsUtf8 output.new.items) }
-        ensures refused { OnErr result Refused }
+        ensures refused { OnErr result (Refused A) }
     {
         append_text(output, new.as_str())
     }
@@ -200,7 +200,7 @@ impl<'t> Rewritten for &'t [u8] {
     fn append_new(new: &Vec<u8>, output: &mut Vec<u8>) -> Result<(), SreError>
         ensures ok { IfOk result (λ _. output.new.items ≡ output.old.items ++ new.now.items) }
         ensures written { IfOk result (λ _. ⊤) }
-        ensures refused { OnErr result Refused }
+        ensures refused { OnErr result (Refused A) }
     {
         append_bytes(output, new.as_slice())
     }

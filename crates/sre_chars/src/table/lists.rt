@@ -42,7 +42,7 @@ pub fn checked_lists<A: Allocator + Copy>(
     ensures lawful { OnOk result (table_fault (table_of lower.now upper.now alnum.now) ≡ None) }
     ensures refused { IfErr result (λ error.
         option_or (table_fault (table_of lower.now upper.now alnum.now)) (Some UniError.Memory) ≡ Some error) }
-    ensures grows { table_fault (table_of lower.now upper.now alnum.now) ≡ None → OnErr result Refused }
+    ensures grows { table_fault (table_of lower.now upper.now alnum.now) ≡ None → OnErr result (Refused A) }
 {
     check(Listing::Map, lower)?;
     check(Listing::Map, upper)?;
@@ -63,7 +63,7 @@ pub fn checked_ranges<A: Allocator>(
     ensures lawful { OnOk result (list_fault Listing.Ranges 0 ranges.now ≡ None) }
     ensures refused { IfErr result (λ error.
         option_or (list_fault Listing.Ranges 0 ranges.now) (Some UniError.Memory) ≡ Some error) }
-    ensures grows { list_fault Listing.Ranges 0 ranges.now ≡ None → OnErr result Refused }
+    ensures grows { list_fault Listing.Ranges 0 ranges.now ≡ None → OnErr result (Refused A) }
 {
     check(Listing::Ranges, ranges)?;
     Ok(sre_growth::from_slice(alloc, ranges)?)
@@ -91,7 +91,7 @@ pub fn std_lists<A: Allocator + Copy>(alloc: A) -> Result<Lists<A>, UniError>
     ensures lawful { IfOk result (λ lists.
         table_fault (table_of lists.lower.items lists.upper.items lists.alnum.items) ≡ None) }
     ensures refused { IsOkUnless result UniError.Memory }
-    ensures grows { OnErr result Refused }
+    ensures grows { OnErr result (Refused A) }
 {
     Ok(Lists {
         lower: std_map(alloc, Case::Lower)?,
@@ -165,7 +165,7 @@ fn is_scalar(ch: u32) -> bool
 fn std_map<A: Allocator>(alloc: A, case: Case) -> Result<Vec<(u32, u32), A>, UniError>
     ensures lawful { IfOk result (λ entries. list_fault Listing.Map 0 entries.items ≡ None) }
     ensures refused { IsOkUnless result UniError.Memory }
-    ensures grows { OnErr result Refused }
+    ensures grows { OnErr result (Refused A) }
 {
     let mut entries = Vec::new(alloc);
     for from in 128..0x110000u32 {
@@ -194,7 +194,7 @@ fn in_case(case: Case, ch: char) -> char
 fn std_ranges<A: Allocator>(alloc: A) -> Result<Vec<(u32, u32), A>, UniError>
     ensures lawful { IfOk result (λ ranges. list_fault Listing.Ranges 0 ranges.items ≡ None) }
     ensures refused { IsOkUnless result UniError.Memory }
-    ensures grows { OnErr result Refused }
+    ensures grows { OnErr result (Refused A) }
 {
     let mut ranges = Vec::new(alloc);
     let mut run = None;

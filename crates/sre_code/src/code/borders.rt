@@ -64,7 +64,7 @@ pub fn are_overlaps(prefix: &[u32], overlaps: &[u32]) -> bool
 ///
 /// [`Refusal`], if the allocation of the list failed.
 #[tactic(auto, using(crate::proofs::Borders::lengths_laws))]
-pub fn border_lengths<A: Allocator>(alloc: A, words: &[u32]) -> Result<Vec<u32, A>, Refusal>
+pub fn border_lengths<A: Allocator>(alloc: A, words: &[u32]) -> Result<Vec<u32, A>, Refusal<A>>
     requires some { 0 < length words.now }
     requires few { length words.now ≤ 2 ^ 32 }
     ensures length { IfOk result (λ lengths. length lengths.items ≡ length words.now) }

@@ -25,7 +25,7 @@ pub fn check_in<'a, A: Allocator + Copy>(
     ensures tree { OnOk result (IsCode words.now) }
     ensures refused { IfErr result (λ e. e ≢ CodeError.Memory → (tree : Tree) → ¬ (Whole words.now tree)) }
     ensures place { IfErr result (λ e. place_of e ≤ length words.now) }
-    ensures grows { IfErr result (λ e. e ≡ CodeError.Memory → Refused) }
+    ensures grows { IfErr result (λ e. e ≡ CodeError.Memory → Refused A) }
 {
     let length = block::length(words)?;
     let items = words.split_at(length).1;

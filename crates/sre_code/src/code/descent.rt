@@ -9,7 +9,7 @@ use std::alloc::Allocator;
 
 /// Pushes the part that a step opens, if it opens one, and returns the address from which to read on.
 fn follow<A: Allocator>(parts: &mut Vec<Open, A>, step: Step) -> Result<Reached, CodeError>
-    ensures { Pushes step parts.old.items parts.new.items result }
+    ensures { Pushes A step parts.old.items parts.new.items result }
 {
     match step {
         Step::Past { place, width } => Ok(Reached { place, width }),
@@ -28,7 +28,7 @@ fn read_on<A: Allocator>(
     top: Open,
     parts: &mut Vec<Open, A>,
 ) -> Result<Reached, CodeError>
-    ensures { ReadsOn words.now reached top parts.old.items parts.new.items result }
+    ensures { ReadsOn A words.now reached top parts.old.items parts.new.items result }
 {
     let width = top.width.saturating_add(reached.width);
     if let Some(step) = part::close(words, reached.place, top.part, width)? {
@@ -46,7 +46,7 @@ fn read_on<A: Allocator>(
 /// The least width of the tree whose items begin at `start`; SUCCESS is the last word.
 #[tactic(auto, using(crate::proofs::Descending::descend_laws))]
 pub fn descend<A: Allocator + Copy>(alloc: A, words: &[u32], start: usize) -> Result<u32, CodeError>
-    ensures { Descends words.now start result }
+    ensures { Descends A words.now start result }
 {
     let mut parts = Vec::new(alloc);
     let mut reached = follow(

@@ -3,7 +3,7 @@
 ghost use Rattle.std.specs.Prelude.{◌≡◌, ◌≤◌};
 
 use sre_growth::Refusal;
-use std::alloc::{AllocError, AllocFailed};
+use std::alloc::{AllocError, AllocFailed, Allocator};
 use thiserror::Error;
 
 /// Why bytecode was rejected. Each cause but `Memory` carries the address at which the fault was seen, which is at most
@@ -45,12 +45,12 @@ pub enum CodeError {
     TrailingWords(usize),
 }
 
-impl From<Refusal> for CodeError {
+impl<A: Allocator> From<Refusal<A>> for CodeError {
     ghost use Rattle.sre_code.specs.declared.code.error.CodeError.TheVariants.{Memory};
 
     ghost from_gives = { λ _ e. e ≡ Memory };
 
-    fn from(_refusal: Refusal) -> CodeError {
+    fn from(_refusal: Refusal<A>) -> CodeError {
         CodeError::Memory
     }
 }

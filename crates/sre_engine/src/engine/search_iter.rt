@@ -1,6 +1,6 @@
 //! [`SearchIter`]: the iteration over all matches.
 
-ghost use Rattle.std.specs.Prelude.{◌≡◌, ◌<◌, true, false, IfSome, None};
+ghost use Rattle.std.specs.Prelude.{◌≡◌, ◌<◌, true, false, IfSome, IfOk, None, Some};
 ghost use Rattle.sre_model.specs.Marks.{no_marks};
 ghost use Rattle.sre_code.specs.Codes.{items_of};
 ghost use Rattle.sre_request.specs.Admitting.{AllAdmitted, one_all_admitted};
@@ -105,8 +105,30 @@ impl<'a, S: StrDrive, A: Allocator + Copy> SearchIter<'a, S, A> {
     /// [`SreError::Memory`] if an allocation fails; the iteration has then ended.
     pub fn next_within(&mut self, steps: &mut u64) -> Result<Option<bool>, SreError>
         ensures gives { NextWithin self.old result self.new }
-        ensures steps { KeepsToSteps (asked_of (request_of self.old)) (code_of (request_of self.old)) result
+        ensures steps { KeepsToSteps A (asked_of (request_of self.old)) (code_of (request_of self.old)) result
             (runs_of (shown_of self.new)) steps.old steps.new }
+        ensures falls { IfOk result (λ found. found ≡ Some true → most_items self.new < most_items self.old) }
+    {
+        self.next_within_by(steps, &mut Nobody)
+    }
+
+    /// Whether there is a next match, within a budget of steps, as `next_within` finds it. The search skips the starts
+    /// that the prefilter excludes.
+    ///
+    /// # Errors
+    ///
+    /// [`SreError::Memory`] if an allocation fails; the iteration has then ended.
+    pub fn next_within_by<F: Starts<S>>(
+        &mut self,
+        steps: &mut u64,
+        starts: &mut F,
+    ) -> Result<Option<bool>, SreError>
+        requires suits { F.suits starts.old (string_of (request_of self.old)) (code_of (request_of self.old)) }
+        ensures suits { F.suits starts.new (string_of (request_of self.new)) (code_of (request_of self.new)) }
+        ensures gives { NextWithin self.old result self.new }
+        ensures steps { KeepsToSteps A (asked_of (request_of self.old)) (code_of (request_of self.old)) result
+            (runs_of (shown_of self.new)) steps.old steps.new }
+        ensures falls { IfOk result (λ found. found ≡ Some true → most_items self.new < most_items self.old) }
     {
         if self.ended {
             return Ok(Some(false));
@@ -115,7 +137,7 @@ impl<'a, S: StrDrive, A: Allocator + Copy> SearchIter<'a, S, A> {
         let mut allowed = Allowance::Turns(*steps);
         let (req, state, cursor) = (&mut self.req, &mut self.state, &mut self.cursor);
         let admitted = self.places.list();
-        let told = step_within(req, state, cursor, &mut allowed, &mut Nobody, admitted);
+        let told = step_within(req, state, cursor, &mut allowed, starts, admitted);
         *steps = allowed.left();
         match told {
             Ok(true) => Ok(Some(true)),

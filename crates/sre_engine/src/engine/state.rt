@@ -46,8 +46,8 @@ impl SreError {
     }
 }
 
-impl From<Refusal> for SreError {
-    fn from(_refusal: Refusal) -> SreError {
+impl<A: Allocator> From<Refusal<A>> for SreError {
+    fn from(_refusal: Refusal<A>) -> SreError {
         SreError::Memory
     }
 }
@@ -213,7 +213,7 @@ impl<A: Allocator + Copy> State<A> {
         ensures span { IfOk result (λ b. b ≡ true → Spans (start_of req.now) (end_of req.now) self.new) }
         ensures no { IfOk result (λ b. b ≡ false → self.new.marks ≡ no_marks) }
         ensures err { OnErr result (self.new.marks ≡ no_marks) }
-        ensures refused { OnErr result Refused }
+        ensures refused { OnErr result (Refused A) }
         ensures compared { self.new.compared ≡ self.old.compared }
         ensures started { self.new.started ≡ self.old.started }
         ensures restarted { self.new.restarted ≡ self.old.restarted }
@@ -261,9 +261,9 @@ impl<A: Allocator + Copy> State<A> {
             (λ told. told ≡ Some true → stands_in req.now self.new.cursor self.new.cursor.position) }
         ensures span { IfOk result (λ told. told ≡ Some true → Spans (start_of req.now) (end_of req.now) self.new) }
         ensures no { IfOk result (λ told. told ≢ Some true → self.new.marks ≡ no_marks) }
-        ensures steps { KeepsToSteps (asked_of req.now) (code_of req.now) result 2 steps.old steps.new }
+        ensures steps { KeepsToSteps A (asked_of req.now) (code_of req.now) result 2 steps.old steps.new }
         ensures err { OnErr result (self.new.marks ≡ no_marks) }
-        ensures refused { OnErr result Refused }
+        ensures refused { OnErr result (Refused A) }
         ensures compared { self.new.compared ≡ self.old.compared }
         ensures started { self.new.started ≡ self.old.started }
         ensures restarted { self.new.restarted ≡ self.old.restarted }
@@ -285,7 +285,7 @@ impl<A: Allocator + Copy> State<A> {
         req: &Request<'_, S>,
         from: StringCursor,
         allowed: &mut Allowance,
-    ) -> Result<bool, Halt>
+    ) -> Result<bool, Halt<A>>
         requires { stands_in req.now from (start_of req.now) }
         ensures answer { (t : Tree) → Whole (words_of (code_of req.now)) t
             → IfOk result (λ b. answer_of b self.new ≡ matched (asked_of req.now) t) }
@@ -348,7 +348,7 @@ impl<A: Allocator + Copy> State<A> {
             (λ b. b ≡ true → (start_of req.entry ≤ self.new.start) × Spans self.new.start (end_of req.entry) self.new) }
         ensures no { IfOk result (λ b. b ≡ false → self.new.marks ≡ no_marks) }
         ensures err { OnErr result (self.new.marks ≡ no_marks) }
-        ensures refused { OnErr result Refused }
+        ensures refused { OnErr result (Refused A) }
         ensures counts { CountsUpTo (asked_of req.entry) (code_of req.entry) (end_of req.entry + 1) (end_of req.entry)
             self.new }
         ensures up_to_match { IfOk result (λ b. b ≡ true → CountsUpTo (asked_of req.entry) (code_of req.entry)
@@ -374,7 +374,7 @@ impl<A: Allocator + Copy> State<A> {
         requires suits { F.suits starts.old (string_of req) (code_of req) }
         ensures suits { F.suits starts.new (string_of req.entry) (code_of req.entry) }
         ensures answers { Answered req.entry result self.new }
-        ensures refused { OnErr result Refused }
+        ensures refused { OnErr result (Refused A) }
         ensures anchored { RunsOnceAnchored req.entry self.new }
         ensures once { self.new.restarted ≡ 0 }
         ensures literal { OnErr result (MayTakeMemory (code_of req.entry)) }
@@ -415,18 +415,50 @@ impl<A: Allocator + Copy> State<A> {
         ensures span { IfOk result (λ told. told ≡ Some true
             → (start_of req.entry ≤ self.new.start) × Spans self.new.start (end_of req.entry) self.new) }
         ensures no { IfOk result (λ told. told ≢ Some true → self.new.marks ≡ no_marks) }
-        ensures steps { KeepsToSteps (asked_of req.entry) (code_of req.entry) result (runs_of self.new) steps.old
+        ensures steps { KeepsToSteps A (asked_of req.entry) (code_of req.entry) result (runs_of self.new) steps.old
             steps.new }
         ensures again { BeginsAgain true self.new }
         ensures err { OnErr result (self.new.marks ≡ no_marks) }
-        ensures refused { OnErr result Refused }
+        ensures refused { OnErr result (Refused A) }
+        ensures counts { CountsAll req.entry (has_found result) self.new }
+        ensures literal { (OnErr result (MayTakeMemory (code_of req.entry)))
+            × IfOk result (λ told. told ≡ None → MayTakeMemory (code_of req.entry)) }
+    {
+        self.search_within_by(req, steps, &mut Nobody)
+    }
+
+    /// Searches within a budget of steps as `search_within` does, but skips the starts that the prefilter excludes.
+    ///
+    /// # Errors
+    ///
+    /// [`SreError::Memory`] if an allocation fails.
+    pub fn search_within_by<S: StrDrive, F: Starts<S>>(
+        &mut self,
+        req: Request<'_, S>,
+        steps: &mut u64,
+        starts: &mut F,
+    ) -> Result<Option<bool>, SreError>
+        requires suits { F.suits starts.old (string_of req) (code_of req) }
+        ensures suits { F.suits starts.new (string_of req.entry) (code_of req.entry) }
+        ensures answer { (t : Tree) → Whole (words_of (code_of req.entry)) t → IfOk result
+            (λ told. IfSome told (λ b. answer_of b self.new ≡ found (asked_of req.entry) t)) }
+        ensures cursor { IfOk result
+            (λ told. told ≡ Some true → stands_in req.entry self.new.cursor self.new.cursor.position) }
+        ensures span { IfOk result (λ told. told ≡ Some true
+            → (start_of req.entry ≤ self.new.start) × Spans self.new.start (end_of req.entry) self.new) }
+        ensures no { IfOk result (λ told. told ≢ Some true → self.new.marks ≡ no_marks) }
+        ensures steps { KeepsToSteps A (asked_of req.entry) (code_of req.entry) result (runs_of self.new) steps.old
+            steps.new }
+        ensures again { BeginsAgain true self.new }
+        ensures err { OnErr result (self.new.marks ≡ no_marks) }
+        ensures refused { OnErr result (Refused A) }
         ensures counts { CountsAll req.entry (has_found result) self.new }
         ensures literal { (OnErr result (MayTakeMemory (code_of req.entry)))
             × IfOk result (λ told. told ≡ None → MayTakeMemory (code_of req.entry)) }
     {
         let start = req.string().create_cursor(req.start());
         let mut allowed = Allowance::Turns(*steps);
-        let told = self.search_from(&req, start, &mut allowed, &mut Nobody);
+        let told = self.search_from(&req, start, &mut allowed, starts);
         *steps = allowed.left();
         match told {
             Ok(found) => Ok(Some(found)),

@@ -28,7 +28,7 @@ fn search_admitted<S: StrDrive, A: Allocator + Copy, F: Starts<S>>(
     allowed: &mut Allowance,
     starts: &mut F,
     admitted: &[Admitted],
-) -> Result<bool, Halt>
+) -> Result<bool, Halt<A>>
     requires stands { stands_in req.now from (start_of req.now) }
     requires suits { F.suits starts.old (string_of req.now) (code_of req.now) }
     requires admitted { AllAdmitted (items_of (code_of req.now)) admitted.now }
@@ -59,7 +59,7 @@ pub(crate) fn step_within<S: StrDrive, A: Allocator + Copy, F: Starts<S>>(
     allowed: &mut Allowance,
     starts: &mut F,
     admitted: &[Admitted],
-) -> Result<bool, Halt>
+) -> Result<bool, Halt<A>>
     requires stands { stands_in req.old cursor.old (start_of req.old) }
     requires suits { F.suits starts.old (string_of req.old) (code_of req.old) }
     requires admitted { AllAdmitted (items_of (code_of req.old)) admitted.now }
@@ -101,7 +101,7 @@ pub fn step_by<S: StrDrive, A: Allocator + Copy, F: Starts<S>>(
     ensures suits { F.suits starts.new (string_of req.new) (code_of req.new) }
     ensures stepped { Stepped req.old result state.new req.new }
     ensures here { stands_in req.new cursor.new (start_of req.new) }
-    ensures refused { OnErr result Refused }
+    ensures refused { OnErr result (Refused A) }
     ensures anchored { RunsOnceAnchored req.old state.new }
     ensures once { state.new.restarted ≡ 0 }
     ensures literal { OnErr result (MayTakeMemory (code_of req.old)) }
@@ -127,7 +127,7 @@ pub fn step_admitted<S: StrDrive, A: Allocator + Copy, F: Starts<S>>(
     ensures suits { F.suits starts.new (string_of req.new) (code_of req.new) }
     ensures stepped { Stepped req.old result state.new req.new }
     ensures here { stands_in req.new cursor.new (start_of req.new) }
-    ensures refused { OnErr result Refused }
+    ensures refused { OnErr result (Refused A) }
     ensures anchored { RunsOnceAnchored req.old state.new }
     ensures once { state.new.restarted ≡ 0 }
     ensures literal { OnErr result (MayTakeMemory (code_of req.old)) }

@@ -36,7 +36,7 @@ pub struct Found<A: Allocator = Global> {
 }
 
 // The match that a state shows.
-fn found_in<A: Allocator + Copy>(state: &State<A>) -> Result<Found<A>, Refusal>
+fn found_in<A: Allocator + Copy>(state: &State<A>) -> Result<Found<A>, Refusal<A>>
     ensures { IfOk result (λ found. match_of found ≡ match_shown state.now) }
 {
     let marks = state.marks();
@@ -70,7 +70,7 @@ fn counted_step<S: StrDrive, A: Allocator + Copy, F: Starts<S>>(
     ensures suits { F.suits starts.new (string_of req.new) (code_of req.new) }
     ensures stepped { Stepped req.old result state.new req.new }
     ensures here { stands_in req.new cursor.new (start_of req.new) }
-    ensures refused { OnErr result Refused }
+    ensures refused { OnErr result (Refused A) }
     ensures once { state.new.restarted ≡ 0 }
     ensures started { tally.new.started ≤ tally.old.started + state.new.started }
     ensures compared { tally.new.compared ≤ tally.old.compared + state.new.compared }
@@ -96,7 +96,7 @@ fn add_matches<S: StrDrive, A: Allocator + Copy, F: Starts<S>>(
     ensures ok { (t : Tree) → Whole (words_of (code_of req.entry)) t → IfOk result
         (λ _. map match_of all.new.items ≡ map match_of all.old.items ++ walk (asked_of req.entry) t) }
     ensures after { IfOk result (λ _. state.new.marks ≡ no_marks) }
-    ensures refused { OnErr result Refused }
+    ensures refused { OnErr result (Refused A) }
     ensures counts { StepsCount (asked_of req.entry) (code_of req.entry) (end_of req.entry + 1) (end_of req.entry)
         (most_matches (asked_of req.entry)) tally.new.started tally.new.compared }
     ensures by_matches { IfOk result (λ _. StepsCount (asked_of req.entry) (code_of req.entry)
@@ -150,7 +150,7 @@ pub fn all_matches<S: StrDrive, A: Allocator + Copy>(
         (λ all. CountsOfWalk (asked_of req.entry) (code_of req.entry) (vec_len all) state.new) }
     ensures once { state.new.restarted ≡ 0 }
     ensures after { state.new.marks ≡ no_marks }
-    ensures refused { OnErr result Refused }
+    ensures refused { OnErr result (Refused A) }
 {
     all_matches_by(req, state, &mut Nobody)
 }
@@ -177,7 +177,7 @@ pub fn all_matches_by<S: StrDrive, A: Allocator + Copy, F: Starts<S>>(
         (λ all. CountsOfWalk (asked_of req.entry) (code_of req.entry) (vec_len all) state.new) }
     ensures once { state.new.restarted ≡ 0 }
     ensures after { state.new.marks ≡ no_marks }
-    ensures refused { OnErr result Refused }
+    ensures refused { OnErr result (Refused A) }
 {
     let mut all = Vec::new(state.allocator());
     let mut tally = Tally {

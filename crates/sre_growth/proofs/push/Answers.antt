@@ -3,4 +3,4 @@ use Rattle.sre_growth.proofs.push.Goals as goal
 
 -- the list's own growth was refused
 pub invariant_of-result : goal.invariant_of-result
-invariant_of-result g c = record { refused = refused }
+invariant_of-result g c = record { refused = refused _ }

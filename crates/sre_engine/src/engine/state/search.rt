@@ -29,13 +29,14 @@ use std::alloc::Allocator;
 impl<A: Allocator + Copy> State<A> {
     // Searches as `search` does, from a cursor at the start of the range. The kinds are tried in this order, since a
     // prefix skips more starts than a first set does, and a first set more than FIRST sets.
+    #[tactic(auto, using(crate::proofs::Carrying::at_once))]
     pub(crate) fn search_from<S: StrDrive, F: Starts<S>>(
         &mut self,
         req: &Request<'_, S>,
         from: StringCursor,
         allowed: &mut Allowance,
         starts: &mut F,
-    ) -> Result<bool, Halt>
+    ) -> Result<bool, Halt<A>>
         requires stands { stands_in req.now from (start_of req.now) }
         requires suits { F.suits starts.old (string_of req.now) (code_of req.now) }
         ensures suits { F.suits starts.new (string_of req.now) (code_of req.now) }
@@ -98,7 +99,7 @@ impl<A: Allocator + Copy> State<A> {
         candidates: &mut C,
         allowed: &mut Allowance,
         starts: &mut F,
-    ) -> Result<bool, Halt>
+    ) -> Result<bool, Halt<A>>
         requires looks { C.looks candidates.old (run_of req.now) (asked_of req.now) (code_of req.now) 0 }
         requires front { C.front candidates.old ≡ start_of req.now }
         requires suits { F.suits starts.old (string_of req.now) (code_of req.now) }

@@ -12,7 +12,7 @@ invariant-choice g l = record {
   back : IsBack (run_of l.req) l.board;
   backs : (all : List Way) (limit : Limit) → Backs (run_of l.req) all limit l.fn.board
       → (more : Limit) × Grants limit more × Backs (run_of l.req) all more l.board
-      × ((g.row.KEEPS ≡ 0 → ⊥) → Pays l.req l.fn.memo limit l.memo more);
+      × ((g.row.KEEPS ≡ 0 → ⊥) → Pays g.row.A.Denot l.req l.fn.memo limit l.memo more);
   remembers : Recalls (run_of l.req) l.memo;
   same : l.memo ≡ record l.fn.memo { kept = l.memo.kept; marked = l.memo.marked };
 }

@@ -20,32 +20,34 @@ returns-then-not-is_inside g c =
     let r = run_of c.args.req.now in
     let run = on_board _ _ _ _ c.requires.stands in
     let x = reference_there r _ c.args.cursor _ c.requires.opcode c.requires.refers run in
-    rw c.pass.ensures (reference_past r x.0 _ _ c.args.cursor c.args.board.now x.2 c.operand-number.ensures.word _ _
+    (reference_past r x.0 _ _ c.args.cursor c.args.board.now x.2 c.operand-number.ensures.word _ _
     (sym c.group.ensures ∙ c.in-Some.is)
-    (rw (← c.position-2.ensures, ← c.end.ensures.value) (sym c.is_inside.ensures ∙ c.if-not-is_inside.true)))
+    (rw (← c.position.ensures, ← c.end.ensures.value) (sym c.is_inside.ensures ∙ c.if-not-is_inside.true)))
 
-pub returns-in-Some-is_repeated : goal.returns-in-Some-is_repeated
-returns-in-Some-is_repeated g c =
+pub returns-in-Ok : goal.returns-in-Ok
+returns-in-Ok g c =
     let r = run_of c.args.req.now in
     let run = on_board _ _ _ _ c.requires.stands in
     let x = reference_there r _ c.args.cursor _ c.requires.opcode c.requires.refers run in
-    rw c.pass.ensures (reference_step r x.0 _ _ c.args.cursor c.args.board.now x.2 c.operand-number.ensures.word _ _
-    (sym c.group.ensures ∙ c.in-Some.is) c.in-Some-is_repeated.after
-    (rw (← c.position-2.ensures, ← c.end.ensures.value) (sym c.is_inside.ensures ∙ c.if-not-is_inside.false))
+    rw (c.pass-in-Ok.ensures, c.pass.ensures)
+    (reference_step r x.0 _ _ c.args.cursor c.args.board.now x.2 c.operand-number.ensures.word _ _
+    (sym c.group.ensures ∙ c.in-Some.is) c.in-Ok.after
+    (rw (← c.position.ensures, ← c.end.ensures.value) (sym c.is_inside.ensures ∙ c.if-not-is_inside.false))
     (subst (λ q. same_folded r.subject x.0 (c.in-Some.end - c.in-Some.start) q c.args.cursor.position ≡ true)
-    c.cursor_at-group.ensures.position (sym (c.in-Some-is_repeated.ensures.repeated x.0 x.1)))
-    c.in-Some-is_repeated.ensures.position c.in-Some-is_repeated.ensures.stands)
+    c.cursor_at-group.ensures.position (sym (c.in-Ok.ensures.repeated x.0 x.1)))
+    c.in-Ok.ensures.position c.in-Ok.ensures.stands)
 
-pub returns-in-None : goal.returns-in-None
-returns-in-None g c =
+pub returns-in-Err : goal.returns-in-Err
+returns-in-Err g c =
     let r = run_of c.args.req.now in
     let run = on_board _ _ _ _ c.requires.stands in
     let x = reference_there r _ c.args.cursor _ c.requires.opcode c.requires.refers run in
-    rw c.pass.ensures (reference_unlike r x.0 _ _ c.args.cursor c.args.board.now x.2 c.operand-number.ensures.word _ _
+    rw (c.pass-in-Err.ensures, c.pass.ensures)
+    (reference_unlike r x.0 _ _ c.args.cursor c.args.board.now x.2 c.operand-number.ensures.word _ _
     (sym c.group.ensures ∙ c.in-Some.is)
-    (rw (← c.position-2.ensures, ← c.end.ensures.value) (sym c.is_inside.ensures ∙ c.if-not-is_inside.false))
+    (rw (← c.position.ensures, ← c.end.ensures.value) (sym c.is_inside.ensures ∙ c.if-not-is_inside.false))
     (subst (λ q. same_folded r.subject x.0 (c.in-Some.end - c.in-Some.start) q c.args.cursor.position ≡ false)
-    c.cursor_at-group.ensures.position (sym (c.in-None.ensures.repeated x.0 x.1))))
+    c.cursor_at-group.ensures.position (sym (c.in-Err.ensures.repeated x.0 x.1))))
 
 pub operand-number-requires : goal.operand-number-requires
 operand-number-requires g c =

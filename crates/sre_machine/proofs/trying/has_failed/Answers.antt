@@ -42,7 +42,7 @@ returns-in-Failed-clause-remembers g c =
 
 pub returns-in-Failed-clause-still : goal.returns-in-Failed-clause-still
 returns-in-Failed-clause-still g c =
-    open_or_refused c.args.memo.now c.prepare.new.self c.requires.opened c.prepare.ensures.same
+    open_or_refused _ c.args.memo.now c.prepare.new.self c.requires.opened c.prepare.ensures.same
     c.prepare.ensures.refused
 
 pub returns-in-Open-clause-remembers : goal.returns-in-Open-clause-remembers
@@ -52,7 +52,7 @@ returns-in-Open-clause-remembers g c =
 
 pub returns-in-Open-clause-still : goal.returns-in-Open-clause-still
 returns-in-Open-clause-still g c =
-    open_or_refused c.args.memo.now c.prepare.new.self c.requires.opened c.prepare.ensures.same
+    open_or_refused _ c.args.memo.now c.prepare.new.self c.requires.opened c.prepare.ensures.same
     c.prepare.ensures.refused
 
 pub returns-in-NoBit-clause-remembers : goal.returns-in-NoBit-clause-remembers
@@ -62,7 +62,7 @@ returns-in-NoBit-clause-remembers g c =
 
 pub returns-in-NoBit-clause-still : goal.returns-in-NoBit-clause-still
 returns-in-NoBit-clause-still g c =
-    open_or_refused c.args.memo.now c.prepare.new.self c.requires.opened c.prepare.ensures.same
+    open_or_refused _ c.args.memo.now c.prepare.new.self c.requires.opened c.prepare.ensures.same
     c.prepare.ensures.refused
 
 pub returns-in-Open-clause-leaves : goal.returns-in-Open-clause-leaves

@@ -68,8 +68,8 @@ turn-preserved g c =
     (λ l x. refused_over r _ l c.position.result c.turn.next c.in-Done.cursor c.turns_due-turns.new.board
     c.end.new.board _
     c.in-Done.is c.position.ensures c.is_accepted.ensures c.in-None-end.ensures x c.if-is_accepted.false) stands in
-    let keeps : KeepsBodyEnd c.args.req.now c.in-Done.cursor c.turns_due-turns.new.board c.waits_on.new.memo
-    c.keep_ends.new.memo = record {
+    let keeps : KeepsBodyEnd g.row.A.Denot c.args.req.now c.in-Done.cursor c.turns_due-turns.new.board
+    c.waits_on.new.memo c.keep_ends.new.memo = record {
       same = c.keep_ends.ensures.same;
       kept = c.keep_ends.ensures.kept;
       held = c.keep_ends.ensures.held;
@@ -118,7 +118,7 @@ turn-smaller-in-At g c =
     rw c.turns_due-turns.ensures.board c.turn.invariant.stands in
     let t = proceeds_taken r g.K.Plan.all g.K.Plan.limit c.turn.turned c.tick.new.self c.turns_due-turns.new.board
     c.instruction_or_back.new.board c.in_ok-next-in-At.next c.tick.ensures (next.At c.in-At.place c.in-At.cursor)
-    (λ l more. Pays c.args.req.now c.waits_on.new.memo l c.instruction_or_back.new.memo more)
+    (λ l more. Pays g.row.A.Denot c.args.req.now c.waits_on.new.memo l c.instruction_or_back.new.memo more)
     (λ l x. c.in_ok-next-in-At.ensures.turn g.K.Plan.all l x) (stands_at r _ _ _ _ _ c.in-At.is stands) in
     omega (arith, c.tick.ensures, t.0)
 
@@ -129,7 +129,7 @@ turn-preserved-in-At g c =
     rw c.turns_due-turns.ensures.board c.turn.invariant.stands in
     let t = proceeds_taken r g.K.Plan.all g.K.Plan.limit c.turn.turned c.tick.new.self c.turns_due-turns.new.board
     c.instruction_or_back.new.board c.in_ok-next-in-At.next c.tick.ensures (next.At c.in-At.place c.in-At.cursor)
-    (λ l more. Pays c.args.req.now c.waits_on.new.memo l c.instruction_or_back.new.memo more)
+    (λ l more. Pays g.row.A.Denot c.args.req.now c.waits_on.new.memo l c.instruction_or_back.new.memo more)
     (λ l x. c.in_ok-next-in-At.ensures.turn g.K.Plan.all l x) (stands_at r _ _ _ _ _ c.in-At.is stands) in
     record {
       follows =
@@ -172,7 +172,7 @@ turn-smaller-in-Again g c =
     rw c.turns_due-turns.ensures.board c.turn.invariant.stands in
     let t = proceeds_taken r g.K.Plan.all g.K.Plan.limit c.turn.turned c.tick.new.self c.turns_due-turns.new.board
     c.again_or_back.new.board c.in_ok-next-in-Again.next c.tick.ensures (next.Again c.in-Again.cursor)
-    (λ l more. Pays c.args.req.now c.waits_on.new.memo l c.again_or_back.new.memo more)
+    (λ l more. Pays g.row.A.Denot c.args.req.now c.waits_on.new.memo l c.again_or_back.new.memo more)
     (λ l x. c.in_ok-next-in-Again.ensures.turn g.K.Plan.all l x) (stands_at r _ _ _ _ _ c.in-Again.is stands) in
     omega (arith, c.tick.ensures, t.0)
 
@@ -183,7 +183,7 @@ turn-preserved-in-Again g c =
     rw c.turns_due-turns.ensures.board c.turn.invariant.stands in
     let t = proceeds_taken r g.K.Plan.all g.K.Plan.limit c.turn.turned c.tick.new.self c.turns_due-turns.new.board
     c.again_or_back.new.board c.in_ok-next-in-Again.next c.tick.ensures (next.Again c.in-Again.cursor)
-    (λ l more. Pays c.args.req.now c.waits_on.new.memo l c.again_or_back.new.memo more)
+    (λ l more. Pays g.row.A.Denot c.args.req.now c.waits_on.new.memo l c.again_or_back.new.memo more)
     (λ l x. c.in_ok-next-in-Again.ensures.turn g.K.Plan.all l x) (stands_at r _ _ _ _ _ c.in-Again.is stands) in
     record {
       follows =
@@ -227,8 +227,8 @@ turn-preserved-in-Some-end g c =
     let t = end_taken r g.K.Plan.all g.K.Plan.limit c.turn.turned c.tick.new.self c.turns_due-turns.new.board
     c.end.new.board c.in-Some-end.after c.tick.ensures c.in-Done.cursor c.in-Some-end.ensures.1
     (stands_at r _ _ _ _ _ c.in-Done.is stands) in
-    let keeps : KeepsBodyEnd c.args.req.now c.in-Done.cursor c.turns_due-turns.new.board c.waits_on.new.memo
-    c.keep_ends.new.memo = record {
+    let keeps : KeepsBodyEnd g.row.A.Denot c.args.req.now c.in-Done.cursor c.turns_due-turns.new.board
+    c.waits_on.new.memo c.keep_ends.new.memo = record {
       same = c.keep_ends.ensures.same;
       kept = c.keep_ends.ensures.kept;
       held = c.keep_ends.ensures.held;
@@ -277,7 +277,7 @@ turn-preserved-in-Some g c =
     let retreats = rw c.in-Some.is at c.in_ok-after-in-Back.ensures.next in
     let t = proceeds_taken r g.K.Plan.all g.K.Plan.limit c.turn.turned c.tick.new.self c.turns_due-turns.new.board
     c.back.new.board c.in-Some.after c.tick.ensures next.Back
-    (λ l more. true ≡ true → Pays c.args.req.now c.waits_on.new.memo l c.back.new.memo more)
+    (λ l more. true ≡ true → Pays g.row.A.Denot c.args.req.now c.waits_on.new.memo l c.back.new.memo more)
     (λ l x. retreats g.K.Plan.all l x) (stands_at r _ _ _ _ _ c.in-Back.is stands) in
     record {
       follows =

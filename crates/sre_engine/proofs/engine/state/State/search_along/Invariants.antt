@@ -8,7 +8,8 @@ abbrev pub invariant-candidate : goal.invariant-candidate
 invariant-candidate g l = record {
   looks : g.C.Candidates.looks l.candidates (run_of l.req) (asked_of l.req) (code_of l.req) l.self-inside.compared;
   suits : g.F.Starts.suits l.starts (string_of l.req) (code_of l.req);
-  searching : Searching l.req l.self-inside.runner l.fn.allowed l.allowed (g.C.Candidates.front l.candidates);
+  searching : Searching g.row.A.Denot l.req l.self-inside.runner l.fn.allowed l.allowed
+      (g.C.Candidates.front l.candidates);
   single : g.C.Candidates.single ≡ true → l.self-inside.runner.started ≡ 0;
 }
 

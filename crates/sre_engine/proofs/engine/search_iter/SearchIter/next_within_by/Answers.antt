@@ -3,7 +3,7 @@ use Rattle.std.proofs.Math.Logic.{∥∥₁_elim}
 use Rattle.sre_request.specs.Requests.{string_of, start_of}
 use Rattle.sre_engine.proofs.CountLaws.{once}
 use Rattle.sre_engine.proofs.Enough.{keeps_to, used_up}
-use Rattle.sre_engine.proofs.engine.search_iter.SearchIter.next_within.Goals as goal
+use Rattle.sre_engine.proofs.engine.search_iter.SearchIter.next_within_by.Goals as goal
 
 pub step_within-told-requires-clause-stands : goal.step_within-told-requires-clause-stands
 step_within-told-requires-clause-stands g c =

@@ -1,7 +1,7 @@
 use Rattle.std.proofs.Common.{refl}
 use Rattle.sre_engine.proofs.CountLaws.{once}
 use Rattle.sre_engine.proofs.Enough.{keeps_to, used_up}
-use Rattle.sre_engine.proofs.engine.state.State.search_within.Goals as goal
+use Rattle.sre_engine.proofs.engine.state.State.search_within_by.Goals as goal
 
 pub returns-in-Ok-clause-steps : goal.returns-in-Ok-clause-steps
 returns-in-Ok-clause-steps g c =
