@@ -1,6 +1,7 @@
 -- What is left of a call's steps, and of those of the searches for some matches.
 use Rattle.std.proofs.Common.{◌≡◌, ◌≢◌, ◌≤◌, ◌+◌, ◌-◌, ◌*◌, ℕ, List, [], ◌∷◌, ◌++◌, Bool, true, false, Option, None}
 use Rattle.std.proofs.Common.{Some, Result, Ok, Err, IfOk, inr, refl, sym, subst, ap, arith}
+use Rattle.std.specs.Global.{Global}
 use Rattle.sre_chars.specs.declared.string.StrDrive.{Ghosts}
 use Rattle.sre_growth.specs.Refusal.{Refused}
 use Rattle.sre_model.specs.Found.{Asked, Match, asked_after}
@@ -21,7 +22,7 @@ use Rattle.sre_c.proofs.Telling.{enough_of}
 
 -- no step is taken
 keeps_all : (a : Asked) (code : Code) (told : Result (Option Bool) SreError) (n : ℕ) → IfOk told (λ b. b ≢ None)
-    → KeepsToSteps a code told 0 n n
+    → KeepsToSteps Global a code told 0 n n
 keeps_all a code (Ok b) n known = record {
   used = λ none. absurd (known none);
   spent = record { each = λ t whole most within. omega arith };
@@ -44,7 +45,7 @@ unspent code a last told n known =
 
 -- a match at the start of the range
 pub match_kept : (code : Code) (a : Asked) (search : Bool) (told : Result (Option Bool) SreError) (given left : ℕ)
-    → search ≡ false → KeepsToSteps a code told 2 given left
+    → search ≡ false → KeepsToSteps Global a code told 2 given left
     → KeepsBudget (words_of code) a (last_start search a) told given left
 match_kept code a true told given left not kept = absurd (cc)
 match_kept code a false told given left not kept =
@@ -53,7 +54,7 @@ match_kept code a false told given left not kept =
 -- a search of the range
 pub search_kept : {S : Type 0} {text : Ghosts S} (r : Request S text) (b : Bool) (s : Shown)
     (told : Result (Option Bool) SreError) (given left : ℕ) → CountsAll r b s → BeginsAgain true s
-    → KeepsToSteps (asked_of r) (code_of r) told (runs_of s) given left
+    → KeepsToSteps Global (asked_of r) (code_of r) told (runs_of s) given left
     → KeepsBudget (words_of (code_of r)) (asked_of r) (end_of r) told given left
 search_kept r b s told given left counts again kept = record {
   code = code_of r;
@@ -68,7 +69,7 @@ module _ (words : List ℕ) (a : Asked) (last given left : ℕ) where
   pub limit_used : KeepsBudget words a last (Ok None) given left → left ≡ 0
   limit_used b = b.kept.used refl
 
-  pub limit_refused : KeepsBudget words a last (Ok None) given left → IsEnough words a given → Refused
+  pub limit_refused : KeepsBudget words a last (Ok None) given left → IsEnough words a given → Refused Global
   limit_refused b enough =
       b.kept.enough (enough_of b.code a given (subst (λ ws. IsEnough ws a given) (sym b.own) enough)) refl
 

@@ -2,6 +2,7 @@
 use Rattle.std.proofs.Common.{◌≡◌, ◌∙◌, ◌+◌, ℕ, List, [], ◌∷◌, ◌++◌, length, take, cond, Bool, true, false, Option}
 use Rattle.std.proofs.Common.{Some, None, Ok, refl, sym, ap, subst, arith}
 use Rattle.std.proofs.Common.{append_assoc, length-append, take_at, zero, suc}
+use Rattle.std.specs.Global.{Global}
 use Rattle.sre_chars.specs.declared.string.StrDrive.{Ghosts}
 use Rattle.sre_model.specs.Tree.{Tree}
 use Rattle.sre_model.specs.Grammar.{Whole}
@@ -92,7 +93,7 @@ module _ {S A : Type 0} {text : Ghosts S} (first : Request S text) (it next : Se
   }
 
   search_kept : (given left : ℕ)
-      → KeepsToSteps {E = SreError} (asked_of (request_of it)) (code_of (request_of it)) (Ok (Some true))
+      → KeepsToSteps Global {E = SreError} (asked_of (request_of it)) (code_of (request_of it)) (Ok (Some true))
       (runs_of (shown_of next)) given left
       → KeepsBudget (words_of (code_of first)) (asked_of (request_of it)) (shown_of next).start (Ok (Some true)) given
       left
@@ -108,7 +109,7 @@ module _ {S A : Type 0} {text : Ghosts S} (first : Request S text) (it next : Se
   }
 
   pub one_more_kept : (given left after : ℕ) → RowsKeep first w.count given left
-      → KeepsToSteps {E = SreError} (asked_of (request_of it)) (code_of (request_of it)) (Ok (Some true))
+      → KeepsToSteps Global {E = SreError} (asked_of (request_of it)) (code_of (request_of it)) (Ok (Some true))
       (runs_of (shown_of next)) left after
       → RowsKeep first count given after
   one_more_kept given left after rows_kept kept = record {
@@ -125,7 +126,7 @@ module _ {S A : Type 0} {text : Ghosts S} (first : Request S text) (it next : Se
 -- the last search, which found none
 pub last_kept : {S A : Type 0} {text : Ghosts S} (first : Request S text) (it next : SearchIter S A text)
     (told : Option Bool) (given left : ℕ) → code_of (request_of it) ≡ code_of first → Counted it next
-    → KeepsToSteps {E = SreError} (asked_of (request_of it)) (code_of (request_of it)) (Ok told)
+    → KeepsToSteps Global {E = SreError} (asked_of (request_of it)) (code_of (request_of it)) (Ok told)
     (runs_of (shown_of next)) given left
     → KeepsBudget (words_of (code_of first)) (asked_of (request_of it)) (end_of (request_of it)) (Ok told) given left
 last_kept first it next told given left own counted kept = record {
@@ -144,7 +145,7 @@ module _ {S A : Type 0} {text : Ghosts S} (first : Request S text) (it next : Se
     (w : SreWalked) (rows : List ℕ) (given left : ℕ) (before : IsSoFar first (request_of it) width w rows)
     (rows_kept : RowsKeep first w.count given w.steps) (open_before : has_ended it ≡ false) where
   pub rows_ended : NextWithin it (Ok (Some false)) next
-      → KeepsToSteps {E = SreError} (asked_of (request_of it)) (code_of (request_of it)) (Ok (Some false))
+      → KeepsToSteps Global {E = SreError} (asked_of (request_of it)) (code_of (request_of it)) (Ok (Some false))
       (runs_of (shown_of next)) w.steps left
       → WritesRows No first (request_of next) given width (with_steps w w.steps left) rows
   rows_ended ended kept =
@@ -161,7 +162,7 @@ module _ {S A : Type 0} {text : Ghosts S} (first : Request S text) (it next : Se
       )
 
   pub rows_limited : (w.count ≡ 0 → w.steps ≡ given) → NextWithin it (Ok None) next
-      → KeepsToSteps {E = SreError} (asked_of (request_of it)) (code_of (request_of it)) (Ok None)
+      → KeepsToSteps Global {E = SreError} (asked_of (request_of it)) (code_of (request_of it)) (Ok None)
       (runs_of (shown_of next)) w.steps left
       → WritesRows StepLimit first (request_of next) given width (with_steps w w.steps left) rows
   rows_limited none_yet stays kept =

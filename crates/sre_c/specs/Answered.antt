@@ -2,6 +2,7 @@
 -- Public clauses rest on it.
 use Rattle.std.specs.Prelude.{ℕ, ◌≡◌, ◌<◌, ◌-◌, ◌^◌, List, length, slice_index, Bool, true, false, cond}
 use Rattle.std.specs.Prelude.{Option, Some, None, Ok}
+use Rattle.std.specs.Global.{Global}
 use Rattle.sre_model.specs.Tree.{Tree}
 use Rattle.sre_model.specs.Grammar.{Whole, IsCode}
 use Rattle.sre_model.specs.Marks.{mark_at}
@@ -65,9 +66,9 @@ Answers NoRoom c text a room f marks =
     × (room < f.marks) × LeavesSteps c text a (Some true) f.steps
 Answers StepLimit c text a room f marks =
     IsCode c.words.now × (f.steps ≡ 0)
-    × (IsEnough c.words.now (asked_in a (table_in c.table.now) text) a.steps → Refused)
+    × (IsEnough c.words.now (asked_in a (table_in c.table.now) text) a.steps → Refused Global)
     × LeavesSteps c text a None f.steps
-Answers Memory c text a room f marks = Refused
+Answers Memory c text a room f marks = Refused Global
 Answers NoCode c text a room f marks = ((t : Tree) → (Whole c.words.now t → ⊥)) × (f.steps ≡ a.steps)
 Answers FaultyTable c text a room f marks = IsFaulty c.table.now × (f.steps ≡ a.steps)
 Answers NotUtf8 c text a room f marks = ⊥

@@ -1,6 +1,7 @@
 -- What an export says of a step bound.
 -- Public clauses rest on it.
 use Rattle.std.specs.Prelude.{ℕ, ◌≡◌, length}
+use Rattle.std.specs.Global.{Global}
 use Rattle.sre_model.specs.Tree.{Tree}
 use Rattle.sre_model.specs.Grammar.{Whole, IsCode, behind_block}
 use Rattle.sre_growth.specs.Refusal.{Refused}
@@ -20,7 +21,7 @@ Bounds No c characters steps =
     IsCode c.words.now
     × ((t : Tree) → Whole c.words.now t → HasNoStepBound (length (behind_block c.words.now)) t characters)
     × (steps ≡ 0)
-Bounds Memory c characters steps = Refused × (steps ≡ 0)
+Bounds Memory c characters steps = Refused Global × (steps ≡ 0)
 Bounds NoCode c characters steps = ((t : Tree) → (Whole c.words.now t → ⊥)) × (steps ≡ 0)
 Bounds FaultyTable c characters steps = IsFaulty c.table.now × (steps ≡ 0)
 Bounds StepLimit c characters steps = ⊥

@@ -1,6 +1,7 @@
 -- What is left of a call's steps.
 -- Public clauses rest on it.
 use Rattle.std.specs.Prelude.{ℕ, ◌≡◌, ◌≤◌, ◌+◌, ◌-◌, ◌*◌, ◌^◌, List, [], ◌∷◌, Bool, true, Option, Some, Result, Ok}
+use Rattle.std.specs.Global.{Global}
 use Rattle.sre_model.specs.Found.{Asked, Match, asked_after}
 use Rattle.sre_code.specs.Codes.{words_of}
 use Rattle.sre_code.specs.declared.code.Code.{Code}
@@ -18,7 +19,7 @@ pub record KeepsBudget (words : List ℕ) (a : Asked) (last : ℕ) (told : Resul
   pub own : words_of code ≡ words
   pub runs : ℕ
   pub few : runs ≤ 2 * (last + 1 - a.start)
-  pub kept : KeepsToSteps a code told runs given left
+  pub kept : KeepsToSteps Global a code told runs given left
 
 -- of a budget the searches for the next matches leave what the engine says, one after the other, each up to its match
 abbrev pub KeepBudget : List ℕ → Asked → List Match → ℕ → ℕ → Type 0

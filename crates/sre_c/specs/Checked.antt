@@ -1,6 +1,7 @@
 -- What a check leaves.
 -- Public clauses rest on it.
 use Rattle.std.specs.Prelude.{◌≡◌, ◌≢◌, ◌≤◌, true, false, length, Some, None}
+use Rattle.std.specs.Global.{Global}
 use Rattle.sre_chars.specs.declared.table.UniError.{UniError}
 use Rattle.sre_chars.specs.Errors.{uni_error_number}
 use Rattle.sre_chars.specs.Lists.{lists_fault}
@@ -48,7 +49,7 @@ CodeChecked Yes c =
     IsCode c.words.now × ((t : Tree) → Whole c.words.now t → AreHints c.words.now (table_in c.table.now) t c.hints)
     × (c.error ≡ 0) × (c.checked ≡ true)
 CodeChecked NoCode c = ((t : Tree) → (Whole c.words.now t → ⊥)) × IsRefusal c × (c.checked ≡ false)
-CodeChecked Memory c = Refused
+CodeChecked Memory c = Refused Global
 CodeChecked FaultyTable c = IsFaulty c.table.now
 CodeChecked No c = ⊥
 CodeChecked StepLimit c = ⊥

@@ -2,6 +2,7 @@
 -- Definitions for the contracts inside this crate; what it makes public does not rest on it.
 use Rattle.std.specs.Prelude.{ℕ, ◌≡◌, ◌≤◌, ◌<◌, ◌+◌, ◌*◌, ◌⊎◌, List, [], ◌∷◌, length, take, Bool, false, Option}
 use Rattle.std.specs.Prelude.{Some, None, Ok}
+use Rattle.std.specs.Global.{Global}
 use Rattle.sre_chars.specs.declared.string.StrDrive.{Ghosts}
 use Rattle.sre_model.specs.Tree.{Tree}
 use Rattle.sre_model.specs.Grammar.{Whole}
@@ -60,10 +61,11 @@ WritesRows NoRoom first next steps width w rows =
     × RowsKeep first w.count steps w.steps
 WritesRows StepLimit first next steps width w rows =
     IsSoFar first next width w rows × (w.steps ≡ 0)
-    × (AreEnough (asked_of next) (code_of next) w.steps_before → Refused) × (w.count ≡ 0 → w.steps_before ≡ steps)
+    × (AreEnough (asked_of next) (code_of next) w.steps_before → Refused Global)
+    × (w.count ≡ 0 → w.steps_before ≡ steps)
     × RowsKeep first w.count steps w.steps_before × LastKeeps first next w None
 WritesRows Memory first next steps width w rows =
-    Refused × IsSoFar first next width w rows × RowsKeep first w.count steps w.steps_before
+    Refused Global × IsSoFar first next width w rows × RowsKeep first w.count steps w.steps_before
 WritesRows Yes first next steps width w rows = ⊥
 WritesRows NoCode first next steps width w rows = ⊥
 WritesRows NotUtf8 first next steps width w rows = ⊥

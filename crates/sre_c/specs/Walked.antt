@@ -3,6 +3,7 @@
 use Rattle.std.specs.Prelude.{ℕ, ◌≡◌, ◌<◌, ◌+◌, ◌-◌, ◌*◌, ◌^◌, ◌⊎◌, ◌==◌, if◌then◌else◌, ℤ, pos, negsuc}
 use Rattle.std.specs.Prelude.{List, [], ◌∷◌, ◌++◌, length, slice_index, take, Bool, false, Option, Some, None}
 use Rattle.std.specs.Prelude.{Ok}
+use Rattle.std.specs.Global.{Global}
 use Rattle.sre_model.specs.Tree.{Tree}
 use Rattle.sre_model.specs.Grammar.{Whole, IsCode}
 use Rattle.sre_model.specs.Marks.{mark_at}
@@ -90,10 +91,10 @@ Walks NoRoom c text a width w rows =
     × ((width ≡ 0) ⊎ (length rows < w.count * width + width)) × RowsLeave c text a w w.steps
 Walks StepLimit c text a width w rows =
     IsCode c.words.now × IsUpTo c text a width w rows × (w.steps ≡ 0)
-    × (IsEnough c.words.now (asked_in (asked_next a w) (table_in c.table.now) text) w.steps_before → Refused)
+    × (IsEnough c.words.now (asked_in (asked_next a w) (table_in c.table.now) text) w.steps_before → Refused Global)
     × (w.count ≡ 0 → w.steps_before ≡ a.steps)
     × RowsLeave c text a w w.steps_before × LastLeaves c text a w None
-Walks Memory c text a width w rows = Refused × IsUpTo c text a width w rows × RowsLeave c text a w w.steps_before
+Walks Memory c text a width w rows = Refused Global × IsUpTo c text a width w rows × RowsLeave c text a w w.steps_before
 Walks NoCode c text a width w rows = ((t : Tree) → (Whole c.words.now t → ⊥)) × (w ≡ begun_of a)
 Walks FaultyTable c text a width w rows = IsFaulty c.table.now × (w ≡ begun_of a)
 Walks Yes c text a width w rows = ⊥

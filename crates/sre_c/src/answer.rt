@@ -77,7 +77,7 @@ fn ask<S: StrDrive, H: Asks<S>>(
     ensures steps { KeepsBudget (words_of (code_of request.entry)) (asked_of request.entry)
         (last_start search (asked_of request.entry)) result steps.old steps.new }
     ensures unlimited { steps.old ≡ no_limit → steps.new ≡ steps.old }
-    ensures memory { OnErr result (Refused A) }
+    ensures memory { OnErr result (Refused Global) }
 {
     if search {
         how.search(alloc, state, &request, steps)

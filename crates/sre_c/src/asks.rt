@@ -51,7 +51,7 @@ pub trait Asks<S: StrDrive> {
         ensures steps { KeepsBudget (words_of (code_of request.now)) (asked_of request.now) (end_of request.now) result
             steps.old steps.new }
         ensures unlimited { steps.old ≡ no_limit → steps.new ≡ steps.old }
-        ensures memory { OnErr result (Refused A) };
+        ensures memory { OnErr result (Refused Global) };
 
     /// Writes the matches of a range, row by row, until there is no room for one more row, or no match.
     fn write(
@@ -181,7 +181,7 @@ fn search_told<S: Haystack>(
     ensures answer { (t : Tree) → Whole (words_of (code_of request.now)) t → IfOk result
         (λ told. IfSome told (λ b. answer_of b state.new ≡ found (asked_of request.now) t)) }
     ensures known { IfOk result (λ told. told ≢ None) }
-    ensures memory { OnErr result (Refused A) }
+    ensures memory { OnErr result (Refused Global) }
 {
     let mut steps = FIRST_STEPS;
     let told = Machine.search(alloc, state, request, &mut steps);
@@ -202,7 +202,7 @@ fn search_by_finder<S: Haystack>(
     ensures answer { (t : Tree) → Whole (words_of (code_of request.now)) t → IfOk result
         (λ told. IfSome told (λ b. answer_of b state.new ≡ found (asked_of request.now) t)) }
     ensures known { IfOk result (λ told. told ≢ None) }
-    ensures memory { OnErr result (Refused A) }
+    ensures memory { OnErr result (Refused Global) }
 {
     let mut finder = Finder::on_demand(alloc, request.pattern_codes(), encoding);
     let Ok(request) = request.clone() else {

@@ -92,7 +92,7 @@ pub fn code<'a>(
     ensures uni { IfOk result (λ code. uni_of code ≡ table_in given.now.table.now) }
     ensures tree { OnOk result (IsCode given.now.words.now) }
     ensures refused { IfErr result (λ e. e ≢ CodeError.Memory → (t : Tree) → ¬ (Whole given.now.words.now t)) }
-    ensures grows { IfErr result (λ e. e ≡ CodeError.Memory → Refused A) }
+    ensures grows { IfErr result (λ e. e ≡ CodeError.Memory → Refused Global) }
 {
     if given.checked {
         let hints = given.hints;

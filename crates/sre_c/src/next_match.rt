@@ -26,7 +26,7 @@ pub trait NextMatch<S: StrDrive> {
         requires suits { suits self.old (string_of (request_of walk.old)) (code_of (request_of walk.old)) }
         ensures suits { suits self.new (string_of (request_of walk.new)) (code_of (request_of walk.new)) }
         ensures gives { NextWithin walk.old result walk.new }
-        ensures steps { KeepsToSteps (asked_of (request_of walk.old)) (code_of (request_of walk.old)) result
+        ensures steps { KeepsToSteps Global (asked_of (request_of walk.old)) (code_of (request_of walk.old)) result
             (runs_of (shown_of walk.new)) steps.old steps.new }
         ensures unlimited { steps.old ≡ no_limit → steps.new ≡ steps.old };
 }

@@ -71,7 +71,7 @@ fn write_last<S: Haystack>(
     ensures kept { OnErr result (rows.new ≡ rows.old) }
     ensures req { request_of walk.new ≡ request_of walk.old }
     ensures ended { has_ended walk.new ≡ has_ended walk.old }
-    ensures refused { OnErr result (Refused A) }
+    ensures refused { OnErr result (Refused Global) }
 {
     if width <= NARROW {
         write_span(span, rows, at, width);

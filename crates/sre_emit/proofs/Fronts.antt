@@ -149,10 +149,11 @@ pub spreads_all : (xs : List Item) (k : ℕ) (ws : List ℕ) → length xs ≤ k
 spreads_all xs k ws l h = sym (h.same ∙ ap (λ t. ws ++ spread t) (from_end xs k l) ∙ append-nil ws)
 
 -- a block with a prefix, from the last word to the first
-pub prefix_written : (a b c d e f g h : Held) (flags least k n m : ℕ) (ws os : List ℕ) → n ≡ length ws + length os + 6
-    → m ≡ length ws → Wrote a b os → Wrote b c ws → Wrote c d (k ∷ []) → Wrote d e (m ∷ [])
-    → Wrote e f (flags ∷ least ∷ unlimited ∷ []) → Wrote f g (n ∷ []) → Wrote g h (opcode_number opcode.INFO ∷ [])
-    → Wrote a h (block flags least (length ws ∷ k ∷ (ws ++ os)))
+pub prefix_written : {M : Type 0} (a b c d e f g h : Held) (flags least k n m : ℕ) (ws os : List ℕ)
+    → n ≡ length ws + length os + 6
+    → m ≡ length ws → Wrote M a b os → Wrote M b c ws → Wrote M c d (k ∷ []) → Wrote M d e (m ∷ [])
+    → Wrote M e f (flags ∷ least ∷ unlimited ∷ []) → Wrote M f g (n ∷ []) → Wrote M g h (opcode_number opcode.INFO ∷ [])
+    → Wrote M a h (block flags least (length ws ∷ k ∷ (ws ++ os)))
 prefix_written a b c d e f g h flags least k n m ws os size many p q r s t u v =
     wrote_equal a h _ _ same
     (wrote_more a g h _ _ (wrote_more a f g _ _ (wrote_more a e f _ _ (wrote_more a d e _ _

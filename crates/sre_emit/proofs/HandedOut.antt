@@ -15,17 +15,17 @@ use Rattle.sre_emit.proofs.Blocks.{emits}
 use Rattle.sre_emit.proofs.Written.{back_words, wrote_more}
 
 -- a writer of no words has written a code's, and then perhaps a block's
-pub record WroteCode (p : Part) (with_block : Bool) (b : Held) : Type 0 where
+pub record WroteCode (M : Type 0) (p : Part) (with_block : Bool) (b : Held) : Type 0 where
   pub has_tree : HasTree p
   pub deep : depth p ≤ 1000
   pub start : Held
   pub words : start.words ≡ []
   pub failure : start.failure ≡ None
-  pub wrote : Wrote start b (front with_block (tree_of p) ++ code_words (tree_of p))
+  pub wrote : Wrote M start b (front with_block (tree_of p) ++ code_words (tree_of p))
 
-pub wrote_code : (p : Part) (with_block : Bool) (a b c : Held) → HasTree p → depth p ≤ 1000 → a.words ≡ []
-    → a.failure ≡ None → Wrote a b (code_words (tree_of p)) → Wrote b c (front with_block (tree_of p))
-    → WroteCode p with_block c
+pub wrote_code : {M : Type 0} (p : Part) (with_block : Bool) (a b c : Held) → HasTree p → depth p ≤ 1000 → a.words ≡ []
+    → a.failure ≡ None → Wrote M a b (code_words (tree_of p)) → Wrote M b c (front with_block (tree_of p))
+    → WroteCode M p with_block c
 wrote_code p with_block a b c h d none f v w = record {
   has_tree = h;
   deep = d;
@@ -35,7 +35,7 @@ wrote_code p with_block a b c h d none f v w = record {
   wrote = wrote_more a b c _ _ v w;
 }
 
-pub code_emitted : (p : Part) (with_block : Bool) (b : Held) (words : List ℕ) → WroteCode p with_block b
+pub code_emitted : {M : Type 0} (p : Part) (with_block : Bool) (b : Held) (words : List ℕ) → WroteCode M p with_block b
     → b.failure ≡ None → words ≡ reverse b.words → Emitted p with_block words
 code_emitted p with_block b words h none same =
     let t = tree_of p in
@@ -49,8 +49,8 @@ code_emitted p with_block b words h none same =
       emits = emits with_block t h.has_tree.lawful d.1;
     })
 
-pub code_caused : (p : Part) (with_block : Bool) (b : Held) (e : EmitError) → WroteCode p with_block b
-    → b.failure ≡ Some e → Cause p with_block e
+pub code_caused : {M : Type 0} (p : Part) (with_block : Bool) (b : Held) (e : EmitError) → WroteCode M p with_block b
+    → b.failure ≡ Some e → Cause M p with_block e
 code_caused p with_block b Memory h f = h.wrote.stops h.failure Memory f
 code_caused p with_block b TooLong h f = record {
   none = λ vs k e v.

@@ -63,17 +63,18 @@ pub word_of_words : (x : ℕ) (xs : List ℕ) → AreWords (x ∷ xs) → x ≤ 
 word_of_words x xs h = h.fits 0 x refl
 
 -- what stops some words stops more
-pub stops_up : (xs ys : List ℕ) → (AreWords ys → AreWords xs) → (e : EmitError) → Stops xs e → Stops ys e
-stops_up xs ys f Memory s = s
-stops_up xs ys f TooLong s = λ h. s (f h)
-stops_up xs ys f TooDeep s = s
-stops_up xs ys f BadPart s = s
+pub stops_up : (M : Type 0) (xs ys : List ℕ) → (AreWords ys → AreWords xs) → (e : EmitError) → Stops M xs e
+    → Stops M ys e
+stops_up M xs ys f Memory s = s
+stops_up M xs ys f TooLong s = λ h. s (f h)
+stops_up M xs ys f TooDeep s = s
+stops_up M xs ys f BadPart s = s
 
 failed_once : (d e : EmitError) (f : Option EmitError) → f ≡ Some d → f ≡ Some e → d ≡ e
 failed_once d e f p q = cc
 
 -- nothing was written
-pub wrote_nothing : (a : Held) → Wrote a a []
+pub wrote_nothing : {M : Type 0} (a : Held) → Wrote M a a []
 wrote_nothing a = record {
   kept = λ e k. k;
   done = λ p q. (sym (append-nil a.words), no_words);
@@ -82,12 +83,12 @@ wrote_nothing a = record {
 }
 
 -- the same words
-pub wrote_equal : (a b : Held) (xs ys : List ℕ) → xs ≡ ys → Wrote a b xs → Wrote a b ys
-wrote_equal a b xs ys e w = subst (λ zs. Wrote a b zs) e w
+pub wrote_equal : {M : Type 0} (a b : Held) (xs ys : List ℕ) → xs ≡ ys → Wrote M a b xs → Wrote M a b ys
+wrote_equal {M} a b xs ys e w = subst (λ zs. Wrote M a b zs) e w
 
 -- words, and then words in front of them
-pub wrote_more : (a b c : Held) (xs ys : List ℕ) → Wrote a b xs → Wrote b c ys → Wrote a c (ys ++ xs)
-wrote_more a b c xs ys v w = record {
+pub wrote_more : {M : Type 0} (a b c : Held) (xs ys : List ℕ) → Wrote M a b xs → Wrote M b c ys → Wrote M a c (ys ++ xs)
+wrote_more {M} a b c xs ys v w = record {
   kept = λ e p. w.kept e (v.kept e p);
   done = λ p q. done b.failure refl p q;
   stops = λ p e q. stops b.failure refl p e q;
@@ -106,15 +107,15 @@ wrote_more a b c xs ys v w = record {
     done (Some e) m p q = let f : c.failure ≡ Some e = w.kept e m in absurd (cc)
 
     stops : (m : Option EmitError) → b.failure ≡ m → a.failure ≡ None → (e : EmitError) → c.failure ≡ Some e
-        → Stops (ys ++ xs) e
-    stops None m p e q = stops_up ys (ys ++ xs) (front_words ys xs) e (w.stops m e q)
+        → Stops M (ys ++ xs) e
+    stops None m p e q = stops_up M ys (ys ++ xs) (front_words ys xs) e (w.stops m e q)
     stops (Some d) m p e q =
         let same : d ≡ e = failed_once d e c.failure (w.kept d m) q in
-        stops_up xs (ys ++ xs) (back_words ys xs) e (subst (λ x. Stops xs x) same (v.stops p d m))
+        stops_up M xs (ys ++ xs) (back_words ys xs) e (subst (λ x. Stops M xs x) same (v.stops p d m))
 
 -- one word
-pub wrote_word : (a b : Held) (w : ℕ) → a.failure ≡ None → b.failure ≡ None
-    → b.words ≡ a.words ++ w ∷ [] → w ≤ unlimited → length a.words ≤ length b.words → Wrote a b (w ∷ [])
+pub wrote_word : {M : Type 0} (a b : Held) (w : ℕ) → a.failure ≡ None → b.failure ≡ None
+    → b.words ≡ a.words ++ w ∷ [] → w ≤ unlimited → length a.words ≤ length b.words → Wrote M a b (w ∷ [])
 wrote_word a b w p q e l g = record {
   kept = λ d k. absurd (cc);
   done = λ _ _. (e, one_word w l);
@@ -123,8 +124,8 @@ wrote_word a b w p q e l g = record {
 }
 
 -- a failure that was there
-pub wrote_failed : (a b : Held) (xs : List ℕ) → is_none a.failure ≡ false → b.failure ≡ a.failure
-    → length a.words ≤ length b.words → Wrote a b xs
+pub wrote_failed : {M : Type 0} (a b : Held) (xs : List ℕ) → is_none a.failure ≡ false → b.failure ≡ a.failure
+    → length a.words ≤ length b.words → Wrote M a b xs
 wrote_failed a b xs p e g = record {
   kept = λ d k. e ∙ k;
   done = λ q _. absurd (there a.failure p q);
@@ -137,23 +138,24 @@ wrote_failed a b xs p e g = record {
     there (Some e) p q = absurd (cc)
 
 -- a failure that comes where there is none
-pub wrote_failing : (a b : Held) (xs : List ℕ) (e : EmitError) → b.words ≡ a.words
+pub wrote_failing : {M : Type 0} (a b : Held) (xs : List ℕ) (e : EmitError) → b.words ≡ a.words
     → (a.failure ≡ None → b.failure ≡ Some e) → ((d : EmitError) → a.failure ≡ Some d → b.failure ≡ Some d)
-    → Stops xs e → Wrote a b xs
-wrote_failing a b xs e same first kept s = record {
+    → Stops M xs e → Wrote M a b xs
+wrote_failing {M} a b xs e same first kept s = record {
   kept = kept;
   done = λ p q. let f : b.failure ≡ Some e = first p in absurd (cc);
-  stops = λ p d q. subst (λ x. Stops xs x) (failed_once e d b.failure (first p) q) s;
+  stops = λ p d q. subst (λ x. Stops M xs x) (failed_once e d b.failure (first p) q) s;
   grows = omega (arith, ap length same);
 }
 
 -- a failure that comes
-pub wrote_stopped : (a b : Held) (xs : List ℕ) (e : EmitError) → a.failure ≡ None → b.failure ≡ Some e → Stops xs e
-    → length a.words ≤ length b.words → Wrote a b xs
-wrote_stopped a b xs e p q s g = record {
+pub wrote_stopped : {M : Type 0} (a b : Held) (xs : List ℕ) (e : EmitError) → a.failure ≡ None → b.failure ≡ Some e
+    → Stops M xs e
+    → length a.words ≤ length b.words → Wrote M a b xs
+wrote_stopped {M} a b xs e p q s g = record {
   kept = λ d k. absurd (cc);
   done = λ _ k. absurd (cc);
-  stops = λ _ d k. subst (λ x. Stops xs x) (failed_once e d b.failure q k) s;
+  stops = λ _ d k. subst (λ x. Stops M xs x) (failed_once e d b.failure q k) s;
   grows = g;
 }
 
@@ -182,31 +184,35 @@ at_place xs x k n e l same =
 
 -- F has the words of some elements
 module _ {X : Type 0} (F : List X → List ℕ) where
-  pub written_none : F [] ≡ [] → (a : Held) (xs : List X) → Wrote a a (F (drop (length xs) xs))
+  pub written_none : {M : Type 0} → F [] ≡ [] → (a : Held) (xs : List X) → Wrote M a a (F (drop (length xs) xs))
   written_none e a xs = wrote_equal a a [] _ (sym (ap F (drop-length xs) ∙ e)) (wrote_nothing a)
 
-  pub written_more : (a b c : Held) (xs : List X) (x : X) (ws : List ℕ) (k n : ℕ) → drop k xs ≡ x ∷ drop n xs
-      → ws ++ F (drop n xs) ≡ F (x ∷ drop n xs) → Wrote a b (F (drop n xs)) → Wrote b c ws → Wrote a c (F (drop k xs))
+  pub written_more : {M : Type 0} (a b c : Held) (xs : List X) (x : X) (ws : List ℕ) (k n : ℕ)
+      → drop k xs ≡ x ∷ drop n xs
+      → ws ++ F (drop n xs) ≡ F (x ∷ drop n xs) → Wrote M a b (F (drop n xs)) → Wrote M b c ws → Wrote M a c
+      (F (drop k xs))
   written_more a b c xs x ws k n here step v w =
       wrote_equal a c _ _ (step ∙ ap F (sym here)) (wrote_more a b c _ _ v w)
 
-  pub written_all : (a b : Held) (xs : List X) (k : ℕ) → k ≤ 0 → Wrote a b (F (drop k xs)) → Wrote a b (F xs)
+  pub written_all : {M : Type 0} (a b : Held) (xs : List X) (k : ℕ) → k ≤ 0 → Wrote M a b (F (drop k xs)) → Wrote M a b
+      (F xs)
   written_all a b xs k e w = wrote_equal a b _ _ (ap (λ n. F (drop n xs)) zero_is) w
     where
       zero_is : k ≡ 0
       zero_is = omega (arith, e)
 
-pub wrote_from : (a b c : Held) (xs : List ℕ) (k n : ℕ) → n ≡ k + 1 → k < length xs → Wrote a b (drop n xs)
-    → Wrote b c (slice_index xs k ∷ []) → Wrote a c (drop k xs)
+pub wrote_from : {M : Type 0} (a b c : Held) (xs : List ℕ) (k n : ℕ) → n ≡ k + 1 → k < length xs → Wrote M a b
+    (drop n xs)
+    → Wrote M b c (slice_index xs k ∷ []) → Wrote M a c (drop k xs)
 wrote_from a b c xs k n e l v w =
     written_more (λ l. l) a b c xs (slice_index xs k) _ k n
     (behind_place xs (slice_index xs k) k n e (drop-cons xs k 0 l)) refl v w
 
-pub wrote_all : (a b : Held) (xs : List ℕ) (k : ℕ) → k ≤ 0 → Wrote a b (drop k xs) → Wrote a b xs
+pub wrote_all : {M : Type 0} (a b : Held) (xs : List ℕ) (k : ℕ) → k ≤ 0 → Wrote M a b (drop k xs) → Wrote M a b xs
 wrote_all = written_all (λ l. l)
 
 -- block numbers, four a word
-pub no_four : (a : Held) (ns : List ℕ) → Wrote a a (packed (drop (4 * (length ns / 4)) ns))
+pub no_four : {M : Type 0} (a : Held) (ns : List ℕ) → Wrote M a a (packed (drop (4 * (length ns / 4)) ns))
 no_four a ns = wrote_equal a a [] _
     (sym (short (drop (4 * (length ns / 4)) ns) (omega (arith, length-drop (4 * (length ns / 4)) ns))))
     (wrote_nothing a)
@@ -240,10 +246,10 @@ four_at ns k l =
         (drop s ns))
     ap4 a b c d p q r s e f g h = cc
 
-pub wrote_four : (a b c : Held) (ns : List ℕ) (k n w : ℕ) → n ≡ k + 1 → 4 * n ≤ length ns
+pub wrote_four : {M : Type 0} (a b c : Held) (ns : List ℕ) (k n w : ℕ) → n ≡ k + 1 → 4 * n ≤ length ns
     → w ≡ slice_index ns (4 * k) + 256 * slice_index ns (4 * k + 1) + 65536 * slice_index ns (4 * k + 2)
     + 16777216 * slice_index ns (4 * k + 3)
-    → Wrote a b (packed (drop (4 * n) ns)) → Wrote b c (w ∷ []) → Wrote a c (packed (drop (4 * k) ns))
+    → Wrote M a b (packed (drop (4 * n) ns)) → Wrote M b c (w ∷ []) → Wrote M a c (packed (drop (4 * k) ns))
 wrote_four a b c ns k n w e l same v x =
     wrote_equal a c (w ∷ packed (drop (4 * n) ns)) _
     (ap (λ m. w ∷ packed (drop m ns)) further ∙ ap (λ u. u ∷ packed (drop (4 * k + 4) ns)) same
@@ -252,8 +258,8 @@ wrote_four a b c ns k n w e l same v x =
     further : 4 * n ≡ 4 * k + 4
     further = omega (arith, e)
 
-pub wrote_packed : (a b : Held) (ns : List ℕ) (k : ℕ) → k ≤ 0 → Wrote a b (packed (drop (4 * k) ns))
-    → Wrote a b (packed ns)
+pub wrote_packed : {M : Type 0} (a b : Held) (ns : List ℕ) (k : ℕ) → k ≤ 0 → Wrote M a b (packed (drop (4 * k) ns))
+    → Wrote M a b (packed ns)
 wrote_packed a b ns k e w = wrote_equal a b (packed (drop (4 * k) ns)) (packed ns)
     (ap (λ n. packed (drop n ns)) zero_is) w
   where
@@ -275,28 +281,32 @@ set_cons Negate xs = refl
 abbrev set_items_words : List part.SetItem → List ℕ
 set_items_words xs = set_words (map set_item_of xs)
 
-pub wrote_set_item : (a b c : Held) (xs : List part.SetItem) (x : part.SetItem) (k n : ℕ) → n ≡ k + 1 → k < length xs
-    → x ≡ slice_index_or xs k x → Wrote a b (set_items_words (drop n xs)) → Wrote b c (set_item_words (set_item_of x))
-    → Wrote a c (set_items_words (drop k xs))
+pub wrote_set_item : {M : Type 0} (a b c : Held) (xs : List part.SetItem) (x : part.SetItem) (k n : ℕ) → n ≡ k + 1
+    → k < length xs
+    → x ≡ slice_index_or xs k x → Wrote M a b (set_items_words (drop n xs)) → Wrote M b c
+    (set_item_words (set_item_of x))
+    → Wrote M a c (set_items_words (drop k xs))
 wrote_set_item a b c xs x k n e l same v w =
     written_more set_items_words a b c xs x _ k n (at_place xs x k n e l same)
     (set_cons (set_item_of x) (map set_item_of (drop n xs))) v w
 
-pub wrote_set : (a b : Held) (xs : List part.SetItem) (k : ℕ) → k ≤ 0 → Wrote a b (set_items_words (drop k xs))
-    → Wrote a b (set_items_words xs)
+pub wrote_set : {M : Type 0} (a b : Held) (xs : List part.SetItem) (k : ℕ) → k ≤ 0 → Wrote M a b
+    (set_items_words (drop k xs))
+    → Wrote M a b (set_items_words xs)
 wrote_set = written_all set_items_words
 
-pub wrote_charset : (a b c : Held) (x : part.SetItem) (bits bs : List ℕ) → x ≡ set.Charset bits → bs ≡ bits
-    → Wrote a b bs → Wrote b c (opcode_number opcode.CHARSET ∷ []) → Wrote a c (set_item_words (set_item_of x))
+pub wrote_charset : {M : Type 0} (a b c : Held) (x : part.SetItem) (bits bs : List ℕ) → x ≡ set.Charset bits → bs ≡ bits
+    → Wrote M a b bs → Wrote M b c (opcode_number opcode.CHARSET ∷ []) → Wrote M a c (set_item_words (set_item_of x))
 wrote_charset a b c x bits bs e f v w =
     wrote_equal a c _ _
     (ap (λ l. opcode_number opcode.CHARSET ∷ l) f ∙ sym (ap (λ y. set_item_words (set_item_of y)) e))
     (wrote_more a b c bs _ v w)
 
-pub wrote_big_charset : (a b : Held) (x : part.SetItem) (numbers : Vec ℕ) (bits : Vec ℕ) (ns bs : List ℕ) (n : ℕ)
+pub wrote_big_charset : {M : Type 0} (a b : Held) (x : part.SetItem) (numbers : Vec ℕ) (bits : Vec ℕ) (ns bs : List ℕ)
+    (n : ℕ)
     → x ≡ set.BigCharset numbers bits → ns ≡ numbers.items → bs ≡ bits.items → n ≡ vec_len bits
-    → Wrote a b (opcode_number opcode.BIGCHARSET ∷ (n / 8) ∷ (packed ns ++ bs))
-    → Wrote a b (set_item_words (set_item_of x))
+    → Wrote M a b (opcode_number opcode.BIGCHARSET ∷ (n / 8) ∷ (packed ns ++ bs))
+    → Wrote M a b (set_item_words (set_item_of x))
 wrote_big_charset a b x numbers bits ns bs n e f g h w =
     wrote_equal a b _ _
     (same (packed ns) (packed numbers.items) bs bits.items (n / 8) (length bits.items / 8) (ap packed f) g
@@ -307,7 +317,7 @@ wrote_big_charset a b x numbers bits ns bs n e f g h w =
     same p q r s i j e f g = cc
 
 -- how many words a writer has
-pub wrote_length : (a b : Held) (xs : List ℕ) → Wrote a b xs → b.failure ≡ None
+pub wrote_length : {M : Type 0} (a b : Held) (xs : List ℕ) → Wrote M a b xs → b.failure ≡ None
     → length b.words ≡ length a.words + length xs
 wrote_length a b xs w q = by a.failure refl
   where
@@ -321,29 +331,29 @@ wrote_length a b xs w q = by a.failure refl
     by (Some e) p = let k : b.failure ≡ Some e = w.kept e p in absurd (cc)
 
 -- words, and then some in front of them in which their number stands
-pub wrote_counted : (a b c : Held) (xs : List ℕ) (n m : ℕ) (f : ℕ → List ℕ) → Wrote a b xs
-    → (b.failure ≡ None → n ≡ m) → Wrote b c (f n) → Wrote a c (f m ++ xs)
-wrote_counted a b c xs n m f v e w = by b.failure refl
+pub wrote_counted : {M : Type 0} (a b c : Held) (xs : List ℕ) (n m : ℕ) (f : ℕ → List ℕ) → Wrote M a b xs
+    → (b.failure ≡ None → n ≡ m) → Wrote M b c (f n) → Wrote M a c (f m ++ xs)
+wrote_counted {M} a b c xs n m f v e w = by b.failure refl
   where
     stop : (d : EmitError) → b.failure ≡ Some d → (x : EmitError) → c.failure ≡ Some x → d ≡ x
     stop d p x q = failed_once d x c.failure (w.kept d p) q
 
-    by : (g : Option EmitError) → b.failure ≡ g → Wrote a c (f m ++ xs)
+    by : (g : Option EmitError) → b.failure ≡ g → Wrote M a c (f m ++ xs)
     by None p = wrote_equal a c (f n ++ xs) (f m ++ xs) (ap (λ k. f k ++ xs) (e p)) (wrote_more a b c xs (f n) v w)
     by (Some d) p = record {
       kept = λ x k. w.kept x (v.kept x k);
       done = λ k q. let l : c.failure ≡ Some d = w.kept d p in absurd (cc);
-      stops = λ k x q. stops_up xs (f m ++ xs) (back_words (f m) xs) x
-          (subst (λ y. Stops xs y) (stop d p x q) (v.stops k d p));
+      stops = λ k x q. stops_up M xs (f m ++ xs) (back_words (f m) xs) x
+          (subst (λ y. Stops M xs y) (stop d p x q) (v.stops k d p));
       grows = omega (arith, v.grows, w.grows);
     }
 
 -- a test's set
-pub wrote_set_test : (a b c d e : Held) (t : OneChar) (f : part_fold.Fold) (s : Vec part.SetItem)
+pub wrote_set_test : {M : Type 0} (a b c d e : Held) (t : OneChar) (f : part_fold.Fold) (s : Vec part.SetItem)
     (ss : List part.SetItem) (n : ℕ) (o : SreOpcode) → t ≡ test.In f s → ss ≡ s.items → o ≡ set_opcode (fold_of f)
-    → Wrote a b (opcode_number opcode.FAILURE ∷ []) → Wrote b c (set_words (map set_item_of ss))
-    → (c.failure ≡ None → n ≡ length (set_words (map set_item_of ss))) → Wrote c d ((n + 2) ∷ [])
-    → Wrote d e (opcode_number o ∷ []) → Wrote a e (test_words (test_of t))
+    → Wrote M a b (opcode_number opcode.FAILURE ∷ []) → Wrote M b c (set_words (map set_item_of ss))
+    → (c.failure ≡ None → n ≡ length (set_words (map set_item_of ss))) → Wrote M c d ((n + 2) ∷ [])
+    → Wrote M d e (opcode_number o ∷ []) → Wrote M a e (test_words (test_of t))
 wrote_set_test a b c d e t f s ss n o is same code u v count w x =
     let ws : List ℕ = set_words (map set_item_of ss) in
     let fail : List ℕ = opcode_number opcode.FAILURE ∷ [] in

@@ -41,8 +41,8 @@ pub record Emitted (p : Part) (with_block : Bool) (ws : List ℕ) : Type 0 where
   pub emits : Emits with_block (tree_of p) ws
 
 -- why no words are emitted
-abbrev pub Cause : Part → Bool → EmitError → Type 0
-Cause p with_block Memory = Refused
-Cause p with_block TooLong = NoWords with_block (tree_of p)
-Cause p with_block TooDeep = 1000 < depth p
-Cause p with_block BadPart = HasTree p → ⊥
+abbrev pub Cause : Type 0 → Part → Bool → EmitError → Type 0
+Cause M p with_block Memory = Refused M
+Cause M p with_block TooLong = NoWords with_block (tree_of p)
+Cause M p with_block TooDeep = 1000 < depth p
+Cause M p with_block BadPart = HasTree p → ⊥

@@ -12,14 +12,14 @@ pub record Held : Type 0 where
   pub failure : Option EmitError
 
 -- why some words are not written: memory was refused, or one of them is none
-abbrev pub Stops : List ℕ → EmitError → Type 0
-Stops xs Memory = Refused
-Stops xs TooLong = AreWords xs → ⊥
-Stops xs e = ⊥
+abbrev pub Stops : Type 0 → List ℕ → EmitError → Type 0
+Stops M xs Memory = Refused M
+Stops M xs TooLong = AreWords xs → ⊥
+Stops M xs e = ⊥
 
 -- from one state of a writer to the next the words xs were written, the last of them first, or the writer failed
-pub record Wrote (a b : Held) (xs : List ℕ) : Type 0 where
+pub record Wrote (M : Type 0) (a b : Held) (xs : List ℕ) : Type 0 where
   pub kept : (e : EmitError) → a.failure ≡ Some e → b.failure ≡ Some e
   pub done : a.failure ≡ None → b.failure ≡ None → (b.words ≡ a.words ++ reverse xs) × AreWords xs
-  pub stops : a.failure ≡ None → (e : EmitError) → b.failure ≡ Some e → Stops xs e
+  pub stops : a.failure ≡ None → (e : EmitError) → b.failure ≡ Some e → Stops M xs e
   pub grows : length a.words ≤ length b.words

@@ -144,7 +144,7 @@ impl<A: Allocator> Writer<A> {
     )
         requires few { length words.now ≤ 2147483644 }
         requires same { length overlaps.now ≡ length words.now }
-        ensures { Wrote self.old self.new
+        ensures { Wrote A self.old self.new
             (block flags width (length words.now ∷ adjacent ∷ (words.now ++ overlaps.now))) }
     {
         self.put_all(overlaps);
@@ -160,7 +160,7 @@ impl<A: Allocator> Writer<A> {
 impl<A: Allocator + Copy> Writer<A> {
     /// Writes the INFO block of a part. All that it claims is true of the part's tree, and it claims no set.
     pub fn put_block(&mut self, alloc: A, part: &Part)
-        ensures { Wrote self.old self.new (block_words (tree_of part.now)) }
+        ensures { Wrote A self.old self.new (block_words (tree_of part.now)) }
     {
         let width = part_width(part);
         let items = part.items.as_slice();

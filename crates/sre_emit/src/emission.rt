@@ -17,7 +17,7 @@ impl<A: Allocator> Writer<A> {
     // Writes a part, and the SUCCESS that ends a code.
     fn put_code(&mut self, part: &Part)
         requires { has_alternatives part.now ≡ true }
-        ensures { Wrote self.old self.new (code_words (tree_of part.now)) }
+        ensures { Wrote A self.old self.new (code_words (tree_of part.now)) }
     {
         self.put(SreOpcode::SUCCESS as u32);
         self.put_part(part);
@@ -28,7 +28,7 @@ impl<A: Allocator + Copy> Writer<A> {
     // Writes the INFO block of a part, if it is wanted.
     #[tactic(auto, using(crate::proofs::Written::wrote_nothing))]
     fn put_front(&mut self, alloc: A, part: &Part, with_block: bool)
-        ensures { Wrote self.old self.new (front with_block (tree_of part.now)) }
+        ensures { Wrote A self.old self.new (front with_block (tree_of part.now)) }
     {
         if with_block {
             self.put_block(alloc, part);
@@ -50,7 +50,7 @@ impl<A: Allocator + Copy> Writer<A> {
 /// [`EmitError`], with a cause that applies.
 pub fn emit(alloc: Global, part: &Part, with_block: bool) -> Result<Vec<u32>, EmitError>
     ensures emitted { IfOk result (λ words. Emitted part.now with_block words.items) }
-    ensures cause { IfErr result (Cause part.now with_block) }
+    ensures cause { IfErr result (Cause Global part.now with_block) }
 {
     emit_in(alloc, part, with_block)
 }
@@ -66,7 +66,7 @@ pub fn emit_in<A: Allocator + Copy>(
     with_block: bool,
 ) -> Result<Vec<u32, A>, EmitError>
     ensures emitted { IfOk result (λ words. Emitted part.now with_block words.items) }
-    ensures cause { IfErr result (Cause part.now with_block) }
+    ensures cause { IfErr result (Cause A part.now with_block) }
 {
     check_part(part, 0)?;
     let mut writer = Writer::new(alloc);

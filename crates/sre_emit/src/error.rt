@@ -4,6 +4,7 @@ ghost use Rattle.std.specs.Prelude.{◌≡◌};
 ghost use Rattle.sre_emit.specs.Errors.{emit_error_number};
 
 use sre_growth::Refusal;
+use std::alloc::Allocator;
 use thiserror::Error;
 
 /// Why no bytecode is written for a part. If several causes apply, any of them may be named.

@@ -17,7 +17,7 @@ impl<A: Allocator> Writer<A> {
     /// Writes the items of a set, and returns the number of their words.
     #[tactic(auto, using(crate::proofs::Written::wrote_length))]
     fn put_counted_set(&mut self, set: &[SetItem]) -> usize
-        ensures wrote { Wrote self.old self.new (set_words (map set_item_of set.now)) }
+        ensures wrote { Wrote A self.old self.new (set_words (map set_item_of set.now)) }
         ensures count { self.new.failure ≡ None → result ≡ length (set_words (map set_item_of set.now)) }
         ensures bound { result < 2 ^ 63 }
     {
@@ -28,7 +28,7 @@ impl<A: Allocator> Writer<A> {
 
     /// Writes a test.
     fn put_test(&mut self, test: &OneChar)
-        ensures { Wrote self.old self.new (test_words (test_of test.now)) }
+        ensures { Wrote A self.old self.new (test_words (test_of test.now)) }
     {
         match test {
             OneChar::Any => self.put(SreOpcode::ANY as u32),
@@ -59,7 +59,7 @@ impl<A: Allocator> Writer<A> {
     /// Writes an opcode and its operands, the first of which is a count.
     #[tactic(auto, using(crate::proofs::Written::wrote_more))]
     fn put_header(&mut self, code: SreOpcode, count: usize, others: &[u32])
-        ensures { Wrote self.old self.new (opcode_number code ∷ count ∷ others.now) }
+        ensures { Wrote A self.old self.new (opcode_number code ∷ count ∷ others.now) }
     {
         self.put_all(others);
         self.put_count(count);
@@ -69,7 +69,7 @@ impl<A: Allocator> Writer<A> {
     /// Writes a JUMP.
     #[tactic(auto, using(crate::proofs::Written::wrote_more))]
     fn put_jump(&mut self, count: usize)
-        ensures { Wrote self.old self.new (opcode_number SreOpcode.JUMP ∷ count ∷ []) }
+        ensures { Wrote A self.old self.new (opcode_number SreOpcode.JUMP ∷ count ∷ []) }
     {
         self.put_count(count);
         self.put(SreOpcode::JUMP as u32);
@@ -78,7 +78,7 @@ impl<A: Allocator> Writer<A> {
     /// Writes a conditional's words before its parts.
     #[tactic(auto, using(crate::proofs::Written::wrote_more))]
     fn put_condition(&mut self, group: u32, count: usize)
-        ensures { Wrote self.old self.new (opcode_number SreOpcode.GROUPREF_EXISTS ∷ group ∷ count ∷ []) }
+        ensures { Wrote A self.old self.new (opcode_number SreOpcode.GROUPREF_EXISTS ∷ group ∷ count ∷ []) }
     {
         self.put_count(count);
         self.put_all(&[SreOpcode::GROUPREF_EXISTS as u32, group]);
@@ -86,7 +86,7 @@ impl<A: Allocator> Writer<A> {
 
     /// Writes the test of a single-character repeat and its SUCCESS, and returns the number of words of the test.
     fn put_run_test(&mut self, test: &OneChar) -> usize
-        ensures wrote { Wrote self.old self.new (closed_test (test_of test.now)) }
+        ensures wrote { Wrote A self.old self.new (closed_test (test_of test.now)) }
         ensures count { self.new.failure ≡ None → result ≡ length (test_words (test_of test.now)) }
         ensures bound { result < 2 ^ 63 }
     {
@@ -101,7 +101,7 @@ impl<A: Allocator> Writer<A> {
     #[tactic(auto, using(crate::proofs::ItemsWritten::items_alternatives))]
     pub fn put_part(&mut self, part: &Part)
         requires { has_alternatives part.now ≡ true }
-        ensures { Wrote self.old self.new (tree_words (tree_of part.now)) }
+        ensures { Wrote A self.old self.new (tree_words (tree_of part.now)) }
     {
         self.put_items(&part.items);
     }
@@ -111,7 +111,7 @@ impl<A: Allocator> Writer<A> {
     #[tactic(auto, using(crate::proofs::ItemsWritten::item_alternatives))]
     fn put_items(&mut self, items: &[Item])
         requires { all (map item_has_alternatives items.now) ≡ true }
-        ensures { Wrote self.old self.new (tree_words (in_order (map item_of items.now))) }
+        ensures { Wrote A self.old self.new (tree_words (in_order (map item_of items.now))) }
     {
         let mut at = items.len();
         'items: while at > 0 {
@@ -125,7 +125,7 @@ impl<A: Allocator> Writer<A> {
     #[tactic(auto, using(crate::proofs::Written::wrote_length))]
     fn put_counted(&mut self, part: &Part) -> usize
         requires { has_alternatives part.now ≡ true }
-        ensures wrote { Wrote self.old self.new (tree_words (tree_of part.now)) }
+        ensures wrote { Wrote A self.old self.new (tree_words (tree_of part.now)) }
         ensures count { self.new.failure ≡ None → result ≡ length (tree_words (tree_of part.now)) }
         ensures bound { result < 2 ^ 63 }
     {
@@ -138,7 +138,7 @@ impl<A: Allocator> Writer<A> {
     #[cycle(put)]
     fn put_body(&mut self, body: &Part, end: SreOpcode) -> usize
         requires { has_alternatives body.now ≡ true }
-        ensures wrote { Wrote self.old self.new (tree_words (tree_of body.now) ++ opcode_number end ∷ []) }
+        ensures wrote { Wrote A self.old self.new (tree_words (tree_of body.now) ++ opcode_number end ∷ []) }
         ensures count { self.new.failure ≡ None → result ≡ length (tree_words (tree_of body.now)) }
         ensures bound { result < 2 ^ 63 }
     {
@@ -151,7 +151,7 @@ impl<A: Allocator> Writer<A> {
     #[tactic(auto, using(crate::proofs::ItemsWritten::part_alternatives))]
     fn put_parts(&mut self, parts: &[Part])
         requires { some_parts (map has_alternatives parts.now) ≡ true }
-        ensures { Wrote self.old self.new (branch_words (alternatives (map tree_of parts.now))) }
+        ensures { Wrote A self.old self.new (branch_words (alternatives (map tree_of parts.now))) }
     {
         let start = self.len();
         self.put(0);
@@ -170,7 +170,7 @@ impl<A: Allocator> Writer<A> {
     #[tactic(auto, using(crate::proofs::ItemsWritten::inside_laws))]
     fn put_item(&mut self, item: &Item)
         requires { item_has_alternatives item.now ≡ true }
-        ensures { Wrote self.old self.new (item_words (item_of item.now)) }
+        ensures { Wrote A self.old self.new (item_words (item_of item.now)) }
     {
         match item {
             Item::Fail => self.put(SreOpcode::FAILURE as u32),

@@ -50,7 +50,7 @@ impl<A: Allocator> Writer<A> {
     /// Writes a word, unless the writer has failed.
     #[tactic(auto, using(crate::proofs::Written::word_laws))]
     pub fn put(&mut self, word: u32)
-        ensures { Wrote self.old self.new (word ∷ []) }
+        ensures { Wrote A self.old self.new (word ∷ []) }
     {
         if self.failure.is_none() {
             if let Err(refusal) = sre_growth::push(&mut self.words, word) {
@@ -73,7 +73,7 @@ impl<A: Allocator> Writer<A> {
     /// Writes a count. It fails with `TooLong` above 4294967295.
     #[tactic(auto, using(crate::proofs::Written::count_laws))]
     pub fn put_count(&mut self, count: usize)
-        ensures { Wrote self.old self.new (count ∷ []) }
+        ensures { Wrote A self.old self.new (count ∷ []) }
     {
         if count > 4294967295 {
             self.fail(EmitError::TooLong);
@@ -98,7 +98,7 @@ impl<A: Allocator> Writer<A> {
     /// Writes words.
     #[tactic(auto, using(crate::proofs::Written::wrote_all))]
     pub fn put_all(&mut self, words: &[u32])
-        ensures { Wrote self.old self.new words.now }
+        ensures { Wrote A self.old self.new words.now }
     {
         let mut at = words.len();
         'words: while at > 0 {
@@ -110,7 +110,7 @@ impl<A: Allocator> Writer<A> {
     /// Writes block numbers, four a word.
     #[tactic(auto, using(crate::proofs::Written::wrote_packed))]
     fn put_numbers(&mut self, numbers: &[u8])
-        ensures { Wrote self.old self.new (packed numbers.now) }
+        ensures { Wrote A self.old self.new (packed numbers.now) }
     {
         let mut at = numbers.len() / 4;
         'numbers: while at > 0 {
@@ -123,7 +123,7 @@ impl<A: Allocator> Writer<A> {
     /// Writes an item of a set.
     #[tactic(auto, using(crate::proofs::Written::wrote_more))]
     fn put_set_item(&mut self, item: &SetItem)
-        ensures { Wrote self.old self.new (set_item_words (set_item_of item.now)) }
+        ensures { Wrote A self.old self.new (set_item_words (set_item_of item.now)) }
     {
         match item {
             SetItem::Literal(value) => self.put_all(&[SreOpcode::LITERAL as u32, *value]),
@@ -151,7 +151,7 @@ impl<A: Allocator> Writer<A> {
     /// Writes the items of a set.
     #[tactic(auto, using(crate::proofs::Written::wrote_set))]
     pub fn put_set(&mut self, set: &[SetItem])
-        ensures { Wrote self.old self.new (set_words (map set_item_of set.now)) }
+        ensures { Wrote A self.old self.new (set_words (map set_item_of set.now)) }
     {
         let mut at = set.len();
         'items: while at > 0 {

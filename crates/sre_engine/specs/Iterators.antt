@@ -71,7 +71,7 @@ pub record IsOver {S A : Type 0} {text : Ghosts S} (it : SearchIter S A text) : 
 abbrev pub NoneAgain : {S A : Type 0} {text : Ghosts S} → SearchIter S A text → SearchIter S A text → Type 0
 NoneAgain it next = has_ended it ≡ false → (shown_of next).restarted ≡ 0
 
--- the next item; an error comes only where a growth was refused, and not after the walk's end
+-- the next item; an error comes only where an allocation by an A failed, and not after the walk's end
 abbrev pub NextGives : {S A : Type 0} {text : Ghosts S}
     → SearchIter S A text → Option (Result (Unit {0}) SreError) → SearchIter S A text → Type 0
 NextGives it None next = IsOver it × Ends it next × NoneAgain it next

@@ -67,10 +67,10 @@ pub record Ends {S A : Type 0} {text : Ghosts S} (it next : SpanIter S A text) :
 pub record IsOver {S A : Type 0} {text : Ghosts S} (it : SpanIter S A text) : Type 0 where
   pub none : (t : Tree) → Whole (words_of (code_of (request_of it))) t → left_of it t ≡ []
 
--- the next item; an error comes only where a growth was refused, and not after the walk's end
+-- the next item; an error comes only where an allocation by an A failed, and not after the walk's end
 abbrev pub NextSpan : {S A : Type 0} {text : Ghosts S}
     → SpanIter S A text → Option (Result Span SreError) → SpanIter S A text → Type 0
 NextSpan it None next = IsOver it × Ends it next
 NextSpan it (Some (Ok span)) next = GivesSpan it span next
-NextSpan it (Some (Err _)) next =
-    (has_ended it ≡ false) × Refused × Ends it next × MayTakeMemory (code_of (request_of it))
+NextSpan {A = A} it (Some (Err _)) next =
+    (has_ended it ≡ false) × Refused A × Ends it next × MayTakeMemory (code_of (request_of it))

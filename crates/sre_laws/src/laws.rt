@@ -104,7 +104,7 @@ pub fn checked<'a>(
     uni: &'a UniTable,
 ) -> Result<Code<'a>, CodeError>
     requires { Emitted part.now with_block words.now }
-    ensures memory { IfErr result (λ e. e ≡ CodeError.Memory → Refused A) }
+    ensures memory { IfErr result (λ e. e ≡ CodeError.Memory → Refused Global) }
     ensures alone { IfErr result (λ e. e ≢ CodeError.Memory → ⊥) }
     ensures tree { IfOk result (λ code. Whole (words_of code) (tree_of part.now)) }
     ensures one { IfOk result (λ code. (t : Tree) → Whole (words_of code) t → t ≡ tree_of part.now) }
@@ -141,7 +141,7 @@ pub fn searched_in_window<S: StrDrive>(
         × Spans state.new.start (end_of req.entry) state.new) }
     ensures no { IfOk result (λ b. b ≡ false → state.new.marks ≡ no_marks) }
     ensures err { OnErr result (state.new.marks ≡ no_marks) }
-    ensures refused { OnErr result (Refused A) }
+    ensures refused { OnErr result (Refused Global) }
 {
     state.search(req)
 }
@@ -155,7 +155,7 @@ pub fn searched_within<S: StrDrive>(
     requires { (t : Tree) → Whole (words_of (code_of req)) t
         → (most : ℕ) × RunsWithin (asked_of req) t most × (2 * (end_of req + 1 - start_of req) * most < steps.old) }
     ensures told { IfOk result (λ told. told ≢ None) }
-    ensures refused { OnErr result (Refused A) }
+    ensures refused { OnErr result (Refused Global) }
 {
     let _words = req.pattern_codes().words(); // has a tree
     state.search_within(req, steps)
@@ -168,7 +168,7 @@ pub fn searched_with_enough<S: StrDrive>(
     steps: &mut u64,
 ) -> Result<Option<bool>, SreError>
     requires { AreEnough (asked_of req) (code_of req) steps.old }
-    ensures { IfOk result (λ told. told ≡ None → Refused A) }
+    ensures { IfOk result (λ told. told ≡ None → Refused Global) }
 {
     state.search_within(req, steps)
 }
@@ -181,7 +181,7 @@ pub fn two_runs_searched<S: StrDrive>(
 ) -> Result<Option<bool>, SreError>
     requires words { words_of code ≡ words_of_two_runs }
     requires short { length (S.text text) ≤ 1000 }
-    ensures { IfOk result (λ told. told ≡ None → Refused A) }
+    ensures { IfOk result (λ told. told ≡ None → Refused Global) }
 {
     let mut steps = 86_087;
     state.search_within(Request::new(text, 0, usize::MAX, code, false), &mut steps)
@@ -194,7 +194,7 @@ pub fn searched_with_its_number<S: StrDrive>(
     state: &mut State<Global>,
 ) -> Option<Result<Option<bool>, SreError>>
     requires { end_of req ≤ characters }
-    ensures { result ≡ Some (Ok None) → Refused A }
+    ensures { result ≡ Some (Ok None) → Refused Global }
 {
     let code = req.pattern_codes();
     let _words = code.words(); // has a tree
@@ -209,14 +209,14 @@ pub fn stepped_with_enough<S: StrDrive>(
     steps: &mut u64,
 ) -> Result<Option<bool>, SreError>
     requires { AreEnough (asked_of (request_of walk.old)) (code_of (request_of walk.old)) steps.old }
-    ensures { IfOk result (λ told. told ≡ None → Refused A) }
+    ensures { IfOk result (λ told. told ≡ None → Refused Global) }
 {
     walk.next_within(steps)
 }
 
 /// The step of an iteration returns an error only if an allocation failed.
 pub fn stepped<S: StrDrive>(walk: &mut SearchIter<'_, S, Global>) -> Option<Result<(), SreError>>
-    ensures { (e : SreError) → result ≡ Some (Err e) → Refused A }
+    ensures { (e : SreError) → result ≡ Some (Err e) → Refused Global }
 {
     walk.next()
 }
@@ -228,7 +228,7 @@ pub fn listed<S: StrDrive>(
 ) -> Result<Vec<Found<Global>>, SreError>
     ensures few { IfOk result (λ all. vec_len all ≤ most_matches (asked_of req.entry)) }
     ensures order { IfOk result (λ all. AreInOrder (start_of req.entry) (map match_of all.items)) }
-    ensures refused { OnErr result (Refused A) }
+    ensures refused { OnErr result (Refused Global) }
 {
     all_matches(req, state)
 }

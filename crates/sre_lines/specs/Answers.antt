@@ -72,11 +72,11 @@ fault_text (NotACase line) name = codes "line " ++ decimal line ++ codes ": not 
 fault_text NoMemory name = codes "no memory"
 fault_text OutputFailed name = codes "output failed"
 
--- a fault of the cases of a file, whose lines count from 1; for want of memory only where a growth was refused
-abbrev pub IsFaultOfCases : CaseFault → Type 0
-IsFaultOfCases Usage = ⊥
-IsFaultOfCases CannotRead = ⊥
-IsFaultOfCases NotATable = ⊥
-IsFaultOfCases (NotACase line) = 1 ≤ line
-IsFaultOfCases NoMemory = Refused
-IsFaultOfCases OutputFailed = Unit {0}
+-- a fault of the cases of a file, whose lines count from 1; for want of memory only where an allocation by an M failed
+abbrev pub IsFaultOfCases : Type 0 → CaseFault → Type 0
+IsFaultOfCases M Usage = ⊥
+IsFaultOfCases M CannotRead = ⊥
+IsFaultOfCases M NotATable = ⊥
+IsFaultOfCases M (NotACase line) = 1 ≤ line
+IsFaultOfCases M NoMemory = Refused M
+IsFaultOfCases M OutputFailed = Unit {0}

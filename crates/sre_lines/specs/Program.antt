@@ -75,7 +75,7 @@ abbrev pub AnswersFile : Detail → Table → Option (List ℕ) → Option (List
     → Type 0
 AnswersFile detail table old new (Ok file) (Ok done) = Answered detail table old new (lines_of file.items)
 AnswersFile detail table old new (Ok file) (Err fault) =
-    IsFaultOfCases fault × StopsAt detail table old new (lines_of file.items) fault
+    IsFaultOfCases Global fault × StopsAt detail table old new (lines_of file.items) fault
 AnswersFile detail table old new (Err error) (Ok done) = ⊥
 AnswersFile detail table old new (Err error) (Err fault) = IsFaultOf error CannotRead fault × (new ≡ old)
 
@@ -173,7 +173,7 @@ IsNotATable file =
 -- why a file gives no table
 abbrev pub IsTableFault : Reading → CaseFault → Type 0
 IsTableFault (Ok file) fault =
-    ((fault ≡ NotATable) × IsNotATable file.items) ⊎ ((fault ≡ NoMemory) × Refused)
+    ((fault ≡ NotATable) × IsNotATable file.items) ⊎ ((fault ≡ NoMemory) × Refused Global)
 IsTableFault (Err error) fault = IsFaultOf error CannotRead fault
 
 -- a run that has no table, since the file of this name gives none, which is told

@@ -69,7 +69,7 @@ pub enum Detail {
 pub fn run_cases<W: Write>(alloc: Global, file: &[u8], out: &mut W) -> Result<(), CaseFault>
     ensures answers { OnOk result (Answered Detail.Plain ascii_table (W.contents out.old) (W.contents out.new)
         (lines_of file.now)) }
-    ensures faults { IfErr result IsFaultOfCases }
+    ensures faults { IfErr result (IsFaultOfCases Global) }
     ensures stopped { IfErr result (StopsAt Detail.Plain ascii_table (W.contents out.old) (W.contents out.new)
         (lines_of file.now)) }
 {
@@ -85,7 +85,7 @@ pub fn answer_lines<A: Allocator + Copy, W: Write>(
 ) -> Result<(), CaseFault>
     ensures answers { OnOk result (Answered Detail.Plain ascii_table (W.contents out.old) (W.contents out.new)
         (lines_of file.now)) }
-    ensures faults { IfErr result IsFaultOfCases }
+    ensures faults { IfErr result (IsFaultOfCases A) }
     ensures stopped { IfErr result (StopsAt Detail.Plain ascii_table (W.contents out.old) (W.contents out.new)
         (lines_of file.now)) }
 {
@@ -111,7 +111,7 @@ pub fn answer_lines_by<A: Allocator + Copy, W: Write>(
 ) -> Result<(), CaseFault>
     ensures answers { OnOk result (Answered detail table.entry (W.contents out.old) (W.contents out.new)
         (lines_of file.now)) }
-    ensures faults { IfErr result IsFaultOfCases }
+    ensures faults { IfErr result (IsFaultOfCases A) }
     ensures stopped { IfErr result (StopsAt detail table.entry (W.contents out.old) (W.contents out.new)
         (lines_of file.now)) }
 {
@@ -178,7 +178,7 @@ fn answer_line<A: Allocator + Copy, W: Write>(
     ensures detail { desk.new.detail ≡ desk.old.detail }
     ensures answers { OnOk result (Answered desk.old.detail desk.old.table (W.contents out.old) (W.contents out.new)
         (line.now ∷ [])) }
-    ensures faults { IfErr result IsFaultOfCases }
+    ensures faults { IfErr result (IsFaultOfCases A) }
     ensures begun { IfErr result (λ fault. (part : List ℕ) × IsBegun desk.old.detail desk.old.table fault line.now part
         × Appends (W.contents out.old) (W.contents out.new) part) }
     ensures no_case { IfErr result

@@ -32,7 +32,7 @@ pub fn read_table(alloc: Global, file: &[u8]) -> Result<UniTable, TableFault>
     ensures lists { (error : UniError) → result ≡ Err (TableFault.Lists error) → (table : Table)
         × (table_text table ≡ file.now) × (lists_fault table ≡ Some error) }
     ensures form { result ≡ Err TableFault.Form → IsNoTable file.now }
-    ensures memory { result ≡ Err TableFault.NoMemory → Refused A }
+    ensures memory { result ≡ Err TableFault.NoMemory → Refused Global }
 {
     match read_lists(alloc, file) {
         Ok(lists) => table_of(
@@ -61,7 +61,7 @@ fn read_lists(alloc: Global, file: &[u8]) -> Result<Lists, LineFault>
     ensures read { IfOk result (λ lists. table_text
         (table_with lists.lower.items lists.upper.items lists.alnum.items lists.digits.items) ≡ file.now) }
     ensures refused { result ≡ Err LineFault.NotACase → IsNoTable file.now }
-    ensures memory { result ≡ Err LineFault.NoMemory → Refused A }
+    ensures memory { result ≡ Err LineFault.NoMemory → Refused Global }
 {
     let (lower, rest) = read_list(alloc, file, b"lower ")?;
     let (upper, rest) = read_list(alloc, rest, b"upper ")?;
@@ -90,7 +90,7 @@ fn table_of(
     ensures lists { (error : UniError) → result ≡ Err (TableFault.Lists error)
         → lists_fault (table_with lower.now upper.now alnum.now digits.now) ≡ Some error }
     ensures form { result ≢ Err TableFault.Form }
-    ensures memory { result ≡ Err TableFault.NoMemory → Refused A }
+    ensures memory { result ≡ Err TableFault.NoMemory → Refused Global }
 {
     let mut table = match UniTable::new(alloc, lower, upper, alnum) {
         Ok(table) => table,
@@ -124,7 +124,7 @@ fn read_list<'f>(
     ensures read { IfOk result (λ found. list_text name.now found.0.items found.1.now ≡ file.now) }
     ensures left { IfOk result (λ found. LeavesList name.now file.now found.1.now) }
     ensures refused { result ≡ Err LineFault.NotACase → LacksList name.now file.now }
-    ensures memory { result ≡ Err LineFault.NoMemory → Refused A }
+    ensures memory { result ≡ Err LineFault.NoMemory → Refused Global }
 {
     let Some(list) = after(file, name) else {
         return Err(LineFault::NotACase);
@@ -151,7 +151,7 @@ fn read_pairs(alloc: Global, field: &[u8]) -> Result<Vec<(u32, u32)>, LineFault>
     ensures read { IfOk result (λ pairs. words_text (numbers_of pairs.items) ≡ field.now) }
     ensures refused { result ≡ Err LineFault.NotACase → (pairs : List (ℕ × ℕ)) → AreWords (numbers_of pairs)
         → words_text (numbers_of pairs) ≢ field.now }
-    ensures memory { result ≡ Err LineFault.NoMemory → Refused A }
+    ensures memory { result ≡ Err LineFault.NoMemory → Refused Global }
 {
     let mut numbers = Vec::new(alloc);
     match read_words(field, &mut numbers) {
@@ -164,7 +164,7 @@ fn read_pairs(alloc: Global, field: &[u8]) -> Result<Vec<(u32, u32)>, LineFault>
 fn paired(alloc: Global, numbers: &[u32]) -> Result<Vec<(u32, u32)>, LineFault>
     ensures read { IfOk result (λ pairs. numbers_of pairs.items ≡ numbers.now) }
     ensures refused { result ≡ Err LineFault.NotACase → (pairs : List (ℕ × ℕ)) → numbers_of pairs ≢ numbers.now }
-    ensures memory { result ≡ Err LineFault.NoMemory → Refused A }
+    ensures memory { result ≡ Err LineFault.NoMemory → Refused Global }
 {
     if numbers.len() % 2 != 0 {
         return Err(LineFault::NotACase);

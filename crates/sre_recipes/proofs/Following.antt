@@ -1,12 +1,17 @@
 -- What an iteration within bounds takes of them, match by match.
 use Rattle.std.proofs.Common.{◌≡◌, ℕ, suc, ◌+◌, ◌-◌, List, [], ◌∷◌, length, Bool, true, false, Option, Some, None}
-use Rattle.std.proofs.Common.{Ok, refl, sym, ap, ◌∙◌, subst, arith}
+use Rattle.std.proofs.Common.{◌*◌, ◌≤◌, ◌<◌, ◌⊎◌, inl, inr, zero, IfSome, Ok, refl, sym, ap, ◌∙◌, subst, arith}
+use Rattle.std.proofs.Common.{add-mul, one-mul}
+use Rattle.std.proofs.Math.Nat.{mul-le-mul_right}
 use Rattle.sre_chars.specs.declared.string.StrDrive.{Ghosts}
 use Rattle.sre_code.specs.declared.code.Code.{Code}
 use Rattle.sre_engine.specs.Tree.{Tree}
 use Rattle.sre_engine.specs.Grammar.{Whole}
 use Rattle.sre_engine.specs.Found.{Asked, Match, asked_after, walk}
-use Rattle.sre_engine.specs.Codes.{words_of}
+use Rattle.sre_engine.specs.Codes.{words_of, hints_of}
+use Rattle.sre_engine.specs.WalkBounds.{most_matches}
+use Rattle.sre_growth.specs.Refusal.{Refused}
+use Rattle.sre_code.proofs.Checked.{code_tree}
 use Rattle.sre_engine.specs.Requests.{code_of, asked_of}
 use Rattle.sre_engine.specs.Answers.{match_shown, MayTakeMemory}
 use Rattle.sre_engine.specs.Counts.{CountsUpTo, KeepsToSteps, runs_of}
@@ -15,19 +20,19 @@ use Rattle.sre_engine.specs.declared.engine.state.SreError.{SreError}
 use Rattle.sre_engine.specs.declared.engine.search_iter.SearchIter.{SearchIter}
 use Rattle.sre_recipes.specs.declared.bounds.Bounds.{Bounds}
 use Rattle.sre_recipes.specs.Bounded.{first_of}
-use Rattle.sre_recipes.specs.Followed.{less_by, SearchSpends, Spends, Followed}
+use Rattle.sre_recipes.specs.Followed.{less_by, SearchSpends, Spends, most_searches, IsAmple, Followed}
 use Rattle.sre_recipes.specs.Limits.{is_spent, one_less, Takes, Stops, FollowedRest}
 use Rattle.sre_recipes.proofs.Begun.{all_left}
-use Rattle.sre_recipes.proofs.Bounding.{one_taken}
+use Rattle.sre_recipes.proofs.Bounding.{one_taken, falls_by}
 
 -- what a search did with a budget
 pub search_spends : {S A : Type 0} {text : Ghosts S} (it next : SearchIter S A text) (to seen : ℕ) (told : Option Bool)
     (given left : ℕ) → CountsUpTo (asked_of (request_of it)) (code_of (request_of it)) to seen (shown_of next)
     → Counted it next
-    → KeepsToSteps {E = SreError} (asked_of (request_of it)) (code_of (request_of it)) (Ok told)
+    → KeepsToSteps A {E = SreError} (asked_of (request_of it)) (code_of (request_of it)) (Ok told)
     (runs_of (shown_of next)) given left
     → (told ≡ None → MayTakeMemory (code_of (request_of it)))
-    → SearchSpends (asked_of (request_of it)) (code_of (request_of it)) to seen told given left
+    → SearchSpends A (asked_of (request_of it)) (code_of (request_of it)) to seen told given left
 search_spends it next to seen told given left counts counted keeps literal = record {
   shown = shown_of next;
   counts = counts;
@@ -50,13 +55,74 @@ less_none (Some k) =
     let same : k - 0 ≡ k = omega arith in
     ap Some same
 
+-- a limit on matches that is not used up wants at least one search, and one less is wanted behind a match
+some_search : (most : Option ℕ) (a : Asked) → is_spent most ≡ false → 1 ≤ most_searches most a
+some_search None a wanted = omega arith
+some_search (Some zero) a wanted = absurd (cc)
+some_search (Some (suc n)) a wanted = omega arith
+
+fewer_searches : (most : Option ℕ) (a b : Asked) → is_spent most ≡ false → most_matches b < most_matches a
+    → most_searches (one_less most) b + 1 ≤ most_searches most a
+fewer_searches None a b wanted falls = omega (arith, falls)
+fewer_searches (Some zero) a b wanted falls = absurd (cc)
+fewer_searches (Some (suc n)) a b wanted falls = omega (arith, falls)
+
+-- the last search of an ample budget exceeds it only if an allocation failed
+last_ample : {M : Type 0} (a : Asked) (code : Code) (most steps left : Option ℕ) → is_spent most ≡ false
+    → left ≡ Some 0 → Spends M a code (a.end + 1) a.end None steps left → IsAmple a code most steps → Refused M
+last_ample a code most None left wanted used spends ample = absurd (cc)
+last_ample a code most (Some given) None wanted used spends ample = absurd spends
+last_ample a code most (Some given) (Some left) wanted used spends ample =
+    let tree = code_tree (words_of code) (hints_of code) code.checked in
+    let is = ample.is tree.0 tree.1 in
+    let one : ample.bound ≤ most_searches most a * ample.bound =
+    omega (arith, mul-le-mul_right ample.bound (some_search most a wanted), one-mul ample.bound) in
+    spends.keeps.enough (record {
+      tree = tree.0;
+      whole = tree.1;
+      remembered = is.remembered a ample.window;
+      more = omega (arith, is.more a ample.window, one, ample.more);
+    }) refl
+
+-- behind a match what is left of an ample budget is ample, unless an allocation failed
+ample_after : {M : Type 0} (a : Asked) (code : Code) (m : Match) (to seen : ℕ) (most steps left : Option ℕ)
+    → is_spent most ≡ false → m.end ≤ a.end → most_matches (asked_after a m) < most_matches a
+    → Spends M a code to seen (Some true) steps left → IsAmple a code most steps
+    → Refused M ⊎ IsAmple (asked_after a m) code (one_less most) left
+ample_after a code m to seen most None left wanted inside falls spends ample = inr (record {
+  characters = ample.characters;
+  bound = ample.bound;
+  is = ample.is;
+  window = record { order = inside; within = ample.window.within };
+  more = subst (λ (n : Option ℕ). IfSome n
+      (λ given. most_searches (one_less most) (asked_after a m) * ample.bound ≤ given)) (sym spends) tt;
+})
+ample_after a code m to seen most (Some given) None wanted inside falls spends ample = absurd spends
+ample_after a code m to seen most (Some given) (Some left) wanted inside falls spends ample =
+    let tree = code_tree (words_of code) (hints_of code) code.checked in
+    let is = ample.is tree.0 tree.1 in
+    let after : ℕ = most_searches (one_less most) (asked_after a m) in
+    let all : (after + 1) * ample.bound ≤ most_searches most a * ample.bound =
+    mul-le-mul_right ample.bound (fewer_searches most a (asked_after a m) wanted falls) in
+    elim (spends.keeps.bounded tree.0 tree.1 (is.remembered a ample.window)) [
+      | inl refused ↦ inl refused
+      | inr few ↦ inr (record {
+        characters = ample.characters;
+        bound = ample.bound;
+        is = ample.is;
+        window = record { order = inside; within = ample.window.within };
+        more = omega (arith, few, is.more a ample.window, all, add-mul after 1 ample.bound, one-mul ample.bound,
+            ample.more);
+      })
+    ]
+
 -- one more match was taken
-followed_more : (a : Asked) (code : Code) (m : Match) (most steps between : Option ℕ) (after : Bounds)
-    → is_spent most ≡ false
+followed_more : {A : Type 0} (a : Asked) (code : Code) (m : Match) (most steps between : Option ℕ) (after : Bounds)
+    → is_spent most ≡ false → m.end ≤ a.end → most_matches (asked_after a m) < most_matches a
     → ((t : Tree) → Whole (words_of code) t → walk a t ≡ m ∷ walk (asked_after a m) t)
-    → Spends a code (m.start + 1) m.end (Some true) steps between
-    → Followed (asked_after a m) code (one_less most) between after → Followed a code most steps after
-followed_more a code m most steps between after wanted step spends rest = record {
+    → Spends A a code (m.start + 1) m.end (Some true) steps between
+    → Followed A (asked_after a m) code (one_less most) between after → Followed A a code most steps after
+followed_more a code m most steps between after wanted inside falls step spends rest = record {
   taken = m ∷ rest.taken;
   first = λ t whole.
       let told = rest.first t whole in (
@@ -68,21 +134,27 @@ followed_more a code m most steps between after wanted step spends rest = record
       );
   fewer = rest.fewer ∙ less_more most (length rest.taken);
   spent = (between, spends, rest.spent);
+  enough = λ ample exceeded.
+      elim (ample_after a code m (m.start + 1) m.end most steps between wanted inside falls spends ample) [
+        | inl refused ↦ refused
+        | inr left ↦ rest.enough left exceeded
+      ];
 }
 
 -- so a walk that goes on behind a match has been followed from before it
 pub follow_on : {S A : Type 0} {text : Ghosts S} (it next : SearchIter S A text) (before between after : Bounds)
     → Gives it next → Takes it next before between → FollowedRest next between after → FollowedRest it before after
-follow_on it next before between after gives takes rest =
+follow_on {A = A} it next before between after gives takes rest =
     let a = asked_of (request_of it) in
     let code = code_of (request_of it) in
     let m = match_shown (shown_of next) in
-    let here : Followed (asked_after a m) code (one_less before.most) between.steps after =
-    subst (λ (n : Option ℕ). Followed (asked_after a m) code n between.steps after) takes.most
-    (subst (λ (b : Asked). Followed b code between.most between.steps after) gives.request.asked
-    (subst (λ (d : Code). Followed (asked_of (request_of next)) d between.most between.steps after)
+    let here : Followed A (asked_after a m) code (one_less before.most) between.steps after =
+    subst (λ (n : Option ℕ). Followed A (asked_after a m) code n between.steps after) takes.most
+    (subst (λ (b : Asked). Followed A b code between.most between.steps after) gives.request.asked
+    (subst (λ (d : Code). Followed A (asked_of (request_of next)) d between.most between.steps after)
     gives.request.pattern_codes rest)) in
-    followed_more a code m before.most before.steps between.steps after takes.wanted
+    followed_more a code m before.most before.steps between.steps after takes.wanted gives.request.span.inside
+    (falls_by it next gives)
     (λ t whole.
     sym (all_left it t gives.before)
     ∙ gives.first t whole
@@ -93,7 +165,7 @@ follow_on it next before between after gives takes rest =
 -- and a walk that stops is followed to its end
 pub follow_end : {S A : Type 0} {text : Ghosts S} (it : SearchIter S A text) (before after : Bounds)
     → Stops it before after → has_ended it ≡ false → FollowedRest it before after
-follow_end it before after stops begun = record {
+follow_end {A = A} it before after stops begun = record {
   taken = [];
   first = λ t whole. (
     first_of before.most (walk (asked_of (request_of it)) t),
@@ -102,4 +174,8 @@ follow_end it before after stops begun = record {
   );
   fewer = stops.most ∙ sym (less_none before.most);
   spent = stops.spends begun;
+  enough = λ ample exceeded.
+      let spends = rw exceeded at stops.spends begun in
+      last_ample (asked_of (request_of it)) (code_of (request_of it)) before.most before.steps after.steps
+      (stops.wanted exceeded) (stops.used exceeded) spends ample;
 }

@@ -22,11 +22,11 @@ pub record GivesText {S A : Type 0} {text : Ghosts S} (it : FoundTexts S A text)
   pub gives : GivesSpan (walk_of it) span (walk_of next)
   pub text_is : text.text found ≡ slice_range (text.text (string_of (request_of (walk_of it)))) span.start span.end
 
--- the next item; an error comes only where a growth was refused, and not after the walk's end
+-- the next item; an error comes only where an allocation by an A failed, and not after the walk's end
 abbrev pub NextText : {S A : Type 0} {text : Ghosts S}
     → FoundTexts S A text → Option (Result S SreError) → FoundTexts S A text → Type 0
 NextText it None next = IsOver (walk_of it) × Ends (walk_of it) (walk_of next)
 NextText it (Some (Ok found)) next = GivesText it found next
-NextText it (Some (Err _)) next =
-    (has_ended (walk_of it) ≡ false) × Refused × Ends (walk_of it) (walk_of next)
+NextText {A = A} it (Some (Err _)) next =
+    (has_ended (walk_of it) ≡ false) × Refused A × Ends (walk_of it) (walk_of next)
     × MayTakeMemory (code_of (request_of (walk_of it)))

@@ -28,14 +28,14 @@ OutlastRest it steps = Outlast (asked_of (request_of it)) (code_of (request_of i
 -- a search from where a walk stands finds the match that is shown then, within a budget of steps if there is one
 abbrev pub SpendsOn : {S A : Type 0} {text : Ghosts S} → SearchIter S A text → SearchIter S A text → Option ℕ → Option ℕ
     → Type 0
-SpendsOn it next given left =
+SpendsOn {A = A} it next given left =
     let m = match_shown (shown_of next) in
-    Spends (asked_of (request_of it)) (code_of (request_of it)) (m.start + 1) m.end (Some true) given left
+    Spends A (asked_of (request_of it)) (code_of (request_of it)) (m.start + 1) m.end (Some true) given left
 
 -- or it is the last one of the walk
 abbrev pub SpendsLast : {S A : Type 0} {text : Ghosts S} → SearchIter S A text → Bool → Option ℕ → Option ℕ → Type 0
-SpendsLast it exceeded given left =
-    has_ended it ≡ false → AllSpend (asked_of (request_of it)) (code_of (request_of it)) [] exceeded given left
+SpendsLast {A = A} it exceeded given left =
+    has_ended it ≡ false → AllSpend A (asked_of (request_of it)) (code_of (request_of it)) [] exceeded given left
 
 -- what a search within a budget spends: it exceeds the step limit, finds no match, or one
 abbrev pub SpendsWithin : {S A X : Type 0} {text : Ghosts S} → SearchIter S A text → SearchIter S A text
@@ -46,8 +46,8 @@ SpendsWithin it next (Some (Some _)) given left = SpendsOn it next (Some given) 
 
 -- what is left of a walk is followed within bounds
 abbrev pub FollowedRest : {S A : Type 0} {text : Ghosts S} → SearchIter S A text → Bounds → Bounds → Type 0
-FollowedRest it before after =
-    Followed (asked_of (request_of it)) (code_of (request_of it)) before.most before.steps after
+FollowedRest {A = A} it before after =
+    Followed A (asked_of (request_of it)) (code_of (request_of it)) before.most before.steps after
 
 -- one more match is looked for, within a budget of steps if there is one: a match comes
 pub record Goes {S A : Type 0} {text : Ghosts S} (it next : SearchIter S A text) (before after : Bounds) : Type 0 where
@@ -77,6 +77,7 @@ pub record Takes {S A : Type 0} {text : Ghosts S} (it next : SearchIter S A text
 
 -- no match is left within bounds, unless the step limit was exceeded
 pub record Stops {S A : Type 0} {text : Ghosts S} (it : SearchIter S A text) (before after : Bounds) : Type 0 where
+  pub wanted : after.limit_exceeded ≡ true → is_spent before.most ≡ false
   pub most : after.most ≡ before.most
   pub none : after.limit_exceeded ≡ false → (t : Tree) → Whole (words_of (code_of (request_of it))) t
       → first_of before.most (left_of it t) ≡ []

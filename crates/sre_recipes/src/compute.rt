@@ -41,7 +41,7 @@ fn append_new<S: Rewritten>(
         ++ S.shown new.now) }
     ensures written { IfOk result (λ _. S.IsText output.new.items) }
     ensures last { IfOk result (λ _. last.new ≡ span.now.end) }
-    ensures refused { OnErr result (Refused A) }
+    ensures refused { OnErr result (Refused Global) }
 {
     text.between(last, &span.start).append_to(output)?;
     S::append_new(new, output)?;
@@ -76,7 +76,8 @@ where
     ensures steps { IfOk result (λ _. AreLeft bounds.old.steps bounds.new.steps) }
     ensures lasts { OutlastRest walk.old bounds.old.steps → IfOk result (λ _. bounds.new.limit_exceeded ≡ false) }
     ensures followed { IfOk result (λ _. FollowedRest walk.old bounds.old bounds.new) }
-    ensures refused { ((f : _) (c : _) (e : _) (g : _) → F.step f c (Err e) g → Refused A) → OnErr result (Refused A) }
+    ensures refused { ((f : _) (c : _) (e : _) (g : _) → F.step f c (Err e) g → Refused Global)
+        → OnErr result (Refused Global) }
 {
     let (text, stop) = (walk.req().string(), walk.req().end());
     let mut last = text.create_cursor(walk.req().start());
@@ -117,8 +118,9 @@ where
     ensures lasts { Outlast (asked_of req.entry) (code_of req.entry) bounds.old.steps
         → IfOk result (λ _. bounds.new.limit_exceeded ≡ false) }
     ensures followed { IfOk result (λ _.
-        Followed (asked_of req.entry) (code_of req.entry) bounds.old.most bounds.old.steps bounds.new) }
-    ensures refused { ((f : _) (c : _) (e : _) (g : _) → F.step f c (Err e) g → Refused A) → OnErr result (Refused A) }
+        Followed Global (asked_of req.entry) (code_of req.entry) bounds.old.most bounds.old.steps bounds.new) }
+    ensures refused { ((f : _) (c : _) (e : _) (g : _) → F.step f c (Err e) g → Refused Global)
+        → OnErr result (Refused Global) }
 {
     bounds.limit_exceeded = false;
     let mut walk = SearchIter::new(req, State::new(alloc));
@@ -147,8 +149,9 @@ where
     ensures lasts { Outlast (asked_of req.entry) (code_of req.entry) bounds.old.steps
         → IfOk result (λ _. bounds.new.limit_exceeded ≡ false) }
     ensures followed { IfOk result (λ _.
-        Followed (asked_of req.entry) (code_of req.entry) bounds.old.most bounds.old.steps bounds.new) }
-    ensures refused { ((f : _) (c : _) (e : _) (g : _) → F.step f c (Err e) g → Refused A) → OnErr result (Refused A) }
+        Followed Global (asked_of req.entry) (code_of req.entry) bounds.old.most bounds.old.steps bounds.new) }
+    ensures refused { ((f : _) (c : _) (e : _) (g : _) → F.step f c (Err e) g → Refused Global)
+        → OnErr result (Refused Global) }
 {
     let mut output = Vec::new(alloc);
     append_all_computed(alloc, req, bounds, compute, &mut output)?;
@@ -186,7 +189,8 @@ where
         (Computes S.text (λ f c r g. F.step f c r g) (λ r. S.shown r) (S.text (string_of req.now)))
         (S.text (string_of req.now)) compute (start_of req.now) (end_of req.now)
         (walk (asked_of req.now) t) (S.shown new)) }
-    ensures refused { ((f : _) (c : _) (e : _) (g : _) → F.step f c (Err e) g → Refused A) → OnErr result (Refused A) }
+    ensures refused { ((f : _) (c : _) (e : _) (g : _) → F.step f c (Err e) g → Refused Global)
+        → OnErr result (Refused Global) }
 {
     let mut bounds = Bounds::none();
     computed_text(alloc, copied(req), &mut bounds, compute)
@@ -219,8 +223,9 @@ where
     ensures unlimited { bounds.old.steps ≡ None → IfOk result IsSome }
     ensures exceeded { IfOk result (λ told. bounds.new.limit_exceeded ≡ is_none told) }
     ensures followed { IfOk result (λ _.
-        Followed (asked_of req.now) (code_of req.now) bounds.old.most bounds.old.steps bounds.new) }
-    ensures refused { ((f : _) (c : _) (e : _) (g : _) → F.step f c (Err e) g → Refused A) → OnErr result (Refused A) }
+        Followed Global (asked_of req.now) (code_of req.now) bounds.old.most bounds.old.steps bounds.new) }
+    ensures refused { ((f : _) (c : _) (e : _) (g : _) → F.step f c (Err e) g → Refused Global)
+        → OnErr result (Refused Global) }
 {
     let new = computed_text(alloc, copied(req), bounds, compute)?;
     if bounds.limit_exceeded {

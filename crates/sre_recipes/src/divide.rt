@@ -92,7 +92,7 @@ fn add_all_pieces<S: Text, A: Allocator + Copy>(
     ensures lasts { Outlast (asked_of req.entry) (code_of req.entry) bounds.old.steps
         → IfOk result (λ _. bounds.new.limit_exceeded ≡ false) }
     ensures followed { IfOk result (λ _.
-        Followed (asked_of req.entry) (code_of req.entry) bounds.old.most bounds.old.steps bounds.new) }
+        Followed A (asked_of req.entry) (code_of req.entry) bounds.old.most bounds.old.steps bounds.new) }
     ensures refused { OnErr result (Refused A) }
 {
     bounds.limit_exceeded = false;
@@ -159,7 +159,7 @@ pub fn split_bounded<S: Text, A: Allocator + Copy>(
     ensures unlimited { bounds.old.steps ≡ None → IfOk result IsSome }
     ensures exceeded { IfOk result (λ told. bounds.new.limit_exceeded ≡ is_none told) }
     ensures followed { IfOk result (λ _.
-        Followed (asked_of req.now) (code_of req.now) bounds.old.most bounds.old.steps bounds.new) }
+        Followed A (asked_of req.now) (code_of req.now) bounds.old.most bounds.old.steps bounds.new) }
     ensures refused { OnErr result (Refused A) }
 {
     let mut pieces = Vec::new(alloc);
@@ -242,7 +242,7 @@ fn add_all_with_groups<S: Text, A: Allocator + Copy>(
     ensures lasts { Outlast (asked_of req.entry) (code_of req.entry) bounds.old.steps
         → IfOk result (λ _. bounds.new.limit_exceeded ≡ false) }
     ensures followed { IfOk result (λ _.
-        Followed (asked_of req.entry) (code_of req.entry) bounds.old.most bounds.old.steps bounds.new) }
+        Followed A (asked_of req.entry) (code_of req.entry) bounds.old.most bounds.old.steps bounds.new) }
     ensures refused { OnErr result (Refused A) }
 {
     bounds.limit_exceeded = false;
@@ -304,7 +304,7 @@ pub fn split_groups_bounded<S: Text, A: Allocator + Copy>(
     ensures unlimited { bounds.old.steps ≡ None → IfOk result IsSome }
     ensures exceeded { IfOk result (λ told. bounds.new.limit_exceeded ≡ is_none told) }
     ensures followed { IfOk result (λ _.
-        Followed (asked_of req.now) (code_of req.now) bounds.old.most bounds.old.steps bounds.new) }
+        Followed A (asked_of req.now) (code_of req.now) bounds.old.most bounds.old.steps bounds.new) }
     ensures refused { OnErr result (Refused A) }
 {
     let mut pieces = Vec::new(alloc);

@@ -181,7 +181,7 @@ fn append_all<S: Text, A: Allocator + Copy>(
     ensures lasts { Outlast (asked_of req.entry) (code_of req.entry) bounds.old.steps
         → IfOk result (λ _. bounds.new.limit_exceeded ≡ false) }
     ensures followed { IfOk result (λ _.
-        Followed (asked_of req.entry) (code_of req.entry) bounds.old.most bounds.old.steps bounds.new) }
+        Followed A (asked_of req.entry) (code_of req.entry) bounds.old.most bounds.old.steps bounds.new) }
     ensures refused { OnErr result (Refused A) }
 {
     bounds.limit_exceeded = false;
@@ -206,7 +206,7 @@ fn replaced_text<'t, A: Allocator + Copy>(
     ensures lasts { Outlast (asked_of req.entry) (code_of req.entry) bounds.old.steps
         → IfOk result (λ _. bounds.new.limit_exceeded ≡ false) }
     ensures followed { IfOk result (λ _.
-        Followed (asked_of req.entry) (code_of req.entry) bounds.old.most bounds.old.steps bounds.new) }
+        Followed A (asked_of req.entry) (code_of req.entry) bounds.old.most bounds.old.steps bounds.new) }
     ensures refused { OnErr result (Refused A) }
 {
     let mut output = Vec::new(alloc);
@@ -230,7 +230,7 @@ fn replaced_bytes<'t, A: Allocator + Copy>(
     ensures lasts { Outlast (asked_of req.entry) (code_of req.entry) bounds.old.steps
         → IfOk result (λ _. bounds.new.limit_exceeded ≡ false) }
     ensures followed { IfOk result (λ _.
-        Followed (asked_of req.entry) (code_of req.entry) bounds.old.most bounds.old.steps bounds.new) }
+        Followed A (asked_of req.entry) (code_of req.entry) bounds.old.most bounds.old.steps bounds.new) }
     ensures refused { OnErr result (Refused A) }
 {
     let mut output = Vec::new(alloc);
@@ -300,7 +300,7 @@ pub fn replace_bounded<A: Allocator + Copy>(
     ensures unlimited { bounds.old.steps ≡ None → IfOk result IsSome }
     ensures exceeded { IfOk result (λ told. bounds.new.limit_exceeded ≡ is_none told) }
     ensures followed { IfOk result (λ _.
-        Followed (asked_of req.now) (code_of req.now) bounds.old.most bounds.old.steps bounds.new) }
+        Followed A (asked_of req.now) (code_of req.now) bounds.old.most bounds.old.steps bounds.new) }
     ensures refused { OnErr result (Refused A) }
 {
     let new = replaced_text(alloc, copied(req), bounds, &*template)?;
@@ -361,7 +361,7 @@ pub fn replace_bounded_bytes<A: Allocator + Copy>(
     ensures unlimited { bounds.old.steps ≡ None → IfOk result IsSome }
     ensures exceeded { IfOk result (λ told. bounds.new.limit_exceeded ≡ is_none told) }
     ensures followed { IfOk result (λ _.
-        Followed (asked_of req.now) (code_of req.now) bounds.old.most bounds.old.steps bounds.new) }
+        Followed A (asked_of req.now) (code_of req.now) bounds.old.most bounds.old.steps bounds.new) }
     ensures refused { OnErr result (Refused A) }
 {
     let new = replaced_bytes(alloc, copied(req), bounds, &*template)?;

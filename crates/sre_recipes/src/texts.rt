@@ -6,7 +6,7 @@ ghost use Rattle.sre_chars.specs.Texts.{StandsInText};
 ghost use Rattle.sre_growth.specs.Refusal.{Refused};
 
 use sre_engine::{SreError, StrDrive, StringCursor};
-use std::alloc::Allocator;
+use std::alloc::{Allocator, Global};
 
 /// A text that recipes can slice and copy to a byte buffer.
 pub trait Text: StrDrive {
@@ -69,7 +69,7 @@ pub trait Rewritten: Text {
         ensures ok { IfOk result (λ _.
             Self.characters output.new.items ≡ Self.characters output.old.items ++ shown new.now) }
         ensures written { IfOk result (λ _. Self.IsText output.new.items) }
-        ensures refused { OnErr result (Refused A) };
+        ensures refused { OnErr result (Refused Global) };
 }
 
 // The slice of a `str` from one cursor to another.
@@ -180,7 +180,7 @@ impl<'t> Rewritten for &'t str {
         ensures ok { IfOk result (λ _.
             chars output.new.items ≡ chars output.old.items ++ chars (string_bytes new.now)) }
         ensures written { IfOk result (λ _. IsUtf8 output.new.items) }
-        ensures refused { OnErr result (Refused A) }
+        ensures refused { OnErr result (Refused Global) }
     {
         append_text(output, new.as_str())
     }
@@ -200,7 +200,7 @@ impl<'t> Rewritten for &'t [u8] {
     fn append_new(new: &Vec<u8>, output: &mut Vec<u8>) -> Result<(), SreError>
         ensures ok { IfOk result (λ _. output.new.items ≡ output.old.items ++ new.now.items) }
         ensures written { IfOk result (λ _. ⊤) }
-        ensures refused { OnErr result (Refused A) }
+        ensures refused { OnErr result (Refused Global) }
     {
         append_bytes(output, new.as_slice())
     }

@@ -1,4 +1,5 @@
 use Rattle.std.proofs.Common.{◌∙◌, ◌*◌, Some, None, Ok, true, false, ap, sym, subst, arith}
+use Rattle.std.specs.Global.{Global}
 use Rattle.sre_engine.specs.Requests.{code_of, asked_of}
 use Rattle.sre_engine.specs.Counts.{KeepsToSteps, runs_of}
 use Rattle.sre_engine.specs.Iterators.{request_of, shown_of, NextWithin}
@@ -19,7 +20,7 @@ matches-preserved g c =
     let is = c.in-Ok-Some-true.field-0-is ∙ ap Some c.in-Ok-Some-true.field-0-0-test in
     let gives = match_given it next _ c.in-Ok-Some-true.ensures.gives is in
     let spent =
-    subst (λ told. KeepsToSteps (asked_of (request_of it)) (code_of (request_of it)) (Ok told)
+    subst (λ told. KeepsToSteps Global (asked_of (request_of it)) (code_of (request_of it)) (Ok told)
     (runs_of (shown_of next)) w.steps c.next_match.new.steps) is c.in-Ok-Some-true.ensures.steps in
     let kept = c.matches.invariant in
     let u = c.note_next-in-matches.new.walked in
@@ -57,7 +58,7 @@ returns-in-Ok-Some-false-clause-rows g c =
     let kept = c.matches.invariant in
     rows_ended (request_of c.args.walk.now) it next c.args.width w c.matches.rows c.args.walked.now.steps left kept.1
     kept.8 kept.0 (subst (λ told. NextWithin it (Ok told) next) is c.in-Ok-Some-false.ensures.gives)
-    (subst (λ told. KeepsToSteps (asked_of (request_of it)) (code_of (request_of it)) (Ok told)
+    (subst (λ told. KeepsToSteps Global (asked_of (request_of it)) (code_of (request_of it)) (Ok told)
     (runs_of (shown_of next)) w.steps left) is c.in-Ok-Some-false.ensures.steps)
 
 pub returns-in-Ok-None-clause-rows : goal.returns-in-Ok-None-clause-rows
@@ -70,5 +71,5 @@ returns-in-Ok-None-clause-rows g c =
     let kept = c.matches.invariant in
     rows_limited (request_of c.args.walk.now) it next c.args.width w c.matches.rows c.args.walked.now.steps left kept.1
     kept.8 kept.0 kept.6 (subst (λ told. NextWithin it (Ok told) next) is c.in-Ok-None.ensures.gives)
-    (subst (λ told. KeepsToSteps (asked_of (request_of it)) (code_of (request_of it)) (Ok told)
+    (subst (λ told. KeepsToSteps Global (asked_of (request_of it)) (code_of (request_of it)) (Ok told)
     (runs_of (shown_of next)) w.steps left) is c.in-Ok-None.ensures.steps)

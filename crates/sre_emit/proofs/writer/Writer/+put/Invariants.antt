@@ -8,7 +8,8 @@ use Rattle.sre_emit.proofs.writer.Writer.+put.Given as goal
 
 abbrev pub invariant-put_items-items : goal.invariant-put_items-items
 invariant-put_items-items g l =
-    (l.at ≤ length l.items) × Wrote l.initial.self l.self (tree_words (in_order (map item_of (drop l.at l.items))))
+    (l.at ≤ length l.items) × Wrote g.row.A.Denot l.initial.self l.self
+        (tree_words (in_order (map item_of (drop l.at l.items))))
     × All (λ x. item_has_alternatives x ≡ true) l.items
 
 abbrev pub decreases-put_items-items : goal.decreases-put_items-items
@@ -17,7 +18,7 @@ decreases-put_items-items g l = l.at
 abbrev pub invariant-put_parts-parts : goal.invariant-put_parts-parts
 invariant-put_parts-parts g l =
     (l.at ≤ length l.parts) × (l.start ≡ length l.fn.self.words)
-    × Wrote l.fn.self l.self (branch_tail (map tree_of (drop l.at l.parts)))
+    × Wrote g.row.A.Denot l.fn.self l.self (branch_tail (map tree_of (drop l.at l.parts)))
     × All (λ p. has_alternatives p ≡ true) l.parts
 
 abbrev pub decreases-put_parts-parts : goal.decreases-put_parts-parts

@@ -6,7 +6,7 @@ use Rattle.sre_emit.proofs.writer.Writer.put_set.Given as goal
 
 abbrev pub invariant-items : goal.invariant-items
 invariant-items g l =
-    (l.at ≤ length l.set) × Wrote l.initial.self l.self (set_words (map set_item_of (drop l.at l.set)))
+    (l.at ≤ length l.set) × Wrote g.row.A.Denot l.initial.self l.self (set_words (map set_item_of (drop l.at l.set)))
 
 abbrev pub decreases-items : goal.decreases-items
 decreases-items g l = l.at
