@@ -1,4 +1,4 @@
-//! How a text is searched: by the machine within a step limit, and with DFAs if there is none.
+//! How a text is searched: by the machine, and with DFAs where they may save time.
 
 ghost use Rattle.std.specs.Prelude.{◌≡◌, ◌≢◌, ◌≤◌, IfOk, IfErr, IfSome, OnErr, Ok, Err, Some, None};
 ghost use Rattle.sre_model.specs.Tree.{Tree};
@@ -11,12 +11,12 @@ ghost use Rattle.sre_engine.specs.Answers.{answer_of};
 ghost use Rattle.sre_c.specs.Budgets.{no_limit, KeepsBudget};
 ghost use Rattle.sre_c.specs.Rows.{Writes};
 
-use crate::next_match::{ByMachine, ByStarts, NextMatch};
 use crate::reading::{Sought, is_long, reading_bytes, reading_text};
 use crate::spans::write_spans;
 use crate::status::Status;
 use crate::types::SreWalked;
 use crate::walk::write_rows;
+use sre_engine::engine::{Nobody, Starts};
 use sre_engine::{Request, SearchIter, SreError, State, StrDrive};
 use sre_finder::{Encoding, Finder, Haystack, SpanFinder};
 use std::alloc::Global;
@@ -105,7 +105,7 @@ impl<S: StrDrive> Asks<S> for Machine {
         rows: &mut [usize],
         walked: &mut SreWalked,
     ) -> Status {
-        write_by(alloc, request, &mut ByMachine, width, rows, walked)
+        write_by(alloc, request, &mut Nobody, width, rows, walked)
     }
 }
 
@@ -118,7 +118,7 @@ impl<'t> Asks<&'t [u8]> for InBytes {
         steps: &mut u64,
     ) -> Result<Option<bool>, SreError> {
         match reading_bytes(Sought::First, *steps, request) {
-            Some(encoding) => search_told(alloc, state, request, encoding),
+            Some(encoding) => search_told(alloc, state, request, encoding, steps),
             None => Machine.search(alloc, state, request, steps),
         }
     }
@@ -147,7 +147,7 @@ impl<'t> Asks<&'t str> for InText {
         steps: &mut u64,
     ) -> Result<Option<bool>, SreError> {
         match reading_text(Sought::First, *steps, request) {
-            Some(encoding) => search_told(alloc, state, request, encoding),
+            Some(encoding) => search_told(alloc, state, request, encoding, steps),
             None => Machine.search(alloc, state, request, steps),
         }
     }
@@ -167,28 +167,47 @@ impl<'t> Asks<&'t str> for InText {
     }
 }
 
-// How many steps the machine takes before DFAs are built, which costs about as much: some hundred thousand
-// instructions, at about 190 a step, as was measured.
-const FIRST_STEPS: u64 = 1 << 11;
+/// How many steps the machine takes before DFAs are built, which costs about as much: some hundred thousand
+/// instructions, at about 190 a step, as was measured.
+pub const FIRST_STEPS: u64 = 1 << 11;
 
-// Searches without a step limit: by the machine for its first steps, then by a finder.
+// What is left of a budget of which so many steps are taken.
+fn less(steps: u64, taken: u64) -> u64
+    ensures fewer { result ≤ steps }
+    ensures spent { steps ≤ result + taken }
+    ensures unlimited { steps ≡ no_limit → result ≡ steps }
+{
+    if steps == NO_LIMIT {
+        return steps;
+    }
+    steps.saturating_sub(taken)
+}
+
+// Searches by the machine for its first steps, then by a finder. If the finder is asked, the first steps are not
+// charged.
 fn search_told<S: Haystack>(
     alloc: Global,
     state: &mut State<Global>,
     request: &Request<'_, S>,
     encoding: Encoding,
+    steps: &mut u64,
 ) -> Result<Option<bool>, SreError>
     ensures answer { (t : Tree) → Whole (words_of (code_of request.now)) t → IfOk result
         (λ told. IfSome told (λ b. answer_of b state.new ≡ found (asked_of request.now) t)) }
-    ensures known { IfOk result (λ told. told ≢ None) }
+    ensures steps { KeepsBudget (words_of (code_of request.now)) (asked_of request.now) (end_of request.now) result
+        steps.old steps.new }
+    ensures unlimited { steps.old ≡ no_limit → steps.new ≡ steps.old }
     ensures memory { OnErr result (Refused Global) }
 {
-    let mut steps = FIRST_STEPS;
-    let told = Machine.search(alloc, state, request, &mut steps);
-    if let Ok(None) = told {
-        return search_by_finder(alloc, state, request, encoding);
+    let mut left = FIRST_STEPS;
+    match Machine.search(alloc, state, request, &mut left) {
+        Ok(Some(found)) => {
+            *steps = less(*steps, FIRST_STEPS.saturating_sub(left));
+            Ok(Some(found))
+        }
+        Ok(None) => search_by_finder(alloc, state, request, encoding, steps),
+        Err(error) => Err(error),
     }
-    told
 }
 
 // Searches by a finder, whose DFAs find where a match can begin. If they find nothing, or their allocation failed, the
@@ -198,24 +217,30 @@ fn search_by_finder<S: Haystack>(
     state: &mut State<Global>,
     request: &Request<'_, S>,
     encoding: Encoding,
+    steps: &mut u64,
 ) -> Result<Option<bool>, SreError>
     ensures answer { (t : Tree) → Whole (words_of (code_of request.now)) t → IfOk result
         (λ told. IfSome told (λ b. answer_of b state.new ≡ found (asked_of request.now) t)) }
-    ensures known { IfOk result (λ told. told ≢ None) }
+    ensures steps { KeepsBudget (words_of (code_of request.now)) (asked_of request.now) (end_of request.now) result
+        steps.old steps.new }
+    ensures unlimited { steps.old ≡ no_limit → steps.new ≡ steps.old }
     ensures memory { OnErr result (Refused Global) }
 {
     let mut finder = Finder::on_demand(alloc, request.pattern_codes(), encoding);
     let Ok(request) = request.clone() else {
         unreachable!(); // it takes no memory
     };
-    answered(finder.search(request, state))
+    if *steps == NO_LIMIT {
+        return answered(finder.search(request, state));
+    }
+    finder.search_within(request, state, steps)
 }
 
 // For how many rows DFAs are built at once: that costs as much as some hundreds of steps of the machine.
 const MANY_ROWS: usize = 1 << 8;
 
-// Writes the matches of a range without a step limit. With room for many rows and a long range it builds DFAs at once.
-// Otherwise the machine takes its first steps before DFAs are built.
+// Writes the matches of a range. With room for many rows and a long range it builds DFAs at once. Otherwise the machine
+// takes its first steps before DFAs are built, or all steps if they are limited.
 fn write_told<S: Haystack>(
     alloc: Global,
     request: &Request<'_, S>,
@@ -231,6 +256,9 @@ fn write_told<S: Haystack>(
 {
     if width > 0 && rows.len() / width >= MANY_ROWS && is_long(request) {
         return write_by_automata(alloc, request, encoding, width, rows, walked);
+    }
+    if walked.steps < NO_LIMIT {
+        return Machine.write(alloc, request, width, rows, walked);
     }
     let steps = walked.steps;
     walked.steps = FIRST_STEPS;
@@ -262,10 +290,8 @@ fn write_by_automata<S: Haystack>(
     if finder.tells_spans() {
         return write_by_spans(alloc, request, finder, width, rows, walked);
     }
-    let mut how = ByStarts {
-        starts: Finder::on_demand(alloc, request.pattern_codes(), encoding),
-    };
-    write_by(alloc, request, &mut how, width, rows, walked)
+    let mut finder = Finder::on_demand(alloc, request.pattern_codes(), encoding);
+    write_by(alloc, request, &mut finder, width, rows, walked)
 }
 
 // Writes the matches by DFAs that find spans.
@@ -290,16 +316,16 @@ fn write_by_spans<S: Haystack>(
     write_spans(&mut walk, width, rows, walked)
 }
 
-// Writes the matches of a range, each found by `how`.
-fn write_by<S: StrDrive, H: NextMatch<S>>(
+// Writes the matches of a range. The searches skip the starts that the prefilter excludes.
+fn write_by<S: StrDrive, F: Starts<S>>(
     alloc: Global,
     request: &Request<'_, S>,
-    how: &mut H,
+    starts: &mut F,
     width: usize,
     rows: &mut [usize],
     walked: &mut SreWalked,
 ) -> Status
-    requires suits { H.suits how.old (string_of request.now) (code_of request.now) }
+    requires suits { F.suits starts.old (string_of request.now) (code_of request.now) }
     requires none { walked.old.count ≡ 0 }
     ensures rows { Writes result request.now walked.old.steps width walked.new rows.new }
     ensures steps { walked.new.steps ≤ walked.old.steps }
@@ -309,5 +335,5 @@ fn write_by<S: StrDrive, H: NextMatch<S>>(
         unreachable!(); // it takes no memory
     };
     let mut walk = SearchIter::new(request, State::new(alloc));
-    write_rows(&mut walk, how, width, rows, walked)
+    write_rows(&mut walk, starts, width, rows, walked)
 }

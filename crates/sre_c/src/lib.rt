@@ -19,7 +19,6 @@ mod answer;
 mod asks;
 mod check;
 mod code;
-mod next_match;
 mod numbers;
 mod reading;
 mod spans;

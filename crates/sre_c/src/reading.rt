@@ -1,6 +1,6 @@
 //! The encoding in which DFAs read a text, if they may save time.
 
-use crate::asks::NO_LIMIT;
+use crate::asks::FIRST_STEPS;
 use sre_engine::{Request, StrDrive};
 use sre_finder::Encoding;
 
@@ -23,10 +23,10 @@ pub enum Sought {
     All,
 }
 
-// Whether DFAs may save time: if there is no step limit, and the call would not scan for the occurrences of a confirmed
-// prefix, which is as fast. A search for a prefix of one character is not.
+// Whether DFAs may save time: if the call may take more steps than the machine takes first, and would not scan for the
+// occurrences of a confirmed prefix, which is as fast. A search for a prefix of one character is not.
 fn may_gain<S: StrDrive>(sought: Sought, steps: u64, request: &Request<'_, S>) -> bool {
-    if steps < NO_LIMIT || request.end() - request.start() < ENOUGH {
+    if steps <= FIRST_STEPS || request.end() - request.start() < ENOUGH {
         return false;
     }
     let hints = request.pattern_codes().hints();

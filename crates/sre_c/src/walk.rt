@@ -1,8 +1,9 @@
 //! The iteration over matches, which writes them in rows.
 
 ghost use Rattle.std.specs.Prelude.{◌≡◌, ◌<◌, ◌≤◌, ◌+◌, ℕ, length, slice_index, false};
-ghost use Rattle.sre_engine.specs.Requests.{string_of, start_of, end_of, code_of, must_advance_of};
-ghost use Rattle.sre_engine.specs.Iterators.{request_of, has_ended};
+ghost use Rattle.sre_engine.specs.Requests.{string_of, start_of, end_of, code_of, asked_of, must_advance_of};
+ghost use Rattle.sre_engine.specs.Iterators.{request_of, shown_of, has_ended, NextWithin};
+ghost use Rattle.sre_engine.specs.Counts.{KeepsToSteps, runs_of};
 ghost use Rattle.sre_engine.specs.Answers.{match_shown};
 ghost use Rattle.sre_c.specs.Known.{table_in};
 ghost use Rattle.sre_c.specs.Walked.{index_number, entry_of, begun_of, IsRow, Walks};
@@ -10,13 +11,13 @@ ghost use Rattle.sre_c.specs.Rows.{WritesRows};
 ghost use Rattle.sre_c.specs.Budgets.{no_limit};
 
 use crate::answer::{mark_number, request};
-use crate::asks::Asks;
+use crate::asks::{Asks, NO_LIMIT};
 use crate::check;
 use crate::code::SreCode;
-use crate::next_match::NextMatch;
 use crate::status::Status;
 use crate::table::table;
 use crate::types::{SreAsked, SreWalked};
+use sre_engine::engine::Starts;
 use sre_engine::{CodeError, LentTable, SearchIter, SreError, State, StrDrive};
 use std::alloc::Global;
 
@@ -69,16 +70,40 @@ fn note_next<S: StrDrive>(walk: &SearchIter<'_, S, Global>, walked: &mut SreWalk
     walked.must_advance = walk.req().must_advance();
 }
 
+// The next match within a budget of steps, as `SearchIter::next_within` returns it. The search skips the starts that
+// the prefilter excludes. Without a limit no step is charged.
+fn next_match<S: StrDrive, F: Starts<S>>(
+    walk: &mut SearchIter<'_, S, Global>,
+    starts: &mut F,
+    steps: &mut u64,
+) -> Result<Option<bool>, SreError>
+    requires suits { F.suits starts.old (string_of (request_of walk.old)) (code_of (request_of walk.old)) }
+    ensures suits { F.suits starts.new (string_of (request_of walk.new)) (code_of (request_of walk.new)) }
+    ensures gives { NextWithin walk.old result walk.new }
+    ensures steps { KeepsToSteps Global (asked_of (request_of walk.old)) (code_of (request_of walk.old)) result
+        (runs_of (shown_of walk.new)) steps.old steps.new }
+    ensures unlimited { steps.old ≡ no_limit → steps.new ≡ steps.old }
+{
+    if *steps < NO_LIMIT {
+        return walk.next_within_by(steps, starts);
+    }
+    match walk.next_by(starts) {
+        None => Ok(Some(false)),
+        Some(Ok(())) => Ok(Some(true)),
+        Some(Err(error)) => Err(error),
+    }
+}
+
 /// Writes the remaining matches, row by row, until there is no room for one more row, or no match.
 #[tactic(auto, using(crate::proofs::RowBudgets::none_kept, crate::proofs::RowBudgets::none_behind))]
-pub fn write_rows<S: StrDrive, H: NextMatch<S>>(
+pub fn write_rows<S: StrDrive, F: Starts<S>>(
     walk: &mut SearchIter<'_, S, Global>,
-    how: &mut H,
+    starts: &mut F,
     width: usize,
     rows: &mut [usize],
     walked: &mut SreWalked,
 ) -> Status
-    requires suits { H.suits how.old (string_of (request_of walk.old)) (code_of (request_of walk.old)) }
+    requires suits { F.suits starts.old (string_of (request_of walk.old)) (code_of (request_of walk.old)) }
     requires open { has_ended walk.old ≡ false }
     requires none { walked.old.count ≡ 0 }
     ensures rows { WritesRows result (request_of walk.old) (request_of walk.new) walked.old.steps width walked.new
@@ -90,7 +115,7 @@ pub fn write_rows<S: StrDrive, H: NextMatch<S>>(
     note_next(walk, walked);
     'matches: while width > 0 && width <= rows.len() - at {
         walked.steps_before = walked.steps;
-        match how.next_match(walk, &mut walked.steps) {
+        match next_match(walk, starts, &mut walked.steps) {
             Ok(Some(true)) => {}
             Ok(Some(false)) => return Status::No,
             Ok(None) => return Status::StepLimit,

@@ -13,6 +13,7 @@ pub mod CandidateLaws
 pub mod Looking
 pub mod Telling
 pub mod Carrying
+pub mod Limiting
 pub mod Claiming
 pub mod FirstMembers
 pub mod AmongMembers

@@ -42,5 +42,6 @@ pub mod Members
 pub mod Counts
 pub mod Costs
 pub mod Searches
+pub mod Within
 pub mod Candidates
 pub mod Prefixed

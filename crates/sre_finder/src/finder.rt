@@ -15,8 +15,9 @@ ghost use Rattle.sre_request.specs.Requests.{string_of, start_of, end_of, code_o
 ghost use Rattle.regex_hir.specs.Meaning.{meaning};
 ghost use Rattle.sre_automata.specs.Told.{Tells};
 ghost use Rattle.sre_engine.specs.Answers.{MayTakeMemory};
-ghost use Rattle.sre_engine.specs.Counts.{CountsOfWalk};
+ghost use Rattle.sre_engine.specs.Counts.{CountsOfWalk, KeepsToSteps, runs_of};
 ghost use Rattle.sre_engine.specs.Searches.{Answered, RunsOnceAnchored};
+ghost use Rattle.sre_engine.specs.Within.{AnsweredWithin};
 ghost use Rattle.sre_engine.specs.Listed.{match_of};
 ghost use Rattle.sre_request.specs.Runs.{run_of, Standing};
 ghost use Rattle.sre_engine.specs.Starts.{NoneUntil, StartFrom};
@@ -368,6 +369,30 @@ impl<'c> Finder<'c> {
         self.reset();
         self.pace.ask_first();
         state.search_by(req, self)
+    }
+
+    /// Searches the range within a budget of steps, as `State::search_within` does. It skips starts that the prefilter
+    /// excludes, and `steps` then holds the steps that are left. The prefilter charges none.
+    ///
+    /// # Errors
+    ///
+    /// [`SreError::Memory`] if an allocation failed. Never if a confirmed prefix is the whole code.
+    pub fn search_within<S: Haystack, A: Allocator + Copy>(
+        &mut self,
+        req: Request<'_, S>,
+        state: &mut State<A>,
+        steps: &mut u64,
+    ) -> Result<Option<bool>, SreError>
+        requires { self.old.code ≡ code_of req }
+        ensures answers { AnsweredWithin req.entry result state.new }
+        ensures steps { KeepsToSteps A (asked_of req.entry) (code_of req.entry) result (runs_of state.new) steps.old
+            steps.new }
+        ensures refused { OnErr result (Refused A) }
+        ensures code { self.new.code ≡ self.old.code }
+    {
+        self.reset();
+        self.pace.ask_first();
+        state.search_within_by(req, steps, self)
     }
 
     /// Returns all matches in the range, as `all_matches` of `sre_engine` does. It skips starts that the prefilter

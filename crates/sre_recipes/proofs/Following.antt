@@ -68,11 +68,11 @@ fewer_searches (Some zero) a b wanted falls = absurd (cc)
 fewer_searches (Some (suc n)) a b wanted falls = omega (arith, falls)
 
 -- the last search of an ample budget exceeds it only if an allocation failed
-last_ample : {M : Type 0} (a : Asked) (code : Code) (most steps left : Option ℕ) → is_spent most ≡ false
+last_ample : (M : Type 0) (a : Asked) (code : Code) (most steps left : Option ℕ) → is_spent most ≡ false
     → left ≡ Some 0 → Spends M a code (a.end + 1) a.end None steps left → IsAmple a code most steps → Refused M
-last_ample a code most None left wanted used spends ample = absurd (cc)
-last_ample a code most (Some given) None wanted used spends ample = absurd spends
-last_ample a code most (Some given) (Some left) wanted used spends ample =
+last_ample M a code most None left wanted used spends ample = absurd (cc)
+last_ample M a code most (Some given) None wanted used spends ample = absurd spends
+last_ample M a code most (Some given) (Some left) wanted used spends ample =
     let tree = code_tree (words_of code) (hints_of code) code.checked in
     let is = ample.is tree.0 tree.1 in
     let one : ample.bound ≤ most_searches most a * ample.bound =
@@ -85,11 +85,11 @@ last_ample a code most (Some given) (Some left) wanted used spends ample =
     }) refl
 
 -- behind a match what is left of an ample budget is ample, unless an allocation failed
-ample_after : {M : Type 0} (a : Asked) (code : Code) (m : Match) (to seen : ℕ) (most steps left : Option ℕ)
+ample_after : (M : Type 0) (a : Asked) (code : Code) (m : Match) (to seen : ℕ) (most steps left : Option ℕ)
     → is_spent most ≡ false → m.end ≤ a.end → most_matches (asked_after a m) < most_matches a
     → Spends M a code to seen (Some true) steps left → IsAmple a code most steps
     → Refused M ⊎ IsAmple (asked_after a m) code (one_less most) left
-ample_after a code m to seen most None left wanted inside falls spends ample = inr (record {
+ample_after M a code m to seen most None left wanted inside falls spends ample = inr (record {
   characters = ample.characters;
   bound = ample.bound;
   is = ample.is;
@@ -97,8 +97,8 @@ ample_after a code m to seen most None left wanted inside falls spends ample = i
   more = subst (λ (n : Option ℕ). IfSome n
       (λ given. most_searches (one_less most) (asked_after a m) * ample.bound ≤ given)) (sym spends) tt;
 })
-ample_after a code m to seen most (Some given) None wanted inside falls spends ample = absurd spends
-ample_after a code m to seen most (Some given) (Some left) wanted inside falls spends ample =
+ample_after M a code m to seen most (Some given) None wanted inside falls spends ample = absurd spends
+ample_after M a code m to seen most (Some given) (Some left) wanted inside falls spends ample =
     let tree = code_tree (words_of code) (hints_of code) code.checked in
     let is = ample.is tree.0 tree.1 in
     let after : ℕ = most_searches (one_less most) (asked_after a m) in
@@ -135,7 +135,7 @@ followed_more a code m most steps between after wanted inside falls step spends 
   fewer = rest.fewer ∙ less_more most (length rest.taken);
   spent = (between, spends, rest.spent);
   enough = λ ample exceeded.
-      elim (ample_after a code m (m.start + 1) m.end most steps between wanted inside falls spends ample) [
+      elim (ample_after _ a code m (m.start + 1) m.end most steps between wanted inside falls spends ample) [
         | inl refused ↦ refused
         | inr left ↦ rest.enough left exceeded
       ];
@@ -176,6 +176,6 @@ follow_end {A = A} it before after stops begun = record {
   spent = stops.spends begun;
   enough = λ ample exceeded.
       let spends = rw exceeded at stops.spends begun in
-      last_ample (asked_of (request_of it)) (code_of (request_of it)) before.most before.steps after.steps
+      last_ample _ (asked_of (request_of it)) (code_of (request_of it)) before.most before.steps after.steps
       (stops.wanted exceeded) (stops.used exceeded) spends ample;
 }

@@ -13,6 +13,7 @@ ghost use Rattle.sre_engine.specs.Answers.{answer_of, Spans, MayTakeMemory};
 ghost use Rattle.sre_engine.specs.Counts.{CountsStay, CountsUpTo, BeginsAgain, KeepsToSteps, runs_of};
 ghost use Rattle.sre_engine.specs.Costs.{Charged};
 ghost use Rattle.sre_engine.specs.Searches.{Answered, CountsAll, has_found, RunsOnceAnchored};
+ghost use Rattle.sre_engine.specs.Within.{AnsweredWithin};
 ghost use Rattle.sre_growth.specs.Refusal.{Refused};
 
 use crate::engine::told::{Nobody, Starts};
@@ -432,6 +433,7 @@ impl<A: Allocator + Copy> State<A> {
     /// # Errors
     ///
     /// [`SreError::Memory`] if an allocation fails.
+    #[tactic(auto, using(crate::proofs::Limiting::within_laws))]
     pub fn search_within_by<S: StrDrive, F: Starts<S>>(
         &mut self,
         req: Request<'_, S>,
@@ -440,21 +442,10 @@ impl<A: Allocator + Copy> State<A> {
     ) -> Result<Option<bool>, SreError>
         requires suits { F.suits starts.old (string_of req) (code_of req) }
         ensures suits { F.suits starts.new (string_of req.entry) (code_of req.entry) }
-        ensures answer { (t : Tree) → Whole (words_of (code_of req.entry)) t → IfOk result
-            (λ told. IfSome told (λ b. answer_of b self.new ≡ found (asked_of req.entry) t)) }
-        ensures cursor { IfOk result
-            (λ told. told ≡ Some true → stands_in req.entry self.new.cursor self.new.cursor.position) }
-        ensures span { IfOk result (λ told. told ≡ Some true
-            → (start_of req.entry ≤ self.new.start) × Spans self.new.start (end_of req.entry) self.new) }
-        ensures no { IfOk result (λ told. told ≢ Some true → self.new.marks ≡ no_marks) }
+        ensures answers { AnsweredWithin req.entry result self.new }
         ensures steps { KeepsToSteps A (asked_of req.entry) (code_of req.entry) result (runs_of self.new) steps.old
             steps.new }
-        ensures again { BeginsAgain true self.new }
-        ensures err { OnErr result (self.new.marks ≡ no_marks) }
         ensures refused { OnErr result (Refused A) }
-        ensures counts { CountsAll req.entry (has_found result) self.new }
-        ensures literal { (OnErr result (MayTakeMemory (code_of req.entry)))
-            × IfOk result (λ told. told ≡ None → MayTakeMemory (code_of req.entry)) }
     {
         let start = req.string().create_cursor(req.start());
         let mut allowed = Allowance::Turns(*steps);

@@ -17,7 +17,7 @@ invariant-matches g l =
     × (l.fn.walked.steps ≡ no_limit → l.walked.steps ≡ l.fn.walked.steps)
     × RowsKeep (request_of l.fn.walk) l.walked.count l.fn.walked.steps l.walked.steps
     × IsBehind (request_of l.fn.walk) (request_of l.walk) l.walked.count
-    × g.H.NextMatch.suits l.how (string_of (request_of l.walk)) (code_of (request_of l.walk))
+    × g.F.Starts.suits l.starts (string_of (request_of l.walk)) (code_of (request_of l.walk))
 
 abbrev pub decreases-matches : goal.decreases-matches
 decreases-matches g l = length l.rows - l.at

@@ -1,0 +1,60 @@
+-- What a search says within a budget of steps, by what it says of its answer.
+use Rattle.std.proofs.Common.{◌≡◌, ◌≢◌, Bool, true, false, Option, Some, None, Result, Ok, Err, refl, ap}
+use Rattle.sre_chars.specs.declared.string.StrDrive.{Ghosts}
+use Rattle.sre_model.specs.Marks.{no_marks}
+use Rattle.sre_request.specs.declared.request.Request.{Request}
+use Rattle.sre_request.specs.Requests.{code_of}
+use Rattle.sre_engine.specs.Answers.{Shown, MayTakeMemory}
+use Rattle.sre_engine.specs.Counts.{BeginsAgain}
+use Rattle.sre_engine.specs.Searches.{Answered, RunsOnceAnchored}
+use Rattle.sre_engine.specs.Within.{AnsweredWithin}
+
+module _ {S E F : Type 0} {text : Ghosts S} (r : Request S text) (s : Shown) where
+  -- an answer
+  pub within_found : (b : Bool) → Answered {E = E} r (Ok b) s → RunsOnceAnchored r s → BeginsAgain true s
+      → AnsweredWithin {E = F} r (Ok (Some b)) s
+  within_found b x anchored again = record {
+    answer = x.answer;
+    cursor = λ e. x.cursor (cc);
+    span = λ e. x.span (cc);
+    no = no b x.no;
+    err = tt;
+    counts = record { inside = x.counts; up_to_match = x.up_to_match; anchored = anchored };
+    again = again;
+    literal = (tt, λ e. absurd (cc));
+  }
+    where
+      no : (b : Bool) → (b ≡ false → s.marks ≡ no_marks) → Some b ≢ Some true → s.marks ≡ no_marks
+      no true f other = absurd (other refl)
+      no false f other = f refl
+
+  -- an allocation failed
+  pub within_refused : (e : E) (f : F) → Answered {E = E} r (Err e) s → RunsOnceAnchored r s → BeginsAgain true s
+      → MayTakeMemory (code_of r) → AnsweredWithin {E = F} r (Err f) s
+  within_refused e f x anchored again takes = record {
+    answer = λ t whole. tt;
+    cursor = tt;
+    span = tt;
+    no = tt;
+    err = x.err;
+    counts = record { inside = x.counts; up_to_match = λ never. absurd (cc); anchored = anchored };
+    again = again;
+    literal = (takes, tt);
+  }
+
+  -- the step limit was exceeded
+  pub within_exceeded : (e : E) → Answered {E = E} r (Err e) s → RunsOnceAnchored r s → BeginsAgain true s
+      → MayTakeMemory (code_of r) → AnsweredWithin {E = F} r (Ok None) s
+  within_exceeded e x anchored again takes = record {
+    answer = λ t whole. tt;
+    cursor = λ never. absurd (cc);
+    span = λ never. absurd (cc);
+    no = λ other. x.err;
+    err = tt;
+    counts = record { inside = x.counts; up_to_match = λ never. absurd (cc); anchored = anchored };
+    again = again;
+    literal = (tt, λ none. takes);
+  }
+
+-- what `search_within_by` answers
+pub ruleset within_laws = (within_found, within_refused, within_exceeded)
