@@ -1,6 +1,6 @@
 //! How a text is searched: by the machine, and with DFAs where they may save time.
 
-ghost use Rattle.std.specs.Prelude.{◌≡◌, ◌≢◌, ◌≤◌, IfOk, IfErr, IfSome, OnErr, Ok, Err, Some, None};
+ghost use Rattle.std.specs.Prelude.{◌≡◌, ◌≢◌, ◌≤◌, ◌+◌, IfOk, IfErr, IfSome, OnErr, Ok, Err, Some, None};
 ghost use Rattle.sre_model.specs.Tree.{Tree};
 ghost use Rattle.sre_model.specs.Grammar.{Whole};
 ghost use Rattle.sre_model.specs.Found.{found};
