@@ -441,7 +441,7 @@ fn answer_bytes<W: Write + Drop>(
 ) -> Result<(), CaseFault>
     ensures answers { OnOk result (Answered detail table.entry (writer_contents W.contents out.old)
         (writer_contents W.contents out.new) (lines_of file.now)) }
-    ensures faults { IfErr result IsFaultOfCases }
+    ensures faults { IfErr result (IsFaultOfCases Global) }
     ensures stopped { IfErr result (StopsAt detail table.entry (writer_contents W.contents out.old)
         (writer_contents W.contents out.new) (lines_of file.now)) }
     ensures flushed { result ≢ Err CaseFault.OutputFailed → writer_buffer out.new ≡ [] }
