@@ -11,7 +11,8 @@ import random
 import grammar
 import repository
 from ending import ended
-from grammar import NUMBER, UNLIMITED
+from grammar import NUMBER, UNLIMITED, case_words
+from hostile import Writer
 
 REPEATS = ("REPEAT_ONE", "MIN_REPEAT_ONE", "POSSESSIVE_REPEAT_ONE")
 LOOKAROUNDS = ("ASSERT", "ASSERT_NOT")
@@ -151,50 +152,37 @@ def line(name, code):
     return f"| `{name}` | {' | '.join(shown if numbers[0][0] else shown[:1])} |"
 
 
-def region(opcode, operands, body, closing, own):
-    """An item with a body: its opcode, a skip, operands, the body, and what ends it."""
-    return [NUMBER[opcode], len(operands) + len(body) + own, *operands, *body, NUMBER[closing]]
+class Looping(Writer):
+    """Writes codes of nested loops, greedy, lazy and possessive, branches, scopes and counts, over few letters."""
 
+    counts_of_items = range(1, 4)
 
-def branch(parts):
-    lengths = [len(it) + 3 for it in parts]
-    code = [NUMBER["BRANCH"]]
-    for part, length in zip(parts, lengths):
-        code += [length, *part, NUMBER["JUMP"]]
-        code.append(2 + sum(lengths) - len(code))
-    return [*code, 0]
+    def number(self):
+        """How far a look goes back."""
+        return 0
 
+    def counts(self):
+        low = self.dice.choice([0, 0, 1, 1, 2])
+        return [low, self.dice.choice([UNLIMITED, UNLIMITED, max(low, 1), low + 2])]
 
-def random_items(draw, depth=0):
-    """Nested loops, greedy, lazy and possessive, branches, scopes and counts, over few letters."""
-    code = []
-    for _ in range(draw.randint(1, 3)):
-        low = draw.choice([0, 0, 1, 1, 2])
-        counts = [low, draw.choice([UNLIMITED, UNLIMITED, max(low, 1), low + 2])]
-        test, kind = [NUMBER["LITERAL"], ord(draw.choice("aaab"))], draw.random()
-        body = random_items(draw, depth + 1) if depth < 3 and kind < .45 else None
-        if kind < .1 and body:
-            code += branch([body, random_items(draw, depth + 1)])
-        elif kind < .3 and body:
-            code += region("REPEAT", counts, body, draw.choice(["MAX_UNTIL", "MIN_UNTIL"]), 1)
-        elif kind < .35 and body:
-            code += region("POSSESSIVE_REPEAT", counts, body, "SUCCESS", 1)
-        elif kind < .4 and body:
-            code += region("ATOMIC_GROUP", [], body, "SUCCESS", 2)
-        elif body:
-            code += region(draw.choice(LOOKAROUNDS), [0], body, "SUCCESS", 2)
-        else:
-            code += region(draw.choice(REPEATS), counts, test, "SUCCESS", 2) if kind < .8 else test
-    return code
+    def test(self):
+        return ["LITERAL", ord(self.dice.choice("aaab"))]
+
+    def kind(self, depth):
+        inner = [*SCOPES, "BRANCH", "BRANCH", *4 * ["REPEAT"]] if depth else []
+        return self.dice.choice([*inner, *2 * REPEATS, *4 * ["ANY"]])
+
+    def code(self):
+        end = ["LITERAL", ord("c")] if self.dice.random() < .7 else []
+        return [NUMBER.get(it, it) for it in [*self.items(3), *end, "SUCCESS"]]
 
 
 def held(program, count, seed, tell):
     """Whether the engine has the bound of each of so many random codes, and answers a search within it."""
     draw, asked = random.Random(seed), []
     for _ in range(count):
-        end = [NUMBER["LITERAL"], ord("c")] if draw.random() < .7 else []
-        code, text = [*random_items(draw), *end, NUMBER["SUCCESS"]], draw.choices(b"aaaab", k=draw.randint(0, 40))
-        asked.append((",".join(map(str, code)), bytes(text), bound(code, len(text))[0]))
+        code, text = Looping(draw).code(), bytes(draw.choices(b"aaaab", k=draw.randint(0, 40)))
+        asked.append((case_words(code), text, bound(code, len(text))[0]))
     probes = [f"within {number or 0} search {code} b:{text.hex()} all -" for code, text, number in asked]
     answers = repository.answers(program, probes + [f"enough {len(text)} check {code}" for code, text, _ in asked])
     if len(answers) != 2 * count:

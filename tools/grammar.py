@@ -36,6 +36,16 @@ OPERANDS = {
 }
 
 
+def family_of(families, name):
+    """What the first of the families has that a name is a match of, whole; none if there is none."""
+    return next((it for family, it in families.items() if re.fullmatch(family, name)), None)
+
+
+def case_words(words):
+    """Words as a case has them."""
+    return ','.join(map(str, words)) or '-'
+
+
 class Refused(Exception):
     """Words are no code: the place at which that is seen, and the cause's name."""
 
@@ -129,10 +139,9 @@ class Reader:
     def one_of(self, families, place, depth, cause):
         """The item at a place, by the first of the families that its opcode's name is a match of, whole."""
         name = self.opcode(place, depth)
-        for family, method in families.items():
-            if re.fullmatch(family, name):
-                return method(self, name, place, depth)
-        raise Refused(place, cause)
+        method = family_of(families, name)
+        demand(method, place, cause)
+        return method(self, name, place, depth)
 
     def end(self, place, names, depth):
         """The opcode that ends a part, which is one of these."""
@@ -141,7 +150,7 @@ class Reader:
         return self.note(name, place, depth)
 
     def alone(self, name, place, depth):
-        count = next(count for family, count in OPERANDS.items() if re.fullmatch(family, name))
+        count = family_of(OPERANDS, name)
         self.word(place + count)
         item = self.note(name, place, depth, count)
         if name in ('AT', 'CATEGORY'):

@@ -11,7 +11,7 @@ a step limit, and a search finds what a match at the window's start finds.
 import random
 import re
 
-from grammar import CATEGORIES, NUMBER, OPCODES, POSITIONS, Reader
+from grammar import CATEGORIES, NUMBER, OPCODES, OPERANDS, POSITIONS, UNLIMITED, Reader, case_words, family_of
 from repository import ROOT, answers, read
 
 FOLDS = ("_IGNORE", "_LOC_IGNORE", "_UNI_IGNORE")
@@ -21,19 +21,18 @@ RUNS = ["REPEAT_ONE", "MIN_REPEAT_ONE", "POSSESSIVE_REPEAT_ONE"]
 PLAIN = ["FAILURE", "AT", "MARK", *REFERENCES, "ANY", "ANY", "ANY"]
 KINDS = ["BRANCH", "REPEAT", "POSSESSIVE_REPEAT", "ATOMIC_GROUP", "ASSERT", "ASSERT_NOT", "GROUPREF_EXISTS", *RUNS]
 MEMBERS = ["LITERAL", "LITERAL", "RANGE", "RANGE_UNI_IGNORE", "CATEGORY", "NEGATE", "CHARSET", "BIGCHARSET"]
-# how many operands an item has that is its opcode and these, where it has not one
-OPERANDS = {"FAILURE": 0, "ANY": 0, "ANY_ALL": 0, "NEGATE": 0, "RANGE": 2, "RANGE_UNI_IGNORE": 2, "CHARSET": 8}
-GREATEST = 2**32 - 1
 
 
 class Writer:
     """Writes random codes, with names of opcodes until one is whole."""
 
+    counts_of_items = range(4)
+
     def __init__(self, dice):
         self.dice = dice
 
     def number(self):
-        return self.dice.choice((0, 1, 2, 3, 15, 16, 97, 98, GREATEST, self.dice.randrange(len(OPCODES))))
+        return self.dice.choice((0, 1, 2, 3, 15, 16, 97, 98, UNLIMITED, self.dice.randrange(len(OPCODES))))
 
     def counts(self):
         return sorted((self.number(), self.number()))
@@ -42,7 +41,7 @@ class Writer:
         """An item that is its opcode and operands."""
         if opcode in ("AT", "CATEGORY"):
             return [opcode, self.dice.randrange(len(POSITIONS if opcode == "AT" else CATEGORIES))]
-        return [opcode, *(self.number() for _ in range(OPERANDS.get(opcode, 1)))]
+        return [opcode, *(self.number() for _ in range(family_of(OPERANDS, opcode)))]
 
     def member(self):
         opcode = self.dice.choice(MEMBERS)
@@ -72,8 +71,12 @@ class Writer:
         no = self.items(depth)
         return ["GROUPREF_EXISTS", self.number(), len(yes) + 4, *yes, "JUMP", len(no) + 1, *no]
 
+    def kind(self, depth):
+        """An opcode, of which ANY stands for any test."""
+        return self.dice.choice((*PLAIN, *(KINDS if depth else RUNS)))
+
     def item(self, depth):
-        opcode = self.dice.choice((*PLAIN, *(KINDS if depth else RUNS)))
+        opcode = self.kind(depth)
         if opcode in PLAIN:
             return self.test() if opcode == "ANY" else self.alone(opcode)
         if opcode in RUNS:
@@ -89,7 +92,7 @@ class Writer:
         return [opcode, len(back) + len(body) + 2, *back, *body, "SUCCESS"]
 
     def items(self, depth):
-        return [word for _ in range(self.dice.randrange(4)) for word in self.item(depth)]
+        return [word for _ in range(self.dice.choice(self.counts_of_items)) for word in self.item(depth)]
 
     def code(self):
         block = []
@@ -103,7 +106,7 @@ class Writer:
         words, at = list(words), self.dice.randrange(len(words))
         how = self.dice.randrange(6)
         if how < 2:
-            words[at] = min(max(words[at] + (1, -1)[how], 0), GREATEST)
+            words[at] = min(max(words[at] + (1, -1)[how], 0), UNLIMITED)
         elif how == 2:
             words[at] = self.number()
         elif how == 3 and len(words) > 1:
@@ -123,16 +126,12 @@ class Writer:
         return words
 
 
-def written(words):
-    return ",".join(map(str, words)) or "-"
-
-
 class Judged:
     """Lists of words, and whether each is a code."""
 
     def __init__(self, words, of_kind):
         self.words, self.of_kind, self.codes = words, of_kind, [Reader(it).is_code for it in words]
-        self.lines = [f"check {written(it)}" for it in words]
+        self.lines = [f"check {case_words(it)}" for it in words]
 
     def are_judged(self, program, tell):
         """Whether a program judges all lists as the reader does, and there are enough of both kinds."""
@@ -170,8 +169,8 @@ class Changed(Judged):
         for words in ([int(it) for it in words.split(",")] for words in dict.fromkeys(found)):
             lists += [words[:at] for at in range(len(words) + 1)]
             for at, word in enumerate(words):
-                others = (word + 1, max(word - 1, 0), 0, 1, 15, GREATEST)
-                lists += [[*words[:at], min(other, GREATEST), *words[at + 1:]] for other in others]
+                others = (word + 1, max(word - 1, 0), 0, 1, 15, UNLIMITED)
+                lists += [[*words[:at], min(other, UNLIMITED), *words[at + 1:]] for other in others]
         super().__init__(lists, "changed")
 
     def asked(self):
@@ -180,7 +179,7 @@ class Changed(Judged):
             is_far = any(opcode == NUMBER["MARK"] and number > 10_000 for opcode, number in zip(words, words[1:]))
             if is_a_code and not is_far:
                 for text in TEXTS:
-                    yield [f"within {STEPS} {verb} {written(words)} {text} -" for verb in ("match", "search")]
+                    yield [f"within {STEPS} {verb} {case_words(words)} {text} -" for verb in ("match", "search")]
 
     def agree(self, program, tell):
         """Whether a search finds what a match at the window's start finds, where that finds something."""

@@ -5,7 +5,7 @@ What the words say is read by `grammar.py`. Here stands how a line tells it.
 import re
 import sys
 
-from grammar import CATEGORIES, OPCODES, POSITIONS, UNLIMITED, Reader, block_numbers
+from grammar import CATEGORIES, OPCODES, POSITIONS, UNLIMITED, Reader, block_numbers, family_of
 
 CAUSES = {
     'Truncated': 'the words end before an item or the last SUCCESS is whole',
@@ -69,8 +69,8 @@ class Listing:
         """What the line of an item says: its name and operands, or what stands in place of a name."""
         if item.name in IN_PLACE:
             return IN_PLACE[item.name](item)
-        made = [made for family, made in BEHIND.items() if re.fullmatch(family, item.name)]
-        return ' '.join([item.name, *filter(None, (it(self, item.place, *item.words) for it in made))])
+        made = family_of(BEHIND, item.name)
+        return ' '.join(filter(None, [item.name, made and made(self, item.place, *item.words)]))
 
     def group(self, number):
         name = self.groups.get(number + 1)

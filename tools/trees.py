@@ -2,7 +2,7 @@
 import re
 import textwrap
 
-from grammar import CATEGORIES, POSITIONS, Reader, block_numbers
+from grammar import CATEGORIES, POSITIONS, Reader, block_numbers, family_of
 
 FOLDS = {'': 'Plain', '_IGNORE': 'Ascii', '_LOC_IGNORE': 'Locale', '_UNI_IGNORE': 'Unicode'}
 KINDS = {'REPEAT_ONE': 'Greedy', 'MIN_REPEAT_ONE': 'Lazy', 'POSSESSIVE_REPEAT_ONE': 'Possessive'}
@@ -26,7 +26,7 @@ def fields(name, **values):
 
 def written(families, it):
     """An item, by the first of the families that its opcode's name is a match of, whole."""
-    return next(made(it) for family, made in families.items() if re.fullmatch(family, it.name))
+    return family_of(families, it.name)(it)
 
 
 def part(items):

@@ -43,7 +43,7 @@ except ImportError:
 import constants
 import trees
 from ending import Fault, ended
-from grammar import CATEGORIES, NUMBER, OPCODES, POSITIONS, UNLIMITED, Reader
+from grammar import CATEGORIES, NUMBER, OPCODES, POSITIONS, UNLIMITED, Reader, case_words
 from listing import Listing, unknown_letters
 from repository import ROOT, write
 
@@ -116,10 +116,6 @@ def compiled(source, flags):
 def without_block(words, is_cut=True):
     """Bytecode without the INFO block in front, whose skip is at address 1; all of it if nothing is cut."""
     return words[1 + words[1]:] if is_cut and words[0] == NUMBER['INFO'] else words
-
-
-def case_words(words):
-    return ','.join(map(str, words)) or '-'
 
 
 def words_of(written):
