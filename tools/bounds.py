@@ -177,7 +177,7 @@ class Looping(Writer):
         return [NUMBER.get(it, it) for it in [*self.items(3), *end, "SUCCESS"]]
 
 
-def held(program, count, seed, tell):
+def held(program, tell, count=1000, seed=7):
     """Whether the engine has the bound of each of so many random codes, and answers a search within it."""
     draw, asked = random.Random(seed), []
     for _ in range(count):

@@ -15,6 +15,8 @@ in a file of lines or answers is TEXT N times, and each text of a .jsonl file ha
 
 To these come lines that are made: by `hostile.py`, `large.py`, `finders.py`, `bounds.py` and `refused.py`.
 """
+import contextlib
+import glob
 import json
 import os
 import re
@@ -57,48 +59,35 @@ class Call:
 
     def is_met(self, program, folder):
         """Whether the program writes what it has to. Its status is 1 where it ends at a fault, and else 0."""
-        outputs = [open(it, "wb") if it else subprocess.PIPE for it in (self.to, self.faults_to)]
-        how = {"cwd": folder, "stdin": subprocess.DEVNULL, "stdout": outputs[0], "stderr": outputs[1]}
-        try:
-            ran = subprocess.run([program, *self.arguments], **how)
-        finally:
-            for it in outputs:
-                if it != subprocess.PIPE:
-                    it.close()
+        with contextlib.ExitStack() as opened:
+            paths = {"stdout": self.to, "stderr": self.faults_to}
+            how = {it: opened.enter_context(open(to, "wb")) if to else subprocess.PIPE for it, to in paths.items()}
+            ran = subprocess.run([program, *self.arguments], cwd=folder, stdin=subprocess.DEVNULL, **how)
         return (ran.returncode, ran.stdout or b"", ran.stderr or b"") == self.wanted
 
 
-class Room:
-    """A folder for the files that the calls read."""
-
-    def __init__(self, folder):
-        self.folder, self.made = folder, 0
-
-    def file(self, content):
-        """The name of a new file."""
-        self.made += 1
-        with open(f"{self.folder}/{self.made}", "wb") as file:
-            file.write(content)
-        return str(self.made)
+def put(room, content):
+    """The name of a new file in a folder."""
+    with tempfile.NamedTemporaryFile(dir=room, delete=False) as file:
+        file.write(content)
+    return os.path.basename(file.name)
 
 
-def calls_of_lines(folder, name, room):
+def call_of_lines(folder, name, room):
     """The call for NAME.txt. Where there is no such file, the program is to say that it cannot read it."""
-    path = f"{folder}/{name}"
-    fault = read(f"{path}.fault").encode() if os.path.isfile(f"{path}.fault") else b""
-    has_lines = os.path.isfile(f"{path}.txt")
-    file = room.file(expanded(read(f"{path}.txt"))) if has_lines else f"{name}.txt"
-    answers = expanded(read(f"{path}.expected"))
-    flags = read(f"{path}.flags").split() if os.path.isfile(f"{path}.flags") else []
+    paths = {end: f"{folder}/{name}.{end}" for end in ("txt", "expected", "fault", "flags")}
+    texts = {end: read(path) for end, path in paths.items() if os.path.isfile(path)}
+    file = put(room, expanded(texts["txt"])) if "txt" in texts else f"{name}.txt"
+    answers, fault = expanded(texts["expected"]), texts.get("fault", "").encode()
     # lines without an answer would be compared with nothing
-    yield f"case file {name}", Call([*flags, file], answers, fault) if answers or fault else None
+    return Call([*texts.get("flags", "").split(), file], answers, fault) if answers or fault else None
 
 
 def lines_of(folder):
     """The lines of a folder's files of lines."""
     names = (it for it in os.listdir(folder) if it.endswith(".txt"))
     for name in sorted(it for it in names if os.path.isfile(f"{folder}/{it[:-4]}.expected")):
-        yield from expanded(read(f"{folder}/{name}")).splitlines()
+        yield from (it.decode() for it in expanded(read(f"{folder}/{name}")).splitlines())
 
 
 def rows(folder, name):
@@ -116,17 +105,17 @@ def octets(row, key):
 def calls_of(folder, room):
     """The calls that a folder's files ask for, each with what it is told by."""
     for name in sorted(it[: -len(".expected")] for it in os.listdir(folder) if it.endswith(".expected")):
-        yield from calls_of_lines(folder, name, room)
+        yield f"case file {name}", call_of_lines(folder, name, room)
     for label, row in rows(folder, "files"):
-        arguments = [*row.get("flags", []), room.file(octets(row, "file"))]
+        arguments = [*row.get("flags", []), put(room, octets(row, "file"))]
         yield label, Call(arguments, octets(row, "answers"), octets(row, "fault"))
     for label, (line, cause) in rows(folder, "no_cases"):
-        file = room.file(BEFORE + line.encode("latin-1") + BEHIND)
+        file = put(room, BEFORE + line.encode("latin-1") + BEHIND)
         yield label, Call([file], ANSWER, b"line 4: not a case\n")
         explained = f"line 4: not a case: {cause}\n".encode()
         yield f"{label}, explained", Call(["--explain", file], EXPLAINED, explained)
     for label, (table, cause) in rows(folder, "tables"):
-        file, cases = room.file(table.encode("latin-1")), room.file(BEHIND)
+        file, cases = put(room, table.encode("latin-1")), put(room, BEHIND)
         yield label, Call(["--table", file, cases], b"", f"{file}: not a table\n".encode())
         explained = f"{file}: not a table: {cause}\n".encode()
         yield f"{label}, explained", Call(["--table", file, "--explain", cases], b"", explained)
@@ -150,19 +139,15 @@ class Cases:
 
     def files(self, folder, name):
         with tempfile.TemporaryDirectory(prefix="cases-") as at:
-            room = Room(at)
-            for table in filter(lambda it: it.endswith(".table"), os.listdir(folder)):
-                shutil.copy(f"{folder}/{table}", at)
-            room_calls = list(calls_of(folder, room))
-            with open(f"{at}/case.txt", "w", encoding="ascii") as file:
-                file.write(read(f"{ROOT}/crates/sre_cases/data/case.txt"))
+            for path in (f"{ROOT}/crates/sre_cases/data/case.txt", *glob.glob(f"{folder}/*.table")):
+                shutil.copy(path, at)
             for program in self.programs[name]:
-                for label, call in room_calls:
+                for label, call in calls_of(folder, at):
                     self.count(bool(call) and os.path.isfile(program) and call.is_met(program, at), label, program)
 
-    def made(self, name, label, is_met):
+    def made(self, name, label, is_met, *given):
         for program in self.programs[name]:
-            self.count(os.path.isfile(program) and is_met(program), label, program)
+            self.count(os.path.isfile(program) and is_met(program, self.tell, *given), label, program)
 
     def run(self):
         for folder, name in folders():
@@ -170,25 +155,17 @@ class Cases:
                 self.files(folder, name)
         changed = hostile.Changed()
         if "sre_cases" in self.programs:
-            self.made_for_cases(changed)
+            self.made("sre_cases", "random words", hostile.Lists().are_judged)
+            self.made("sre_cases", "changed words", changed.are_judged)
+            if refused.can_try(self.tell):
+                self.made("sre_cases", "requests refused to finders", refused.are_plain)
+            self.made("sre_cases", "large lines", large.are_answered, large.cases)
         if "sre_probes" in self.programs:
-            self.made_for_probes(changed)
-
-    def made_for_cases(self, changed):
-        lists = hostile.Lists()
-        self.made("sre_cases", "random words", lambda it: lists.are_judged(it, self.tell))
-        self.made("sre_cases", "changed words", lambda it: changed.are_judged(it, self.tell))
-        if refused.can_try(self.tell):
-            self.made("sre_cases", "requests refused to finders", lambda it: refused.are_plain(it, self.tell))
-        self.made("sre_cases", "large lines", lambda it: large.are_answered(it, large.cases, self.tell))
-
-    def made_for_probes(self, changed):
-        self.made("sre_probes", "runs of changed words", lambda it: changed.agree(it, self.tell))
-        whole = [f"{ROOT}/{it}" for it in ("crates/sre_cases/cases", "examples")]
-        lines = [it.decode() for folder in whole for it in lines_of(folder)]
-        self.made("sre_probes", "cases by finders", lambda it: finders.agree(it, lines, self.tell))
-        self.made("sre_probes", "step bounds of random patterns", lambda it: bounds.held(it, 1000, 7, self.tell))
-        self.made("sre_probes", "large lines", lambda it: large.are_answered(it, large.probes, self.tell))
+            self.made("sre_probes", "runs of changed words", changed.agree)
+            lines = [it for folder in ("crates/sre_cases/cases", "examples") for it in lines_of(f"{ROOT}/{folder}")]
+            self.made("sre_probes", "cases by finders", finders.agree, lines)
+            self.made("sre_probes", "step bounds of random patterns", bounds.held)
+            self.made("sre_probes", "large lines", large.are_answered, large.probes)
 
 
 def main(words):

@@ -10,7 +10,7 @@ import repository
 PROBES = ("shown", "told", "finder", "spans")
 
 
-def agree(program, lines, tell):
+def agree(program, tell, lines):
     """Whether the answers to each line are one; those that are not are told."""
     asked = [it for it in lines if it.split(" ")[0] in ("match", "search", "walk")]
     answers = repository.answers(program, [f"{probe} {line}" for line in asked for probe in PROBES])

@@ -24,7 +24,7 @@ def probes():
     yield f"code check {groups(LETTERS)[:-2]}", f"Truncated {3 * LETTERS + 2}, number 2"
 
 
-def are_answered(program, rows, tell):
+def are_answered(program, tell, rows):
     """Whether a program answers all rows."""
     lines, wanted = zip(*rows())
     answers = repository.answers(program, lines)
