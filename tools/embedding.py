@@ -42,55 +42,40 @@ def read(path):
     return text_of(f"{ROOT}/{path}")
 
 
-class Library:
-    """The crate's archive, proved and built over crates that are proved, apart from the work tree. One that an earlier
-    run built of the very same files is taken over (kept.py)."""
-
-    def __init__(self, rlibs):
-        self.crate, self.rlibs = crates()[CRATE], rlibs
-        self.kept = kept.Store(kit(), self.crate, PARTS, [os.path.realpath(__file__)])
-
-    def build(self, folder, archive):
-        """Proves and builds the crate in a folder; what it said, where it failed."""
-        for part in PARTS:
-            if os.path.isdir(f"{self.crate.folder}/{part}"):
-                shutil.copytree(f"{self.crate.folder}/{part}", f"{folder}/{part}")
-        words = [f"{kit()}/bin/rattle", "build", *self.crate.words(kit(), self.rlibs)]
-        words += ["--backend", "llvm", "--toolchain", f"{kit()}/toolchain"]
-        ran = run(*words, "-o", archive, cwd=folder)
-        return ran.stdout if ran.returncode else None
-
-    def archive(self, room):
-        """The archive's path and whether it was taken over; or None and what the build said."""
-        if self.kept.path():
-            return self.kept.path(), True
-        os.makedirs(f"{room}/{CRATE}")
-        made = f"{room}/lib{CRATE}.a"
-        fault = self.build(f"{room}/{CRATE}", made)
-        if fault is not None:
-            return None, fault
-        self.kept.keep(made)
-        return made, False
-
-
-def found_pythons():
-    """For each version a Python that has its library's tests, or else any; and the versions that there are not."""
-    pythons, lacking = {}, []
-    for version in PYTHONS:
-        of_pyenv = glob.glob(os.path.expanduser(f"~/.pyenv/versions/{version}.*/bin/python"))
-        asked = [(path, told(path)) for path in filter(None, [shutil.which(f"python{version}"), *sorted(of_pyenv)])]
-        fitting = [path for path, said in asked if said == [version, "True"]]
-        fitting += [path for path, said in asked if said == [version, "False"]]
-        if fitting:
-            pythons[version] = fitting[0]
-        else:
-            lacking.append(version)
-    return pythons, lacking
+def built(room, rlibs):
+    """The crate's archive, proved and built over proved crates, apart from the work tree, and whether an earlier run
+    built it of the very same files (kept.py); or none, and what the build said."""
+    crate = crates()[CRATE]
+    store = kept.Store(kit(), crate, PARTS, [os.path.realpath(__file__)])
+    if store.path():
+        return store.path(), True
+    made = f"{room}/lib{CRATE}.a"
+    for part in PARTS:
+        if os.path.isdir(f"{crate.folder}/{part}"):
+            shutil.copytree(f"{crate.folder}/{part}", f"{room}/{CRATE}/{part}")
+    words = [f"{kit()}/bin/rattle", "build", *crate.words(kit(), rlibs), "--backend", "llvm"]
+    ran = run(*words, "--toolchain", f"{kit()}/toolchain", "-o", made, cwd=f"{room}/{CRATE}")
+    if ran.returncode:
+        return None, ran.stdout
+    store.keep(made)
+    return made, False
 
 
 def told(python):
     """The version of a Python, and whether it has its library's tests; nothing where it does not run."""
     return subprocess.run([python, "-c", ASKED], capture_output=True, text=True).stdout.split()
+
+
+def found_pythons():
+    """For each version a Python that has its library's tests, or else any; and the versions that there are not."""
+    found = {}
+    for version in PYTHONS:
+        of_pyenv = glob.glob(os.path.expanduser(f"~/.pyenv/versions/{version}.*/bin/python"))
+        paths = filter(None, [shutil.which(f"python{version}"), *sorted(of_pyenv)])
+        fitting = [it for it in paths if told(it)[:1] == [version]]
+        if fitting:
+            found[version] = min(fitting, key=lambda it: told(it)[1] != "True")
+    return found, [it for it in PYTHONS if it not in found]
 
 
 def programs():
@@ -149,13 +134,13 @@ class Embedding:
             write(f"{self.room}/{name}", source)
             # a warning is no example
             if self.ran(f"{what} is compiled", *words, writes=""):
-                self.ran(what, f"{self.room}/settings", writes=written)
                 # Rust's own runtime leaves memory that is still reachable
                 leaks = "all" if language == "c" else "definite,indirect,possible"
                 self.watched(what, f"{self.room}/settings", written, leaks)
 
     def watched(self, what, program, written, leaks="all"):
-        """Runs a program under valgrind: it may touch its own memory alone, and has to free it."""
+        """Runs a program, also under valgrind: it may touch its own memory alone, and has to free it."""
+        self.ran(what, program, writes=written)
         if not self.lacks("valgrind", f"{what} under valgrind"):
             watch = ["valgrind", "-q", "--error-exitcode=9", "--leak-check=full", f"--errors-for-leak-kinds={leaks}"]
             self.ran(f"{what} under valgrind", *watch, program, writes=written)
@@ -165,10 +150,8 @@ class Embedding:
             return
         source, made = f"{ROOT}/embedding/bad_callers.c", f"{self.room}/bad_callers"
         words = ["cc", "-std=c11", "-g", "-Wall", f"-I{library}", source, f"{library}/libsre_c.a"]
-        if not self.ran("bad callers are compiled", *words, "-Wl,--wrap=malloc,--wrap=realloc", "-o", made):
-            return
-        self.ran("bad callers", made, writes="bad callers: 0 failures\n")
-        self.watched("bad callers", made, "bad callers: 0 failures\n")
+        if self.ran("bad callers are compiled", *words, "-Wl,--wrap=malloc,--wrap=realloc", "-o", made):
+            self.watched("bad callers", made, "bad callers: 0 failures\n")
 
     def try_python(self, library, version, python, is_first):
         """Builds the package for a Python, and runs its tests and CPython's."""
@@ -193,34 +176,28 @@ class Embedding:
         else:
             self.tell(f"embedding: CPython's own tests not tried: {python} has none")
 
-    def try_pythons(self, library):
+    def over(self, library):
+        """Tries all over a folder that has the library."""
         pythons, lacking = found_pythons()
         for version in lacking:
             self.tell(f"embedding: not tried: there is no Python {version}")
-        for version, python in pythons.items():
-            self.try_python(library, version, python, python == list(pythons.values())[-1])
-
-    def over(self, library):
-        """Tries all over a folder that has the library."""
         with tempfile.TemporaryDirectory(prefix="embedding-") as self.room:
             self.try_programs(library)
             self.try_bad_callers(library)
-            self.try_pythons(library)
+            for version, python in pythons.items():
+                self.try_python(library, version, python, version == [*pythons][-1])
 
     def run(self, rlibs):
         """Builds the library over proved crates, and tries all. `rlibs` gives the folder of a crate's rlib."""
         with tempfile.TemporaryDirectory(prefix="library-") as room:
-            made, said = Library(rlibs).archive(room)
+            self.room, (made, said) = room, built(room, rlibs)
             taken_over = " (by an earlier run)" if said is True else ""
             if not self.count(made is not None, f"lib{CRATE}.a is built{taken_over}"):
                 self.tell(said.rstrip("\n")[-3000:])
-                return
-            words = [sys.executable, f"{ROOT}/python/build.py", "library", f"{room}/library", "--archive", made]
-            self.room = room
-            if self.lacks("cc", "the library in C, Rust and Python"):
-                return
-            if self.ran("the library is put together", *words):
-                self.over(f"{room}/library")
+            elif not self.lacks("cc", "the library in C, Rust and Python"):
+                words = [sys.executable, f"{ROOT}/python/build.py", "library", f"{room}/library", "--archive", made]
+                if self.ran("the library is put together", *words):
+                    self.over(f"{room}/library")
 
 
 def main(words):
