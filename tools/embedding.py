@@ -187,17 +187,23 @@ class Embedding:
             for version, python in pythons.items():
                 self.try_python(library, version, python, version == [*pythons][-1])
 
+    def over_archive(self, archive, room):
+        """Puts the library together from its archive, and tries all."""
+        self.room = room
+        if not self.lacks("cc", "the library in C, Rust and Python"):
+            words = [sys.executable, f"{ROOT}/python/build.py", "library", f"{room}/library", "--archive", archive]
+            if self.ran("the library is put together", *words):
+                self.over(f"{room}/library")
+
     def run(self, rlibs):
         """Builds the library over proved crates, and tries all. `rlibs` gives the folder of a crate's rlib."""
         with tempfile.TemporaryDirectory(prefix="library-") as room:
-            self.room, (made, said) = room, built(room, rlibs)
+            made, said = built(room, rlibs)
             taken_over = " (by an earlier run)" if said is True else ""
-            if not self.count(made is not None, f"lib{CRATE}.a is built{taken_over}"):
+            if self.count(made is not None, f"lib{CRATE}.a is built{taken_over}"):
+                self.over_archive(made, room)
+            else:
                 self.tell(said.rstrip("\n")[-3000:])
-            elif not self.lacks("cc", "the library in C, Rust and Python"):
-                words = [sys.executable, f"{ROOT}/python/build.py", "library", f"{room}/library", "--archive", made]
-                if self.ran("the library is put together", *words):
-                    self.over(f"{room}/library")
 
 
 def main(words):

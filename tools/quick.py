@@ -1,5 +1,4 @@
 """Programs, tests and the library for C, built without their proofs, and all that they have to answer."""
-import sys
 import tempfile
 import threading
 import time
@@ -10,7 +9,7 @@ import embedding
 import standing
 import unproved
 from ending import Fault
-from repository import ROOT, run as run_command
+from repository import ROOT
 
 PRINTING = threading.Lock()
 
@@ -28,10 +27,9 @@ class Quick:
 
     def program(self, name):
         """A program's answers."""
-        path = f"{self.folder}/{name}"
-        self.repository.build(name, path)
+        self.repository.build(name, f"{self.folder}/{name}")
         tell(f"{name} is built")
-        answered = cases.Cases(tell, {name: [path]})
+        answered = cases.Cases(tell, {name: [f"{self.folder}/{name}"]})
         answered.run()
         return answered.passed, answered.failed
 
@@ -45,14 +43,9 @@ class Quick:
 
     def library(self, name):
         """The library, as its users call it."""
-        made, archive = f"{self.folder}/library", f"{self.folder}/lib{name}.a"
-        self.repository.build(name, archive)
-        words = [f"{ROOT}/python/build.py", "library", made, "--archive", archive]
-        joined = run_command(sys.executable, *words)
-        if joined.returncode:
-            raise Fault("the library cannot be put together", *joined.stdout.splitlines())
+        self.repository.build(name, f"{self.folder}/lib{name}.a")
         trials = embedding.Embedding(tell)
-        trials.over(made)
+        trials.over_archive(f"{self.folder}/lib{name}.a", self.folder)
         return trials.passed, trials.failed
 
     def step(self, how, name):
