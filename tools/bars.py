@@ -14,7 +14,7 @@ def element(kind, inside='', **values):
 
 
 def text(x, y, inside, **more):
-    return element('text', inside, x=x, y=y, **{'fill': INK, **more})
+    return element('text', inside, x=f'{x:.0f}', y=f'{y:.0f}', **{'fill': INK, **more})
 
 
 def box(x, y, width, height, fill):

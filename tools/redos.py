@@ -12,32 +12,23 @@ import subprocess
 import sys
 import time
 
-from bars import EDGE, PAPER, element, svg, text as written
+from bars import EDGE, PAPER, element, svg, text
 from ending import Fault, ended
 from repository import write
 
-# Where a pattern was published, the pattern, its flags, and a text of so many characters.
+# Where a pattern was published, the pattern, its flags, a text of so many characters, and how far right of and below
+# the end of each engine's curve the name is.
 CASES = {
-    "OWASP, Java class name": (r"^(([a-z])+.)+[A-Z]([a-z])+$", 0, lambda n: "a" * n),
+    "OWASP, Java class name": (r"^(([a-z])+.)+[A-Z]([a-z])+$", 0, lambda n: "a" * n, (6, 18), (6, 14)),
     "CVE-2020-8492, urllib": (
-        r"""(?:.*,)*[ \t]*([^ \t]+)[ \t]+realm=(["']?)([^"']*)\2""", re.I, lambda n: "," * n),
-    "Stack Overflow, 2016": (r"^[\s\u200c]+|[\s\u200c]+$", 0, lambda n: "-" + " " * (n - 2) + "-"),
+        r"""(?:.*,)*[ \t]*([^ \t]+)[ \t]+realm=(["']?)([^"']*)\2""", re.I, lambda n: "," * n, (6, -1), (6, 2)),
+    "Stack Overflow, 2016": (
+        r"^[\s\u200c]+|[\s\u200c]+$", 0, lambda n: "-" + " " * (n - 2) + "-", (-8, 4), (6, 14)),
     "Cloudflare, 2019": (
         r"""(?:(?:"|'|\]|\}|\\|\d|(?:nan|infinity|true|false|null|undefined|symbol|math)|`|-|\+)+[)]*;?"""
-        r"""((?:\s|-|~|!|{}|\|\||\+)*.*(?:.*=.*)))""", re.I, lambda n: '"' + "x" * (n - 1)),
+        r"""((?:\s|-|~|!|{}|\|\||\+)*.*(?:.*=.*)))""", re.I, lambda n: '"' + "x" * (n - 1), (6, 4), (6, 0)),
 }
 ENGINES = {"re": "#b3261e", "gaffsilver": "#3b6ea5"}
-# Where a curve's name is, beside its end.
-LABELS = {
-    ("re", "OWASP, Java class name"): (6, 18, "start"),
-    ("re", "CVE-2020-8492, urllib"): (6, -1, "start"),
-    ("re", "Stack Overflow, 2016"): (-8, 4, "end"),
-    ("re", "Cloudflare, 2019"): (6, 4, "start"),
-    ("gaffsilver", "OWASP, Java class name"): (6, 14, "start"),
-    ("gaffsilver", "CVE-2020-8492, urllib"): (6, 2, "start"),
-    ("gaffsilver", "Stack Overflow, 2016"): (6, 14, "start"),
-    ("gaffsilver", "Cloudflare, 2019"): (6, 0, "start"),
-}
 LENGTHS = (10, 12, 14, 16, 18, 20, 22, 24, 26, 28, 30, 35, 40, 50, 100, 200, 500, 1000, 2000, 5000, 10000, 20000, 50000,
            100000)
 MOST_SECONDS, TRIES = 2, 3
@@ -60,7 +51,7 @@ def searched(pattern, text):
 
 def measure(engine, name):
     """Prints the lengths and times of a pattern."""
-    source, flags, text = CASES[name]
+    source, flags, text, *_ = CASES[name]
     pattern = __import__(engine).compile(source, flags)
     for length in LENGTHS:
         seconds = searched(pattern, text(length))
@@ -71,17 +62,11 @@ def measure(engine, name):
 
 def measured(engine, name):
     """The same, from a process that is ended where one search takes too long."""
-    child = subprocess.Popen([sys.executable, __file__, engine, name], stdout=subprocess.PIPE, text=True)
     try:
-        said = child.communicate(timeout=60)[0]
-    except subprocess.TimeoutExpired:
-        child.kill()
-        said = child.communicate()[0]
-    return [(int(length), float(seconds)) for length, seconds in (it.split() for it in said.splitlines())]
-
-
-def text(x, y, inside, **more):
-    return written(f"{x:.0f}", f"{y:.0f}", inside, **more)
+        said = subprocess.run([sys.executable, __file__, engine, name], stdout=subprocess.PIPE, timeout=60).stdout
+    except subprocess.TimeoutExpired as late:
+        said = late.stdout or b""
+    return [(int(length), float(seconds)) for length, seconds in map(bytes.split, said.splitlines())]
 
 
 def place(length, seconds):
@@ -115,7 +100,8 @@ def picture(rows):
     for engine, name, found in rows:
         points = " L ".join(f"{x:.1f} {y:.1f}" for x, y in (place(*it) for it in found))
         lines.append(element("path", d=f"M {points}", fill="none", stroke=ENGINES[engine], stroke_width=2))
-        (x, y), (right, down, anchor) = place(*found[-1]), LABELS[engine, name]
+        (x, y), (right, down) = place(*found[-1]), dict(zip(ENGINES, CASES[name][3:]))[engine]
+        anchor = "start" if right > 0 else "end"
         lines.append(text(x + right, y + down, name, font_size=12, fill=ENGINES[engine], text_anchor=anchor))
     return svg(800, 476, [element("title", "Time against length of text"), *lines], role="img")
 
