@@ -5,14 +5,10 @@
     speed.py --instructions [--before PATH] [--beside PATH] [--characters N]
 
 Both take --program PATH and --only NAME,... For each line of WORK, without and with the INFO block: nanoseconds of
-processor time a character, the best of N runs, of the program and of CPython, and the ratio. The time of a match of the
-empty pattern, which is that of reading the text, is taken off. An answer that is not CPython's is marked WRONG, and the
-status is then 1. Without one, --svg draws the ratios as bars.
-
-Instructions a character are counted by cachegrind of valgrind, likewise. --before counts an earlier build too, and
---beside a program of another engine. That one gets two arguments, a file with a pattern and a file with a text, both
-UTF-8, and prints how many matches there are. It gets no single matches and no lines of APART. At last come the
-geometric means of the ratios. It runs under CPython 3.11 to 3.13.
+processor time a character, the best of N runs, of the program and of CPython, and the ratio (docs/SPEED.md). The status
+is 1 if an answer is not CPython's. Instructions are counted by cachegrind, likewise. A program of another engine gets
+two arguments, a file with a pattern and a file with a text, both UTF-8, and prints how many matches there are. It gets
+no single matches and no lines of APART. It runs under CPython 3.11 to 3.13.
 """
 import argparse
 import collections
@@ -192,33 +188,28 @@ def instructions(*command):
     return int(re.search(r'I +refs: +([\d,]+)', told)[1].replace(',', ''))
 
 
-def of_program(program, code, asked, room):
-    """The instructions a character of the program for a case, less those for reading the text."""
-    counts = []
-    for line in lines_of(code, asked):
-        write(f'{room}/case', f'{line}\n')
-        counts.append(instructions(program, f'{room}/case'))
-    return (counts[0] - counts[1]) / len(asked.text)
-
-
-def of_another(program, work, asked, room):
-    """The instructions a character of another engine's program for the matches of a line, less those for reading."""
-    letters, counts = ''.join(letter for letter, flag in words.FLAGS.items() if flag & work.flags), []
-    write(f'{room}/text', asked.text.decode() if work.is_bytes else asked.text)
-    for pattern in (f'(?{letters})' * bool(letters) + work.pattern, NOTHING):
-        write(f'{room}/pattern', pattern)
-        counts.append(instructions(program, f'{room}/pattern', f'{room}/text'))
-    return (counts[0] - counts[1]) / len(asked.text)
-
-
 def counts(work, options, room):
     """The program's instructions a character, those of the other programs, and True, by the form of the words."""
     pattern, asked = case_of(work, work.size if work.verb == 'match' else options.characters)
-    is_asked = options.beside and work.verb != 'match' and work.name not in APART
-    beside = {'beside': of_another(options.beside, work, asked, room)} if is_asked else {}
+
+    def counted(program, asking, reading, *more):
+        """Those of a program for a file, less those for one that it takes as long to read."""
+        found = []
+        for it in (asking, reading):
+            write(f'{room}/file', it)
+            found.append(instructions(program, f'{room}/file', *more))
+        return (found[0] - found[1]) / len(asked.text)
+
+    beside = {}
+    if options.beside and work.verb != 'match' and work.name not in APART:
+        letters = ''.join(letter for letter, flag in words.FLAGS.items() if flag & work.flags)
+        write(f'{room}/text', asked.text.decode() if work.is_bytes else asked.text)
+        asking = f'(?{letters})' * bool(letters) + work.pattern
+        beside = {'beside': counted(options.beside, asking, NOTHING, f'{room}/text')}
     for form, code in forms(pattern):
-        before = {'before': of_program(options.before, code, asked, room)} if options.before else {}
-        yield form, of_program(options.program, code, asked, room), {**before, **beside}, True
+        lines = [f'{it}\n' for it in lines_of(code, asked)]
+        before = {'before': counted(options.before, *lines)} if options.before else {}
+        yield form, counted(options.program, *lines), {**before, **beside}, True
 
 
 def arguments():
