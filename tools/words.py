@@ -7,13 +7,10 @@
     words.py --rust NAME PATTERN ..     writes each pattern's bytecode and the numbers of its named groups as constants
     words.py --tree PATTERN             writes the pattern's tree as a Rust expression of `Part`
 
---try builds the program without proofs and prints its answer beside Python's; --run does so with a program that is
-there. --items lists the bytecode item by item. CPython's own compiler makes the bytecode. Python's answer can differ if
-a text has letters past ASCII, which the program's table lacks: then a line on standard error says so, and --table names
-a table for the program (unicode.py --lines). Flags add up: `-f im` is `-f i -f m`.
-
-It runs under CPython 3.11 to 3.13; --try needs the Rattle kit as well. The status is 0; 1 if the answers differ, or if
---items finds that the bytecode is rejected; 2 after a fault, which is a line on standard error.
+CPython's own compiler makes the bytecode. Flags add up: `-f im` is `-f i -f m`. If a text has letters past ASCII, which
+the program's table lacks, a line on standard error says so. It runs under CPython 3.11 to 3.13; --try needs the Rattle
+kit as well. The status is 0; 1 if the answers differ, or if --items finds that the bytecode is rejected; 2 after a
+fault, which is a line on standard error.
 """
 import argparse
 import contextlib
@@ -297,14 +294,6 @@ def compare(options, line, names, expected):
     return int(not is_same)
 
 
-def options_of(given):
-    """The options that are given, and the other words, among them all after --."""
-    end = given.index('--') if '--' in given else len(given)
-    options = arguments().parse_intermixed_args(given[:end])
-    options.words += given[end + 1:]
-    return options
-
-
 def arguments():
     parser = argparse.ArgumentParser(
         description=__doc__, formatter_class=argparse.RawDescriptionHelpFormatter, allow_abbrev=False)
@@ -318,8 +307,9 @@ def arguments():
     add('--no-block', action='store_true', help='cut the INFO block off the bytecode')
     add('--raw', action='store_true', help='instead of a pattern there is bytecode, as a case has it')
     add('--items', action='store_true', help='list the bytecode, item by item, or up to where it is rejected')
-    add('--try', dest='attempt', action='store_true', help="as --run, with sre_cases as `rt try` builds it")
-    add('--run', metavar='PROGRAM', help="run sre_cases, and compare its answer with Python's")
+    either = parser.add_mutually_exclusive_group().add_argument
+    either('--try', dest='attempt', action='store_true', help="as --run, with sre_cases as `rt try` builds it")
+    either('--run', metavar='PROGRAM', help="run sre_cases, and compare its answer with Python's")
     add('--table', type=lambda it: ['--table', it], default=[], metavar='FILE', help='a table for --run (unicode.py)')
     add('--seconds', type=int, default=20, metavar='N', help='seconds for the program, and for Python (20)')
     add = parser.add_mutually_exclusive_group().add_argument
@@ -340,16 +330,12 @@ def one_case(options):
     if verb not in VERBS or len(given) != 2 - (verb == 'check'):
         raise Fault('write match, search or walk, a pattern and a text, or check and a pattern; '
                     '--help lists the options')
-    if options.run is not None and options.attempt:
-        raise Fault('--run takes a program that is there, and --try builds one: write one of them')
     if options.run is not None:
         require_program(options.run)
     if options.attempt and not (shutil.which('rt') and os.path.isdir(f'{ROOT}/crates/sre_cases')):
         raise Fault('--try needs the Rattle kit (`rt` on the path) and the folder crates/sre_cases')
     if options.table and options.run is None:
         raise Fault('--table names a table for the program: write --run PROGRAM as well')
-    for path in options.table[1:]:
-        open(path, 'rb').close()
     if options.raw and (options.flags or options.no_block):
         raise Fault('--raw takes bytecode as it is, and neither --flags nor --no-block')
     pattern = None if options.raw else pattern_of(given[0], options)
@@ -386,7 +372,9 @@ def show_constants(options):
 
 def main(given):
     require_known_numbers()
-    options = options_of(given)
+    end = given.index('--') if '--' in given else len(given)
+    options = arguments().parse_intermixed_args(given[:end])
+    options.words += given[end + 1:]
     if options.tree is None and options.cases is None and not options.rust:
         return one_case(options)
     if options.run or options.attempt or options.items or options.raw or options.words and not options.rust:
