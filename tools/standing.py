@@ -8,6 +8,8 @@ These are: the numbers of .ci/counts, whose rows may fall only with a reason, 'W
 a tool reads each file of cases and mutants; HANDLES, which allows nothing; the seal of allocation failures; and the
 pages and the header for C (`map.py`, `header.py`). The status is 1 if something is missing or stale.
 """
+import collections
+import glob
 import os
 import re
 import subprocess
@@ -26,9 +28,9 @@ HANDLES = "Handles allowed: none.\n"
 
 # What the tools read of these folders of a crate.
 READ = {
-    "must-fail": r".*\.edit",
-    "wrong": r".*\.edit",
-    "cases": r".*\.(txt|expected|fault|flags|table)|(files|no_cases|tables|calls)\.jsonl",
+    "must-fail": r"[^/]*\.edit",
+    "wrong": r"[^/]*\.edit",
+    "cases": r"[^/]*\.(txt|expected|fault|flags|table)|(files|no_cases|tables|calls)\.jsonl",
 }
 
 GROWTHS = ("from_slice", "push", "resize")
@@ -54,15 +56,12 @@ def files(folder, *ends):
 
 def listed(folder, end):
     """The files right in a folder whose names end so, as the tools list them."""
-    names = sorted(os.listdir(folder)) if os.path.isdir(folder) else []
-    return [f"{folder}/{it}" for it in names if it.endswith(end)]
+    return sorted(glob.glob(f"{folder}/*{end}"))
 
 
 def folders():
     """The folders of the crates, and of the tests' crates."""
-    for top in ("crates", "tests"):
-        found = sorted(os.listdir(f"{ROOT}/{top}")) if os.path.isdir(f"{ROOT}/{top}") else []
-        yield from (f"{ROOT}/{top}/{it}" for it in found if os.path.isdir(f"{ROOT}/{top}/{it}"))
+    return [it for top in ("crates", "tests") for it in listed(f"{ROOT}/{top}", "") if os.path.isdir(it)]
 
 
 def lines_in(paths):
@@ -90,21 +89,15 @@ def counted():
     tests = listed(f"{ROOT}/python/tests", ".py")
     found["python test methods"] = sum(read(it).count("\n    def test_") for it in tests)
     found["embedding checks"] = sum(read(it).count(" CHECK(") for it in listed(f"{ROOT}/embedding", ".c"))
-    for crate in crates().values():
-        for it in mutants.mutants_of(crate):
-            what = f"mutants of {it.call}"
-            found[what] = found.get(what, 0) + 1
+    of_all = (mutants.mutants_of(it) for it in crates().values())
+    found.update(collections.Counter(f"mutants of {it.call}" for own in of_all for it in own))
     return {what: number for what, number in found.items() if number}
 
 
-def rows_of(text):
-    """The rows of a text of .ci/counts: of each thing its number, the number that it was, and why it is less."""
-    found = [it for it in map(ROW.fullmatch, text.split("\n")) if it]
-    return {it[1]: (int(it[2]), int(it[3] or 0), it[4]) for it in found}
-
-
 def rows_now():
-    return rows_of(read(COUNTS)) if os.path.isfile(COUNTS) else {}
+    """The rows of .ci/counts: of each thing its number, the number that it was, and why it is less."""
+    found = filter(None, map(ROW.fullmatch, read(COUNTS).split("\n")))
+    return {it[1]: (int(it[2]), int(it[3] or 0), it[4]) for it in found}
 
 
 def missed():
@@ -151,10 +144,10 @@ def unread():
     """Files beside those that a tool reads, which nothing reads."""
     for folder in folders():
         for part, form in READ.items():
-            for path in listed(f"{folder}/{part}", ""):
+            for path in files(f"{folder}/{part}", ""):
                 begun, end = os.path.splitext(path)
                 is_alone = end in (".txt", ".fault", ".flags") and not os.path.isfile(f"{begun}.expected")
-                if is_alone or not os.path.isfile(path) or not re.fullmatch(form, os.path.basename(path)):
+                if is_alone or not re.fullmatch(form, os.path.relpath(path, f"{folder}/{part}")):
                     yield f"{os.path.relpath(path, ROOT)}: nothing reads it"
 
 
