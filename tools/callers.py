@@ -3,12 +3,11 @@
 would, in a copy of the repository.
 
     callers.py [--prove] [NAME ..]     those of these names, or all; `commands` are the commands
-    callers.py --names                 lists the names
 
 A caller is a whole program: a block of Rust that begins with its head comment. Above it the page has its name and what
 it lists in `crates.txt`; below it is its output, and its input where the page gives one. The other blocks of Rust of a
 section are one caller, too, by the section's name, as `Recipes`: their functions and lines are put into a program with
-a table, a code for `(\\w+)=(\\d+)`, an allocator, a text and an error type. `rt try` builds and runs each, and proves
+a table, a code for `(\\w+)=(\\d+)`, an allocator and a text. `rt try` builds and runs each, and proves
 nothing; with --prove `rt run` proves it first. If the page shows output, the caller has to print the same.
 
 A command is a line of a block of the shell, or begins with `python3` in a sentence. All run as they are on the page,
@@ -49,37 +48,21 @@ USE = re.compile(r"use .*?;\n", re.S)
 ITEM = re.compile(r"mod \w+;\n|(?://.*\n|#.*\n)*(?:pub )?(?:fn|struct|enum|const|static)\b(?:.*;|(?s:.*?)\n[}\]];?)\n")
 
 # What surrounds the parts of a section. A name that they use as well is used once.
-USES = """use sre_engine::{Code, CodeError, Request, SearchIter, SreError, State, UniError, UniTable};
-use std::alloc::{AllocError, Global};
-use std::io;
-use thiserror::Error;
+USES = """use sre_engine::{Code, Request, SearchIter, SreError, State, UniTable};
+use std::alloc::Global;
 """
 FRAME = """\
 //! Parts of a page, one after the other.
 #![tactic(auto)]
 
 {uses}
-#[derive(Debug, Drop, Error)]
-enum Fault {{
-    #[error("words: {{0}}")]
-    Words(#[from] CodeError),
-    #[error("search: {{0}}")]
-    Search(#[from] SreError),
-    #[error("table: {{0}}")]
-    Table(#[from] UniError),
-    #[error("memory: {{0}}")]
-    Memory(#[from] AllocError),
-    #[error("output: {{0}}")]
-    Output(#[from] io::Error),{more}
-}}
-
 {items}
-fn shown(rt: &HostRuntime, alloc: Global, code: Code<'_>, text: &str) -> Result<(), Fault> {{
+fn shown(rt: &HostRuntime, alloc: Global, code: Code<'_>, text: &str) -> anyhow::Result<()> {{
 {lines}
     Ok(())
 }}
 
-fn main(rt: HostRuntime) -> Result<(), Fault> {{
+fn main(rt: HostRuntime) -> anyhow::Result<()> {{
     let uni = UniTable::ascii(rt.alloc());
     let words = [
         14, 4, 0, 3, 4294967295, 17, 0, 24, 9, 1, 4294967295, 13, 4, 8, 14, 0, 1, 17, 1, 16, 61, 17, 2, 24, 9, 1,
@@ -89,9 +72,6 @@ fn main(rt: HostRuntime) -> Result<(), Fault> {{
     shown(&rt, rt.alloc(), code, "size=12, top=7")
 }}
 """
-EMITS = """
-    #[error("emit: {0}")]
-    Emit(#[from] sre_emit::EmitError),"""
 
 # A program of a page: its name, what it lists, its source, the output that the page shows, and the input.
 Caller = collections.namedtuple("Caller", "name listed source written read")
@@ -104,7 +84,7 @@ def used_names(uses):
     return "".join(f"use {it};\n" for it in dict.fromkeys(paths))
 
 
-def framed(parts, listed):
+def framed(parts):
     """The program that parts of a page make."""
     uses, items, lines = USES, "", ""
     for part in parts:
@@ -112,7 +92,7 @@ def framed(parts, listed):
         part = USE.sub("", part)
         items += "".join(it[0] + "\n" for it in ITEM.finditer(part))
         lines += ITEM.sub("", part)
-    return FRAME.format(uses=used_names(uses), more=EMITS * ("sre_emit" in listed), items=items, lines=lines)
+    return FRAME.format(uses=used_names(uses), items=items, lines=lines)
 
 
 def callers_of(page):
@@ -130,9 +110,9 @@ def callers_of(page):
         inside = BLOCK.findall(section)
         parts = [it for language, it in inside if language == "rust" and not it.startswith("//!")]
         if parts:
-            listed = LISTED.findall(section)[-1][1]
+            listed = f"{LISTED.findall(section)[-1][1]} anyhow"
             written = "".join(it for language, it in inside if not language)
-            yield Caller(section.partition("\n")[0], listed, framed(parts, listed), written or None, "")
+            yield Caller(section.partition("\n")[0], listed, framed(parts), written or None, "")
 
 
 def put(caller, folder):
@@ -206,12 +186,8 @@ def main(names):
     known = [*found, "commands"]
     if names == ["--help"]:
         return None
-    if names == ["--names"]:
-        print(*known, sep="\n")
-        return 0
-    unknown = [it for it in names if it not in known]
-    if unknown:
-        raise Fault(f"no caller is named {', '.join(unknown)}; --names lists them")
+    if not {*names} <= {*known}:
+        raise Fault(f"the callers are {', '.join(known)}")
     if not shutil.which("rt"):
         raise Fault("there is no rt on the path: the Rattle kit has it")
     with tempfile.TemporaryDirectory() as room:
