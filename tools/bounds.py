@@ -196,21 +196,18 @@ def held(program, tell, count=1000, seed=7):
     return not failed
 
 
-def shown(given):
-    """What is printed of the patterns that are given, or of those of a file."""
-    import words  # which ends an older Python
-
-    yield "| Pattern | 100 characters | 10,000 characters |\n|---|---|---|"
-    if given[0] == "--of":
-        yield from (line(it["name"][0], words.pattern_in(it).words) for it in words.blocks_of(given[1]))
-    else:
-        yield from (line(it, words.compiled(it, 0).words) for it in given)
-
-
 def main(given):
     if not given or given == ["--help"] or given[0] == "--of" and len(given) != 2:
         return None
-    return print(*shown(given), sep="\n") or 0
+    import words  # which ends an older Python
+
+    if given[0] == "--of":
+        named = [(it["name"][0], words.pattern_in(it)) for it in words.blocks_of(given[1])]
+    else:
+        named = [(it, words.compiled(it, 0)) for it in given]
+    print("| Pattern | 100 characters | 10,000 characters |\n|---|---|---|")
+    print(*(line(name, it.words) for name, it in named), sep="\n")
+    return 0
 
 
 if __name__ == "__main__":

@@ -177,7 +177,7 @@ class Embedding:
             self.tell(f"embedding: CPython's own tests not tried: {python} has none")
 
     def over(self, library):
-        """Tries all over a folder that has the library."""
+        """Tries all over a folder that has the library, and gives how many passed and failed."""
         pythons, lacking = found_pythons()
         for version in lacking:
             self.tell(f"embedding: not tried: there is no Python {version}")
@@ -186,6 +186,7 @@ class Embedding:
             self.try_bad_callers(library)
             for version, python in pythons.items():
                 self.try_python(library, version, python, version == [*pythons][-1])
+        return self.passed, self.failed
 
     def over_archive(self, archive, room):
         """Puts the library together from its archive, and tries all."""
@@ -194,6 +195,7 @@ class Embedding:
             words = [sys.executable, f"{ROOT}/python/build.py", "library", f"{room}/library", "--archive", archive]
             if self.ran("the library is put together", *words):
                 self.over(f"{room}/library")
+        return self.passed, self.failed
 
     def run(self, rlibs):
         """Builds the library over proved crates, and tries all. `rlibs` gives the folder of a crate's rlib."""
@@ -201,9 +203,9 @@ class Embedding:
             made, said = built(room, rlibs)
             taken_over = " (by an earlier run)" if said is True else ""
             if self.count(made is not None, f"lib{CRATE}.a is built{taken_over}"):
-                self.over_archive(made, room)
-            else:
-                self.tell(said.rstrip("\n")[-3000:])
+                return self.over_archive(made, room)
+        self.tell(said.rstrip("\n")[-3000:])
+        return self.passed, self.failed
 
 
 def main(words):
@@ -215,9 +217,9 @@ def main(words):
     with tempfile.TemporaryDirectory(prefix="library-") as room:
         if not words:
             subprocess.run([sys.executable, f"{ROOT}/python/build.py", "library", room], check=True)
-        trials.over(os.path.realpath(words[0]) if words else room)
-    print(f"{trials.passed} passed, {trials.failed} failed")
-    return 0 if trials.passed and not trials.failed else 1
+        passed, failed = trials.over(os.path.realpath(words[0]) if words else room)
+    print(f"{passed} passed, {failed} failed")
+    return 0 if passed and not failed else 1
 
 
 if __name__ == "__main__":

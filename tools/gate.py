@@ -136,9 +136,7 @@ def try_library(prover, count):
     """Builds the library over proved crates, and tries it in C, Rust and Python."""
     crate = crates()[embedding.CRATE]
     if prover.are_proved([it.name for it in crate.below()]):
-        trials = embedding.Embedding(tell)
-        trials.run(prover.rlibs_of)
-        count.add(trials.passed, trials.failed)
+        count.add(*embedding.Embedding(tell).run(prover.rlibs_of))
     else:
         count.check(False, f"embedding: not tried, since a crate below {crate.name} is not proved")
 
@@ -163,9 +161,7 @@ def verified():
             judged = [it.result() for it in tried]
             proving.result(), building.result(), testing.result()
         built = f"{prover.folder}/crates/sre_cases/out/sre_cases"
-        of_programs = cases.Cases(tell, {"sre_cases": [built, f"{built}.by-rattle"]})
-        of_programs.run()
-        of_cases.add(of_programs.passed, of_programs.failed)
+        of_cases.add(*cases.Cases(tell, {"sre_cases": [built, f"{built}.by-rattle"]}).run())
     for line in mutants.dear([it for each in judged for it in each.dearest]):
         tell(line)
     return phases, prover.taken_over, sum(len(it.found) for it in judged if it.is_kept)

@@ -29,9 +29,7 @@ class Quick:
         """A program's answers."""
         self.repository.build(name, f"{self.folder}/{name}")
         tell(f"{name} is built")
-        answered = cases.Cases(tell, {name: [f"{self.folder}/{name}"]})
-        answered.run()
-        return answered.passed, answered.failed
+        return cases.Cases(tell, {name: [f"{self.folder}/{name}"]}).run()
 
     def tests(self, name):
         """A crate's tests: as many as its sources count."""
@@ -44,9 +42,7 @@ class Quick:
     def library(self, name):
         """The library, as its users call it."""
         self.repository.build(name, f"{self.folder}/lib{name}.a")
-        trials = embedding.Embedding(tell)
-        trials.over_archive(f"{self.folder}/lib{name}.a", self.folder)
-        return trials.passed, trials.failed
+        return embedding.Embedding(tell).over_archive(f"{self.folder}/lib{name}.a", self.folder)
 
     def step(self, how, name):
         """What a step came to: nothing but a failure where something cannot be built."""

@@ -6,7 +6,6 @@ what is refused to the machine gives the answer `memory`: no more of them than t
 asks no finder. All others are the finder's, and leave the answer as it is. It needs `cc`.
 """
 import os
-import shutil
 import subprocess
 import tempfile
 
@@ -64,13 +63,6 @@ class Refusing:
             tell(f"{verb} {asked[:40]}..: {requests} requests, {alone} of them with no finder; where one was refused "
                  f"{left} left the answer, {refused} were told, {requests - left - refused} came to another answer")
         return is_well
-
-
-def can_try(tell):
-    """Whether there is a `cc`; that there is none is told."""
-    if not shutil.which("cc"):
-        tell("requests refused to finders not tried: there is no cc")
-    return bool(shutil.which("cc"))
 
 
 def are_plain(program, tell):
