@@ -1,7 +1,7 @@
 #!/usr/bin/env python3
 """The engine inside C, Rust and Python, built and called as users do.
 
-    embedding.py [LIBRARY]     over a folder that `python/build.py library` has made, or one that is made now
+    embedding.py LIBRARY     over a folder that `python/build.py library` has made
 
 The programs of docs/EMBEDDING.md and of README.md are compiled and run, also under valgrind, and print what the page
 says; so do the callers of embedding/bad_callers.c. The package of python/ is built for each Python that is found. The
@@ -209,15 +209,11 @@ class Embedding:
 
 
 def main(words):
-    if len(words) > 1 or words[:1] == ["--help"]:
+    if len(words) != 1 or words == ["--help"]:
         return None
-    if words and not os.path.isfile(f"{words[0]}/libsre_c.a"):
+    if not os.path.isfile(f"{words[0]}/libsre_c.a"):
         raise Fault(f"{words[0]}/libsre_c.a: no such file; `python/build.py library {words[0]}` makes it")
-    trials = Embedding(lambda line: print(line, flush=True))
-    with tempfile.TemporaryDirectory(prefix="library-") as room:
-        if not words:
-            subprocess.run([sys.executable, f"{ROOT}/python/build.py", "library", room], check=True)
-        passed, failed = trials.over(os.path.realpath(words[0]) if words else room)
+    passed, failed = Embedding(lambda line: print(line, flush=True)).over(os.path.realpath(words[0]))
     print(f"{passed} passed, {failed} failed")
     return 0 if passed and not failed else 1
 

@@ -7,19 +7,6 @@ import sys
 
 from grammar import CATEGORIES, OPCODES, POSITIONS, UNLIMITED, Reader, block_numbers, family_of
 
-CAUSES = {
-    'Truncated': 'the words end before an item or the last SUCCESS is whole',
-    'UnknownOpcode': f'an opcode is read here, and is at most {len(OPCODES) - 1}',
-    'UnknownAt': f'a position code is at most {len(POSITIONS) - 1}',
-    'UnknownCategory': f'a category code is at most {len(CATEGORIES) - 1}',
-    'BadSkip': 'the skip, length or JUMP leads elsewhere than its layout demands',
-    'BadCounts': 'this least count is above the greatest',
-    'BadItem': 'no such item may stand here, or another end has to, or a branch is empty',
-    'BadSet': 'no such item may stand in a set, or its FAILURE has to, or a block number is past the count',
-    'BadInfo': "a block's skip is at least 4 and leads to the last word at most, and INFO stands at the front alone",
-    'TrailingWords': 'words follow the SUCCESS that ends the code',
-}
-
 
 def character(value):
     """A character's number and how it looks."""
@@ -63,7 +50,7 @@ class Listing:
         if reader.begun and reader.begun[0] not in [it.place for it in reader.read[-1:]]:
             yield self.line(*reader.begun, OPCODES[self.words[reader.begun[0]]])
         what = f'word {self.words[place]}' if place < len(self.words) else 'the end'
-        yield self.line(place, 0, f'{what} is refused, {cause}: {CAUSES[cause]}')
+        yield self.line(place, 0, f'{what} is refused: {cause}')
 
     def said(self, item):
         """What the line of an item says: its name and operands, or what stands in place of a name."""
