@@ -154,17 +154,16 @@ class Cases:
         for folder, name in folders():
             if name in self.programs:
                 self.files(folder, name)
-        changed = hostile.Changed()
         if "sre_cases" in self.programs:
-            self.made("sre_cases", "random words", hostile.Lists().are_judged)
-            self.made("sre_cases", "changed words", changed.are_judged)
+            self.made("sre_cases", "random words", hostile.are_judged, hostile.random_lists(), "random")
+            self.made("sre_cases", "changed words", hostile.are_judged, hostile.changed_lists(), "changed")
             if shutil.which("cc"):
                 self.made("sre_cases", "requests refused to finders", refused.are_plain)
             else:
                 self.tell("requests refused to finders not tried: there is no cc")
             self.made("sre_cases", "large lines", large.are_answered, large.cases)
         if "sre_probes" in self.programs:
-            self.made("sre_probes", "runs of changed words", changed.agree)
+            self.made("sre_probes", "runs of changed words", hostile.agree)
             lines = [it for folder in ("crates/sre_cases/cases", "examples") for it in lines_of(f"{ROOT}/{folder}")]
             self.made("sre_probes", "cases by finders", finders.agree, lines)
             self.made("sre_probes", "step bounds of random patterns", bounds.held)

@@ -22,6 +22,9 @@ PLAIN = ["FAILURE", "AT", "MARK", *REFERENCES, "ANY", "ANY", "ANY"]
 KINDS = ["BRANCH", "REPEAT", "POSSESSIVE_REPEAT", "ATOMIC_GROUP", "ASSERT", "ASSERT_NOT", "GROUPREF_EXISTS", *RUNS]
 MEMBERS = ["LITERAL", "LITERAL", "RANGE", "RANGE_UNI_IGNORE", "CATEGORY", "NEGATE", "CHARSET", "BIGCHARSET"]
 
+# Short texts with windows in them, and more steps than a code of few words takes there, but for one that counts far.
+TEXTS, STEPS = ("s: 0..9", "s:61 0..9", "s:6162 0..9", "s:6162 1..1"), 10_000
+
 
 class Writer:
     """Writes random codes, with names of opcodes until one is whole."""
@@ -126,71 +129,55 @@ class Writer:
         return words
 
 
-class Judged:
-    """Lists of words, and whether each is a code."""
-
-    def __init__(self, words, of_kind):
-        self.words, self.of_kind, self.codes = words, of_kind, [Reader(it).is_code for it in words]
-        self.lines = [f"check {case_words(it)}" for it in words]
-
-    def are_judged(self, program, tell):
-        """Whether a program judges all lists as the reader does, and there are enough of both kinds."""
-        told = [it.partition(" ")[0] for it in answers(program, self.lines)]
-        judged = zip(self.lines, self.codes, told)
-        differing = [line for line, is_a_code, one in judged if one != ("ok" if is_a_code else "refused")]
-        for line in differing[:10]:
-            tell(f"judged otherwise: {line}")
-        tell(f"{len(told)} of {len(self.words)} {self.of_kind} lists of words, {sum(self.codes)} of them codes:"
-             f" {len(differing)} are judged otherwise")
-        fifth = len(self.words) / 5
-        return len(told) == len(self.words) and not differing and fifth <= sum(self.codes) <= 4 * fifth
+def random_lists(count=50_000, seed=1):
+    writer = Writer(random.Random(seed))
+    return [writer.words() for _ in range(count)]
 
 
-class Lists(Judged):
-    """Random lists."""
-
-    def __init__(self, lists=50_000, seed=1):
-        writer = Writer(random.Random(seed))
-        super().__init__([writer.words() for _ in range(lists)], "random")
-
-
-# Texts, and windows in them.
-TEXTS = ("s: 0..9", "s:61 0..9", "s:6162 0..9", "s:6162 1..1")
-# More steps than a code of few words takes in such a text, but for one that counts far.
-STEPS = 10_000
-
-
-class Changed(Judged):
+def changed_lists():
     """The codes of the probes that are refused memory, each cut short at each place and with each word changed."""
+    found = re.findall(r"(?:match|search|walk) ([0-9,]+) ", read(f"{ROOT}/tests/sre_probes/cases/refusals.txt"))
+    lists = []
+    for words in ([int(it) for it in words.split(",")] for words in dict.fromkeys(found)):
+        lists += [words[:at] for at in range(len(words) + 1)]
+        for at, word in enumerate(words):
+            others = (word + 1, max(word - 1, 0), 0, 1, 15, UNLIMITED)
+            lists += [[*words[:at], min(other, UNLIMITED), *words[at + 1:]] for other in others]
+    return lists
 
-    def __init__(self):
-        found = re.findall(r"(?:match|search|walk) ([0-9,]+) ", read(f"{ROOT}/tests/sre_probes/cases/refusals.txt"))
-        lists = []
-        for words in ([int(it) for it in words.split(",")] for words in dict.fromkeys(found)):
-            lists += [words[:at] for at in range(len(words) + 1)]
-            for at, word in enumerate(words):
-                others = (word + 1, max(word - 1, 0), 0, 1, 15, UNLIMITED)
-                lists += [[*words[:at], min(other, UNLIMITED), *words[at + 1:]] for other in others]
-        super().__init__(lists, "changed")
 
-    def asked(self):
-        """Two lines for each code and text, but where a mark's number would have its list grow without end."""
-        for words, is_a_code in zip(self.words, self.codes):
-            is_far = any(opcode == NUMBER["MARK"] and number > 10_000 for opcode, number in zip(words, words[1:]))
-            if is_a_code and not is_far:
-                for text in TEXTS:
-                    yield [f"within {STEPS} {verb} {case_words(words)} {text} -" for verb in ("match", "search")]
+def are_judged(program, tell, lists, of_kind):
+    """Whether a program judges all lists as the reader does, and there are enough of both kinds."""
+    lines, codes = [f"check {case_words(it)}" for it in lists], [Reader(it).is_code for it in lists]
+    told = [it.partition(" ")[0] for it in answers(program, lines)]
+    differing = [line for line, is_a_code, one in zip(lines, codes, told) if one != ("ok" if is_a_code else "refused")]
+    for line in differing[:10]:
+        tell(f"judged otherwise: {line}")
+    tell(f"{len(told)} of {len(lists)} {of_kind} lists of words, {sum(codes)} of them codes:"
+         f" {len(differing)} are judged otherwise")
+    fifth = len(lists) / 5
+    return len(told) == len(lists) and not differing and fifth <= sum(codes) <= 4 * fifth
 
-    def agree(self, program, tell):
-        """Whether a search finds what a match at the window's start finds, where that finds something."""
-        asked = list(self.asked())
-        told = answers(program, [it for pair in asked for it in pair])
-        pairs = list(zip(told[::2], told[1::2]))
-        differing = [line for (line, _), (one, other) in zip(asked, pairs) if one.startswith("yes ") and one != other]
-        known = re.compile("yes |no$|step limit exceeded$")
-        other = [line for (line, _), it in zip(asked, pairs) for word in it if not known.match(word)]
-        for line in [*differing, *other][:10]:
-            tell(f"found otherwise: {line}")
-        found = sum(one.startswith("yes ") for one, _ in pairs)
-        tell(f"{len(pairs)} of {len(asked)} runs of changed words, {found} with a match: {len(differing)} differ")
-        return len(pairs) == len(asked) and not differing and not other and found > 1000
+
+def runs(lists):
+    """Two lines for each code and text, but where a mark's number would have its list grow without end."""
+    for words in lists:
+        is_far = any(opcode == NUMBER["MARK"] and number > 10_000 for opcode, number in zip(words, words[1:]))
+        if not is_far and Reader(words).is_code:
+            for text in TEXTS:
+                yield [f"within {STEPS} {verb} {case_words(words)} {text} -" for verb in ("match", "search")]
+
+
+def agree(program, tell):
+    """Whether a search of changed words finds what a match at the window's start finds, if that finds something."""
+    asked = list(runs(changed_lists()))
+    told = answers(program, [it for pair in asked for it in pair])
+    pairs = list(zip(told[::2], told[1::2]))
+    differing = [line for (line, _), (one, other) in zip(asked, pairs) if one.startswith("yes ") and one != other]
+    known = re.compile("yes |no$|step limit exceeded$")
+    other = [line for (line, _), it in zip(asked, pairs) for word in it if not known.match(word)]
+    for line in [*differing, *other][:10]:
+        tell(f"found otherwise: {line}")
+    found = sum(one.startswith("yes ") for one, _ in pairs)
+    tell(f"{len(pairs)} of {len(asked)} runs of changed words, {found} with a match: {len(differing)} differ")
+    return len(pairs) == len(asked) and not differing and not other and found > 1000

@@ -306,7 +306,7 @@ def arguments():
     add('--bytes', action='store_true', help='pattern and text are bytes')
     add('--no-block', action='store_true', help='cut the INFO block off the bytecode')
     add('--raw', action='store_true', help='instead of a pattern there is bytecode, as a case has it')
-    add('--items', action='store_true', help='list the bytecode, or that up to where it is rejected, and the cause (docs/BYTECODE.md)')
+    add('--items', action='store_true', help='list the bytecode, or up to where it is rejected, and why (BYTECODE)')
     either = parser.add_mutually_exclusive_group().add_argument
     either('--try', dest='attempt', action='store_true', help="as --run, with sre_cases as `rt try` builds it")
     either('--run', metavar='PROGRAM', help="run sre_cases, and compare its answer with Python's")
