@@ -104,8 +104,6 @@ def compiled(source, flags):
     try:
         tree = _parser.parse(source, flags)
         return Pattern(source, flags, tree, [int(word) for word in _compiler._code(tree, flags)])
-    except RecursionError:
-        raise Fault('the pattern is nested too deeply for this Python') from None
     except (re.error, ValueError, OverflowError) as error:
         raise Fault(f'bad pattern {ascii(source)}: {error}') from None
 
@@ -307,12 +305,11 @@ def arguments():
     add('--no-block', action='store_true', help='cut the INFO block off the bytecode')
     add('--raw', action='store_true', help='instead of a pattern there is bytecode, as a case has it')
     add('--items', action='store_true', help='list the bytecode, or up to where it is rejected, and why (BYTECODE)')
-    either = parser.add_mutually_exclusive_group().add_argument
-    either('--try', dest='attempt', action='store_true', help="as --run, with sre_cases as `rt try` builds it")
-    either('--run', metavar='PROGRAM', help="run sre_cases, and compare its answer with Python's")
     add('--table', type=lambda it: ['--table', it], default=[], metavar='FILE', help='a table for --run (unicode.py)')
     add('--seconds', type=int, default=20, metavar='N', help='seconds for the program, and for Python (20)')
     add = parser.add_mutually_exclusive_group().add_argument
+    add('--try', dest='attempt', action='store_true', help="as --run, with sre_cases as `rt try` builds it")
+    add('--run', metavar='PROGRAM', help="run sre_cases, and compare its answer with Python's")
     add('--cases', nargs=2, metavar=('FILE', 'NAME'), help='write a case file from patterns')
     add('--rust', action='store_true', help='write bytecode as constants: NAME PATTERN, or several such pairs')
     add('--tree', metavar='PATTERN', help='write the tree of a pattern as a Rust expression (--tree=-x for -x)')
@@ -377,8 +374,8 @@ def main(given):
     options.words += given[end + 1:]
     if options.tree is None and options.cases is None and not options.rust:
         return one_case(options)
-    if options.run or options.attempt or options.items or options.raw or options.words and not options.rust:
-        raise Fault('--cases, --rust and --tree take no verb, and none of --run, --try, --items and --raw')
+    if options.items or options.raw or options.words and not options.rust:
+        raise Fault('--cases, --rust and --tree take no verb, and neither --items nor --raw')
     if options.rust:
         show_constants(options)
     elif options.tree is not None:
