@@ -6,9 +6,9 @@ would, in a copy of the repository.
 
 A caller is a whole program: a block of Rust that begins with its head comment. Above it the page has its name and what
 it lists in `crates.txt`; below it is its output, and its input where the page gives one. The other blocks of Rust of a
-section are one caller, too, by the section's name, as `Recipes`: their functions and lines are put into a program with
-a table, a code for `(\\w+)=(\\d+)`, an allocator and a text. `rt try` builds and runs each, and proves
-nothing; with --prove `rt run` proves it first. If the page shows output, the caller has to print the same.
+section are one caller, too, by the section's name, as `Recipes`: they are put into a function that has an allocator, a
+code for `(\\w+)=(\\d+)` and a text. `rt try` builds and runs each, and proves nothing; with --prove `rt run` proves it
+first. If the page shows output, the caller has to print the same.
 
 A command is a line of a block of the shell, or begins with `python3` in a sentence. All run as they are on the page,
 in its order, but with a new folder instead of /tmp, a virtual environment as `python3`, and an `rt lib` that takes the
@@ -43,22 +43,16 @@ RT = """#!/bin/sh
 mkdir -p out && cp {room}/libsre_c.a out
 """
 
-# Where a line of a part belongs: a `use`, an item, or the rest.
-USE = re.compile(r"use .*?;\n", re.S)
-ITEM = re.compile(r"mod \w+;\n|(?://.*\n|#.*\n)*(?:pub )?(?:fn|struct|enum|const|static)\b(?:.*;|(?s:.*?)\n[}\]];?)\n")
-
-# What surrounds the parts of a section. A name that they use as well is used once.
-USES = """use sre_engine::{Code, Request, SearchIter, SreError, State, UniTable};
-use std::alloc::Global;
-"""
+# What surrounds the parts of a section.
 FRAME = """\
 //! Parts of a page, one after the other.
 #![tactic(auto)]
 
-{uses}
-{items}
+use sre_engine::{{Code, Request, SearchIter, SreError, State, UniTable}};
+use std::alloc::Global;
+
 fn shown(rt: &HostRuntime, alloc: Global, code: Code<'_>, text: &str) -> anyhow::Result<()> {{
-{lines}
+{parts}
     Ok(())
 }}
 
@@ -75,24 +69,6 @@ fn main(rt: HostRuntime) -> anyhow::Result<()> {{
 
 # A program of a page: its name, what it lists, its source, the output that the page shows, and the input.
 Caller = collections.namedtuple("Caller", "name listed source written read")
-
-
-def used_names(uses):
-    """A line for each name that these lines use."""
-    found = re.findall(r"use ([\w:]+?)(?:::\{([^}]*?),?\s*\})?;", uses)
-    paths = [f"{path}::{it.strip()}".removesuffix("::") for path, names in found for it in names.split(",")]
-    return "".join(f"use {it};\n" for it in dict.fromkeys(paths))
-
-
-def framed(parts):
-    """The program that parts of a page make."""
-    uses, items, lines = USES, "", ""
-    for part in parts:
-        uses += "".join(USE.findall(part))
-        part = USE.sub("", part)
-        items += "".join(it[0] + "\n" for it in ITEM.finditer(part))
-        lines += ITEM.sub("", part)
-    return FRAME.format(uses=used_names(uses), items=items, lines=lines)
 
 
 def callers_of(page):
@@ -112,7 +88,8 @@ def callers_of(page):
         if parts:
             listed = f"{LISTED.findall(section)[-1][1]} anyhow"
             written = "".join(it for language, it in inside if not language)
-            yield Caller(section.partition("\n")[0], listed, framed(parts), written or None, "")
+            source = FRAME.format(parts="".join(parts))
+            yield Caller(section.partition("\n")[0], listed, source, written or None, "")
 
 
 def put(caller, folder):

@@ -44,9 +44,8 @@ def expanded(text):
 def folders():
     """The folders with case files, and the crate whose program answers them."""
     for part in ("crates", "tests"):
-        for name in sorted(os.listdir(f"{ROOT}/{part}")):
-            if os.path.isdir(f"{ROOT}/{part}/{name}/cases"):
-                yield f"{ROOT}/{part}/{name}/cases", name
+        for path in sorted(glob.glob(f"{ROOT}/{part}/*/cases")):
+            yield path, path.split("/")[-2]
     yield f"{ROOT}/examples", "sre_cases"
 
 
@@ -85,9 +84,9 @@ def call_of_lines(folder, name, room):
 
 def lines_of(folder):
     """The lines of a folder's files of lines."""
-    names = (it for it in os.listdir(folder) if it.endswith(".txt"))
-    for name in sorted(it for it in names if os.path.isfile(f"{folder}/{it[:-4]}.expected")):
-        yield from (it.decode() for it in expanded(read(f"{folder}/{name}")).splitlines())
+    for path in sorted(glob.glob(f"{folder}/*.txt")):
+        if os.path.isfile(f"{path[:-4]}.expected"):
+            yield from (it.decode() for it in expanded(read(path)).splitlines())
 
 
 def rows(folder, name):

@@ -122,16 +122,13 @@ def vendor(target, names, is_forced):
 
 
 def main(words):
-    if words in ([], ["--help"]):
-        return None
     if words == ["--crates"]:
         print(*table(crates()), sep="\n")
         return 0
-    is_forced, words = "--force" in words, [it for it in words if it != "--force"]
-    options = [it for it in words if it.startswith("-")]
-    if options or not words:
-        raise Fault(f"{', '.join(options) or 'no TARGET'}: write [--force] TARGET [CRATE ..], --crates or --help")
-    return vendor(words[0], words[1:], is_forced)
+    named = [it for it in words if it != "--force"]
+    if not named or any(it.startswith("-") for it in named):
+        return None
+    return vendor(named[0], named[1:], "--force" in words)
 
 
 if __name__ == "__main__":
