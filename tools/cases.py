@@ -6,14 +6,11 @@
 Below crates/NAME/cases, tests/NAME/cases and, for `sre_cases`, in examples/ are files for the program NAME. `{TEXT*N}`
 in a file of lines or answers is TEXT N times, and each text of a .jsonl file has a character for a byte.
 
-    X.txt           lines; X.expected has the answers, X.fault the line that the program ends with, if it has one, and
-                    X.flags the flags before the file's name, if any. A file NAME.table is where the program runs
+    X.txt           lines, with X.expected, X.fault and X.flags (docs/PROGRAM.md); X.table is where the program runs
     files.jsonl     whole files, with the answers, the fault and the flags
     no_cases.jsonl  lines that are no cases, each with its cause: the fourth line of a file
     tables.jsonl    files that are no tables, each with its cause; these two with and without --explain
     calls.jsonl     arguments, with the answers and the fault; `to` and `faults_to` name files for the two outputs
-
-To these come lines that are made: by `hostile.py`, `large.py`, `finders.py`, `bounds.py` and `refused.py`.
 """
 import contextlib
 import glob

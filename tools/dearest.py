@@ -3,11 +3,10 @@
 
     dearest.py CRATE [--test] [--only PATH]..
 
-The crates below have to be built, as `rt check` in the crate's folder does. With --test the tests are proved, too, and
-with --only those functions alone. A check with `--incremental` keeps each module once it is checked, so the times of
-these files tell what each took. Of a function these are its steps, with what is alive at each (`Lts`), its goals that
-are searched for (`Proof`), and its answers (`Answers`). What is read for the first time is in modules of its own, or in
-the first one that needs it. The status is that of the check.
+The crates below have to be built, as `rt check` in the crate's folder does. A check with `--incremental` keeps each
+module once it is checked, so the times of these files tell what each took. Of a function these are its steps, with what
+is alive at each (`Lts`), its goals that are searched for (`Proof`), and its answers (`Answers`). What is read for the
+first time is in modules of its own, or in the first one that needs it. The status is that of the check.
 """
 import collections
 import glob

@@ -3,11 +3,8 @@
 
     embedding.py LIBRARY     over a folder that `python/build.py library` has made
 
-The programs of docs/EMBEDDING.md and of README.md are compiled and run, also under valgrind, and print what the page
-says; so do the callers of embedding/bad_callers.c. The package of python/ is built for each Python that is found. The
-examples of docs/PYTHON.md and README.md, the package's own tests, and CPython's `test_re` with the engine instead of
-`_sre` run over it; with one Python the tests run by ctypes, too. A compiler or Python that was not found is named, and
-fails nothing. The status is 1 if something fails.
+docs/GATE.md has what is tried. With one Python the package's tests run by ctypes, too. The status is 1 if something
+fails.
 """
 import glob
 import os

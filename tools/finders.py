@@ -1,9 +1,6 @@
 """Whether finders find what the machine finds, and lists change nothing: each case is asked of `sre_probes` four times.
 
-`shown CASE` asks the machine alone, `told CASE` the machine with a list of what each place of the words admits,
-`finder CASE` a finder, whose automata tell where the next match can begin, and `spans CASE` a finder of spans, and the
-machine for the marks of each match. The four answers have to be one. Lines that are no match, search or walk are passed
-over.
+The answers to these probes (docs/GATE.md) have to be one. Lines that are no match, search or walk are passed over.
 """
 import repository
 

@@ -1,8 +1,8 @@
 """Random and changed words, as `check` lines for the program `sre_cases`, and whether they are a code.
 
-`cases.py` holds the program to the reader of `grammar.py`, which is written from docs/BYTECODE.md. Most random lists
-are codes in which a few words were changed, since words that are drawn one by one are hardly ever a code. At least a
-fifth of them have to be codes, and a fifth none. The same seed gives the same lists.
+`cases.py` holds the program to the reader of `grammar.py`. Most random lists are codes in which a few words were
+changed, since words that are drawn one by one are hardly ever a code. At least a fifth of them have to be codes, and a
+fifth none. The same seed gives the same lists.
 
 To these come the codes of the probes that are refused memory, which have items of most families: each cut short at each
 place, and with each word changed. Where such a list is a code, `sre_probes` matches and searches short texts within

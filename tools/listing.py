@@ -1,7 +1,4 @@
-"""Words item by item, with their places, why words are refused (docs/BYTECODE.md), and of what they ask the table.
-
-What the words say is read by `grammar.py`. Here stands how a line tells it.
-"""
+"""Words item by item, with their places, why words are refused (docs/BYTECODE.md), and of what they ask the table."""
 import re
 import sys
 

@@ -4,9 +4,7 @@
     standing.py            names what is missing or stale
     standing.py --write    writes today's numbers to .ci/counts
 
-These are: the numbers of .ci/counts, whose rows may fall only with a reason, 'WHAT NUMBER # was GREATEST: REASON'; that
-a tool reads each file of cases and mutants; HANDLES, which allows nothing; the seal of allocation failures; and the
-pages and the header for C (`map.py`, `header.py`). The status is 1 if something is missing or stale.
+`map.py` and `header.py` compare the pages and the header for C. The status is 1 if something is missing or stale.
 """
 import collections
 import glob

@@ -5,14 +5,12 @@
     vendor.py --crates
 
 TARGET is the top folder of a repository that lists its crates in crates.txt, or of a new one. CRATE is a library of
-crates.txt, such as sre_engine, sre_finder, sre_recipes or sre_emit; by default it is sre_engine. --crates lists the
-libraries, each with the crates that it needs. Of each crate the code, the specs and the proofs are copied into
-TARGET/crates, beside the licence, and no tests, no mutants and no results of checks. TARGET/crates.txt gets a part
-with their lines, between two notes, and TARGET/tools/gaffsilver the tools that write bytecode and tables (words.py,
-unicode.py). A later run renews all crates of that part.
+crates.txt, by default sre_engine; --crates lists them, each with the crates that it needs (docs/CALLING.md, "Another
+repository"). The code, the specs and the proofs are copied, beside the licence, and no tests, no mutants and no results
+of checks. A later run renews all crates of its part of TARGET/crates.txt.
 
 If a crate of TARGET differs from the one here, or another line for it is in TARGET/crates.txt, nothing is written, and
-the status is 1; --force overwrites both. The kit has to be there in any case (docs/CALLING.md, "Another repository").
+the status is 1; --force overwrites both.
 """
 import os
 import re
