@@ -58,9 +58,9 @@ class Prover:
     """`rt ci` over a copy, with its lines passed on. That crates are proved can be waited for."""
 
     def __init__(self, count, folder):
-        self.count, self.folder, self.proved, self.taken_over = count, f"{folder}/repository", {}, 0
+        self.count, self.folder, self.taken_over = count, f"{folder}/repository", 0
         self.rlibs, self.programs, self.last, self.idle_edits = f"{folder}/rlibs", [], "", 0
-        self.changed, self.has_ended = threading.Condition(), False
+        self.proved = {it: concurrent.futures.Future() for it in crates()}
         # rt ci refuses sources that are not in a crate of crates.txt, as those of the tests
         shutil.copytree(f"{ROOT}/crates", f"{self.folder}/crates", ignore=shutil.ignore_patterns("out"))
         for name in ("crates.txt", "HANDLES"):
@@ -70,9 +70,8 @@ class Prover:
         try:
             self.prove()
         finally:
-            with self.changed:
-                self.has_ended = True
-                self.changed.notify_all()
+            for it in self.proved:
+                self.end(it, False)
 
     def prove(self):
         how = {"stdin": subprocess.DEVNULL, "stdout": subprocess.PIPE, "stderr": subprocess.STDOUT}
@@ -102,19 +101,12 @@ class Prover:
         if is_proved and os.path.isdir(made):
             # rt ci takes it away at its end
             shutil.copytree(made, f"{self.rlibs}/{name}/{name}.rlib", copy_function=os.link)
-        with self.changed:
-            self.proved[name] = is_proved
-            self.changed.notify_all()
+        if name in self.proved and not self.proved[name].done():
+            self.proved[name].set_result(is_proved)
 
     def are_proved(self, names):
         """Waits until these crates are proved, or one of them can't be any more: whether they are."""
-        with self.changed:
-            self.changed.wait_for(
-                lambda: self.has_ended
-                or all(it in self.proved for it in names)
-                or not all(self.proved.get(it, True) for it in names)
-            )
-            return all(self.proved.get(it) for it in names)
+        return all(self.proved[it].result() for it in names)
 
     def rlibs_of(self, crate):
         return f"{self.rlibs}/{crate.name}"
