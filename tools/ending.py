@@ -9,12 +9,6 @@ class Fault(Exception):
     """What ends a tool, with a line for each of its arguments."""
 
 
-def line_of(error):
-    """What the system refuses, without the number that Python puts in front."""
-    said = getattr(error, 'strerror', None) or str(error)
-    return f'{error.filename}: {said}' if getattr(error, 'filename', None) is not None else said
-
-
 def ended(main, after_fault=2):
     """Ends the tool with the status that `main` returns for the words that are given. If it returns none, the tool's
     description is printed. A fault, or what the system refuses, such as a missing file, is lines on standard error."""
@@ -36,7 +30,9 @@ def ended(main, after_fault=2):
     except BrokenPipeError:
         lines = []
     except (OSError, UnicodeError, subprocess.SubprocessError) as error:
-        lines = [line_of(error)]
+        # without the number that Python puts in front
+        said = getattr(error, 'strerror', None) or str(error)
+        lines = [f'{error.filename}: {said}' if getattr(error, 'filename', None) is not None else said]
     for line in lines:
         shown = ''.join(it if it.isprintable() else ascii(it)[1:-1] for it in line)
         print(f'{os.path.basename(sys.argv[0])}: {shown}', file=sys.stderr)

@@ -23,7 +23,8 @@ COLUMNS, INDENT = 100, " " * 4
 PAST_ASCII = [it for it in range(128, sys.maxunicode + 1) if not 0xD800 <= it <= 0xDFFF]
 
 HEAD = """\
-//! The letters, cases and digits of CPython {python} past ASCII, which are those of Unicode {unicode}.
+//! The letters, cases and digits of CPython {python} past ASCII, which are those of Unicode {unicode}. `LOWER`
+//! and `UPPER` pair a character with its other case; `ALNUM` and `DIGITS` have the first and last of runs.
 //!
 //! `tools/unicode.py` has written it.
 
@@ -41,13 +42,6 @@ pub fn table(alloc: Global) -> Result<UniTable, UniError> {{
     Ok(uni)
 }}
 """
-
-NOTES = {
-    "LOWER": "Characters that have a lower case, and what it is.",
-    "UPPER": "Characters that have an upper case, and what it is.",
-    "ALNUM": "Letters and digits of every kind, from the first to the last of each run.",
-    "DIGITS": "Decimal digits, from the first to the last of each run.",
-}
 
 
 def ranges(has, codes=PAST_ASCII):
@@ -81,7 +75,7 @@ def rows_of(pairs):
 
 def shown(name, pairs):
     """A list as a static of Rust."""
-    head = f"// {NOTES[name]}\n#[rattlefmt::skip]\nstatic {name}: [(u32, u32); {len(pairs)}] = ["
+    head = f"#[rattlefmt::skip]\nstatic {name}: [(u32, u32); {len(pairs)}] = ["
     return "\n".join([head, *rows_of(pairs), "];"])
 
 
