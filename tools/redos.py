@@ -6,9 +6,11 @@
 Each pattern and engine has a process of its own, which ends once a search takes over two seconds. Of each length the
 best of three searches counts.
 """
+import contextlib
+import importlib.util
 import math
+import multiprocessing
 import re
-import subprocess
 import sys
 import time
 
@@ -37,9 +39,10 @@ LEFT, TOP, WIDTH, HEIGHT = 76, 84, 560, 336
 X, Y = (1, 5), (-6, 1)  # powers of ten: characters, seconds
 
 
-def searched(pattern, text):
-    """The least processor time of a few searches."""
-    found = []
+def searched(engine, name, length):
+    """The least processor time of a few searches in a text of so many characters."""
+    source, flags, text, *_ = CASES[name]
+    pattern, text, found = __import__(engine).compile(source, flags), text(length), []
     for _ in range(TRIES):
         began = time.process_time()
         pattern.search(text)
@@ -49,24 +52,15 @@ def searched(pattern, text):
     return min(found)
 
 
-def measure(engine, name):
-    """Prints the lengths and times of a pattern."""
-    source, flags, text, *_ = CASES[name]
-    pattern = __import__(engine).compile(source, flags)
-    for length in LENGTHS:
-        seconds = searched(pattern, text(length))
-        print(length, seconds, flush=True)
-        if seconds > MOST_SECONDS:
-            break
-
-
 def measured(engine, name):
-    """The same, from a process that is ended where one search takes too long."""
-    try:
-        said = subprocess.run([sys.executable, __file__, engine, name], stdout=subprocess.PIPE, timeout=60).stdout
-    except subprocess.TimeoutExpired as late:
-        said = late.stdout or b""
-    return [(int(length), float(seconds)) for length, seconds in map(bytes.split, said.splitlines())]
+    """The lengths and times of a pattern, from a process that is ended where one search takes too long."""
+    found = []
+    with multiprocessing.Pool(1) as pool, contextlib.suppress(multiprocessing.TimeoutError):
+        for length in LENGTHS:
+            found.append((length, pool.apply_async(searched, (engine, name, length)).get(60)))
+            if found[-1][1] > MOST_SECONDS:
+                break
+    return found
 
 
 def place(length, seconds):
@@ -107,16 +101,13 @@ def picture(rows):
 
 
 def main(words):
-    if len(words) == 2 and words[0] in ENGINES and words[1] in CASES:
-        measure(*words)
-        return 0
     if len(words) != 1 or words[0].startswith("-"):
         return None
+    if not importlib.util.find_spec("gaffsilver"):
+        raise Fault("PYTHONPATH has to name the package")
     rows = [(engine, name, measured(engine, name)) for name in CASES for engine in ENGINES]
     for engine, name, found in rows:
         print(f"{engine}, {name}: {', '.join(f'{length} {seconds:.7f}' for length, seconds in found)}")
-    if not all(found for _, _, found in rows):
-        raise Fault("an engine has no times; PYTHONPATH has to name the package")
     write(words[0], picture(rows))
     return 0
 
