@@ -11,8 +11,7 @@ static long refused = -1, requests = 0;
 
 static int is_refused(void) {
     if (refused < 0) {
-        const char *number = getenv("REFUSED");
-        refused = number ? atol(number) : 0;
+        refused = atol(getenv("REFUSED"));
     }
     requests += 1;
     return requests == refused;
@@ -27,8 +26,7 @@ void *realloc(void *block, size_t size) {
 }
 
 __attribute__((destructor)) static void tell(void) {
-    const char *path = getenv("REQUESTS");
-    FILE *file = path ? fopen(path, "w") : NULL;
+    FILE *file = fopen(getenv("REQUESTS"), "w");
     if (file) {
         fprintf(file, "%ld\n", requests);
         fclose(file);

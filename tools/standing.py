@@ -149,12 +149,6 @@ def unread():
                     yield f"{os.path.relpath(path, ROOT)}: nothing reads it"
 
 
-def widened():
-    """HANDLES, where it allows more than nothing."""
-    if not os.path.isfile(f"{ROOT}/HANDLES") or read(f"{ROOT}/HANDLES") != HANDLES:
-        yield f"HANDLES is not the line '{HANDLES.strip()}'"
-
-
 def unsealed():
     """What lets a crate state that an allocation failed where none did."""
     for name, _, below in rows():
@@ -194,7 +188,8 @@ def refusing():
 
 def fallen():
     """All that is missing or stale."""
-    kept = [*missed(), *lowered(), *unread(), *widened(), *unsealed(), *refusing()]
+    kept = [*missed(), *lowered(), *unread(), *unsealed(), *refusing()]
+    kept += [] if read(f"{ROOT}/HANDLES") == HANDLES else [f"HANDLES is not the line '{HANDLES.strip()}'"]
     return [*kept, *header.unlike(), *code_map.stale()]
 
 
