@@ -56,7 +56,7 @@ class Bound:
     def __init__(self, code, characters):
         self.items, self.end, self.cost = grammar.Reader(code).tree, characters, 0
         block = code[1] + 1 if code[0] == NUMBER["INFO"] else 0
-        self.places, every = len(code) - block, [it for item in self.items for it in within(item)]
+        places, every = len(code) - block, [it for item in self.items for it in within(item)]
         for item in every:
             if item.name.startswith("GROUPREF"):
                 raise Unbounded(f"a back-reference or conditional at {item.place}")
@@ -70,7 +70,10 @@ class Bound:
         self.sides = 2 if forks else 1
         self.counts = max([0, *(counted_to(*it.words[1:3]) for it in every if it.name in REPEATS),
                            *(it.words[1] for it in every if it.name in LOOKAROUNDS)])
-        self.roomy(max([1, *map(self.most_states, self.items)]))
+        most = max([1, *map(self.most_states, self.items)])
+        rows = most * 2 * (self.end + 1) // 64 + 1
+        if most > MOST_STATES or most > FEW_STATES and rows > 2 ** 24 or places * rows > 2 ** 30:
+            raise Unbounded(f"{most} counter states, for which there is no room")
         if max([0, *map(self.depth, self.items)]) > MOST_NESTED:
             raise Unbounded(f"items nested more than {MOST_NESTED} deep")
 
@@ -84,12 +87,6 @@ class Bound:
     def depth(self, item):
         inside = max([0, *(self.depth(it) for body in bodies(item) for it in body)])
         return inside + (item.name in (*SCOPES, "BRANCH", "REPEAT"))
-
-    def roomy(self, most):
-        """There is room for the failures at all addresses."""
-        rows = most * 2 * (self.end + 1) // 64 + 1
-        if most > MOST_STATES or most > FEW_STATES and rows > 2 ** 24 or self.places * rows > 2 ** 30:
-            raise Unbounded(f"{most} counter states, for which there is no room")
 
     def pay(self, loops, cost):
         self.cost += loops * self.sides * cost
