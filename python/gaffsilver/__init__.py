@@ -19,7 +19,7 @@ from re import (
 
 from gaffsilver import _shared
 from gaffsilver._engine import Match, Pattern
-from gaffsilver._install import install, is_installed, uninstall
+from gaffsilver._install import get_default_max_steps, install, is_installed, set_default_max_steps, uninstall
 from gaffsilver._shared import StepLimitExceeded
 from gaffsilver._version import __version__
 from gaffsilver._words import cached as _cached, caches as _caches, over_the_engine as _over_the_engine
@@ -27,8 +27,8 @@ from gaffsilver._words import cached as _cached, caches as _caches, over_the_eng
 __all__ = [
     "A", "ASCII", "DEBUG", "DOTALL", "I", "IGNORECASE", "L", "LOCALE", "M", "MULTILINE", "Match", "NOFLAG", "Pattern",
     "RegexFlag", "S", "Scanner", "StepLimitExceeded", "U", "UNICODE", "VERBOSE", "X", "compile", "error", "escape",
-    "findall", "finditer", "fullmatch", "install", "is_installed", "match", "purge", "search", "split", "sub", "subn",
-    "uninstall",
+    "findall", "finditer", "fullmatch", "get_default_max_steps", "install", "is_installed", "match", "purge", "search",
+    "set_default_max_steps", "split", "sub", "subn", "uninstall",
 ]
 
 if hasattr(_re, "template"):  # CPython 3.11 and 3.12

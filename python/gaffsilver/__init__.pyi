@@ -10,7 +10,10 @@ from re import (
 from typing import Any, AnyStr, Callable, Iterator, TypeAlias, overload
 
 from gaffsilver._engine import Match as Match, Pattern as Pattern
-from gaffsilver._install import install as install, is_installed as is_installed, uninstall as uninstall
+from gaffsilver._install import (
+    get_default_max_steps as get_default_max_steps, install as install, is_installed as is_installed,
+    set_default_max_steps as set_default_max_steps, uninstall as uninstall,
+)
 from gaffsilver._shared import StepLimitExceeded as StepLimitExceeded
 
 if sys.version_info < (3, 13):

@@ -7,7 +7,7 @@ import types
 from ctypes import byref, c_size_t, c_uint32, c_uint64
 
 from gaffsilver import _library as library
-from gaffsilver._shared import StepLimitExceeded, parts_of, repr_of
+from gaffsilver._shared import exceeded, parts_of, repr_of
 
 TYPE_CHECKING = False
 if TYPE_CHECKING:
@@ -59,9 +59,25 @@ def _steps(given: Any, otherwise: int) -> int:
     return number
 
 
+# The step limit of a call that has none.
+_default = [library.FOREVER]
+
+
+def set_default_max_steps(max_steps: Any, /) -> None:
+    """Sets the step limit of a call that has none. None means no limit."""
+    _default[0] = _steps(max_steps, library.FOREVER)
+
+
+def _number_or_none(steps: int) -> int | None:
+    return None if steps == library.FOREVER else steps
+
+
+def get_default_max_steps() -> int | None:
+    """The step limit of a call that has none, or None."""
+    return _number_or_none(_default[0])
+
+
 def _fail(status: int) -> None:
-    if status == library.STEP_LIMIT:
-        raise StepLimitExceeded("step limit exceeded")
     if status == library.MEMORY:
         raise MemoryError
     if status == library.NO_CODE:
@@ -155,11 +171,11 @@ class Pattern(metaclass=_Fixed):
 
     @property
     def max_steps(self) -> int | None:
-        return None if self._max_steps == library.FOREVER else self._max_steps
+        return _number_or_none(self._max_steps)
 
     def _asked(self, text: _Text, pos: Any, endpos: Any, max_steps: Any) -> Any:
         start, end = (min(max(it, 0), text.length) for it in (pos, endpos))
-        steps = _steps(max_steps, self._max_steps)
+        steps = _steps(max_steps, _default[0] if self._max_steps == library.FOREVER else self._max_steps)
         return library.Asked(start, end, steps, True, False, False, sys.version_info >= (3, 14))
 
     def _over(self, text: _Text) -> tuple[Any, ...]:
@@ -175,6 +191,8 @@ class Pattern(metaclass=_Fixed):
         status = library.answers[text.which](*self._over(text), byref(asked), byref(found), marks, room)
         if status == library.NO:
             return None
+        if status == library.STEP_LIMIT:
+            raise exceeded(self.pattern, asked.start, asked.steps)
         if status != library.YES:
             _fail(status)
         unset = [library.UNSET] * (room - found.marks)
@@ -183,7 +201,7 @@ class Pattern(metaclass=_Fixed):
     def _rows(self, text: _Text, asked: Any) -> Iterator[Row]:
         """The rows of an iteration, read in batches, or one at a time if the text may change."""
         width, walked, status = 3 + 2 * self.groups, library.Walked(), library.NO_ROOM
-        room = 8 if text.is_fixed else 1
+        room, max_steps = 8 if text.is_fixed else 1, asked.steps
         while status == library.NO_ROOM and asked.start <= asked.end:
             text.look_again()
             rows = (c_size_t * (width * room))()
@@ -194,6 +212,8 @@ class Pattern(metaclass=_Fixed):
                 yield numbers[at : at + width]
             asked.start, asked.must_advance, asked.steps = walked.start, walked.must_advance, walked.steps
             room = min(4 * room, 2048) if text.is_fixed else 1
+        if status == library.STEP_LIMIT:
+            raise exceeded(self.pattern, asked.start, max_steps)
         if status not in (library.NO, library.NO_ROOM):
             _fail(status)
 

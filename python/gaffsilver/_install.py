@@ -27,11 +27,24 @@ def is_installed() -> bool:
     return re._compiler._sre is sre  # type: ignore[attr-defined]
 
 
-def install() -> None:
+def set_default_max_steps(max_steps: int | None) -> None:
+    """Sets the step limit of each call that has none, from its arguments or its pattern. None means no limit."""
+    engine.set_default_max_steps(max_steps)
+
+
+def get_default_max_steps() -> int | None:
+    """The step limit of each call that has none, or None."""
+    return engine.get_default_max_steps()  # type: ignore[no-any-return]
+
+
+def install(*, max_steps: int | None = None) -> None:
     """From now on the module `re` itself compiles for this engine, in the whole process.
 
-    Patterns that were compiled before remain those of CPython's `_sre`, and `re` still accepts them.
+    Patterns that were compiled before remain those of CPython's `_sre`, and `re` still accepts them. A given
+    `max_steps` is set as the default limit.
     """
+    if max_steps is not None:
+        set_default_max_steps(max_steps)
     _put(sre, engine.Pattern, engine.Match)
     engine.set_twins(*_theirs[1:])
 

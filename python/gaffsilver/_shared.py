@@ -22,6 +22,17 @@ class StepLimitExceeded(RuntimeError, TimeoutError):
 
     __module__ = "gaffsilver"
 
+    pattern: str | bytes | None = None  # the pattern string
+    pos: int | None = None  # where the search began that did not end: the end of the match before it, if there is one
+    max_steps: int | None = None  # the limit of the call
+
+
+def exceeded(pattern: str | bytes | None, pos: int, max_steps: int) -> StepLimitExceeded:
+    """The error of a call."""
+    error = StepLimitExceeded(f"step limit exceeded: {max_steps} steps by {repr(pattern)[:200]} from position {pos}")
+    error.pattern, error.pos, error.max_steps = pattern, pos, max_steps
+    return error
+
 
 def _alternating(parsed: Any) -> list[Part]:
     """The literals and group numbers of a template in order, from the result of this Python's parser."""

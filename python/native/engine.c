@@ -91,14 +91,24 @@ const sre_table *engine_table(bool is_unicode) {
 /* ---- calls ---- */
 
 void engine_fail(uint32_t status) {
-  if (status == SRE_STEP_LIMIT)
-    PyErr_SetString(shared.step_limit_exceeded, "step limit exceeded");
-  else if (status == SRE_MEMORY)
+  if (status == SRE_MEMORY)
     PyErr_NoMemory();
   else if (status == SRE_NO_CODE)
     PyErr_SetString(PyExc_RuntimeError, "invalid SRE code");
   else
     PyErr_Format(PyExc_SystemError, "the engine answered %u", (unsigned)status);
+}
+
+void engine_fail_in(uint32_t status, const Pattern *pattern, size_t start, uint64_t max_steps) {
+  if (status != SRE_STEP_LIMIT) {
+    engine_fail(status);
+    return;
+  }
+  Py_ssize_t pos = (Py_ssize_t)start;
+  PyObject *error = PyObject_CallFunction(shared.exceeded, "OnK", pattern->pattern, pos, (unsigned long long)max_steps);
+  if (error)
+    PyErr_SetObject((PyObject *)Py_TYPE(error), error);
+  Py_XDECREF(error);
 }
 
 static Py_ssize_t held(Py_ssize_t position, Py_ssize_t length) {
@@ -151,7 +161,7 @@ int engine_match(const Pattern *pattern, const Text *text, const sre_asked *aske
   if (status == SRE_NO)
     return 0;
   if (status != SRE_YES) {
-    engine_fail(status);
+    engine_fail_in(status, pattern, asked->start, asked->steps);
     return -1;
   }
   row[0] = found.start;

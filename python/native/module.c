@@ -45,6 +45,10 @@ static PyMethodDef functions[] = {
     {"compile", pattern_compile, METH_VARARGS,
      "compile($module, pattern, flags, code, groups, groupindex, indexgroup, /)\n--\n\n"
      "A pattern of compiled words, as _sre.compile gives one."},
+    {"set_default_max_steps", set_default_max_steps, METH_O,
+     "set_default_max_steps($module, max_steps, /)\n--\n\nSets the step limit of a call that has none."},
+    {"get_default_max_steps", get_default_max_steps, METH_NOARGS,
+     "get_default_max_steps($module, /)\n--\n\nThe step limit of a call that has none, or None."},
     {"set_twins", set_twins, METH_VARARGS,
      "set_twins($module, pattern, match, /)\n--\n\nThe types whose instances count as Pattern and Match, or None."},
     {NULL},
@@ -54,11 +58,11 @@ static bool read_shared(void) {
   PyObject *module = PyImport_ImportModule("gaffsilver._shared");
   if (!module)
     return false;
-  Py_XSETREF(shared.step_limit_exceeded, PyObject_GetAttrString(module, "StepLimitExceeded"));
+  Py_XSETREF(shared.exceeded, PyObject_GetAttrString(module, "exceeded"));
   Py_XSETREF(shared.parts_of, PyObject_GetAttrString(module, "parts_of"));
   Py_XSETREF(shared.repr_of, PyObject_GetAttrString(module, "repr_of"));
   Py_DECREF(module);
-  return shared.step_limit_exceeded && shared.parts_of && shared.repr_of;
+  return shared.exceeded && shared.parts_of && shared.repr_of;
 }
 
 static bool ready_types(void) {

@@ -11,11 +11,11 @@
 
 /* ---- from a module in Python (module.c) ---- */
 
-/* gaffsilver._shared: the error of a call that exceeds its step limit, and two functions. */
+/* The functions of gaffsilver._shared. */
 typedef struct {
-  PyObject *step_limit_exceeded; /* the class StepLimitExceeded */
-  PyObject *parts_of;            /* (pattern, template): a literal, or a list of literals and numbers of groups */
-  PyObject *repr_of;             /* (pattern): its repr */
+  PyObject *exceeded; /* (pattern string, position, step limit): the error of a call that exceeds its limit */
+  PyObject *parts_of; /* (pattern, template): a literal, or a list of literals and numbers of groups */
+  PyObject *repr_of;  /* (pattern): its repr */
 } Shared;
 
 extern Shared shared;
@@ -31,7 +31,7 @@ typedef struct {
   PyObject *weak_references;
   Py_ssize_t groups;
   int flags;
-  uint64_t max_steps; /* the step limit of a call without one */
+  uint64_t max_steps; /* the step limit of a call without one; UINT64_MAX for the default */
   sre_code code;
 } Pattern;
 
@@ -39,6 +39,13 @@ extern PyTypeObject PatternType;
 
 /* A new pattern, with the arguments of `_sre.compile`. */
 PyObject *pattern_compile(PyObject *module, PyObject *args);
+
+/* The step limit of a call that has none: set, and as a number or None. */
+PyObject *set_default_max_steps(PyObject *module, PyObject *given);
+PyObject *get_default_max_steps(PyObject *module, PyObject *unused);
+
+/* The step limit of a call: the one that is given, or else that of the pattern, or else the default. */
+bool pattern_steps(const Pattern *self, PyObject *given, uint64_t *into);
 
 /* ---- texts (text.c) ---- */
 
@@ -106,6 +113,9 @@ uint32_t engine_walk(const Pattern *pattern, const Text *text, const sre_asked *
 /* Sets the exception of a status other than SRE_YES and SRE_NO. */
 void engine_fail(uint32_t status);
 
+/* The same for the status of a search from a position, in a call with a step limit. */
+void engine_fail_in(uint32_t status, const Pattern *pattern, size_t start, uint64_t max_steps);
+
 /* ---- iterations over matches (walk.c) ---- */
 
 /* The matches of a range in order, read in batches. */
@@ -113,6 +123,7 @@ typedef struct {
   const Pattern *pattern;
   const Text *text;
   sre_asked asked; /* the request for the next batch */
+  uint64_t max_steps; /* the limit of all batches */
   size_t width;
   size_t room;      /* rows that a batch may have */
   size_t count, at; /* rows of this batch, and the next of them */

@@ -109,6 +109,28 @@ static PyObject *within(Pattern *self, PyObject *given) {
   return (PyObject *)made;
 }
 
+/* ---- step limits ---- */
+
+static uint64_t default_max_steps = UINT64_MAX;
+
+PyObject *set_default_max_steps(PyObject *module, PyObject *given) {
+  uint64_t steps;
+  if (!arguments_steps(given, UINT64_MAX, &steps))
+    return NULL;
+  default_max_steps = steps;
+  Py_RETURN_NONE;
+}
+
+static PyObject *number_or_none(uint64_t steps) {
+  return steps == UINT64_MAX ? Py_NewRef(Py_None) : PyLong_FromUnsignedLongLong(steps);
+}
+
+PyObject *get_default_max_steps(PyObject *module, PyObject *unused) { return number_or_none(default_max_steps); }
+
+bool pattern_steps(const Pattern *self, PyObject *given, uint64_t *into) {
+  return arguments_steps(given, self->max_steps == UINT64_MAX ? default_max_steps : self->max_steps, into);
+}
+
 /* ---- one match ---- */
 
 static const Signature of_match = {"match", 1, 3, {"string", "pos", "endpos", "max_steps"}};
@@ -140,7 +162,7 @@ static PyObject *ask(Pattern *self, const Signature *signature, PyObject *const 
   uint64_t steps;
   Text text;
   if (!arguments_read(signature, args, count, names, given) || !arguments_size(given[1], 0, &pos) ||
-      !arguments_size(given[2], PY_SSIZE_T_MAX, &endpos) || !arguments_steps(given[3], self->max_steps, &steps) ||
+      !arguments_size(given[2], PY_SSIZE_T_MAX, &endpos) || !pattern_steps(self, given[3], &steps) ||
       !text_open(&text, self, given[0]))
     return NULL;
   sre_asked asked = engine_asked(&text, pos, endpos, steps);
@@ -226,9 +248,7 @@ static PyObject *itself(PyObject *self, PyObject *unused) { return Py_NewRef(sel
 
 static PyObject *get_groupindex(Pattern *self, void *unused) { return PyDictProxy_New(self->groupindex); }
 
-static PyObject *get_max_steps(Pattern *self, void *unused) {
-  return self->max_steps == UINT64_MAX ? Py_NewRef(Py_None) : PyLong_FromUnsignedLongLong(self->max_steps);
-}
+static PyObject *get_max_steps(Pattern *self, void *unused) { return number_or_none(self->max_steps); }
 
 static PyMemberDef members[] = {
     {"pattern", T_OBJECT, offsetof(Pattern, pattern), READONLY, "The pattern string that was compiled."},

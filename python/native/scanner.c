@@ -36,7 +36,7 @@ static Reader *reader_new(PyTypeObject *type, Pattern *pattern, const Signature 
   Py_ssize_t pos, endpos;
   uint64_t steps;
   if (!arguments_read(signature, args, count, names, given) || !arguments_size(given[1], 0, &pos) ||
-      !arguments_size(given[2], PY_SSIZE_T_MAX, &endpos) || !arguments_steps(given[3], pattern->max_steps, &steps))
+      !arguments_size(given[2], PY_SSIZE_T_MAX, &endpos) || !pattern_steps(pattern, given[3], &steps))
     return NULL;
   Reader *self = PyObject_GC_New(Reader, type);
   if (!self)

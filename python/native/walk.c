@@ -17,6 +17,7 @@ void walk_begin(Walk *walk, const Pattern *pattern, const Text *text, const sre_
   walk->pattern = pattern;
   walk->text = text;
   walk->asked = *asked;
+  walk->max_steps = asked->steps;
   walk->width = WALK_WIDTH(pattern);
   walk->room = first_room(walk, most);
   walk->count = walk->at = 0;
@@ -75,6 +76,6 @@ const size_t *walk_next(Walk *walk) {
     return walk->batch + walk->width * walk->at++;
   }
   if (walk->status != SRE_NO)
-    engine_fail(walk->status);
+    engine_fail_in(walk->status, walk->pattern, walk->asked.start, walk->max_steps);
   return NULL;
 }

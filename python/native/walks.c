@@ -12,7 +12,7 @@ typedef struct {
 static bool begin(Call *call, Pattern *self, PyObject *string, Py_ssize_t pos, Py_ssize_t endpos, PyObject *max_steps,
                   Py_ssize_t most) {
   uint64_t steps;
-  if (!arguments_steps(max_steps, self->max_steps, &steps) || !text_open(&call->text, self, string))
+  if (!pattern_steps(self, max_steps, &steps) || !text_open(&call->text, self, string))
     return false;
   sre_asked asked = engine_asked(&call->text, pos, endpos, steps);
   walk_begin(&call->walk, self, &call->text, &asked, most);
