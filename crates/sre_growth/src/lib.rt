@@ -49,7 +49,10 @@ pub fn push<T: Drop, A: Allocator>(list: &mut Vec<T, A>, item: T) -> Result<(), 
             list.push_reserved(item);
             Ok(())
         }
-        Err(cause) => Err(Refusal { cause, of: PhantomData }),
+        Err(cause) => Err(Refusal {
+            cause,
+            of: PhantomData,
+        }),
     }
 }
 
@@ -77,7 +80,10 @@ pub fn resize<T: Copy, A: Allocator>(
 {
     match list.resize(length, value) {
         Ok(()) => Ok(()),
-        Err(cause) => Err(Refusal { cause, of: PhantomData }),
+        Err(cause) => Err(Refusal {
+            cause,
+            of: PhantomData,
+        }),
     }
 }
 
@@ -93,6 +99,9 @@ pub fn from_slice<T: Copy, A: Allocator>(alloc: A, items: &[T]) -> Result<Vec<T,
 {
     match Vec::from_slice(alloc, items) {
         Ok(list) => Ok(list),
-        Err(cause) => Err(Refusal { cause, of: PhantomData }),
+        Err(cause) => Err(Refusal {
+            cause,
+            of: PhantomData,
+        }),
     }
 }

@@ -49,7 +49,7 @@ stays_tried r point cursor b c false marked left x =
 -- an instruction is left at once
 pub left_at_once : {M S : Type 0} {text : Ghosts S} (r : Request S text) (point : Point) (cursor : StringCursor)
     (b c : BoardValue) (m m' : MemoValue) → GivesUp M r point cursor b m c m'
-        → LeavesOrStays M r point cursor true b m c m'
+    → LeavesOrStays M r point cursor true b m c m'
 left_at_once r point cursor b c m m' left = record {
   left = λ _. left;
   stays = λ told. absurd (true≢false told);
@@ -91,7 +91,7 @@ turn_tried r place cursor b c d m m' (Err e) goes turn = turn
 -- where it is left, nothing is granted
 pub turn_left : {M S : Type 0} {text : Ghosts S} (r : Request S text) (point : Point) (cursor : StringCursor)
     (b c : BoardValue) (m m' : MemoValue) → GivesUp M r point cursor b m c m'
-        → Takes M r point cursor b m next.Back c m'
+    → Takes M r point cursor b m next.Back c m'
 turn_left r point cursor b c m m' left all limit x =
     let g = left all limit x in (limit, grants_nothing limit, g.0, g.1)
 

@@ -6,6 +6,6 @@ use Rattle.sre_machine.specs.Spending.{found_of}
 
 -- of what is given up nothing is found
 pub never_found : {E : Type 0} (P : E → Type 0) (Q : Option StringCursor → Type 0) (r : Result Bool E)
-    (end : StringCursor)     → IsErrAnd r P → IfOk (found_of r end) Q
+    (end : StringCursor) → IsErrAnd r P → IfOk (found_of r end) Q
 never_found P Q (Ok x) end h = absurd h
 never_found P Q (Err e) end h = tt

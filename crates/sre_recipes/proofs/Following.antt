@@ -111,8 +111,15 @@ ample_after M a code m to seen most (Some given) (Some left) wanted inside falls
         bound = ample.bound;
         is = ample.is;
         window = record { order = inside; within = ample.window.within };
-        more = omega (arith, few, is.more a ample.window, all, add-mul after 1 ample.bound, one-mul ample.bound,
-            ample.more);
+        more = omega (
+          arith,
+          few,
+          is.more a ample.window,
+          all,
+          add-mul after 1 ample.bound,
+          one-mul ample.bound,
+          ample.more,
+        );
       })
     ]
 

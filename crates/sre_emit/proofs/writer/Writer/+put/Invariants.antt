@@ -9,7 +9,7 @@ use Rattle.sre_emit.proofs.writer.Writer.+put.Given as goal
 abbrev pub invariant-put_items-items : goal.invariant-put_items-items
 invariant-put_items-items g l =
     (l.at ≤ length l.items) × Wrote g.row.A.Denot l.initial.self l.self
-        (tree_words (in_order (map item_of (drop l.at l.items))))
+    (tree_words (in_order (map item_of (drop l.at l.items))))
     × All (λ x. item_has_alternatives x ≡ true) l.items
 
 abbrev pub decreases-put_items-items : goal.decreases-put_items-items
