@@ -7,6 +7,7 @@ Each pattern and engine has a process of its own, which ends once a search takes
 best of three searches counts.
 """
 import contextlib
+import html
 import importlib.util
 import math
 import multiprocessing
@@ -14,7 +15,6 @@ import re
 import sys
 import time
 
-from bars import EDGE, PAPER, element, svg, text
 from ending import Fault, ended
 from repository import write
 
@@ -35,8 +35,18 @@ LENGTHS = (10, 12, 14, 16, 18, 20, 22, 24, 26, 28, 30, 35, 40, 50, 100, 200, 500
            100000)
 MOST_SECONDS, TRIES = 2, 3
 
+PAPER, INK, EDGE = "#fcfcfa", "#1f2933", "#c9d1d9"
 LEFT, TOP, WIDTH, HEIGHT = 76, 84, 560, 336
 X, Y = (1, 5), (-6, 1)  # powers of ten: characters, seconds
+
+
+def element(kind, inside="", **values):
+    shown = " ".join(f'{key.replace("_", "-")}="{value}"' for key, value in values.items())
+    return f"<{kind} {shown}>{html.escape(inside)}</{kind}>"
+
+
+def text(x, y, inside, **more):
+    return element("text", inside, x=f"{x:.0f}", y=f"{y:.0f}", **{"fill": INK, **more})
 
 
 def searched(engine, name, length):
@@ -97,7 +107,9 @@ def picture(rows):
         (x, y), (right, down) = place(*found[-1]), dict(zip(ENGINES, CASES[name][3:]))[engine]
         anchor = "start" if right > 0 else "end"
         lines.append(text(x + right, y + down, name, font_size=12, fill=ENGINES[engine], text_anchor=anchor))
-    return svg(800, 476, [element("title", "Time against length of text"), *lines], role="img")
+    head = element("svg", xmlns="http://www.w3.org/2000/svg", viewBox="0 0 800 476", width=800, height=476,
+                   font_family="sans-serif", font_size=14, role="img").removesuffix("</svg>")
+    return "\n".join([head, element("title", "Time against length of text"), *lines, "</svg>", ""])
 
 
 def main(words):

@@ -1,7 +1,7 @@
 #!/usr/bin/env python3
 """Times the program `sre_cases` beside CPython's `_sre`, on the same words and the same texts, or counts instructions.
 
-    speed.py [--runs N] [--repeat N] [--scale F] [--svg FILE]
+    speed.py [--runs N] [--repeat N] [--scale F]
     speed.py --instructions [--before PATH] [--beside PATH] [--characters N]
 
 Both take --program PATH and --only NAME,... For each line of WORK, without and with the INFO block: nanoseconds of
@@ -18,12 +18,10 @@ import re
 import resource
 import statistics
 import subprocess
-import sys
 import tempfile
 import time
 import typing
 
-import bars
 import words
 from ending import ended
 from repository import write
@@ -220,7 +218,6 @@ def arguments():
     add('--runs', type=int, default=5, metavar='N', help='runs of which the best counts')
     add('--repeat', type=int, default=5, metavar='N', help='how often a run of the program repeats a case')
     add('--scale', type=float, default=1, metavar='F', help='texts of so many times the characters')
-    add('--svg', metavar='FILE', help='draws the ratios as bars')
     add('--instructions', action='store_true', help='counts instructions')
     add('--before', metavar='PATH', help='an earlier build of the program')
     add('--beside', metavar='PATH', help="another engine's program")
@@ -243,11 +240,6 @@ def measured(options, chosen, room):
         greatest = max(found, key=found.get)
         print(f'{what}: geometric mean {statistics.geometric_mean(found.values()):.3f}, greatest '
               f'{found[greatest]:.3f} ({greatest}), {sum(it < 1 for it in found.values())} of {len(found)} ahead')
-    if options.svg and not options.instructions and not wrong:
-        rows = {work.name: [it[work.name] for it in ratios.values()] for work in chosen}
-        rows['geometric mean'] = [statistics.geometric_mean(it.values()) for it in ratios.values()]
-        python = 'CPython ' + '.'.join(map(str, sys.version_info[:3]))
-        write(options.svg, bars.picture([(name, *row) for name, row in rows.items()], python))
     return int(wrong > 0)
 
 
