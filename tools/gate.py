@@ -25,8 +25,7 @@ from repository import ROOT, crates, read
 
 BEGAN = time.monotonic()
 
-# How `rt ci` says that an edit says nothing of a contract, and that a program has run as one of the compilers built it.
-SAYS_NOTHING = "only because a proof file names what the edit took away"
+# How `rt ci` says that a program has run as one of the compilers built it.
 PROGRAM_RAN = re.compile(r"rt: (\w+) ran(?: \(built by Rattle's[^)]*\))?, and wrote what its file stdout has")
 
 
@@ -59,7 +58,7 @@ class Prover:
 
     def __init__(self, count, folder):
         self.count, self.folder, self.taken_over = count, f"{folder}/repository", 0
-        self.rlibs, self.programs, self.last, self.idle_edits = f"{folder}/rlibs", [], "", 0
+        self.rlibs, self.programs, self.last = f"{folder}/rlibs", [], ""
         self.proved = {it: concurrent.futures.Future() for it in crates()}
         # rt ci refuses sources that are not in a crate of crates.txt, as those of the tests
         shutil.copytree(f"{ROOT}/crates", f"{self.folder}/crates", ignore=shutil.ignore_patterns("out"))
@@ -84,12 +83,11 @@ class Prover:
         lacking = [it.name for it in crates().values() if it.is_program and self.programs.count(it.name) != 2]
         for name in lacking:
             tell(f"{name}: it was not run as both compilers build it")
-        self.count.add(passed, failed + len(lacking) + bool(status) + self.idle_edits, used.ru_utime + used.ru_stime)
+        self.count.add(passed, failed + len(lacking) + bool(status), used.ru_utime + used.ru_stime)
 
     def hear(self, line):
         tell(line)
         self.last = line
-        self.idle_edits += SAYS_NOTHING in line
         ran, ended = PROGRAM_RAN.match(line), re.match(r"rt: (\w+) (proved|is kept|NOT PROVED)(?:$|:)", line)
         self.programs += [ran[1]] if ran else []
         if ended:

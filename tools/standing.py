@@ -26,7 +26,6 @@ HANDLES = "Handles allowed: none.\n"
 
 # What the tools read of these folders of a crate.
 READ = {
-    "must-fail": r"[^/]*\.edit",
     "wrong": r"[^/]*\.edit",
     "cases": r"[^/]*\.(txt|expected|fault|flags|table)|(files|no_cases|tables|calls)\.jsonl",
 }
@@ -38,9 +37,8 @@ NAMED = {
     **{f"sre_growth/proofs/{it}/Answers.antt": ["use Rattle.sre_refusal_seal.specs.Seal.{refused}"] for it in GROWTHS},
 }
 
-# The crate with an allocator that refuses a request, for tests; and what gives a type the functions of an allocator, or
-# their trait another name.
-FAILING, ALLOCATOR = "sre_failing_allocator", re.compile(r"\bAllocator\s+(?:for|as)\b")
+# What gives a type the functions of an allocator, or their trait another name.
+ALLOCATOR = re.compile(r"\bAllocator\s+(?:for|as)\b")
 
 
 def files(folder, *ends):
@@ -77,7 +75,6 @@ def counted():
     for folder in folders():
         name = os.path.basename(folder)
         found[f"{name} tests"] = sum(map(tests_in, files(f"{folder}/src", ".rt")))
-        found[f"{name} must-fail edits"] = len(listed(f"{folder}/must-fail", ".edit"))
         found[f"{name} answers"] = lines_in(listed(f"{folder}/cases", ".expected"))
         found[f"{name} faults"] = len(listed(f"{folder}/cases", ".fault"))
         found[f"{name} rows"] = lines_in(listed(f"{folder}/cases", ".jsonl"))
@@ -124,8 +121,8 @@ def greatest():
     return found
 
 
-# Kinds of rows of .ci/counts from before mutants were counted by public call.
-GONE = (" wrong bodies", " named goals", " right bodies", " programs")
+# Kinds of rows of .ci/counts that nothing counts any more.
+GONE = (" wrong bodies", " named goals", " right bodies", " programs", " must-fail edits")
 
 
 def lowered():
@@ -178,12 +175,9 @@ def refusing():
     for it in sorted(of_the_kit | {*of_kit(of_the_kit)} - {*of_kit(["std"])}):
         if any(ALLOCATOR.search(read(path)) for path in files(f"{kit()}/rattle/{it}/src", ".rt")):
             yield f"crates.txt lists {it}, or what lists it, which has an allocator of its own"
-    for name, _, below in rows():
-        if FAILING in below:
-            yield f"crates.txt: {name} lists {FAILING}, whose allocator refuses a request"
-        for path in files(f"{ROOT}/crates/{name}/src", ".rt"):
-            if name != FAILING and ALLOCATOR.search(read(path)):
-                yield f"{os.path.relpath(path, ROOT)} has an allocator of its own"
+    for path in files(f"{ROOT}/crates", ".rt"):
+        if ALLOCATOR.search(read(path)):
+            yield f"{os.path.relpath(path, ROOT)} has an allocator of its own"
 
 
 def fallen():
