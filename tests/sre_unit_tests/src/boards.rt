@@ -13,13 +13,13 @@ fn set_both<A: Allocator>(
     board: &mut Board<A>,
     first: (u32, usize),
     second: (u32, usize),
-) -> Result<(), Refusal> {
+) -> Result<(), Refusal<A>> {
     board.set(first.0, first.1)?;
     board.set(second.0, second.1)
 }
 
 // Captures set over two choices. The second slot of each pair is set before the first, and one slot twice.
-fn set_over_choices<A: Allocator>(board: &mut Board<A>) -> Result<(), Refusal> {
+fn set_over_choices<A: Allocator>(board: &mut Board<A>) -> Result<(), Refusal<A>> {
     board.set(1, 7)?;
     board.save(Point::Instruction(4), StringCursor::new(1, 2))?;
     set_both(board, (0, 5), (3, 9))?;
@@ -66,7 +66,7 @@ fn what_is_kept_of_a_choice_is_small(rt: HostRuntime) {
 }
 
 // Sets captures on a cleared board many times, over choices and without a choice that saves them.
-fn set_often<A: Allocator>(board: &mut Board<A>) -> Result<(), Refusal> {
+fn set_often<A: Allocator>(board: &mut Board<A>) -> Result<(), Refusal<A>> {
     for position in 0..100 {
         board.clear();
         set_over_choices(board)?;

@@ -76,7 +76,7 @@ static LOOPS: [(u32, &[Loop]); 31] = [
 ];
 
 // Begins loops, outermost first.
-fn enter_all<A: Allocator>(board: &mut Board<A>, loops: &[Loop]) -> Result<(), Refusal> {
+fn enter_all<A: Allocator>(board: &mut Board<A>, loops: &[Loop]) -> Result<(), Refusal<A>> {
     for &(repeat, count, last) in loops {
         board.enter(Frame {
             repeat,
@@ -95,7 +95,7 @@ fn prepare_in<A: Allocator>(
     place: usize,
     first: usize,
     end: usize,
-) -> Result<(), Refusal> {
+) -> Result<(), Refusal<A>> {
     failures.prepare(words, board, Point::Instruction(place), first, end)
 }
 
@@ -127,7 +127,7 @@ fn tells(
     kept: &[Loop],
     asked: &[Loop],
     end: usize,
-) -> Result<bool, Refusal> {
+) -> Result<bool, Refusal<Global>> {
     enter_all(board, kept)?;
     prepare_in(failures, words, board, PLACE, 10, end)?;
     keep_in(failures, words, board, PLACE, 12);
@@ -143,7 +143,7 @@ fn is_told(
     kept: &[Loop],
     asked: &[Loop],
     end: usize,
-) -> Result<bool, Refusal> {
+) -> Result<bool, Refusal<Global>> {
     let mut failures = Failures::new(alloc);
     let mut board = Board::new(alloc);
     tells(&mut failures, &mut board, words, kept, asked, end)
