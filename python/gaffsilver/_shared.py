@@ -44,25 +44,29 @@ def _alternating(parsed: Any) -> list[Part]:
     return parts
 
 
+def _parsed(pattern: Any, template: str | bytes) -> Any:
+    # the parser's warnings count calls up to the caller of `sub`: this one, `parts_of_text`, and that of the module
+    return _parser.parse_template(template, pattern)
+
+
 @functools.lru_cache(512)
-def _parts(pattern: Any, template: str | bytes) -> str | bytes | list[Part]:
-    # the parser's warnings count calls up to the caller of `sub`, so the parser is called right here
-    parsed = _parser.parse_template(template, pattern)
-    parts = [it for it in _alternating(parsed) if isinstance(it, int) or it]
-    return parts if any(isinstance(it, int) for it in parts) else template[:0].join(parts)
-
-
-def parts_of(pattern: Any, template: Any) -> str | bytes | list[Part]:
+def parts_of_text(pattern: Any, template: str | bytes) -> str | bytes | list[Part]:
     """A template as a literal, or as a list of literals and the numbers of groups.
 
     Raises `re.error` if it is no valid template of the pattern, and IndexError if it names an unknown group.
     """
+    parts = [it for it in _alternating(_parsed(pattern, template)) if isinstance(it, int) or it]
+    return parts if any(isinstance(it, int) for it in parts) else template[:0].join(parts)
+
+
+def parts_of(pattern: Any, template: Any) -> str | bytes | list[Part]:
+    """The same, also for a bytes-like template of a bytes pattern."""
     if not isinstance(template, (str, bytes)) and isinstance(pattern.pattern, bytes):
         template = bytes(memoryview(template))
-    return _parts(pattern, template)
+    return parts_of_text(pattern, template)
 
 
-purge = _parts.cache_clear
+purge = parts_of_text.cache_clear
 
 
 def repr_of(pattern: Any) -> str:

@@ -16,8 +16,8 @@ static bool put_named(const Signature *signature, PyObject *name, PyObject *valu
   return false;
 }
 
-bool arguments_read(const Signature *signature, PyObject *const *args, Py_ssize_t count, PyObject *names,
-                    PyObject **into) {
+bool arguments_read_all(const Signature *signature, PyObject *const *args, Py_ssize_t count, PyObject *names,
+                        PyObject **into) {
   if (count > signature->positional) {
     PyErr_Format(PyExc_TypeError, "%s() takes at most %d argument%s (%zd given)", signature->function,
                  signature->positional, signature->positional == 1 ? "" : "s", count);
@@ -38,11 +38,8 @@ bool arguments_read(const Signature *signature, PyObject *const *args, Py_ssize_
   return true;
 }
 
-bool arguments_size(PyObject *given, Py_ssize_t otherwise, Py_ssize_t *into) {
-  *into = otherwise;
-  if (!given)
-    return true;
-  PyObject *number = PyNumber_Index(given);
+bool arguments_read_size(PyObject *given, Py_ssize_t *into) {
+  PyObject *number = PyLong_CheckExact(given) ? Py_NewRef(given) : PyNumber_Index(given);
   if (!number)
     return false;
   *into = PyLong_AsSsize_t(number);

@@ -4,6 +4,10 @@
 /* The least number of characters of a text over which other threads may run. */
 #define LONG_TEXT 4096
 
+/* The steps that a single match or search takes before they do. A thread that lets the lock go may wait for it until
+ * another one has run for a while, so a lexer must not do so for each token. */
+#define FEW_STEPS 1000
+
 /* ---- tables ---- */
 
 /* A list of pairs that grows. */
@@ -125,39 +129,51 @@ sre_asked engine_asked(const Text *text, Py_ssize_t pos, Py_ssize_t endpos, uint
   };
 }
 
-/* Lets other threads run, if none can change the text and it is long enough. */
-static PyThreadState *let_others_run(const Text *text) {
-  return text->is_fixed && text->length >= LONG_TEXT ? PyEval_SaveThread() : NULL;
+/* Whether no other thread has a state in Python, in any interpreter. */
+static bool is_alone(void) {
+  PyThreadState *own = PyThreadState_Get();
+  return PyInterpreterState_ThreadHead(PyInterpreterState_Head()) == own && !PyThreadState_Next(own);
 }
 
-static void run_alone(PyThreadState *saved) {
-  if (saved)
-    PyEval_RestoreThread(saved);
+/* Whether other threads may run during a call: none can change the text, it is long enough, and there is one. */
+static bool may_others_run(const Text *text) {
+  return text->is_fixed && text->length >= LONG_TEXT && !is_alone();
 }
 
 static uint32_t answer(const Pattern *pattern, const Text *text, const sre_asked *asked, sre_found *found,
                        size_t *marks) {
   const sre_code *code = &pattern->code;
   size_t length = (size_t)text->length, room = 2 * (size_t)pattern->groups;
-  PyThreadState *saved = let_others_run(text);
-  uint32_t status;
   switch (text->size) {
   case 1:
-    status = sre_answer_bytes(code, text->data, length, asked, found, marks, room);
-    break;
+    return sre_answer_bytes(code, text->data, length, asked, found, marks, room);
   case 2:
-    status = sre_answer_units(code, text->data, length, asked, found, marks, room);
-    break;
+    return sre_answer_units(code, text->data, length, asked, found, marks, room);
   default:
-    status = sre_answer_points(code, text->data, length, asked, found, marks, room);
+    return sre_answer_points(code, text->data, length, asked, found, marks, room);
   }
-  run_alone(saved);
+}
+
+/* The same, and other threads run after the first steps. If these do not suffice, the engine starts again with the
+ * request as it is, so they are not charged, and the answer is that of the request. */
+static uint32_t answer_beside_others(const Pattern *pattern, const Text *text, const sre_asked *asked,
+                                     sre_found *found, size_t *marks) {
+  if (!may_others_run(text))
+    return answer(pattern, text, asked, found, marks);
+  sre_asked first = *asked;
+  first.steps = Py_MIN(asked->steps, FEW_STEPS);
+  uint32_t status = answer(pattern, text, &first, found, marks);
+  if (status != SRE_STEP_LIMIT || asked->steps <= FEW_STEPS)
+    return status;
+  PyThreadState *saved = PyEval_SaveThread();
+  status = answer(pattern, text, asked, found, marks);
+  PyEval_RestoreThread(saved);
   return status;
 }
 
 int engine_match(const Pattern *pattern, const Text *text, const sre_asked *asked, size_t *row) {
   sre_found found;
-  uint32_t status = answer(pattern, text, asked, &found, row + 3);
+  uint32_t status = answer_beside_others(pattern, text, asked, &found, row + 3);
   if (status == SRE_NO)
     return 0;
   if (status != SRE_YES) {
@@ -176,7 +192,7 @@ uint32_t engine_walk(const Pattern *pattern, const Text *text, const sre_asked *
                      sre_walked *walked) {
   const sre_code *code = &pattern->code;
   size_t length = (size_t)text->length, width = WALK_WIDTH(pattern), numbers = width * room;
-  PyThreadState *saved = let_others_run(text);
+  PyThreadState *saved = may_others_run(text) ? PyEval_SaveThread() : NULL;
   uint32_t status;
   switch (text->size) {
   case 1:
@@ -188,6 +204,7 @@ uint32_t engine_walk(const Pattern *pattern, const Text *text, const sre_asked *
   default:
     status = sre_walk_points(code, text->data, length, asked, width, rows, numbers, walked);
   }
-  run_alone(saved);
+  if (saved)
+    PyEval_RestoreThread(saved);
   return status;
 }

@@ -32,6 +32,11 @@ static bool append(PyObject *list, PyObject *made) {
   return !failed;
 }
 
+PyObject *parts_of(const Pattern *pattern, PyObject *template) {
+  bool is_text = PyUnicode_Check(template) || PyBytes_Check(template);
+  return PyObject_CallFunctionObjArgs(is_text ? shared.parts_of_text : shared.parts_of, pattern, template, NULL);
+}
+
 bool parts_append(PyObject *list, PyObject *parts, const Text *text, const size_t *row) {
   if (!PyList_CheckExact(parts))
     return PyList_Append(list, parts) == 0;
@@ -116,6 +121,8 @@ static Py_ssize_t number_of(const Match *self, PyObject *group) {
 /* The text of a span, clamped to the text as it is now: a bytearray may be shorter than it was. */
 static PyObject *slice_now(const Match *self, Window span) {
   Text text;
+  if (PyUnicode_Check(self->string))
+    return PyUnicode_Substring(self->string, span.pos, span.endpos);
   if (!text_open(&text, NULL, self->string))
     return NULL;
   Py_ssize_t end = Py_MIN(span.endpos, text.length), start = Py_MIN(span.pos, end);
@@ -184,6 +191,17 @@ static PyObject *groupdict(Match *self, PyObject *const *args, Py_ssize_t count,
   return all;
 }
 
+static PyObject *pair_of(Window span) {
+  PyObject *pair = PyTuple_New(2);
+  if (!pair)
+    return NULL;
+  PyTuple_SET_ITEM(pair, 0, PyLong_FromSsize_t(span.pos));
+  PyTuple_SET_ITEM(pair, 1, PyLong_FromSsize_t(span.endpos));
+  if (!PyTuple_GET_ITEM(pair, 0) || !PyTuple_GET_ITEM(pair, 1))
+    Py_CLEAR(pair);
+  return pair;
+}
+
 /* The span of the group that a call names, or of the whole match. */
 static bool span_asked(const Match *self, const char *function, PyObject *const *args, Py_ssize_t count, Window *span) {
   if (count > 1) {
@@ -209,7 +227,7 @@ static PyObject *end(Match *self, PyObject *const *args, Py_ssize_t count) {
 
 static PyObject *span(Match *self, PyObject *const *args, Py_ssize_t count) {
   Window span;
-  return span_asked(self, "span", args, count, &span) ? Py_BuildValue("(nn)", span.pos, span.endpos) : NULL;
+  return span_asked(self, "span", args, count, &span) ? pair_of(span) : NULL;
 }
 
 /* Whether `expand` gives what its template is, str or bytes, or what the text is, as in CPython 3.11. */
@@ -222,7 +240,7 @@ static PyObject *expand(Match *self, PyObject *const *args, Py_ssize_t count, Py
   Text text;
   if (!arguments_read(&of_expand, args, count, names, given))
     return NULL;
-  PyObject *parts = PyObject_CallFunctionObjArgs(shared.parts_of, self->pattern, given[0], NULL);
+  PyObject *parts = parts_of(self->pattern, given[0]);
   if (!parts || (JOINS_AS_TEMPLATE && !PyList_CheckExact(parts)))
     return parts;
   PyObject *pieces = PyList_New(0);
@@ -263,8 +281,7 @@ static PyObject *get_lastgroup(Match *self, void *unused) {
 static PyObject *get_regs(Match *self, void *unused) {
   PyObject *all = PyTuple_New(self->pattern->groups + 1);
   for (Py_ssize_t at = 0; all && at <= self->pattern->groups; at++) {
-    Window span = span_of((const size_t *)self->row, at);
-    PyObject *one = Py_BuildValue("(nn)", span.pos, span.endpos);
+    PyObject *one = pair_of(span_of((const size_t *)self->row, at));
     if (!one)
       Py_CLEAR(all);
     else

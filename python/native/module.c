@@ -60,9 +60,10 @@ static bool read_shared(void) {
     return false;
   Py_XSETREF(shared.exceeded, PyObject_GetAttrString(module, "exceeded"));
   Py_XSETREF(shared.parts_of, PyObject_GetAttrString(module, "parts_of"));
+  Py_XSETREF(shared.parts_of_text, PyObject_GetAttrString(module, "parts_of_text"));
   Py_XSETREF(shared.repr_of, PyObject_GetAttrString(module, "repr_of"));
   Py_DECREF(module);
-  return shared.exceeded && shared.parts_of && shared.repr_of;
+  return shared.exceeded && shared.parts_of && shared.parts_of_text && shared.repr_of;
 }
 
 static bool ready_types(void) {

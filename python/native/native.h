@@ -13,9 +13,10 @@
 
 /* The functions of gaffsilver._shared. */
 typedef struct {
-  PyObject *exceeded; /* (pattern string, position, step limit): the error of a call that exceeds its limit */
-  PyObject *parts_of; /* (pattern, template): a literal, or a list of literals and numbers of groups */
-  PyObject *repr_of;  /* (pattern): its repr */
+  PyObject *exceeded;      /* (pattern string, position, step limit): the error of a call that exceeds its limit */
+  PyObject *parts_of;      /* (pattern, template): a literal, or a list of literals and numbers of groups */
+  PyObject *parts_of_text; /* the same for a str or bytes, faster */
+  PyObject *repr_of;       /* (pattern): its repr */
 } Shared;
 
 extern Shared shared;
@@ -77,12 +78,26 @@ typedef struct {
   const char *names[5];
 } Signature;
 
-/* Stores each argument at the index of its name, and null for one that is not given. */
-bool arguments_read(const Signature *signature, PyObject *const *args, Py_ssize_t count, PyObject *names,
-                    PyObject **into);
+/* The same as arguments_read and arguments_size, for any arguments. */
+bool arguments_read_all(const Signature *signature, PyObject *const *args, Py_ssize_t count, PyObject *names,
+                        PyObject **into);
+bool arguments_read_size(PyObject *given, Py_ssize_t *into);
+
+/* Stores each argument at the index of its name, and leaves null for one that is not given. */
+static inline bool arguments_read(const Signature *signature, PyObject *const *args, Py_ssize_t count,
+                                  PyObject *names, PyObject **into) {
+  if (names || count < signature->needed || count > signature->positional)
+    return arguments_read_all(signature, args, count, names, into);
+  for (Py_ssize_t at = 0; at < count; at++)
+    into[at] = args[at];
+  return true;
+}
 
 /* A number of characters or matches; `otherwise` if none is given. */
-bool arguments_size(PyObject *given, Py_ssize_t otherwise, Py_ssize_t *into);
+static inline bool arguments_size(PyObject *given, Py_ssize_t otherwise, Py_ssize_t *into) {
+  *into = otherwise;
+  return !given || arguments_read_size(given, into);
+}
 
 /* A step limit; `otherwise` if it is not given or None. */
 bool arguments_steps(PyObject *given, uint64_t otherwise, uint64_t *into);
@@ -154,6 +169,9 @@ PyObject *match_new(const Pattern *pattern, PyObject *string, Window window, con
 
 /* The text of a group of a row; `otherwise` if it took no part. */
 PyObject *row_group(const Text *text, const size_t *row, Py_ssize_t group, PyObject *otherwise);
+
+/* The parts of a template: a literal, or a list. */
+PyObject *parts_of(const Pattern *pattern, PyObject *template);
 
 /* Appends the parts of a template to a list, with the groups of a row. */
 bool parts_append(PyObject *list, PyObject *parts, const Text *text, const size_t *row);

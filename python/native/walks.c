@@ -115,7 +115,7 @@ static bool is_literal(PyObject *repl) {
 static PyObject *replacement_of(Pattern *self, PyObject *repl) {
   if (PyCallable_Check(repl) || is_literal(repl))
     return Py_NewRef(repl);
-  return PyObject_CallFunctionObjArgs(shared.parts_of, self, repl, NULL);
+  return parts_of(self, repl);
 }
 
 /* Appends what a function returns for a match, unless that is None. */
