@@ -209,6 +209,7 @@ def build_package(folder, library, python):
     with open(f"{into}/_version.py", "w", encoding="utf-8") as file:
         file.write(f'__version__ = "{version()}"\n')
     shutil.copyfile(f"{library}/libsre_c.so", f"{into}/libsre_c.so")
+    run(python, f"{into}/_unicode.py", f"{into}/unicode.bin")
     lack = lack_of_extension(facts)
     if lack:
         print(f"{python}: no extension, since {lack}; the package asks the library by ctypes")

@@ -5,7 +5,7 @@ import ctypes
 import os
 from ctypes import POINTER, Structure, byref, c_bool, c_size_t, c_ssize_t, c_uint32, c_uint64, c_void_p
 
-import _sre
+from gaffsilver._unicode import lists
 
 TYPE_CHECKING = False
 if TYPE_CHECKING:
@@ -100,44 +100,13 @@ step_bound = _function("sre_step_bound", POINTER(Code), c_size_t, POINTER(c_uint
 answers = _of_text("answer", POINTER(Found), c_void_p, c_size_t)
 walks = _of_text("walk", c_size_t, c_void_p, c_size_t, POINTER(Walked))
 
-_to_upper = ctypes.pythonapi._PyUnicode_ToUppercase
-_to_upper.argtypes, _to_upper.restype = [c_uint32], c_uint32
-
-
-def _extend(ranges: list[list[int]], character: int) -> None:
-    if ranges and ranges[-1][1] == character - 1:
-        ranges[-1][1] = character
-    else:
-        ranges.append([character, character])
-
-
-def _lists_of_unicode() -> tuple[list[Any], list[Any], list[Any], list[Any]]:
-    """Lower and upper cases, letters and digits past ASCII, of this Python's Unicode data."""
-    lower: list[Any] = []
-    upper: list[Any] = []
-    alnum: list[Any] = []
-    digits: list[Any] = []
-    for number in range(128, 0x110000):
-        letter = chr(number)
-        if 0xD800 <= number < 0xE000:
-            continue
-        if _sre.unicode_tolower(number) != number:
-            lower.append((number, _sre.unicode_tolower(number)))
-        if letter.upper() != letter and _to_upper(number) != number:
-            upper.append((number, _to_upper(number)))
-        if letter.isalnum():
-            _extend(alnum, number)
-        if letter.isdecimal():
-            _extend(digits, number)
-    return lower, upper, alnum, digits
-
-
-def _table(*lists: list[Any]) -> Table:
+def _table(lists: list[bytes]) -> Table:
     """The checked table of these lists. It owns the arrays that it points to."""
     table = Table()
     for name, pairs in zip(("lower", "upper", "alnum", "digits"), lists):
-        setattr(table, name, (Pair * (len(pairs) or 1))(*map(tuple, pairs)))
-        setattr(table, f"{name}_count", len(pairs))
+        count = len(pairs) // ctypes.sizeof(Pair)
+        setattr(table, name, (Pair * count).from_buffer_copy(pairs) if count else (Pair * 1)())
+        setattr(table, f"{name}_count", count)
     status = check_table(byref(table))
     if status != YES:
         raise MemoryError if status == MEMORY else SystemError(f"the engine answered {status}")
@@ -149,7 +118,7 @@ _tables: list[Table | None] = [None, None]
 
 def table(is_unicode: bool) -> Table:
     """The table of this Python's Unicode data, or that of ASCII. It is made once."""
-    made = _tables[is_unicode] = _tables[is_unicode] or _table(*(_lists_of_unicode() if is_unicode else ([],) * 4))
+    made = _tables[is_unicode] = _tables[is_unicode] or _table(lists() if is_unicode else 4 * [b""])
     return made
 
 

@@ -10,68 +10,24 @@
 
 /* ---- tables ---- */
 
-/* A list of pairs that grows. */
-typedef struct {
-  sre_pair *pairs;
-  size_t count, room;
-} List;
-
-static bool list_add(List *list, uint32_t low, uint32_t high) {
-  if (list->count == list->room) {
-    size_t room = list->room ? 2 * list->room : 256;
-    sre_pair *pairs = PyMem_RawRealloc(list->pairs, room * sizeof *pairs);
-    if (!pairs)
-      return false;
-    list->pairs = pairs;
-    list->room = room;
-  }
-  list->pairs[list->count++] = (sre_pair){low, high};
-  return true;
-}
-
-/* Adds a character to the ranges of a list. */
-static bool list_extend(List *list, uint32_t character) {
-  if (list->count && list->pairs[list->count - 1].high + 1 == character) {
-    list->pairs[list->count - 1].high = character;
-    return true;
-  }
-  return list_add(list, character, character);
-}
-
-/* The lists of this Python's Unicode data, which its own `_sre` also reads. */
-static bool lists_of_unicode(List *lower, List *upper, List *alnum, List *digits) {
-  for (Py_UCS4 c = 128; c < 0x110000; c++) {
-    if (Py_UNICODE_IS_SURROGATE(c))
-      continue;
-    if (Py_UNICODE_TOLOWER(c) != c && !list_add(lower, c, Py_UNICODE_TOLOWER(c)))
-      return false;
-    if (Py_UNICODE_TOUPPER(c) != c && !list_add(upper, c, Py_UNICODE_TOUPPER(c)))
-      return false;
-    if (Py_UNICODE_ISALNUM(c) && !list_extend(alnum, c))
-      return false;
-    if (Py_UNICODE_ISDECIMAL(c) && !list_extend(digits, c))
-      return false;
-  }
-  return true;
-}
-
-/* Fills in and checks the Unicode table, which is never freed. */
+/* Fills in and checks the table of this Python's Unicode data, whose lists are never freed. */
 static bool fill_unicode(sre_table *table) {
-  List lower = {0}, upper = {0}, alnum = {0}, digits = {0};
-  if (lists_of_unicode(&lower, &upper, &alnum, &digits)) {
-    *table = (sre_table){lower.pairs, lower.count, upper.pairs,  upper.count, alnum.pairs,
-                         alnum.count, digits.pairs, digits.count, 0,           false};
-    uint32_t status = sre_check_table(table);
-    if (status == SRE_YES)
-      return true;
-    engine_fail(status);
-  } else {
-    PyErr_NoMemory();
+  PyObject *lists = PyObject_CallNoArgs(shared.unicode_lists);
+  if (!lists)
+    return false;
+  const sre_pair *pairs[4];
+  size_t counts[4];
+  for (Py_ssize_t at = 0; at < 4; at++) {
+    PyObject *list = PyList_GET_ITEM(lists, at);
+    pairs[at] = (const sre_pair *)PyBytes_AS_STRING(list);
+    counts[at] = (size_t)PyBytes_GET_SIZE(list) / sizeof(sre_pair);
   }
-  PyMem_RawFree(lower.pairs);
-  PyMem_RawFree(upper.pairs);
-  PyMem_RawFree(alnum.pairs);
-  PyMem_RawFree(digits.pairs);
+  *table = (sre_table){pairs[0], counts[0], pairs[1], counts[1], pairs[2], counts[2], pairs[3], counts[3], 0, false};
+  uint32_t status = sre_check_table(table);
+  if (status == SRE_YES)
+    return true;
+  engine_fail(status);
+  Py_DECREF(lists);
   return false;
 }
 
@@ -86,10 +42,14 @@ static bool fill_ascii(sre_table *table) {
 
 const sre_table *engine_table(bool is_unicode) {
   static sre_table unicode, ascii;
-  sre_table *table = is_unicode ? &unicode : &ascii;
+  sre_table *table = is_unicode ? &unicode : &ascii, made;
   if (table->checked)
     return table;
-  return (is_unicode ? fill_unicode(table) : fill_ascii(table)) ? table : NULL;
+  if (!(is_unicode ? fill_unicode(&made) : fill_ascii(&made)))
+    return NULL;
+  if (!table->checked) /* another thread may have made it meanwhile */
+    *table = made;
+  return table;
 }
 
 /* ---- calls ---- */

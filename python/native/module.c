@@ -54,16 +54,19 @@ static PyMethodDef functions[] = {
     {NULL},
 };
 
+/* Stores an attribute of a module. */
+static bool read_one(const char *name, const char *attribute, PyObject **into) {
+  PyObject *module = PyImport_ImportModule(name);
+  Py_XSETREF(*into, module ? PyObject_GetAttrString(module, attribute) : NULL);
+  Py_XDECREF(module);
+  return *into;
+}
+
 static bool read_shared(void) {
-  PyObject *module = PyImport_ImportModule("gaffsilver._shared");
-  if (!module)
-    return false;
-  Py_XSETREF(shared.exceeded, PyObject_GetAttrString(module, "exceeded"));
-  Py_XSETREF(shared.parts_of, PyObject_GetAttrString(module, "parts_of"));
-  Py_XSETREF(shared.parts_of_text, PyObject_GetAttrString(module, "parts_of_text"));
-  Py_XSETREF(shared.repr_of, PyObject_GetAttrString(module, "repr_of"));
-  Py_DECREF(module);
-  return shared.exceeded && shared.parts_of && shared.parts_of_text && shared.repr_of;
+  const char *own = "gaffsilver._shared";
+  return read_one(own, "exceeded", &shared.exceeded) && read_one(own, "parts_of", &shared.parts_of) &&
+         read_one(own, "parts_of_text", &shared.parts_of_text) && read_one(own, "repr_of", &shared.repr_of) &&
+         read_one("gaffsilver._unicode", "lists", &shared.unicode_lists);
 }
 
 static bool ready_types(void) {

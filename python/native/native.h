@@ -11,12 +11,13 @@
 
 /* ---- from a module in Python (module.c) ---- */
 
-/* The functions of gaffsilver._shared. */
+/* The functions of gaffsilver._shared and gaffsilver._unicode. */
 typedef struct {
   PyObject *exceeded;      /* (pattern string, position, step limit): the error of a call that exceeds its limit */
   PyObject *parts_of;      /* (pattern, template): a literal, or a list of literals and numbers of groups */
   PyObject *parts_of_text; /* the same for a str or bytes, faster */
   PyObject *repr_of;       /* (pattern): its repr */
+  PyObject *unicode_lists; /* (): the four lists of a table, each as bytes */
 } Shared;
 
 extern Shared shared;
