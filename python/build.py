@@ -8,9 +8,10 @@
 
 `library` proves and builds the crate `sre_c` by `rt lib`, or takes the archive that is named, and joins the kit's heap
 file to it: whoever has DIR needs no kit any more. The others take such a DIR, or make one. They are for the Python that
-runs this, or for those that are named, CPython 3.11 to 3.13. The extension in C wants a C compiler (`cc`, or what CC
-names) and the Python's headers. Where one of them is missing, a line says so, and the package asks the library by
-ctypes: the same answers, but slower. CFLAGS and LDFLAGS follow the flags that are set here.
+runs this, or for those that are named: CPython 3.11 to 3.13, or a later one with the same bytecode. The extension in C
+wants a C compiler (`cc`, or what CC names) and the Python's headers. Where one of them is missing, a line says so, and
+the package asks the library by ctypes: the same answers, but slower. CFLAGS and LDFLAGS follow the flags that are set
+here.
 
 `release` has the library, its module in Rust, and a wheel for each Python that is found, always with the extension.
 A wheel's files have the time of SOURCE_DATE_EPOCH, or else of the commit: a tree makes the same wheel each time.
@@ -61,13 +62,20 @@ WANTED = {
     COMPILER[0]: "a C compiler is needed, and CC names another",
 }
 
+# The bytecode of CPython 3.11, 3.12 and 3.13, as in gaffsilver/_engine.py.
+MAGICS = 20220615, 20221023, 20230612
+
 # What a Python tells of itself.
 ASKED = """
 import json, sys, sysconfig
+try:
+    from _sre import MAGIC
+except ImportError:
+    MAGIC = None
 print(json.dumps({
     "version": sys.version_info[:2], "implementation": sys.implementation.name,
     "include": sysconfig.get_paths()["include"], "suffix": sysconfig.get_config_var("EXT_SUFFIX"),
-    "platform": sysconfig.get_platform(), "has_lock": not sysconfig.get_config_var("Py_GIL_DISABLED"),
+    "platform": sysconfig.get_platform(), "has_lock": not sysconfig.get_config_var("Py_GIL_DISABLED"), "magic": MAGIC,
 }))
 """
 
@@ -76,7 +84,7 @@ Name: gaffsilver
 Version: {version}
 Summary: Python's re over a regex engine whose answers are proved
 License: MIT
-Requires-Python: >=3.11,<3.14
+Requires-Python: >=3.11
 Classifier: License :: OSI Approved :: MIT License
 Classifier: Operating System :: POSIX :: Linux
 Classifier: Programming Language :: Python :: 3.11
@@ -177,8 +185,10 @@ def facts_of(python):
 
 def check_facts(python, facts):
     """Refuses a Python that the package is not for."""
-    if facts["implementation"] != "cpython" or not [3, 11] <= facts["version"] <= [3, 13]:
+    if facts["implementation"] != "cpython" or facts["version"] < [3, 11]:
         raise Fault(f"{python}: the package is for CPython 3.11 to 3.13")
+    if facts["magic"] not in MAGICS:
+        raise Fault(f"{python}: its regex bytecode (magic {facts['magic']}) is not that of CPython 3.11 to 3.13")
     if not facts["has_lock"]:
         raise Fault(f"{python}: the package is for a Python with the global lock, and this is a free-threaded build")
 

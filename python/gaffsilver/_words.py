@@ -22,7 +22,7 @@ def _own_compiler() -> Any:
     """A separate `re._compiler`, so that of `re` does not change. It shares the parser and all constants."""
     spec = importlib.util.find_spec("re._compiler")
     if spec is None or spec.loader is None:
-        raise ImportError("this Python has no re._compiler: gaffsilver wants CPython 3.11, 3.12 or 3.13")
+        raise ImportError("this Python has no re._compiler")
     module = importlib.util.module_from_spec(spec)
     spec.loader.exec_module(module)
     module._sre = sre  # type: ignore[attr-defined]

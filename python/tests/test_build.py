@@ -15,7 +15,7 @@ spec = importlib.util.spec_from_file_location("build", f"{HERE}/build.py")
 build = importlib.util.module_from_spec(spec)
 spec.loader.exec_module(build)
 
-FACTS = {"version": [3, 13], "implementation": "cpython", "has_lock": True, "platform": "linux-x86_64"}
+FACTS = {"version": [3, 13], "implementation": "cpython", "has_lock": True, "magic": 20230612}
 
 
 # What objdump writes of a shared object.
@@ -80,7 +80,7 @@ class Building(unittest.TestCase):
             self.assertEqual(stat.S_IMODE(it.external_attr >> 16), 0o755 if it.filename.endswith(".so") else 0o644)
         names = [it.filename for it in entries if not it.filename.startswith(info)]
         self.assertEqual(names, sorted(names))
-        for line in ("Requires-Python: >=3.11,<3.14", "License: MIT", "Classifier: Typing :: Typed", "# In Python"):
+        for line in ("Requires-Python: >=3.11", "License: MIT", "Classifier: Typing :: Typed", "# In Python"):
             self.assertIn(f"\n{line}\n", told)
 
     def test_an_odd_time_is_refused(self):
@@ -167,9 +167,11 @@ class Building(unittest.TestCase):
 
     def test_pythons_that_are_refused(self):
         build.check_facts("it", FACTS)
+        build.check_facts("it", {**FACTS, "version": [3, 14]})
         for fact, words in (
             ({"has_lock": False}, "free-threaded"),
             ({"version": [3, 10]}, "CPython 3.11 to 3.13"),
+            ({"version": [3, 14], "magic": 20990101}, "magic 20990101. is not that of CPython 3.11 to 3.13"),
             ({"implementation": "pypy"}, "CPython 3.11 to 3.13"),
         ):
             with self.assertRaisesRegex(build.Fault, words):
