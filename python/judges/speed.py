@@ -1,95 +1,100 @@
 #!/usr/bin/env python3
-"""Times of calls beside those of `re`: the least of several runs, in processor time.
+"""Processor times of calls, as ratios to those of `re`: below 1 the engine is faster.
 
-    speed.py     prints a line for each call
+    speed.py     15 patterns by 7 calls, on 18 characters and on 400,000; matches; captures in atomic scopes
 
-The first lines are calls on texts of a few letters, the next ones walks over 400,000 letters, the last ones patterns
-that take `re` very long.
+A ratio is the least time of several rounds by the engine over that by `re`. The rounds of both take turns.
 """
+import math
 import re
 import sys
 import time
 
 import gaffsilver
 
+SHORT = "let size=12, depth"
+LINES = (
+    'The quick size=12 brown fox "jumped over" on the lazy-dog; see https://example.org/a/{0}?b=c at 2024-05-1{1}.\n'
+    "mail user{0}@example.com or  call  555-01{1}, key{0}=value{1}; on and on it goes: book{0} was good.\n"
+)
+LONG = "".join(LINES.format(number, number % 10) for number in range(2200))[:400_000]
+PATTERNS = (
+    r"\w+", r"\s+", r"(\w+)=(\w+)", r"depth", r"\bon\b", r"\w+(?==)", r"[\w.]+@[\w.]+\.\w+", r"<.*?>|t.*?=",
+    r"(\d{4})-(\d\d)-(\d\d)", r"https?://[^\s/]+/\S*", r"let|size|quick|book", r"(?m)^(\w+).*$", r'"[^"\n]*"',
+    r"(?i)QUICK|SIZE", r"(\w)\1",
+)
+CALLS = ("match", "search", "fullmatch", "findall", "finditer", "sub", "split")
+ROUNDS = 7
 
-def least(call, times, rounds):
-    best = float("inf")
-    for _ in range(rounds):
-        began = time.process_time()
-        for _ in range(times):
-            call()
-        best = min(best, (time.process_time() - began) / times)
-    return best
-
-
-def row(name, make, times, rounds=9):
-    """One line; `make` gives the call over a module."""
-    theirs, ours = (least(make(module), times, rounds) for module in (re, gaffsilver))
-    print(f"{name:46} re {theirs * 1e6:12.2f} us, gaffsilver {ours * 1e6:12.2f} us: {ours / theirs:6.2f}", flush=True)
-
-
-def of_pattern(pattern, how, *arguments):
-    """A call of a compiled pattern."""
-
-    def make(module):
-        method = getattr(module.compile(pattern), how)
-        return lambda: method(*arguments)
-
-    return make
+# Captures inside atomic groups, lookarounds and possessive loops, over 8,000 letters.
+CAPTURES = (r"(a+)*+a", r"(a+)*+b", r"(?>(a+))b", r"(?=(a+))b", r"(?=(a+))\1b")
 
 
-def tiny():
-    line, wide = "let size=12", "lét größe=12"
-    row(r"match \w+, 11 letters", of_pattern(r"\w+", "match", line), 20000)
-    row(r"search (\w+)=(\d+), 11 letters", of_pattern(r"(\w+)=(\d+)", "search", line), 20000)
-    row(r"the same with letters past ASCII", of_pattern(r"(\w+)=(\d+)", "search", wide), 20000)
-    row(r"search zq+, no match", of_pattern("zq+", "search", line), 20000)
-    row(r"fullmatch [a-z]+ \w+=\d+", of_pattern(r"[a-z]+ \w+=\d+", "fullmatch", line), 20000)
-    row(r"sub \d by #", of_pattern(r"\d", "sub", "#", line), 10000)
-    row(r"split =", of_pattern("=", "split", line), 10000)
-    row(r"findall \w+", of_pattern(r"\w+", "findall", line), 10000)
-    row(r"re.search (\w+)=(\d+)", lambda module: lambda: module.search(r"(\w+)=(\d+)", line), 10000)
-    row(r"group(1) of a match", lambda module: module.search(r"(\w+)=", line).group, 20000)
-
-    def compiled(module):
-        return lambda: (module.purge(), module.compile(r"(\w+)=(\d+)"))
-
-    row("compile a pattern anew", compiled, 300)
+def call_of(compiled, name, text):
+    """A call without arguments."""
+    method = getattr(compiled, name)
+    if name == "finditer":
+        return lambda: sum(1 for _ in method(text))
+    return (lambda: method("#", text)) if name == "sub" else (lambda: method(text))
 
 
-def large():
-    text = " ".join(f"key{it}=value{it * 7};" for it in range(20000))[:400000]
-    texts = {"": text, ", Latin-1": text.replace("value", "wérth"), ", Cyrillic": text.replace("a", "а")}
-    for name, letters in texts.items():
-        row(f"findall \\w+{name}", of_pattern(r"\w+", "findall", letters), 1)
-        row(f"findall (\\w+)=(\\w+){name}", of_pattern(r"(\w+)=(\w+)", "findall", letters), 1)
-
-    def walked(pattern):
-        def make(module):
-            compiled = module.compile(pattern)
-            return lambda: sum(1 for _ in compiled.finditer(text))
-
-        return make
-
-    row(r"finditer \w+", walked(r"\w+"), 1)
-    row(r"finditer (\w+)=(\w+)", walked(r"(\w+)=(\w+)"), 1)
-    row(r"sub \d+ by #", of_pattern(r"\d+", "sub", "#", text), 1)
-    row(r"sub (\w+)=(\w+) by \2=\1", of_pattern(r"(\w+)=(\w+)", "sub", r"\2=\1", text), 1)
-    row(r"split [=;]", of_pattern("[=;]", "split", text), 1)
-    row(r"search value139993;", of_pattern("value139993;", "search", text), 10)
-    row(r"search [a-z]+139993;", of_pattern("[a-z]+139993;", "search", text), 1)
+def seconds(call, times):
+    began = time.process_time()
+    for _ in range(times):
+        call()
+    return time.process_time() - began
 
 
-def long_runs():
-    row("search (?:x+x+)+y, 22 letters", of_pattern("(?:x+x+)+y", "search", 22 * "x"), 1, 3)
-    method = gaffsilver.compile("(?:x+x+)+y").search
-    taken = least(lambda: method(100 * "x"), 20, 9)
-    print(f"search (?:x+x+)+y, 100 letters: gaffsilver {taken * 1e6:.0f} us")
+def ratio(theirs, ours, seconds_each=0.004, rounds=ROUNDS):
+    """The time of our call over that of theirs."""
+    times = max(1, int(seconds_each / max(1e-7, seconds(theirs, 3) / 3)))
+    pairs = [(seconds(theirs, times), seconds(ours, times)) for _ in range(rounds)]
+    return min(it[1] for it in pairs) / min(it[0] for it in pairs)
+
+
+def mean(ratios):
+    """The geometric mean."""
+    return math.exp(sum(map(math.log, ratios)) / len(ratios))
+
+
+def told(name, ratios):
+    print(f"{name:22} {mean(ratios):5.2f}   {min(ratios):5.2f} .. {max(ratios):5.2f}", flush=True)
+
+
+def table(name, text):
+    """The ratios of each call over a text, by pattern."""
+    cells, compiled = {}, [(re.compile(it), gaffsilver.compile(it)) for it in PATTERNS]
+    for call in CALLS:
+        for pattern, both in zip(PATTERNS, compiled):
+            cells[call, pattern] = ratio(*(call_of(it, call, text) for it in both))
+        told(f"{name}, {call}", [cells[call, it] for it in PATTERNS])
+    told(f"{name}, all", list(cells.values()))
+    high = sorted(((it, *cell) for cell, it in cells.items() if it > 1.5), reverse=True)
+    print(f"{name}: {sum(it > 1.2 for it in cells.values())} of {len(cells)} above 1.2, {len(high)} above 1.5")
+    for it, call, pattern in high:
+        print(f"    {it:5.2f} {call} {pattern}")
+
+
+def matches():
+    """Methods of a match, and a pattern that is compiled anew."""
+    both = [it.search(r"(?P<name>\w+)=(\d+)", SHORT) for it in (re, gaffsilver)]
+    for name, *arguments in (["group", 1], ["group", "name"], ["groups"], ["span"], ["expand", r"\2=\1"]):
+        calls = [lambda method=getattr(it, name): method(*arguments) for it in both]
+        told(f"{name}({', '.join(map(repr, arguments))})", [ratio(*calls)])
+    anew = [lambda module=it: (module.purge(), module.compile(r"(\w+)=(\d+)")) for it in (re, gaffsilver)]
+    told("compile anew", [ratio(*anew)])
+
+
+def captures():
+    for pattern in CAPTURES:
+        both = [call_of(it.compile(pattern), "search", 8000 * "a") for it in (re, gaffsilver)]
+        told(f"search {pattern}", [ratio(*both, rounds=2)])
 
 
 if __name__ == "__main__":
-    tiny()
-    large()
-    long_runs()
+    print("                        mean   least .. most, of gaffsilver / re")
+    table("short", SHORT)
+    table("long", LONG)
+    matches()
+    captures()
     sys.exit(0)
