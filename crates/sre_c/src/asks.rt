@@ -240,7 +240,7 @@ fn search_by_finder<S: Haystack>(
 const MANY_ROWS: usize = 1 << 8;
 
 // Writes the matches of a range. With room for many rows and a long range it builds DFAs at once. Otherwise the machine
-// takes its first steps before DFAs are built, or all steps if they are limited.
+// takes its first steps before DFAs are built. If these are built, the first steps are not charged.
 fn write_told<S: Haystack>(
     alloc: Global,
     request: &Request<'_, S>,
@@ -257,18 +257,23 @@ fn write_told<S: Haystack>(
     if width > 0 && rows.len() / width >= MANY_ROWS && is_long(request) {
         return write_by_automata(alloc, request, encoding, width, rows, walked);
     }
-    if walked.steps < NO_LIMIT {
-        return Machine.write(alloc, request, width, rows, walked);
-    }
     let steps = walked.steps;
-    walked.steps = FIRST_STEPS;
+    walked.steps = FIRST_STEPS.min(steps);
+    let more = steps - walked.steps;
     let status = Machine.write(alloc, request, width, rows, walked);
-    walked.steps = steps;
-    walked.steps_before = steps;
     if let Status::StepLimit = status {
         walked.count = 0;
+        walked.steps = steps;
+        walked.steps_before = steps;
         return write_by_automata(alloc, request, encoding, width, rows, walked);
     }
+    if steps == NO_LIMIT {
+        walked.steps = steps;
+        walked.steps_before = steps;
+        return status;
+    }
+    walked.steps = walked.steps.saturating_add(more);
+    walked.steps_before = walked.steps_before.saturating_add(more);
     status
 }
 
