@@ -4,6 +4,7 @@ pub mod Known
 pub mod Checked
 pub mod Budgets
 pub mod Answered
+pub mod Replies
 pub mod Walked
 pub mod Rows
 pub mod Bounded

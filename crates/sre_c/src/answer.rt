@@ -13,6 +13,7 @@ ghost use Rattle.sre_c.specs.Known.{table_in};
 ghost use Rattle.sre_c.specs.Given.{asked_in};
 ghost use Rattle.sre_c.specs.Budgets.{no_limit, KeepsBudget};
 ghost use Rattle.sre_c.specs.Answered.{mark_number, last_start, IsFound, IsTold, Answers};
+ghost use Rattle.sre_c.specs.Replies.{IsReply, Replies};
 
 use crate::asks::{Asks, NO_LIMIT, answered};
 use crate::check;
@@ -102,6 +103,54 @@ fn show(state: &State<Global>, found: &mut SreFound, marks: &mut [usize]) -> boo
     copy_marks(state.marks().raw(), marks)
 }
 
+// Copies the match that a state shows if there is one, and returns the status.
+#[inline(always)]
+fn tell(
+    told: Result<Option<bool>, SreError>,
+    state: &State<Global>,
+    found: &mut SreFound,
+    marks: &mut [usize],
+) -> Status
+    requires memory { OnErr told (Refused Global) }
+    ensures reply { IsReply result told (match_shown state.now) (length marks.old) found.new marks.new }
+    ensures steps { found.new.steps ≡ found.old.steps }
+{
+    match told {
+        Ok(Some(true)) => {
+            if show(state, found, marks) {
+                Status::Yes
+            } else {
+                Status::NoRoom
+            }
+        }
+        Ok(Some(false)) => Status::No,
+        Ok(None) => Status::StepLimit,
+        Err(SreError::Memory) => Status::Memory,
+    }
+}
+
+// The match of a request, as `answer` returns it.
+#[inline(always)]
+fn reply<S: StrDrive, H: Asks<S>>(
+    alloc: Global,
+    how: &H,
+    request: Request<'_, S>,
+    asked: &SreAsked,
+    found: &mut SreFound,
+    marks: &mut [usize],
+) -> Status
+    ensures replies { Replies (words_of (code_of request.entry)) (asked_of request.entry) asked.now.search result
+        asked.now.steps (length marks.old) found.new marks.new }
+    ensures steps { found.new.steps ≤ asked.now.steps }
+    ensures unlimited { asked.now.steps ≡ no_limit → found.new.steps ≡ asked.now.steps }
+{
+    let mut state = State::new(alloc);
+    let mut steps = asked.steps;
+    let told = ask(alloc, how, &mut state, request, asked.search, &mut steps);
+    found.steps = steps;
+    tell(told, &state, found, marks)
+}
+
 // The match of a code whose table is at hand, as `answer` returns it.
 fn answer_by<'a, S: StrDrive, H: Asks<S>>(
     alloc: Global,
@@ -124,23 +173,8 @@ fn answer_by<'a, S: StrDrive, H: Asks<S>>(
         Err(CodeError::Memory) => return Status::Memory,
         Err(_) => return Status::NoCode,
     };
-    let mut state = State::new(alloc);
     let request = request(text, asked, code);
-    let mut steps = asked.steps;
-    let told = ask(alloc, how, &mut state, request, asked.search, &mut steps);
-    found.steps = steps;
-    match told {
-        Ok(Some(true)) => {
-            if show(&state, found, marks) {
-                Status::Yes
-            } else {
-                Status::NoRoom
-            }
-        }
-        Ok(Some(false)) => Status::No,
-        Ok(None) => Status::StepLimit,
-        Err(SreError::Memory) => Status::Memory,
-    }
+    reply(alloc, how, request, asked, found, marks)
 }
 
 /// Writes the match, its captures if there is room for them, and the steps that are left.

@@ -1,0 +1,38 @@
+-- What the engine answers a request, and what a status says of that.
+-- Definitions for the contracts inside this crate; what it makes public does not rest on it.
+use Rattle.std.specs.Prelude.{ℕ, ◌≡◌, ◌<◌, List, Bool, true, false, cond, Option, Some, None, Result, Ok}
+use Rattle.std.specs.Prelude.{IfOk, IfSome}
+use Rattle.std.specs.Global.{Global}
+use Rattle.sre_model.specs.Tree.{Tree}
+use Rattle.sre_model.specs.Grammar.{Whole}
+use Rattle.sre_model.specs.Found.{Asked, Match, matched, found}
+use Rattle.sre_growth.specs.Refusal.{Refused}
+use Rattle.sre_engine.specs.declared.engine.state.SreError.{SreError}
+use Rattle.sre_engine.specs.Answers.{Shown, answer_of, match_shown}
+use Rattle.sre_c.specs.declared.status.Status.{Status}
+use Rattle.sre_c.specs.declared.status.Status.TheVariants.{No, Yes, StepLimit, Memory, NoCode, NoRoom}
+use Rattle.sre_c.specs.declared.status.Status.TheVariants.{NotUtf8, FaultyTable}
+use Rattle.sre_c.specs.declared.types.SreFound.{SreFound}
+use Rattle.sre_c.specs.Answered.{IsFound, IsTold, last_start}
+use Rattle.sre_c.specs.Budgets.{KeepsBudget}
+
+-- what a status says of an answer and of the match that the state shows, with room for so many marks
+abbrev pub IsReply : Status → Result (Option Bool) SreError → Match → ℕ → SreFound → List ℕ → Type 0
+IsReply No told m room f marks = told ≡ Ok (Some false)
+IsReply Yes told m room f marks = (told ≡ Ok (Some true)) × IsTold m f marks
+IsReply NoRoom told m room f marks = (told ≡ Ok (Some true)) × IsFound m f × (room < f.marks)
+IsReply StepLimit told m room f marks = told ≡ Ok None
+IsReply Memory told m room f marks = Refused Global
+IsReply NoCode told m room f marks = ⊥
+IsReply FaultyTable told m room f marks = ⊥
+IsReply NotUtf8 told m room f marks = ⊥
+
+-- what the engine answers, with the state that it leaves
+pub record Replies (words : List ℕ) (a : Asked) (search : Bool) (status : Status) (given room : ℕ) (f : SreFound)
+    (marks : List ℕ) : Type 0 where
+  pub told : Result (Option Bool) SreError
+  pub shown : Shown
+  pub answer : (t : Tree) → Whole words t → IfOk told (λ told. IfSome told (λ b.
+      answer_of b shown ≡ cond search (found a t) (matched a t)))
+  pub left : KeepsBudget words a (last_start search a) told given f.steps
+  pub reply : IsReply status told (match_shown shown) room f marks
