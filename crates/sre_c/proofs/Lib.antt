@@ -2,6 +2,7 @@ pub mod Telling
 pub mod Budgets
 pub mod RowBudgets
 pub mod Rows
+pub mod NextRows
 pub mod Walks
 pub mod Matches
 pub mod Knowing

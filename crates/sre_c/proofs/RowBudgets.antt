@@ -6,7 +6,7 @@ use Rattle.std.specs.Global.{Global}
 use Rattle.sre_chars.specs.declared.string.StrDrive.{Ghosts}
 use Rattle.sre_model.specs.Tree.{Tree}
 use Rattle.sre_model.specs.Grammar.{Whole}
-use Rattle.sre_model.specs.Found.{Asked, Match, walk, asked_after}
+use Rattle.sre_model.specs.Found.{Match, walk, asked_after}
 use Rattle.sre_code.specs.Codes.{words_of}
 use Rattle.sre_request.specs.declared.request.Request.{Request}
 use Rattle.sre_engine.specs.Requests.{end_of, code_of, asked_of}

@@ -1,6 +1,6 @@
 -- Rows of matches: one more after those that exist, and an iteration that is written up to some request.
 use Rattle.std.proofs.Common.{◌≡◌, ◌∙◌, ◌<◌, ◌+◌, ◌*◌, ℕ, List, [], ◌∷◌, ◌++◌, length, slice_index, cond, nat_eq}
-use Rattle.std.proofs.Common.{Bool, true, false, Option, Some, None, Ok, sym, ap, subst, arith, append_assoc}
+use Rattle.std.proofs.Common.{sym, ap, subst, arith, append_assoc}
 use Rattle.std.proofs.Common.{length-append}
 use Rattle.sre_chars.specs.declared.string.StrDrive.{Ghosts}
 use Rattle.sre_model.specs.Tree.{Tree}
@@ -11,7 +11,7 @@ use Rattle.sre_request.specs.declared.request.Request.{Request}
 use Rattle.sre_engine.specs.Requests.{start_of, code_of, asked_of, must_advance_of}
 use Rattle.sre_engine.specs.Answers.{match_shown}
 use Rattle.sre_engine.specs.declared.engine.search_iter.SearchIter.{SearchIter}
-use Rattle.sre_engine.specs.Iterators.{request_of, shown_of, Gives, NextWithin}
+use Rattle.sre_engine.specs.Iterators.{request_of, shown_of, Gives}
 use Rattle.sre_c.specs.declared.types.SreWalked.{SreWalked}
 use Rattle.sre_c.specs.Walked.{IsRow, AreRows, IsWritten}
 use Rattle.sre_c.specs.Rows.{IsSoFar}
@@ -68,13 +68,6 @@ so_far_with first next width w rows m n is = record {
   same = is.same;
   inside = is.inside;
 }
-
--- the next item is a match
-pub match_given : {S A : Type 0} {text : Ghosts S} (it next : SearchIter S A text) (told : Option Bool)
-    → NextWithin it (Ok told) next → told ≡ Some true → Gives it next
-match_given it next (Some true) said is = said
-match_given it next (Some false) said is = absurd (cc)
-match_given it next None said is = absurd (cc)
 
 -- of a walk that is written so far one match more is found
 module _ {S A : Type 0} {text : Ghosts S} (first : Request S text) (it next : SearchIter S A text) (width : ℕ)

@@ -1,7 +1,7 @@
 -- How far an iteration of a request is written.
 -- Definitions for the contracts inside this crate; what it makes public does not rest on it.
 use Rattle.std.specs.Prelude.{ℕ, ◌≡◌, ◌≤◌, ◌<◌, ◌+◌, ◌*◌, ◌⊎◌, List, [], ◌∷◌, length, take, Bool, false, Option}
-use Rattle.std.specs.Prelude.{Some, None, Ok}
+use Rattle.std.specs.Prelude.{Some, None, Result, Ok}
 use Rattle.std.specs.Global.{Global}
 use Rattle.sre_chars.specs.declared.string.StrDrive.{Ghosts}
 use Rattle.sre_model.specs.Tree.{Tree}
@@ -10,14 +10,17 @@ use Rattle.sre_model.specs.Found.{Asked, Match, walk, asked_after}
 use Rattle.sre_growth.specs.Refusal.{Refused}
 use Rattle.sre_code.specs.Codes.{words_of}
 use Rattle.sre_engine.specs.Requests.{end_of, code_of, asked_of}
-use Rattle.sre_engine.specs.Counts.{AreEnough}
+use Rattle.sre_engine.specs.Counts.{AreEnough, KeepsToSteps, runs_of}
 use Rattle.sre_request.specs.declared.request.Request.{Request}
+use Rattle.sre_engine.specs.declared.engine.search_iter.SearchIter.{SearchIter}
+use Rattle.sre_engine.specs.declared.engine.state.SreError.{SreError}
+use Rattle.sre_engine.specs.Iterators.{request_of, shown_of, has_ended, NextWithin}
 use Rattle.sre_c.specs.declared.status.Status.{Status}
 use Rattle.sre_c.specs.declared.status.Status.TheVariants.{No, Yes, StepLimit, Memory, NoCode, NoRoom}
 use Rattle.sre_c.specs.declared.status.Status.TheVariants.{NotUtf8, FaultyTable}
 use Rattle.sre_c.specs.declared.types.SreWalked.{SreWalked}
 use Rattle.sre_c.specs.Walked.{IsWritten}
-use Rattle.sre_c.specs.Budgets.{KeepsBudget, KeepBudget}
+use Rattle.sre_c.specs.Budgets.{no_limit, KeepsBudget, KeepBudget}
 
 -- the matches of a request are those that are written, and those of the one that is asked next
 pub record IsSoFar {S : Type 0} {text : Ghosts S} (first next : Request S text) (width : ℕ) (w : SreWalked)
@@ -70,6 +73,39 @@ WritesRows Yes first next steps width w rows = ⊥
 WritesRows NoCode first next steps width w rows = ⊥
 WritesRows NotUtf8 first next steps width w rows = ⊥
 WritesRows FaultyTable first next steps width w rows = ⊥
+
+-- rows that an iteration has written so far, with what its searches leave of the steps
+pub record AreWritten {S A : Type 0} {text : Ghosts S} (first : Request S text) (it : SearchIter S A text)
+    (width given : ℕ) (w : SreWalked) (rows : List ℕ) : Type 0 where
+  pub goes_on : has_ended it ≡ false
+  pub so_far : IsSoFar first (request_of it) width w rows
+  pub fewer : w.steps ≤ given
+  pub untaken : w.count ≡ 0 → w.steps ≡ given
+  pub unlimited : given ≡ no_limit → w.steps ≡ given
+  pub kept : RowsKeep first w.count given w.steps
+  pub behind : IsBehind first (request_of it) w.count
+
+-- the same after one more row; or what a status says, for which there is none
+abbrev pub NextIs : {S A : Type 0} {text : Ghosts S} → Option Status
+    → Request S text → SearchIter S A text → ℕ → ℕ → SreWalked → List ℕ → Type 0
+NextIs None first next width given w rows = AreWritten first next width given w rows
+NextIs (Some status) first next width given w rows =
+    WritesRows status first (request_of next) given width w rows × (w.steps ≤ given)
+    × (given ≡ no_limit → w.steps ≡ given)
+
+-- what the search for the next match says, and what it leaves of the steps
+pub record Searched {S A : Type 0} {text : Ghosts S} (it : SearchIter S A text) (told : Result (Option Bool) SreError)
+    (next : SearchIter S A text) (given left : ℕ) : Type 0 where
+  pub gives : NextWithin it told next
+  pub spent : KeepsToSteps A (asked_of (request_of it)) (code_of (request_of it)) told (runs_of (shown_of next)) given
+      left
+  pub unlimited : given ≡ no_limit → left ≡ given
+
+-- one more row of each iteration that has written rows so far
+pub record WritesNext {S A : Type 0} {text : Ghosts S} (status : Option Status) (it next : SearchIter S A text)
+    (width : ℕ) (w u : SreWalked) (old new : List ℕ) : Type 0 where
+  pub each : (first : Request S text) (given : ℕ) → AreWritten first it width given w old
+      → NextIs status first next width given u new
 
 -- the same of rows after which some request is next
 abbrev pub Writes : {S : Type 0} {text : Ghosts S} → Status → Request S text → ℕ → ℕ → SreWalked → List ℕ → Type 0

@@ -1,13 +1,12 @@
 //! The iteration over matches, which writes them in rows.
 
-ghost use Rattle.std.specs.Prelude.{◌≡◌, ◌<◌, ◌≤◌, ◌+◌, ℕ, length, slice_index, false};
-ghost use Rattle.sre_engine.specs.Requests.{string_of, start_of, end_of, code_of, asked_of, must_advance_of};
-ghost use Rattle.sre_engine.specs.Iterators.{request_of, shown_of, has_ended, NextWithin};
-ghost use Rattle.sre_engine.specs.Counts.{KeepsToSteps, runs_of};
+ghost use Rattle.std.specs.Prelude.{◌≡◌, ◌<◌, ◌≤◌, ◌+◌, ◌*◌, ℕ, length, slice_index, false, IfNone};
+ghost use Rattle.sre_engine.specs.Requests.{string_of, start_of, end_of, code_of, must_advance_of};
+ghost use Rattle.sre_engine.specs.Iterators.{request_of, has_ended};
 ghost use Rattle.sre_engine.specs.Answers.{match_shown};
 ghost use Rattle.sre_c.specs.Known.{table_in};
 ghost use Rattle.sre_c.specs.Walked.{index_number, entry_of, begun_of, IsRow, Walks};
-ghost use Rattle.sre_c.specs.Rows.{WritesRows};
+ghost use Rattle.sre_c.specs.Rows.{Searched, WritesNext, WritesRows};
 ghost use Rattle.sre_c.specs.Budgets.{no_limit};
 
 use crate::answer::{mark_number, request};
@@ -79,10 +78,7 @@ fn next_match<S: StrDrive, F: Starts<S>>(
 ) -> Result<Option<bool>, SreError>
     requires suits { F.suits starts.old (string_of (request_of walk.old)) (code_of (request_of walk.old)) }
     ensures suits { F.suits starts.new (string_of (request_of walk.new)) (code_of (request_of walk.new)) }
-    ensures gives { NextWithin walk.old result walk.new }
-    ensures steps { KeepsToSteps Global (asked_of (request_of walk.old)) (code_of (request_of walk.old)) result
-        (runs_of (shown_of walk.new)) steps.old steps.new }
-    ensures unlimited { steps.old ≡ no_limit → steps.new ≡ steps.old }
+    ensures searched { Searched walk.old result walk.new steps.old steps.new }
 {
     if *steps < NO_LIMIT {
         return walk.next_within_by(steps, starts);
@@ -92,6 +88,37 @@ fn next_match<S: StrDrive, F: Starts<S>>(
         Some(Ok(())) => Ok(Some(true)),
         Some(Err(error)) => Err(error),
     }
+}
+
+// Writes the row of the next match, or returns why there is none.
+#[inline(always)]
+fn write_next<S: StrDrive, F: Starts<S>>(
+    walk: &mut SearchIter<'_, S, Global>,
+    starts: &mut F,
+    rows: &mut [usize],
+    at: usize,
+    width: usize,
+    walked: &mut SreWalked,
+) -> Option<Status>
+    requires suits { F.suits starts.old (string_of (request_of walk.old)) (code_of (request_of walk.old)) }
+    requires room { at + width ≤ length rows.old }
+    requires place { at ≡ walked.old.count * width }
+    requires wide { 0 < width }
+    ensures suits { F.suits starts.new (string_of (request_of walk.new)) (code_of (request_of walk.new)) }
+    ensures count { IfNone result (walked.new.count ≡ walked.old.count + 1) }
+    ensures rows { WritesNext result walk.old walk.new width walked.old walked.new rows.old rows.new }
+{
+    walked.steps_before = walked.steps;
+    match next_match(walk, starts, &mut walked.steps) {
+        Ok(Some(true)) => {}
+        Ok(Some(false)) => return Some(Status::No),
+        Ok(None) => return Some(Status::StepLimit),
+        Err(SreError::Memory) => return Some(Status::Memory),
+    }
+    write_row(walk.state(), rows, at, width);
+    walked.count += 1;
+    note_next(walk, walked);
+    None
 }
 
 /// Writes the remaining matches, row by row, until there is no room for one more row, or no match.
@@ -114,17 +141,10 @@ pub fn write_rows<S: StrDrive, F: Starts<S>>(
     let mut at = 0;
     note_next(walk, walked);
     'matches: while width > 0 && width <= rows.len() - at {
-        walked.steps_before = walked.steps;
-        match next_match(walk, starts, &mut walked.steps) {
-            Ok(Some(true)) => {}
-            Ok(Some(false)) => return Status::No,
-            Ok(None) => return Status::StepLimit,
-            Err(SreError::Memory) => return Status::Memory,
+        if let Some(status) = write_next(walk, starts, rows, at, width, walked) {
+            return status;
         }
-        write_row(walk.state(), rows, at, width);
         at += width;
-        walked.count += 1;
-        note_next(walk, walked);
     }
     Status::NoRoom
 }
