@@ -4,6 +4,7 @@ pub mod RowBudgets
 pub mod Rows
 pub mod NextRows
 pub mod Walks
+pub mod Finding
 pub mod Matches
 pub mod Knowing
 pub mod SpanRows

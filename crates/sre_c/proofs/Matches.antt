@@ -31,7 +31,7 @@ module _ (c : SreCode) (text : List ℕ) (given : SreAsked) (room : ℕ) (f : Sr
   answer_in status x b is t whole =
       let asked : Asked = asked_in given (table_in c.table.now) text in
       subst (λ r. IfOk r (λ told. IfSome told (λ b.
-      answer_of b x.shown ≡ cond given.search (found asked t) (matched asked t)))) is (x.answer t whole)
+      answer_of b x.shown ≡ cond given.search (found asked t) (matched asked t)))) is (x.finds.answer t whole)
 
   -- a match, of which something holds
   match_in : (status : Status) (x : Replied status) → x.told ≡ Ok (Some true) → (says : Match → Type 0)
@@ -44,7 +44,7 @@ module _ (c : SreCode) (text : List ℕ) (given : SreAsked) (room : ℕ) (f : Sr
       → LeavesSteps c text given told f.steps
   left_in status x told is =
       let asked : Asked = asked_in given (table_in c.table.now) text in
-      subst (λ r. KeepsBudget c.words.now asked (last_start given.search asked) r given.steps f.steps) is x.left
+      subst (λ r. KeepsBudget c.words.now asked (last_start given.search asked) r given.steps f.steps) is x.finds.steps
 
   -- what the status says
   answers_of : (status : Status) → Replied status → Answers status c text given room f marks

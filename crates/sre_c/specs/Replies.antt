@@ -1,7 +1,7 @@
 -- What the engine answers a request, and what a status says of that.
 -- Definitions for the contracts inside this crate; what it makes public does not rest on it.
-use Rattle.std.specs.Prelude.{ℕ, ◌≡◌, ◌<◌, List, Bool, true, false, cond, Option, Some, None, Result, Ok}
-use Rattle.std.specs.Prelude.{IfOk, IfSome}
+use Rattle.std.specs.Prelude.{ℕ, ◌≡◌, ◌<◌, List, Bool, true, false, cond, Option, Some, None, Result, Ok, Err}
+use Rattle.std.specs.Prelude.{IfOk, IfSome, OnErr}
 use Rattle.std.specs.Global.{Global}
 use Rattle.sre_model.specs.Tree.{Tree}
 use Rattle.sre_model.specs.Grammar.{Whole}
@@ -14,7 +14,21 @@ use Rattle.sre_c.specs.declared.status.Status.TheVariants.{No, Yes, StepLimit, M
 use Rattle.sre_c.specs.declared.status.Status.TheVariants.{NotUtf8, FaultyTable}
 use Rattle.sre_c.specs.declared.types.SreFound.{SreFound}
 use Rattle.sre_c.specs.Answered.{IsFound, IsTold, last_start}
-use Rattle.sre_c.specs.Budgets.{KeepsBudget}
+use Rattle.sre_c.specs.Budgets.{no_limit, KeepsBudget}
+
+-- the answer of a call without a step limit, which cannot exceed it
+abbrev pub told_of : {E : Type 0} → Result Bool E → Result (Option Bool) E
+told_of (Ok b) = Ok (Some b)
+told_of (Err e) = Err e
+
+-- what the engine answers a search or a match, with the state and the steps that it leaves
+pub record Finds (words : List ℕ) (a : Asked) (search : Bool) (told : Result (Option Bool) SreError) (s : Shown)
+    (given left : ℕ) : Type 0 where
+  pub answer : (t : Tree) → Whole words t → IfOk told (λ told. IfSome told (λ b.
+      answer_of b s ≡ cond search (found a t) (matched a t)))
+  pub steps : KeepsBudget words a (last_start search a) told given left
+  pub unlimited : given ≡ no_limit → left ≡ given
+  pub memory : OnErr told (Refused Global)
 
 -- what a status says of an answer and of the match that the state shows, with room for so many marks
 abbrev pub IsReply : Status → Result (Option Bool) SreError → Match → ℕ → SreFound → List ℕ → Type 0
@@ -27,12 +41,10 @@ IsReply NoCode told m room f marks = ⊥
 IsReply FaultyTable told m room f marks = ⊥
 IsReply NotUtf8 told m room f marks = ⊥
 
--- what the engine answers, with the state that it leaves
+-- the same of some answer and state
 pub record Replies (words : List ℕ) (a : Asked) (search : Bool) (status : Status) (given room : ℕ) (f : SreFound)
     (marks : List ℕ) : Type 0 where
   pub told : Result (Option Bool) SreError
   pub shown : Shown
-  pub answer : (t : Tree) → Whole words t → IfOk told (λ told. IfSome told (λ b.
-      answer_of b shown ≡ cond search (found a t) (matched a t)))
-  pub left : KeepsBudget words a (last_start search a) told given f.steps
+  pub finds : Finds words a search told shown given f.steps
   pub reply : IsReply status told (match_shown shown) room f marks

@@ -1,19 +1,15 @@
 //! The answer for a code, a request and a text of any type.
 
-ghost use Rattle.std.specs.Prelude.{◌≡◌, ◌<◌, ◌≤◌, ℕ, length, slice_index, slice_index_or, None, true, false, cond};
-ghost use Rattle.std.specs.Prelude.{IfOk, IfSome, OnErr};
-ghost use Rattle.sre_model.specs.Tree.{Tree};
-ghost use Rattle.sre_model.specs.Grammar.{Whole};
-ghost use Rattle.sre_model.specs.Found.{found, matched};
+ghost use Rattle.std.specs.Prelude.{◌≡◌, ◌<◌, ◌≤◌, ℕ, length, slice_index, slice_index_or, None, true, false, OnErr};
 ghost use Rattle.sre_growth.specs.Refusal.{Refused};
 ghost use Rattle.sre_engine.specs.Codes.{words_of, uni_of};
 ghost use Rattle.sre_engine.specs.Requests.{asked_of, code_of};
-ghost use Rattle.sre_engine.specs.Answers.{answer_of, match_shown};
+ghost use Rattle.sre_engine.specs.Answers.{match_shown};
 ghost use Rattle.sre_c.specs.Known.{table_in};
 ghost use Rattle.sre_c.specs.Given.{asked_in};
-ghost use Rattle.sre_c.specs.Budgets.{no_limit, KeepsBudget};
-ghost use Rattle.sre_c.specs.Answered.{mark_number, last_start, IsFound, IsTold, Answers};
-ghost use Rattle.sre_c.specs.Replies.{IsReply, Replies};
+ghost use Rattle.sre_c.specs.Budgets.{no_limit};
+ghost use Rattle.sre_c.specs.Answered.{mark_number, IsFound, IsTold, Answers};
+ghost use Rattle.sre_c.specs.Replies.{Finds, IsReply, Replies};
 
 use crate::asks::{Asks, NO_LIMIT, answered};
 use crate::check;
@@ -64,6 +60,7 @@ fn copy_marks(from: &[Option<usize>], marks: &mut [usize]) -> bool
 }
 
 // Whether there is a match at the start of the range, or with `search` at any start in it.
+#[tactic(auto, using(crate::proofs::Finding::searched))]
 fn ask<S: StrDrive, H: Asks<S>>(
     alloc: Global,
     how: &H,
@@ -72,13 +69,8 @@ fn ask<S: StrDrive, H: Asks<S>>(
     search: bool,
     steps: &mut u64,
 ) -> Result<Option<bool>, SreError>
-    ensures answer { (t : Tree) → Whole (words_of (code_of request.entry)) t → IfOk result (λ told. IfSome told
-        (λ b. answer_of b state.new
-        ≡ cond search (found (asked_of request.entry) t) (matched (asked_of request.entry) t))) }
-    ensures steps { KeepsBudget (words_of (code_of request.entry)) (asked_of request.entry)
-        (last_start search (asked_of request.entry)) result steps.old steps.new }
-    ensures unlimited { steps.old ≡ no_limit → steps.new ≡ steps.old }
-    ensures memory { OnErr result (Refused Global) }
+    ensures { Finds (words_of (code_of request.entry)) (asked_of request.entry) search result state.new steps.old
+        steps.new }
 {
     if search {
         how.search(alloc, state, &request, steps)

@@ -1,14 +1,10 @@
 //! How a text is searched: by the machine, and with DFAs where they may save time.
 
-ghost use Rattle.std.specs.Prelude.{◌≡◌, ◌≢◌, ◌≤◌, ◌+◌, IfOk, IfErr, IfSome, OnErr, Ok, Err, Some, None};
-ghost use Rattle.sre_model.specs.Tree.{Tree};
-ghost use Rattle.sre_model.specs.Grammar.{Whole};
-ghost use Rattle.sre_model.specs.Found.{found};
-ghost use Rattle.sre_growth.specs.Refusal.{Refused};
+ghost use Rattle.std.specs.Prelude.{◌≡◌, ◌≤◌, ◌+◌, true};
 ghost use Rattle.sre_engine.specs.Codes.{words_of};
-ghost use Rattle.sre_engine.specs.Requests.{string_of, end_of, asked_of, code_of};
-ghost use Rattle.sre_engine.specs.Answers.{answer_of};
-ghost use Rattle.sre_c.specs.Budgets.{no_limit, KeepsBudget};
+ghost use Rattle.sre_engine.specs.Requests.{string_of, asked_of, code_of};
+ghost use Rattle.sre_c.specs.Budgets.{no_limit};
+ghost use Rattle.sre_c.specs.Replies.{told_of, Finds};
 ghost use Rattle.sre_c.specs.Rows.{Writes};
 
 use crate::reading::{Sought, is_long, reading_bytes, reading_text};
@@ -26,9 +22,7 @@ pub const NO_LIMIT: u64 = u64::MAX;
 
 /// The result of a call without a step limit, which cannot exceed it.
 pub fn answered(found: Result<bool, SreError>) -> Result<Option<bool>, SreError>
-    ensures known { IfOk found (λ f. result ≡ Ok (Some f)) }
-    ensures failed { IfErr found (λ e. result ≡ Err e) }
-    ensures told { IfOk result (λ told. told ≢ None) }
+    ensures { result ≡ told_of found }
 {
     match found {
         Ok(found) => Ok(Some(found)),
@@ -46,12 +40,8 @@ pub trait Asks<S: StrDrive> {
         request: &Request<'_, S>,
         steps: &mut u64,
     ) -> Result<Option<bool>, SreError>
-        ensures answer { (t : Tree) → Whole (words_of (code_of request.now)) t → IfOk result
-            (λ told. IfSome told (λ b. answer_of b state.new ≡ found (asked_of request.now) t)) }
-        ensures steps { KeepsBudget (words_of (code_of request.now)) (asked_of request.now) (end_of request.now) result
-            steps.old steps.new }
-        ensures unlimited { steps.old ≡ no_limit → steps.new ≡ steps.old }
-        ensures memory { OnErr result (Refused Global) };
+        ensures { Finds (words_of (code_of request.now)) (asked_of request.now) true result state.new steps.old
+            steps.new };
 
     /// Writes the matches of a range, row by row, until there is no room for one more row, or no match.
     fn write(
@@ -192,12 +182,7 @@ fn search_told<S: Haystack>(
     encoding: Encoding,
     steps: &mut u64,
 ) -> Result<Option<bool>, SreError>
-    ensures answer { (t : Tree) → Whole (words_of (code_of request.now)) t → IfOk result
-        (λ told. IfSome told (λ b. answer_of b state.new ≡ found (asked_of request.now) t)) }
-    ensures steps { KeepsBudget (words_of (code_of request.now)) (asked_of request.now) (end_of request.now) result
-        steps.old steps.new }
-    ensures unlimited { steps.old ≡ no_limit → steps.new ≡ steps.old }
-    ensures memory { OnErr result (Refused Global) }
+    ensures { Finds (words_of (code_of request.now)) (asked_of request.now) true result state.new steps.old steps.new }
 {
     let mut left = FIRST_STEPS;
     match Machine.search(alloc, state, request, &mut left) {
@@ -219,12 +204,7 @@ fn search_by_finder<S: Haystack>(
     encoding: Encoding,
     steps: &mut u64,
 ) -> Result<Option<bool>, SreError>
-    ensures answer { (t : Tree) → Whole (words_of (code_of request.now)) t → IfOk result
-        (λ told. IfSome told (λ b. answer_of b state.new ≡ found (asked_of request.now) t)) }
-    ensures steps { KeepsBudget (words_of (code_of request.now)) (asked_of request.now) (end_of request.now) result
-        steps.old steps.new }
-    ensures unlimited { steps.old ≡ no_limit → steps.new ≡ steps.old }
-    ensures memory { OnErr result (Refused Global) }
+    ensures { Finds (words_of (code_of request.now)) (asked_of request.now) true result state.new steps.old steps.new }
 {
     let mut finder = Finder::on_demand(alloc, request.pattern_codes(), encoding);
     let Ok(request) = request.clone() else {

@@ -4,7 +4,6 @@ pub returns-clause-replies : goal.returns-clause-replies
 returns-clause-replies g c = record {
   told = c.ask-told.result;
   shown = c.ask-told.new.state;
-  answer = c.ask-told.ensures.answer;
-  left = rw c.tell.ensures.steps c.ask-told.ensures.steps;
+  finds = rw c.tell.ensures.steps c.ask-told.ensures;
   reply = c.tell.ensures.reply;
 }

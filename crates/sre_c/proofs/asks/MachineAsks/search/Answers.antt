@@ -1,21 +1,26 @@
-use Rattle.std.proofs.Common.{rules, ◌≡◌, subst}
+use Rattle.std.proofs.Common.{rules, ◌≡◌, true, subst}
 use Rattle.sre_code.specs.Codes.{words_of}
-use Rattle.sre_engine.specs.Requests.{end_of, code_of, asked_of}
+use Rattle.sre_engine.specs.Requests.{code_of, asked_of}
 use Rattle.sre_engine.specs.Searches.{has_found}
-use Rattle.sre_c.specs.Budgets.{KeepsBudget}
-use Rattle.sre_c.proofs.Budgets.{unspent, search_kept}
+use Rattle.sre_c.specs.Replies.{Finds}
+use Rattle.sre_c.proofs.Finding.{finds_any, finds_within}
 use Rattle.sre_c.proofs.asks.MachineAsks.search.Goals as goal
 
-pub returns-then-steps-eq-NO_LIMIT-clause-steps : goal.returns-then-steps-eq-NO_LIMIT-clause-steps
-returns-then-steps-eq-NO_LIMIT-clause-steps g c =
-    let r = c.args.request.now in
-    unspent (code_of r) (asked_of r) (end_of r) c.answered.result c.args.steps.now c.answered.ensures.told
+pub returns-then-steps-eq-NO_LIMIT : goal.returns-then-steps-eq-NO_LIMIT
+returns-then-steps-eq-NO_LIMIT g c =
+    let own : c.in-Ok.request ≡ c.args.request.now = search rules in
+    let n = c.args.steps.now in
+    subst (λ r. Finds (words_of (code_of r)) (asked_of r) true c.answered.result c.search.new.self n n) own
+    (finds_any (code_of c.in-Ok.request) (asked_of c.in-Ok.request) true c.search.result c.answered.result
+    c.search.new.self n c.answered.ensures c.search.ensures.answer c.search.ensures.refused)
 
-pub returns-clause-steps : goal.returns-clause-steps
-returns-clause-steps g c =
+pub returns : goal.returns
+returns g c =
     let own : c.in-Ok.request ≡ c.args.request.now = search rules in
     let told = c.search_within.result in
+    let s = c.search_within.new.self in
     let left = c.search_within.new.steps in
-    subst (λ r. KeepsBudget (words_of (code_of r)) (asked_of r) (end_of r) told c.args.steps.now left) own
-    (search_kept c.in-Ok.request (has_found told) c.search_within.new.self told c.args.steps.now left
-    c.search_within.ensures.counts c.search_within.ensures.again c.search_within.ensures.steps)
+    subst (λ r. Finds (words_of (code_of r)) (asked_of r) true told s c.args.steps.now left) own
+    (finds_within c.in-Ok.request (has_found told) told s c.args.steps.now left c.if-steps-eq-NO_LIMIT.false
+    c.search_within.ensures.answer c.search_within.ensures.counts c.search_within.ensures.again
+    c.search_within.ensures.steps c.search_within.ensures.refused)
