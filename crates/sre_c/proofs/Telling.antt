@@ -1,12 +1,15 @@
 -- Step bounds of a code, in the terms of C.
-use Rattle.std.proofs.Common.{ℕ, length}
+use Rattle.std.proofs.Common.{◌≡◌, ℕ, length, sym, subst}
 use Rattle.sre_model.specs.Tree.{Tree}
-use Rattle.sre_model.specs.Grammar.{behind_block}
+use Rattle.sre_model.specs.Grammar.{Whole, IsCode, behind_block}
 use Rattle.sre_model.specs.Found.{Asked}
 use Rattle.sre_code.specs.declared.code.Code.{Code}
 use Rattle.sre_code.specs.Codes.{words_of, items_of}
 use Rattle.sre_code.specs.StepBounds.{IsStepBound, HasNoStepBound}
 use Rattle.sre_engine.specs.Counts.{AreEnough}
+use Rattle.sre_c.specs.declared.status.Status.TheVariants.{Yes, No}
+use Rattle.sre_c.specs.declared.code.SreCode.{SreCode}
+use Rattle.sre_c.specs.Bounded.{Bounds}
 use Rattle.sre_c.specs.Given.{IsEnough}
 
 -- a budget that suffices for the words of a code does so for the code
@@ -16,13 +19,23 @@ enough_of code a steps enough =
     record { tree = enough.tree; whole = enough.whole; remembered = enough.remembered; more = enough.more }
 
 -- the step bound of a code, in words of its bytecode
-pub bound_of : (code : Code) (t : Tree) (characters steps : ℕ)
-    → IsStepBound (length (items_of code)) t characters steps
-    → IsStepBound (length (behind_block (words_of code))) t characters steps
-unfolding items_of
-bound_of code t characters steps bound = bound
+module _ (code : Code) (c : SreCode) (characters steps : ℕ) (own : words_of code ≡ c.words.now)
+    (is : IsCode c.words.now) where
+  pub bound_of : ((t : Tree) → Whole (words_of code) t → IsStepBound (length (items_of code)) t characters steps)
+      → Bounds Yes c characters steps
+  unfolding items_of
+  bound_of bound = (
+    is,
+    λ t whole. subst (λ ws. IsStepBound (length (behind_block ws)) t characters steps) own
+        (bound t (subst (λ ws. Whole ws t) (sym own) whole)),
+  )
 
-pub no_bound_of : (code : Code) (t : Tree) (characters : ℕ) → HasNoStepBound (length (items_of code)) t characters
-    → HasNoStepBound (length (behind_block (words_of code))) t characters
-unfolding items_of
-no_bound_of code t characters none = none
+  pub no_bound_of : ((t : Tree) → Whole (words_of code) t → HasNoStepBound (length (items_of code)) t characters)
+      → steps ≡ 0 → Bounds No c characters steps
+  unfolding items_of
+  no_bound_of none zero = (
+    is,
+    λ t whole. subst (λ ws. HasNoStepBound (length (behind_block ws)) t characters) own
+        (none t (subst (λ ws. Whole ws t) (sym own) whole)),
+    zero,
+  )

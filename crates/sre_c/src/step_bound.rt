@@ -12,7 +12,6 @@ use sre_engine::{CodeError, LentTable};
 use std::alloc::Global;
 
 // The step bound of a code whose table is at hand.
-#[tactic(auto, using(crate::proofs::Telling::bound_of, crate::proofs::Telling::no_bound_of))]
 fn bound_by<'a>(
     alloc: Global,
     code: &'a SreCode<'a>,
