@@ -7,7 +7,7 @@ import types
 from ctypes import byref, c_size_t, c_uint32, c_uint64
 
 from gaffsilver import _library as library
-from gaffsilver._shared import exceeded, parts_of, repr_of
+from gaffsilver._shared import exceeded, is_whole, parts_in_sub, parts_of, plain, repr_of
 
 TYPE_CHECKING = False
 if TYPE_CHECKING:
@@ -288,11 +288,8 @@ class Pattern(metaclass=_Fixed):
             if number == most:
                 return
 
-    def subn(self, repl: Any, string: Any, count: int = 0, *, max_steps: int | None = None) -> tuple[Any, int]:
-        """The tuple (new_string, number_of_subs_made)."""
-        count = _size(count)
-        is_literal = isinstance(repl, (str, bytes)) and ("\\" if isinstance(repl, str) else b"\\") not in repl
-        parts = repl if callable(repl) or is_literal else parts_of(self, repl)
+    def _replaced(self, parts: Any, string: Any, count: int, max_steps: int | None) -> tuple[Any, int]:
+        """The new string, and how many matches were replaced by the result of a function or by parts."""
         text = _Text(self.pattern, string)
         pieces: list[Any] = []
         last = made = 0
@@ -311,9 +308,17 @@ class Pattern(metaclass=_Fixed):
             pieces.append(text.plain[last:])
         return text.plain[:0].join(pieces), made
 
+    def subn(self, repl: Any, string: Any, count: int = 0, *, max_steps: int | None = None) -> tuple[Any, int]:
+        """The tuple (new_string, number_of_subs_made)."""
+        count, repl = _size(count), plain(self, repl)
+        parts = repl if is_whole(repl) else parts_in_sub(self, repl)
+        return self._replaced(parts, string, count, max_steps)
+
     def sub(self, repl: Any, string: Any, count: int = 0, *, max_steps: int | None = None) -> Any:
         """The string with each match replaced by repl."""
-        return self.subn(repl, string, count, max_steps=max_steps)[0]
+        count, repl = _size(count), plain(self, repl)
+        parts = repl if is_whole(repl) else parts_in_sub(self, repl)
+        return self._replaced(parts, string, count, max_steps)[0]
 
     def within(self, max_steps: Any, /) -> Any:
         """The same pattern with another step limit, for each call without one."""

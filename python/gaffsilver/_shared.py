@@ -44,9 +44,16 @@ def _alternating(parsed: Any) -> list[Part]:
     return parts
 
 
+def _parts(parsed: Any, template: str | bytes) -> str | bytes | list[Part]:
+    parts = [it for it in _alternating(parsed) if isinstance(it, int) or it]
+    return parts if any(isinstance(it, int) for it in parts) else template[:0].join(parts)
+
+
 def _parsed(pattern: Any, template: str | bytes) -> Any:
-    # the parser's warnings count calls up to the caller of `sub`: this one, `parts_of_text`, and that of the module
     return _parser.parse_template(template, pattern)
+
+
+# The parser's warnings count two calls between the parser and that of the module: `sub` is one if it is in Python.
 
 
 @functools.lru_cache(512)
@@ -55,18 +62,35 @@ def parts_of_text(pattern: Any, template: str | bytes) -> str | bytes | list[Par
 
     Raises `re.error` if it is no valid template of the pattern, and IndexError if it names an unknown group.
     """
-    parts = [it for it in _alternating(_parsed(pattern, template)) if isinstance(it, int) or it]
-    return parts if any(isinstance(it, int) for it in parts) else template[:0].join(parts)
+    return _parts(_parsed(pattern, template), template)
+
+
+@functools.lru_cache(512)
+def parts_in_sub(pattern: Any, template: str | bytes) -> str | bytes | list[Part]:
+    """The same, for a `sub` in Python that calls it."""
+    return _parts(_parser.parse_template(template, pattern), template)
+
+
+def plain(pattern: Any, template: Any) -> Any:
+    """A template as bytes, if it is bytes-like and one of a bytes pattern; else as it is."""
+    is_like = not isinstance(template, (str, bytes)) and not callable(template) and isinstance(pattern.pattern, bytes)
+    return bytes(memoryview(template)) if is_like else template
+
+
+def is_whole(repl: Any) -> bool:
+    """Whether a replacement is no template: a function, or a literal."""
+    return callable(repl) or (isinstance(repl, (str, bytes)) and ("\\" if isinstance(repl, str) else b"\\") not in repl)
 
 
 def parts_of(pattern: Any, template: Any) -> str | bytes | list[Part]:
-    """The same, also for a bytes-like template of a bytes pattern."""
-    if not isinstance(template, (str, bytes)) and isinstance(pattern.pattern, bytes):
-        template = bytes(memoryview(template))
-    return parts_of_text(pattern, template)
+    """The same as `parts_of_text`, also for a bytes-like template of a bytes pattern."""
+    return parts_of_text(pattern, plain(pattern, template))
 
 
-purge = parts_of_text.cache_clear
+def purge() -> None:
+    """Clears the caches of templates."""
+    parts_of_text.cache_clear()
+    parts_in_sub.cache_clear()
 
 
 def repr_of(pattern: Any) -> str:
