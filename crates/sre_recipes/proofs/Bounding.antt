@@ -17,7 +17,7 @@ use Rattle.sre_engine.specs.declared.engine.search_iter.SearchIter.{SearchIter}
 use Rattle.sre_recipes.specs.declared.bounds.Bounds.{Bounds}
 use Rattle.sre_recipes.specs.Bounded.{first_of, AreLeft}
 use Rattle.sre_recipes.proofs.Steps.{walk_step}
-use Rattle.sre_recipes.specs.Limits.{is_spent, one_less, Goes, Takes, Stops, OutlastRest, SpendsOn}
+use Rattle.sre_recipes.specs.Limits.{is_spent, one_less, Goes, Takes, Stops, SpendsOn}
 
 -- where no step is taken, all are left
 pub left_all : (steps : Option ℕ) → AreLeft steps steps
@@ -31,7 +31,7 @@ left_on (Some g) None left first then = absurd first
 left_on (Some g) (Some b) None first then = then
 left_on (Some g) (Some b) (Some l) first then = omega (arith, first, then)
 
--- else one is taken, and one less is wanted
+-- one is taken, and one less is wanted
 pub one_taken : (most : Option ℕ) (m : Match) (ms : List Match) → is_spent most ≡ false
     → first_of most (m ∷ ms) ≡ m ∷ first_of (one_less most) ms
 one_taken None m ms e = refl
@@ -39,6 +39,16 @@ one_taken (Some zero) m ms e = absurd (cc)
 one_taken (Some (suc n)) m ms e =
     let less : n ≡ suc n - 1 = omega arith in
     ap (λ (k : ℕ). m ∷ take k ms) less
+
+-- of the first matches the first is the first of all, and the others are the first behind it
+first_parts : (most : Option ℕ) (x m : Match) (xs ms : List Match) → first_of most (x ∷ xs) ≡ m ∷ ms
+    → (x ≡ m) × (first_of (one_less most) xs ≡ ms)
+first_parts None x m xs ms e = (cc, cc)
+first_parts (Some zero) x m xs ms e = absurd (cc)
+first_parts (Some (suc n)) x m xs ms e =
+    let less : suc n - 1 ≡ n = omega arith in
+    let rest : take n xs ≡ ms = cc in
+    (cc, ap (λ (k : ℕ). take k xs) less ∙ rest)
 
 -- of none there is no first
 pub none_first : (most : Option ℕ) → first_of most [] ≡ []
@@ -55,6 +65,22 @@ first_found a t m ms e = by_match (either (found a t))
     by_match (inr (x, some)) =
         let same : x ∷ walk (asked_after a x) t ≡ m ∷ ms = sym (walk-next a t x some) ∙ e in
         some ∙ ap Some (cc)
+
+-- and so is the first of its first matches; the others are the first of the walk behind it
+pub first_step : (most : Option ℕ) (a : Asked) (t : Tree) (m : Match) (ms : List Match)
+    → first_of most (walk a t) ≡ m ∷ ms
+    → (found a t ≡ Some m) × (first_of (one_less most) (walk (asked_after a m) t) ≡ ms)
+first_step most a t m ms e = by_match (either (found a t))
+  where
+    by_match : Either (found a t) → (found a t ≡ Some m) × (first_of (one_less most) (walk (asked_after a m) t) ≡ ms)
+    by_match (inl none) = absurd (cc (none_first most, walk-end a t none, e))
+    by_match (inr (x, some)) =
+        let step : first_of most (x ∷ walk (asked_after a x) t) ≡ m ∷ ms =
+        sym (ap (first_of most) (walk-next a t x some)) ∙ e in
+        let parts = first_parts most x m (walk (asked_after a x) t) ms step in (
+          some ∙ ap Some parts.0,
+          ap (λ (y : Match). first_of (one_less most) (walk (asked_after a y) t)) (sym parts.0) ∙ parts.1,
+        )
 
 -- fewer can be left behind a match
 pub falls_by : {S A : Type 0} {text : Ghosts S} (it next : SearchIter S A text) → Gives it next
@@ -93,8 +119,6 @@ takes_one it next before between after wanted goes most used steps = record {
   wanted = wanted;
   most = most ∙ ap one_less goes.most;
   going = used ∙ goes.going;
-  steps = subst (AreLeft before.steps) (sym steps) goes.steps;
-  lasts = λ enough. subst (OutlastRest next) (sym steps) (goes.lasts enough);
   spends = subst (SpendsOn it next before.steps) (sym steps) goes.spends;
 }
 

@@ -69,10 +69,10 @@ fewer_searches (Some (suc n)) a b wanted falls = omega (arith, falls)
 
 -- the last search of an ample budget exceeds it only if an allocation failed
 last_ample : (M : Type 0) (a : Asked) (code : Code) (most steps left : Option ℕ) → is_spent most ≡ false
-    → left ≡ Some 0 → Spends M a code (a.end + 1) a.end None steps left → IsAmple a code most steps → Refused M
-last_ample M a code most None left wanted used spends ample = absurd (cc)
-last_ample M a code most (Some given) None wanted used spends ample = absurd spends
-last_ample M a code most (Some given) (Some left) wanted used spends ample =
+    → Spends M a code (a.end + 1) a.end None steps left → IsAmple a code most steps → Refused M
+last_ample M a code most None left wanted spends ample = absurd (cc (spends.0))
+last_ample M a code most (Some given) None wanted spends ample = absurd spends
+last_ample M a code most (Some given) (Some left) wanted spends ample =
     let tree = code_tree (words_of code) (hints_of code) code.checked in
     let is = ample.is tree.0 tree.1 in
     let one : ample.bound ≤ most_searches most a * ample.bound =
@@ -95,7 +95,7 @@ ample_after M a code m to seen most None left wanted inside falls spends ample =
   is = ample.is;
   window = record { order = inside; within = ample.window.within };
   more = subst (λ (n : Option ℕ). IfSome n
-      (λ given. most_searches (one_less most) (asked_after a m) * ample.bound ≤ given)) (sym spends) tt;
+      (λ given. most_searches (one_less most) (asked_after a m) * ample.bound ≤ given)) (sym spends.1) tt;
 })
 ample_after M a code m to seen most (Some given) None wanted inside falls spends ample = absurd spends
 ample_after M a code m to seen most (Some given) (Some left) wanted inside falls spends ample =
@@ -184,5 +184,5 @@ follow_end {A = A} it before after stops begun = record {
   enough = λ ample exceeded.
       let spends = rw exceeded at stops.spends begun in
       last_ample _ (asked_of (request_of it)) (code_of (request_of it)) before.most before.steps after.steps
-      (stops.wanted exceeded) (stops.used exceeded) spends ample;
+      (stops.wanted exceeded) spends ample;
 }

@@ -7,3 +7,4 @@ pub mod Bounding
 pub mod Outlasting
 pub mod Begun
 pub mod Following
+pub mod Telling

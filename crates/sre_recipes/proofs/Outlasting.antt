@@ -1,25 +1,23 @@
--- What one match of an iteration leaves of a step budget that outlasts the iteration.
-use Rattle.std.proofs.Common.{◌≢◌, ◌≤◌, ◌<◌, ℕ, ◌+◌, ◌-◌, ◌*◌, ◌/◌, Some, sym}
-use Rattle.std.proofs.Common.{subst, arith, add-mul}
+-- A step budget that outlasts an iteration is not exceeded.
+use Rattle.std.proofs.Common.{◌≡◌, ◌≤◌, ◌<◌, ℕ, ◌+◌, ◌-◌, ◌*◌, ◌/◌, true, Option, Some, None, List, [], ◌∷◌, ◌++◌}
+use Rattle.std.proofs.Common.{refl, sym, subst, arith, add-mul}
 use Rattle.std.proofs.Math.Nat.{mul-le-mul, mul-le-mul_right, div-mul-le_self}
 use Rattle.std.proofs.lemmas.Nat.{le-div}
-use Rattle.sre_chars.specs.declared.string.StrDrive.{Ghosts}
 use Rattle.sre_engine.specs.Tree.{Tree}
-use Rattle.sre_engine.specs.Found.{Asked, Match, subject_of, asked_after}
+use Rattle.sre_engine.specs.Found.{Asked, Match, subject_of, found, asked_after, walk}
 use Rattle.sre_model.specs.Prefixes.{behind_items}
 use Rattle.sre_model.specs.TurnBounds.{turns_of, most_each, RunsWithin}
 use Rattle.sre_model.specs.WalkBounds.{most_matches}
+use Rattle.sre_model.proofs.FoundLaws.{found-least, found-is}
+use Rattle.sre_model.proofs.WalkLaws.{most_matches-falls}
 use Rattle.sre_code.specs.declared.code.Code.{Code}
-use Rattle.sre_engine.specs.Requests.{code_of, asked_of}
 use Rattle.sre_engine.specs.Counts.{SpentUpTo, runs_of}
-use Rattle.sre_engine.specs.Answers.{match_shown}
-use Rattle.sre_engine.specs.Iterators.{request_of, shown_of, Gives, Counted}
 use Rattle.sre_engine.proofs.CountLaws.{once}
 use Rattle.sre_engine.proofs.Spending.{never_used_up}
-use Rattle.sre_engine.specs.declared.engine.search_iter.SearchIter.{SearchIter}
-use Rattle.sre_recipes.specs.Bounded.{most_runs, OutlastWalk}
-use Rattle.sre_recipes.specs.Limits.{OutlastRest}
-use Rattle.sre_recipes.proofs.Bounding.{falls_by}
+use Rattle.sre_recipes.specs.Bounded.{first_of, most_runs, Outlast, OutlastWalk}
+use Rattle.sre_recipes.specs.Followed.{Spends, AllSpend}
+use Rattle.sre_recipes.specs.Limits.{one_less}
+use Rattle.sre_recipes.proofs.Bounding.{first_step}
 
 -- of a window that begins later a step costs no more
 each_less : (a : Asked) (m : Match) → a.start ≤ m.end → most_each (asked_after a m) ≤ most_each a
@@ -65,34 +63,31 @@ outlast_after a code m given left runs from order inside fewer spent few lasts =
       more = omega (arith, all, taken, both, add-mul (2 * after) (2 * starts) most, lasts.more);
     }
 
--- and so of one match of a walk
-pub lasts_on : {S A : Type 0} {text : Ghosts S} (it next : SearchIter S A text) (given left : ℕ) → Gives it next
-    → SpentUpTo (asked_of (request_of it)) (code_of (request_of it)) given left (runs_of (shown_of next))
-    → OutlastRest it (Some given) → OutlastRest next (Some left)
-lasts_on it next given left gives spent lasts =
-    let r = request_of it in
-    let u = request_of next in
-    let s = shown_of next in
-    let m = match_shown s in
-    let span = gives.request.span in
-    let few : runs_of s ≤ 2 * (m.start + 1 - (asked_of r).start) =
-    omega
-    (arith, once (asked_of r) (code_of r) (s.start + 1) s.cursor.position s gives.up_to_match, gives.counted.again) in
-    let after : OutlastWalk (asked_after (asked_of r) m) (code_of r) left =
-    outlast_after (asked_of r) (code_of r) m given left (runs_of s) gives.request.from span.forward span.inside
-    (falls_by it next gives) spent few lasts in
-    subst (λ (code : Code). OutlastWalk (asked_of u) code left) (sym gives.request.pattern_codes)
-    (subst (λ (a : Asked). OutlastWalk a (code_of r) left) (sym gives.request.asked) after)
+-- and so of one match of an iteration
+outlast_on : (M : Type 0) (a : Asked) (code : Code) (t : Tree) (m : Match) (given left : Option ℕ) → found a t ≡ Some m
+    → Spends M a code (m.start + 1) m.end (Some true) given left → Outlast a code given
+    → Outlast (asked_after a m) code left
+outlast_on M a code t m None left is spends lasts = subst (Outlast (asked_after a m) code) (sym spends.1) tt
+outlast_on M a code t m (Some given) None is spends lasts = absurd spends
+outlast_on M a code t m (Some given) (Some left) is spends lasts =
+    let inside = found-is a t m is in
+    let few : runs_of spends.shown ≤ 2 * (m.start + 1 - a.start) =
+    omega (arith, once a code (m.start + 1) m.end spends.shown spends.counts, spends.again) in
+    outlast_after a code m given left (runs_of spends.shown) (found-least a t m is).from inside.order inside.end
+    (most_matches-falls a t m is) spends.keeps.spent few lasts
 
--- a budget that outlasts a walk is not used up by one match
-pub lasts_step : {S A : Type 0} {text : Ghosts S} (it next : SearchIter S A text) (given left : ℕ) → Counted it next
-    → SpentUpTo (asked_of (request_of it)) (code_of (request_of it)) given left (runs_of (shown_of next))
-    → OutlastRest it (Some given) → left ≢ 0
-lasts_step it next given left counted spent lasts =
-    let a = asked_of (request_of it) in
-    let code = code_of (request_of it) in
-    let s = shown_of next in
-    let few : runs_of s ≤ 2 * most_runs a =
-    omega (arith, once a code (a.end + 1) a.end s counted.counts, counted.again) in
-    never_used_up a code lasts.tree given left (runs_of s) lasts.most (2 * most_runs a) lasts.whole lasts.within spent
-    few lasts.more
+-- so an iteration does not exceed a budget that outlasts it
+pub never_exceeded : (M : Type 0) (a : Asked) (code : Code) (t : Tree) (most : Option ℕ) (taken rest : List Match)
+    (given left : Option ℕ)
+    → first_of most (walk a t) ≡ taken ++ rest → AllSpend M a code taken true given left → Outlast a code given → ⊥
+never_exceeded M a code t most [] rest None left first spends lasts = absurd (cc (spends.0))
+never_exceeded M a code t most [] rest (Some given) None first spends lasts = spends
+never_exceeded M a code t most [] rest (Some given) (Some left) first spends lasts =
+    let few : runs_of spends.shown ≤ 2 * most_runs a =
+    omega (arith, once a code (a.end + 1) a.end spends.shown spends.counts, spends.again) in
+    never_used_up a code lasts.tree given left (runs_of spends.shown) lasts.most (2 * most_runs a) lasts.whole
+    lasts.within spends.keeps.spent few lasts.more (spends.keeps.used refl)
+never_exceeded M a code t most (m ∷ ms) rest given left first spends lasts =
+    let step = first_step most a t m (ms ++ rest) first in
+    never_exceeded M (asked_after a m) code t (one_less most) ms rest spends.0 left step.1 spends.2
+    (outlast_on M a code t m given spends.0 step.0 spends.1 lasts)

@@ -1,7 +1,7 @@
 -- What an iteration within bounds takes of them.
 -- Of the meaning: what sre_recipes makes public rests on it.
 use Rattle.std.specs.Prelude.{◌≡◌, ◌≤◌, ℕ, ◌+◌, ◌-◌, ◌⊎◌, Bool, true, false, List, [], ◌∷◌, ◌++◌, length}
-use Rattle.std.specs.Prelude.{Option, Some, None, IfSome, Ok, min, ◌*◌}
+use Rattle.std.specs.Prelude.{Option, Some, None, IfSome, IsSome, Ok, min, ◌*◌}
 use Rattle.sre_growth.specs.Refusal.{Refused}
 use Rattle.sre_code.specs.declared.code.Code.{Code}
 use Rattle.sre_model.specs.Anchors.{is_anchored}
@@ -33,9 +33,9 @@ pub record SearchSpends (M : Type 0) (a : Asked) (code : Code) (to seen : ℕ) (
   pub keeps : KeepsToSteps M {E = SreError} a code (Ok told) (runs_of shown) given left
   pub literal : told ≡ None → MayTakeMemory code
 
--- the same where there may be no step limit, and then there stays none
+-- the same where there may be no step limit: then none is exceeded, and there stays none
 abbrev pub Spends : Type 0 → Asked → Code → ℕ → ℕ → Option Bool → Option ℕ → Option ℕ → Type 0
-Spends M a code to seen told None left = left ≡ None
+Spends M a code to seen told None left = IsSome told × (left ≡ None)
 Spends M a code to seen told (Some given) None = ⊥
 Spends M a code to seen told (Some given) (Some left) = SearchSpends M a code to seen told given left
 

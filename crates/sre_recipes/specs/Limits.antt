@@ -9,7 +9,7 @@ use Rattle.sre_engine.specs.Answers.{match_shown}
 use Rattle.sre_engine.specs.Iterators.{request_of, shown_of, has_ended, left_of, IsOver}
 use Rattle.sre_engine.specs.declared.engine.search_iter.SearchIter.{SearchIter}
 use Rattle.sre_recipes.specs.declared.bounds.Bounds.{Bounds}
-use Rattle.sre_recipes.specs.Bounded.{first_of, AreLeft, Outlast}
+use Rattle.sre_recipes.specs.Bounded.{first_of}
 use Rattle.sre_recipes.specs.Followed.{Spends, AllSpend, Followed}
 
 -- whether no match is wanted any more, and how many are once one was taken
@@ -20,10 +20,6 @@ is_spent (Some n) = nat_eq n 0
 abbrev pub one_less : Option ℕ → Option ℕ
 one_less None = None
 one_less (Some n) = Some (n - 1)
-
--- a budget of steps outlasts what is left of a walk
-abbrev pub OutlastRest : {S A : Type 0} {text : Ghosts S} → SearchIter S A text → Option ℕ → Type 0
-OutlastRest it steps = Outlast (asked_of (request_of it)) (code_of (request_of it)) steps
 
 -- a search from where a walk stands finds the match that is shown then, within a budget of steps if there is one
 abbrev pub SpendsOn : {S A : Type 0} {text : Ghosts S} → SearchIter S A text → SearchIter S A text → Option ℕ → Option ℕ
@@ -53,17 +49,12 @@ FollowedRest {A = A} it before after =
 pub record Goes {S A : Type 0} {text : Ghosts S} (it next : SearchIter S A text) (before after : Bounds) : Type 0 where
   pub most : after.most ≡ before.most
   pub going : after.limit_exceeded ≡ false
-  pub steps : AreLeft before.steps after.steps
-  pub lasts : OutlastRest it before.steps → OutlastRest next after.steps
   pub spends : SpendsOn it next before.steps after.steps
 
 -- or none is left, unless the step limit was exceeded
 pub record Ends {S A : Type 0} {text : Ghosts S} (it : SearchIter S A text) (before after : Bounds) : Type 0 where
   pub most : after.most ≡ before.most
   pub over : after.limit_exceeded ≡ false → IsOver it
-  pub used : after.limit_exceeded ≡ true → after.steps ≡ Some 0
-  pub steps : AreLeft before.steps after.steps
-  pub lasts : OutlastRest it before.steps → after.limit_exceeded ≡ false
   pub spends : SpendsLast it after.limit_exceeded before.steps after.steps
 
 -- a match was taken within bounds
@@ -71,8 +62,6 @@ pub record Takes {S A : Type 0} {text : Ghosts S} (it next : SearchIter S A text
   pub wanted : is_spent before.most ≡ false
   pub most : after.most ≡ one_less before.most
   pub going : after.limit_exceeded ≡ false
-  pub steps : AreLeft before.steps after.steps
-  pub lasts : OutlastRest it before.steps → OutlastRest next after.steps
   pub spends : SpendsOn it next before.steps after.steps
 
 -- no match is left within bounds, unless the step limit was exceeded
@@ -81,7 +70,4 @@ pub record Stops {S A : Type 0} {text : Ghosts S} (it : SearchIter S A text) (be
   pub most : after.most ≡ before.most
   pub none : after.limit_exceeded ≡ false → (t : Tree) → Whole (words_of (code_of (request_of it))) t
       → first_of before.most (left_of it t) ≡ []
-  pub used : after.limit_exceeded ≡ true → after.steps ≡ Some 0
-  pub steps : AreLeft before.steps after.steps
-  pub lasts : OutlastRest it before.steps → after.limit_exceeded ≡ false
   pub spends : SpendsLast it after.limit_exceeded before.steps after.steps

@@ -1,11 +1,11 @@
 //! Limits of a recipe: a number of matches, or a number of steps.
 
-ghost use Rattle.std.specs.Prelude.{◌≡◌, ◌<◌, ◌≤◌, false, None, Some, IfOk, IfSome, OnErr, MatchOption, IsSome};
+ghost use Rattle.std.specs.Prelude.{◌≡◌, ◌<◌, false, cond, None, Some, IfOk, IfSome, OnErr, MatchOption, IsSome};
 ghost use Rattle.sre_engine.specs.Requests.{string_of};
 ghost use Rattle.sre_engine.specs.Iterators.{request_of, shown_of, Gives, IsOver, most_items};
 ghost use Rattle.sre_growth.specs.Refusal.{Refused};
 ghost use Rattle.sre_recipes.specs.Spans.{IsSpan};
-ghost use Rattle.sre_recipes.specs.Limits.{is_spent, one_less, Takes, Stops, Goes, Ends, OutlastRest, SpendsWithin};
+ghost use Rattle.sre_recipes.specs.Limits.{is_spent, one_less, Takes, Stops, Goes, Ends, SpendsWithin};
 
 use crate::span::{Span, next_span, span_of};
 use sre_engine::{SearchIter, SreError, StrDrive};
@@ -72,11 +72,6 @@ fn next_span_within<S: StrDrive, A: Allocator + Copy>(
     ensures gives { IfOk result (λ told. IfSome told (λ next. MatchOption next (IsOver walk.old) (λ span.
         Gives walk.old walk.new
         × IsSpan (S.stands (string_of (request_of walk.old))) (shown_of walk.new) span.start span.end))) }
-    ensures used { IfOk result (λ told. told ≡ None → steps.new ≡ 0) }
-    ensures fewer { steps.new ≤ steps.old }
-    ensures never { OutlastRest walk.old (Some steps.old) → IfOk result IsSome }
-    ensures lasts { OutlastRest walk.old (Some steps.old) → IfOk result (λ told. IfSome told (λ next.
-        IsSome next → OutlastRest walk.new (Some steps.new))) }
     ensures spends { IfOk result (λ told. SpendsWithin walk.old walk.new told steps.old steps.new) }
     ensures refused { OnErr result (Refused A) }
 {
@@ -156,4 +151,15 @@ pub(crate) fn next_bounded<S: StrDrive, A: Allocator + Copy>(
     };
     bounds.most = one_less(bounds.most);
     Ok(Some(span))
+}
+
+// What a call within bounds returns: nothing if the step limit was exceeded.
+pub(crate) fn unless_exceeded<T: Drop>(bounds: &Bounds, told: T) -> Option<T>
+    ensures { result ≡ cond bounds.now.limit_exceeded None (Some told) }
+{
+    if bounds.limit_exceeded {
+        None
+    } else {
+        Some(told)
+    }
 }

@@ -1,6 +1,6 @@
 //! Replacement of all matches by the results of a closure.
 
-ghost use Rattle.std.specs.Prelude.{◌≡◌, ◌≤◌, ◌++◌, true, false, None, Some, Err, slice_range};
+ghost use Rattle.std.specs.Prelude.{◌≡◌, ◌≤◌, ◌++◌, false, None, Some, Err, slice_range};
 ghost use Rattle.std.specs.Prelude.{is_none, IfOk, IfSome, IsSome, OnErr};
 ghost use Rattle.sre_engine.specs.Tree.{Tree};
 ghost use Rattle.sre_engine.specs.Grammar.{Whole};
@@ -10,11 +10,11 @@ ghost use Rattle.sre_engine.specs.Requests.{string_of, start_of, end_of, code_of
 ghost use Rattle.sre_engine.specs.Iterators.{request_of, left_of, has_ended};
 ghost use Rattle.sre_growth.specs.Refusal.{Refused};
 ghost use Rattle.sre_recipes.specs.Computed.{Computes, ReplacedInOrder};
-ghost use Rattle.sre_recipes.specs.Limits.{OutlastRest, FollowedRest};
+ghost use Rattle.sre_recipes.specs.Limits.{FollowedRest};
 ghost use Rattle.sre_recipes.specs.Bounded.{first_of, AreLeft, Outlast};
 ghost use Rattle.sre_recipes.specs.Followed.{Followed};
 
-use crate::bounds::{Bounds, next_bounded};
+use crate::bounds::{Bounds, next_bounded, unless_exceeded};
 use crate::find::copied;
 use crate::groups::{CapturesOf, shown_captures};
 use crate::slice::up_to;
@@ -72,9 +72,6 @@ where
         (S.text (string_of (request_of walk.old))) compute (start_of (request_of walk.old))
         (end_of (request_of walk.old)) (first_of bounds.old.most (left_of walk.old t)) new) }
     ensures written { IfOk result (λ _. S.IsText output.new.items) }
-    ensures used { IfOk result (λ _. bounds.new.limit_exceeded ≡ true → bounds.new.steps ≡ Some 0) }
-    ensures steps { IfOk result (λ _. AreLeft bounds.old.steps bounds.new.steps) }
-    ensures lasts { OutlastRest walk.old bounds.old.steps → IfOk result (λ _. bounds.new.limit_exceeded ≡ false) }
     ensures followed { IfOk result (λ _. FollowedRest walk.old bounds.old bounds.new) }
     ensures refused { ((f : _) (c : _) (e : _) (g : _) → F.step f c (Err e) g → Refused Global)
         → OnErr result (Refused Global) }
@@ -95,7 +92,7 @@ where
 // Appends the text of a range, with each match replaced by the closure's result.
 fn append_all_computed<S, F>(
     alloc: Global,
-    req: Request<'_, S>,
+    req: &Request<'_, S>,
     bounds: &mut Bounds,
     compute: F,
     output: &mut Vec<u8>,
@@ -105,25 +102,21 @@ where
     F: FnMut(&CapturesOf<S, Global>) -> Result<S::New, AllocError>,
     requires callable { F.IsAlwaysCallable compute }
     requires written { S.IsText output.old.items }
-    ensures ok { (t : Tree) → Whole (words_of (code_of req.entry)) t → IfOk result (λ _.
+    ensures ok { (t : Tree) → Whole (words_of (code_of req.now)) t → IfOk result (λ _.
         bounds.new.limit_exceeded ≡ false → (new : _)
         × (S.characters output.new.items ≡ S.characters output.old.items ++ new)
         × ReplacedInOrder
-        (Computes S.text (λ f c r g. F.step f c r g) (λ r. S.shown r) (S.text (string_of req.entry)))
-        (S.text (string_of req.entry)) compute (start_of req.entry) (end_of req.entry)
-        (first_of bounds.old.most (walk (asked_of req.entry) t)) new) }
+        (Computes S.text (λ f c r g. F.step f c r g) (λ r. S.shown r) (S.text (string_of req.now)))
+        (S.text (string_of req.now)) compute (start_of req.now) (end_of req.now)
+        (first_of bounds.old.most (walk (asked_of req.now) t)) new) }
     ensures written { IfOk result (λ _. S.IsText output.new.items) }
-    ensures used { IfOk result (λ _. bounds.new.limit_exceeded ≡ true → bounds.new.steps ≡ Some 0) }
-    ensures steps { IfOk result (λ _. AreLeft bounds.old.steps bounds.new.steps) }
-    ensures lasts { Outlast (asked_of req.entry) (code_of req.entry) bounds.old.steps
-        → IfOk result (λ _. bounds.new.limit_exceeded ≡ false) }
     ensures followed { IfOk result (λ _.
-        Followed Global (asked_of req.entry) (code_of req.entry) bounds.old.most bounds.old.steps bounds.new) }
+        Followed Global (asked_of req.now) (code_of req.now) bounds.old.most bounds.old.steps bounds.new) }
     ensures refused { ((f : _) (c : _) (e : _) (g : _) → F.step f c (Err e) g → Refused Global)
         → OnErr result (Refused Global) }
 {
     bounds.limit_exceeded = false;
-    let mut walk = SearchIter::new(req, State::new(alloc));
+    let mut walk = SearchIter::new(copied(req), State::new(alloc));
     append_computed(alloc, &mut walk, bounds, compute, output)?;
     Ok(())
 }
@@ -131,7 +124,7 @@ where
 // The text of a range, with each match replaced by the closure's result.
 fn computed_text<S, F>(
     alloc: Global,
-    req: Request<'_, S>,
+    req: &Request<'_, S>,
     bounds: &mut Bounds,
     compute: F,
 ) -> Result<S::New, SreError>
@@ -139,17 +132,13 @@ where
     S: Rewritten,
     F: FnMut(&CapturesOf<S, Global>) -> Result<S::New, AllocError>,
     requires { F.IsAlwaysCallable compute }
-    ensures ok { (t : Tree) → Whole (words_of (code_of req.entry)) t → IfOk result (λ new.
+    ensures ok { (t : Tree) → Whole (words_of (code_of req.now)) t → IfOk result (λ new.
         bounds.new.limit_exceeded ≡ false → ReplacedInOrder
-        (Computes S.text (λ f c r g. F.step f c r g) (λ r. S.shown r) (S.text (string_of req.entry)))
-        (S.text (string_of req.entry)) compute (start_of req.entry) (end_of req.entry)
-        (first_of bounds.old.most (walk (asked_of req.entry) t)) (S.shown new)) }
-    ensures used { IfOk result (λ _. bounds.new.limit_exceeded ≡ true → bounds.new.steps ≡ Some 0) }
-    ensures steps { IfOk result (λ _. AreLeft bounds.old.steps bounds.new.steps) }
-    ensures lasts { Outlast (asked_of req.entry) (code_of req.entry) bounds.old.steps
-        → IfOk result (λ _. bounds.new.limit_exceeded ≡ false) }
+        (Computes S.text (λ f c r g. F.step f c r g) (λ r. S.shown r) (S.text (string_of req.now)))
+        (S.text (string_of req.now)) compute (start_of req.now) (end_of req.now)
+        (first_of bounds.old.most (walk (asked_of req.now) t)) (S.shown new)) }
     ensures followed { IfOk result (λ _.
-        Followed Global (asked_of req.entry) (code_of req.entry) bounds.old.most bounds.old.steps bounds.new) }
+        Followed Global (asked_of req.now) (code_of req.now) bounds.old.most bounds.old.steps bounds.new) }
     ensures refused { ((f : _) (c : _) (e : _) (g : _) → F.step f c (Err e) g → Refused Global)
         → OnErr result (Refused Global) }
 {
@@ -193,7 +182,7 @@ where
         → OnErr result (Refused Global) }
 {
     let mut bounds = Bounds::none();
-    computed_text(alloc, copied(req), &mut bounds, compute)
+    computed_text(alloc, req, &mut bounds, compute)
 }
 
 /// `replace_with` within bounds: replaces only the first `bounds.most` matches. Returns `None` if the step limit is
@@ -227,10 +216,6 @@ where
     ensures refused { ((f : _) (c : _) (e : _) (g : _) → F.step f c (Err e) g → Refused Global)
         → OnErr result (Refused Global) }
 {
-    let new = computed_text(alloc, copied(req), bounds, compute)?;
-    if bounds.limit_exceeded {
-        Ok(None)
-    } else {
-        Ok(Some(new))
-    }
+    let new = computed_text(alloc, req, bounds, compute)?;
+    Ok(unless_exceeded(bounds, new))
 }

@@ -1,6 +1,6 @@
 //! Splitting: the pieces of text between matches.
 
-ghost use Rattle.std.specs.Prelude.{◌≡◌, ◌≤◌, ◌++◌, ◌∷◌, [], true, false, None, Some, map, slice_range};
+ghost use Rattle.std.specs.Prelude.{◌≡◌, ◌≤◌, ◌++◌, ◌∷◌, [], false, None, Some, map, slice_range};
 ghost use Rattle.std.specs.Prelude.{is_none, IfOk, IfSome, IsSome, OnErr};
 ghost use Rattle.std.specs.Option.{option_map};
 ghost use Rattle.sre_engine.specs.Tree.{Tree};
@@ -13,11 +13,11 @@ ghost use Rattle.sre_engine.specs.Iterators.{request_of, left_of, has_ended};
 ghost use Rattle.sre_growth.specs.Refusal.{Refused};
 ghost use Rattle.sre_recipes.specs.Spans.{IsSpan};
 ghost use Rattle.sre_recipes.specs.Pieces.{pieces_between, first_groups, pieces_and_groups};
-ghost use Rattle.sre_recipes.specs.Limits.{OutlastRest, FollowedRest};
+ghost use Rattle.sre_recipes.specs.Limits.{FollowedRest};
 ghost use Rattle.sre_recipes.specs.Bounded.{first_of, AreLeft, Outlast};
 ghost use Rattle.sre_recipes.specs.Followed.{Followed};
 
-use crate::bounds::{Bounds, next_bounded};
+use crate::bounds::{Bounds, next_bounded, unless_exceeded};
 use crate::find::copied;
 use crate::groups::add_groups;
 use crate::slice::up_to;
@@ -60,9 +60,6 @@ fn add_pieces<S: Text, A: Allocator + Copy>(
         ≡ map S.text pieces.old.items
         ++ pieces_between (S.text (string_of (request_of walk.old))) (start_of (request_of walk.old))
         (end_of (request_of walk.old)) (first_of bounds.old.most (left_of walk.old t))) }
-    ensures used { IfOk result (λ _. bounds.new.limit_exceeded ≡ true → bounds.new.steps ≡ Some 0) }
-    ensures steps { IfOk result (λ _. AreLeft bounds.old.steps bounds.new.steps) }
-    ensures lasts { OutlastRest walk.old bounds.old.steps → IfOk result (λ _. bounds.new.limit_exceeded ≡ false) }
     ensures followed { IfOk result (λ _. FollowedRest walk.old bounds.old bounds.new) }
     ensures refused { OnErr result (Refused A) }
 {
@@ -78,25 +75,21 @@ fn add_pieces<S: Text, A: Allocator + Copy>(
 // Appends the pieces of a range between its matches.
 fn add_all_pieces<S: Text, A: Allocator + Copy>(
     alloc: A,
-    req: Request<'_, S>,
+    req: &Request<'_, S>,
     bounds: &mut Bounds,
     pieces: &mut Vec<S, A>,
 ) -> Result<(), SreError>
-    ensures ok { (t : Tree) → Whole (words_of (code_of req.entry)) t → IfOk result (λ _.
+    ensures ok { (t : Tree) → Whole (words_of (code_of req.now)) t → IfOk result (λ _.
         bounds.new.limit_exceeded ≡ false → map S.text pieces.new.items
         ≡ map S.text pieces.old.items
-        ++ pieces_between (S.text (string_of req.entry)) (start_of req.entry) (end_of req.entry)
-        (first_of bounds.old.most (walk (asked_of req.entry) t))) }
-    ensures used { IfOk result (λ _. bounds.new.limit_exceeded ≡ true → bounds.new.steps ≡ Some 0) }
-    ensures steps { IfOk result (λ _. AreLeft bounds.old.steps bounds.new.steps) }
-    ensures lasts { Outlast (asked_of req.entry) (code_of req.entry) bounds.old.steps
-        → IfOk result (λ _. bounds.new.limit_exceeded ≡ false) }
+        ++ pieces_between (S.text (string_of req.now)) (start_of req.now) (end_of req.now)
+        (first_of bounds.old.most (walk (asked_of req.now) t))) }
     ensures followed { IfOk result (λ _.
-        Followed A (asked_of req.entry) (code_of req.entry) bounds.old.most bounds.old.steps bounds.new) }
+        Followed A (asked_of req.now) (code_of req.now) bounds.old.most bounds.old.steps bounds.new) }
     ensures refused { OnErr result (Refused A) }
 {
     bounds.limit_exceeded = false;
-    let mut walk = SearchIter::new(req, State::new(alloc));
+    let mut walk = SearchIter::new(copied(req), State::new(alloc));
     add_pieces(&mut walk, bounds, pieces)
 }
 
@@ -125,7 +118,7 @@ pub fn split<S: Text, A: Allocator + Copy>(
 {
     let mut pieces = Vec::new(alloc);
     let mut bounds = Bounds::none();
-    add_all_pieces(alloc, copied(req), &mut bounds, &mut pieces)?;
+    add_all_pieces(alloc, req, &mut bounds, &mut pieces)?;
     Ok(pieces)
 }
 
@@ -163,12 +156,8 @@ pub fn split_bounded<S: Text, A: Allocator + Copy>(
     ensures refused { OnErr result (Refused A) }
 {
     let mut pieces = Vec::new(alloc);
-    add_all_pieces(alloc, copied(req), bounds, &mut pieces)?;
-    if bounds.limit_exceeded {
-        Ok(None)
-    } else {
-        Ok(Some(pieces))
-    }
+    add_all_pieces(alloc, req, bounds, &mut pieces)?;
+    Ok(unless_exceeded(bounds, pieces))
 }
 
 // Appends the text from a cursor to the state's match, then the match's groups. Moves the cursor to the match's end.
@@ -209,9 +198,6 @@ fn add_pieces_and_groups<S: Text, A: Allocator + Copy>(
         ≡ map (option_map S.text) pieces.old.items
         ++ pieces_and_groups (S.text (string_of (request_of walk.old))) groups (start_of (request_of walk.old))
         (end_of (request_of walk.old)) (first_of bounds.old.most (left_of walk.old t))) }
-    ensures used { IfOk result (λ _. bounds.new.limit_exceeded ≡ true → bounds.new.steps ≡ Some 0) }
-    ensures steps { IfOk result (λ _. AreLeft bounds.old.steps bounds.new.steps) }
-    ensures lasts { OutlastRest walk.old bounds.old.steps → IfOk result (λ _. bounds.new.limit_exceeded ≡ false) }
     ensures followed { IfOk result (λ _. FollowedRest walk.old bounds.old bounds.new) }
     ensures refused { OnErr result (Refused A) }
 {
@@ -227,26 +213,22 @@ fn add_pieces_and_groups<S: Text, A: Allocator + Copy>(
 // Appends the pieces of a range between its matches, and the groups of these matches.
 fn add_all_with_groups<S: Text, A: Allocator + Copy>(
     alloc: A,
-    req: Request<'_, S>,
+    req: &Request<'_, S>,
     bounds: &mut Bounds,
     groups: usize,
     pieces: &mut Vec<Option<S>, A>,
 ) -> Result<(), SreError>
-    ensures ok { (t : Tree) → Whole (words_of (code_of req.entry)) t → IfOk result (λ _.
+    ensures ok { (t : Tree) → Whole (words_of (code_of req.now)) t → IfOk result (λ _.
         bounds.new.limit_exceeded ≡ false → map (option_map S.text) pieces.new.items
         ≡ map (option_map S.text) pieces.old.items
-        ++ pieces_and_groups (S.text (string_of req.entry)) groups (start_of req.entry) (end_of req.entry)
-        (first_of bounds.old.most (walk (asked_of req.entry) t))) }
-    ensures used { IfOk result (λ _. bounds.new.limit_exceeded ≡ true → bounds.new.steps ≡ Some 0) }
-    ensures steps { IfOk result (λ _. AreLeft bounds.old.steps bounds.new.steps) }
-    ensures lasts { Outlast (asked_of req.entry) (code_of req.entry) bounds.old.steps
-        → IfOk result (λ _. bounds.new.limit_exceeded ≡ false) }
+        ++ pieces_and_groups (S.text (string_of req.now)) groups (start_of req.now) (end_of req.now)
+        (first_of bounds.old.most (walk (asked_of req.now) t))) }
     ensures followed { IfOk result (λ _.
-        Followed A (asked_of req.entry) (code_of req.entry) bounds.old.most bounds.old.steps bounds.new) }
+        Followed A (asked_of req.now) (code_of req.now) bounds.old.most bounds.old.steps bounds.new) }
     ensures refused { OnErr result (Refused A) }
 {
     bounds.limit_exceeded = false;
-    let mut walk = SearchIter::new(req, State::new(alloc));
+    let mut walk = SearchIter::new(copied(req), State::new(alloc));
     add_pieces_and_groups(&mut walk, bounds, groups, pieces)
 }
 
@@ -278,7 +260,7 @@ pub fn split_groups<S: Text, A: Allocator + Copy>(
 {
     let mut pieces = Vec::new(alloc);
     let mut bounds = Bounds::none();
-    add_all_with_groups(alloc, copied(req), &mut bounds, groups, &mut pieces)?;
+    add_all_with_groups(alloc, req, &mut bounds, groups, &mut pieces)?;
     Ok(pieces)
 }
 
@@ -308,10 +290,6 @@ pub fn split_groups_bounded<S: Text, A: Allocator + Copy>(
     ensures refused { OnErr result (Refused A) }
 {
     let mut pieces = Vec::new(alloc);
-    add_all_with_groups(alloc, copied(req), bounds, groups, &mut pieces)?;
-    if bounds.limit_exceeded {
-        Ok(None)
-    } else {
-        Ok(Some(pieces))
-    }
+    add_all_with_groups(alloc, req, bounds, groups, &mut pieces)?;
+    Ok(unless_exceeded(bounds, pieces))
 }

@@ -12,11 +12,11 @@ ghost use Rattle.sre_engine.specs.Answers.{answer_of, Spans};
 ghost use Rattle.sre_engine.specs.Iterators.{request_of, left_of, has_ended};
 ghost use Rattle.sre_growth.specs.Refusal.{Refused};
 ghost use Rattle.sre_recipes.specs.Slices.{slice_of, to_the_end};
-ghost use Rattle.sre_recipes.specs.Limits.{OutlastRest, FollowedRest};
+ghost use Rattle.sre_recipes.specs.Limits.{FollowedRest};
 ghost use Rattle.sre_recipes.specs.Bounded.{first_of, AreLeft, Outlast};
 ghost use Rattle.sre_recipes.specs.Followed.{Followed};
 
-use crate::bounds::{Bounds, next_bounded};
+use crate::bounds::{Bounds, next_bounded, unless_exceeded};
 use crate::slice::matched_text;
 use crate::span::Span;
 use crate::texts::Text;
@@ -64,9 +64,6 @@ fn add_texts<S: Text, A: Allocator + Copy>(
         ≡ map S.text all.old.items
         ++ map (slice_of (S.text (string_of (request_of walk.old))))
         (first_of bounds.old.most (left_of walk.old t))) }
-    ensures used { IfOk result (λ _. bounds.new.limit_exceeded ≡ true → bounds.new.steps ≡ Some 0) }
-    ensures steps { IfOk result (λ _. AreLeft bounds.old.steps bounds.new.steps) }
-    ensures lasts { OutlastRest walk.old bounds.old.steps → IfOk result (λ _. bounds.new.limit_exceeded ≡ false) }
     ensures followed { IfOk result (λ _. FollowedRest walk.old bounds.old bounds.new) }
     ensures refused { OnErr result (Refused A) }
 {
@@ -80,24 +77,20 @@ fn add_texts<S: Text, A: Allocator + Copy>(
 // Appends the texts of all matches.
 fn add_all_texts<S: Text, A: Allocator + Copy>(
     alloc: A,
-    req: Request<'_, S>,
+    req: &Request<'_, S>,
     bounds: &mut Bounds,
     all: &mut Vec<S, A>,
 ) -> Result<(), SreError>
-    ensures ok { (t : Tree) → Whole (words_of (code_of req.entry)) t → IfOk result (λ _.
+    ensures ok { (t : Tree) → Whole (words_of (code_of req.now)) t → IfOk result (λ _.
         bounds.new.limit_exceeded ≡ false → map S.text all.new.items
         ≡ map S.text all.old.items
-        ++ map (slice_of (S.text (string_of req.entry))) (first_of bounds.old.most (walk (asked_of req.entry) t))) }
-    ensures used { IfOk result (λ _. bounds.new.limit_exceeded ≡ true → bounds.new.steps ≡ Some 0) }
-    ensures steps { IfOk result (λ _. AreLeft bounds.old.steps bounds.new.steps) }
-    ensures lasts { Outlast (asked_of req.entry) (code_of req.entry) bounds.old.steps
-        → IfOk result (λ _. bounds.new.limit_exceeded ≡ false) }
+        ++ map (slice_of (S.text (string_of req.now))) (first_of bounds.old.most (walk (asked_of req.now) t))) }
     ensures followed { IfOk result (λ _.
-        Followed A (asked_of req.entry) (code_of req.entry) bounds.old.most bounds.old.steps bounds.new) }
+        Followed A (asked_of req.now) (code_of req.now) bounds.old.most bounds.old.steps bounds.new) }
     ensures refused { OnErr result (Refused A) }
 {
     bounds.limit_exceeded = false;
-    let mut walk = SearchIter::new(req, State::new(alloc));
+    let mut walk = SearchIter::new(copied(req), State::new(alloc));
     add_texts(&mut walk, bounds, all)
 }
 
@@ -124,7 +117,7 @@ pub fn find_all<S: Text, A: Allocator + Copy>(
 {
     let mut all = Vec::new(alloc);
     let mut bounds = Bounds::none();
-    add_all_texts(alloc, copied(req), &mut bounds, &mut all)?;
+    add_all_texts(alloc, req, &mut bounds, &mut all)?;
     Ok(all)
 }
 
@@ -161,12 +154,8 @@ pub fn find_bounded<S: Text, A: Allocator + Copy>(
     ensures refused { OnErr result (Refused A) }
 {
     let mut all = Vec::new(alloc);
-    add_all_texts(alloc, copied(req), bounds, &mut all)?;
-    if bounds.limit_exceeded {
-        Ok(None)
-    } else {
-        Ok(Some(all))
-    }
+    add_all_texts(alloc, req, bounds, &mut all)?;
+    Ok(unless_exceeded(bounds, all))
 }
 
 // The text of the state's match if one was found.

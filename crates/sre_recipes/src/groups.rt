@@ -1,6 +1,6 @@
 //! Matches with the texts of their groups.
 
-ghost use Rattle.std.specs.Prelude.{◌≡◌, ◌≤◌, ◌+◌, ◌^◌, ◌++◌, ◌∷◌, [], true, false, None, Some, length, map};
+ghost use Rattle.std.specs.Prelude.{◌≡◌, ◌≤◌, ◌+◌, ◌^◌, ◌++◌, ◌∷◌, [], false, None, Some, length, map};
 ghost use Rattle.std.specs.Prelude.{slice_index_or, is_none, is_some, IfOk, IfSome, OnErr, IsSome};
 ghost use Rattle.std.specs.List.{range_with_len};
 ghost use Rattle.std.specs.Option.{option_map};
@@ -15,11 +15,11 @@ ghost use Rattle.sre_engine.specs.Iterators.{request_of, left_of, has_ended};
 ghost use Rattle.sre_growth.specs.Refusal.{Refused};
 ghost use Rattle.sre_recipes.specs.Slices.{numbered_group, captured};
 ghost use Rattle.sre_recipes.specs.Captured.{captures_shown};
-ghost use Rattle.sre_recipes.specs.Limits.{OutlastRest, FollowedRest};
+ghost use Rattle.sre_recipes.specs.Limits.{FollowedRest};
 ghost use Rattle.sre_recipes.specs.Bounded.{first_of, AreLeft, Outlast};
 ghost use Rattle.sre_recipes.specs.Followed.{Followed};
 
-use crate::bounds::{Bounds, next_bounded};
+use crate::bounds::{Bounds, next_bounded, unless_exceeded};
 use crate::find::{copied, match_text, search_text};
 use crate::slice::group_text;
 use crate::texts::Text;
@@ -186,9 +186,6 @@ fn add_each<S: Text, A: Allocator + Copy>(
         ≡ map (captures_shown S.text) all.old.items
         ++ map (captured (S.text (string_of (request_of walk.old))))
         (first_of bounds.old.most (left_of walk.old t))) }
-    ensures used { IfOk result (λ _. bounds.new.limit_exceeded ≡ true → bounds.new.steps ≡ Some 0) }
-    ensures steps { IfOk result (λ _. AreLeft bounds.old.steps bounds.new.steps) }
-    ensures lasts { OutlastRest walk.old bounds.old.steps → IfOk result (λ _. bounds.new.limit_exceeded ≡ false) }
     ensures followed { IfOk result (λ _. FollowedRest walk.old bounds.old bounds.new) }
     ensures refused { OnErr result (Refused A) }
 {
@@ -202,24 +199,20 @@ fn add_each<S: Text, A: Allocator + Copy>(
 // Appends the matches of a range, with their groups.
 fn add_all_captures<S: Text, A: Allocator + Copy>(
     alloc: A,
-    req: Request<'_, S>,
+    req: &Request<'_, S>,
     bounds: &mut Bounds,
     all: &mut Vec<CapturesOf<S, A>, A>,
 ) -> Result<(), SreError>
-    ensures ok { (t : Tree) → Whole (words_of (code_of req.entry)) t → IfOk result (λ _.
+    ensures ok { (t : Tree) → Whole (words_of (code_of req.now)) t → IfOk result (λ _.
         bounds.new.limit_exceeded ≡ false → map (captures_shown S.text) all.new.items
         ≡ map (captures_shown S.text) all.old.items
-        ++ map (captured (S.text (string_of req.entry))) (first_of bounds.old.most (walk (asked_of req.entry) t))) }
-    ensures used { IfOk result (λ _. bounds.new.limit_exceeded ≡ true → bounds.new.steps ≡ Some 0) }
-    ensures steps { IfOk result (λ _. AreLeft bounds.old.steps bounds.new.steps) }
-    ensures lasts { Outlast (asked_of req.entry) (code_of req.entry) bounds.old.steps
-        → IfOk result (λ _. bounds.new.limit_exceeded ≡ false) }
+        ++ map (captured (S.text (string_of req.now))) (first_of bounds.old.most (walk (asked_of req.now) t))) }
     ensures followed { IfOk result (λ _.
-        Followed A (asked_of req.entry) (code_of req.entry) bounds.old.most bounds.old.steps bounds.new) }
+        Followed A (asked_of req.now) (code_of req.now) bounds.old.most bounds.old.steps bounds.new) }
     ensures refused { OnErr result (Refused A) }
 {
     bounds.limit_exceeded = false;
-    let mut walk = SearchIter::new(req, State::new(alloc));
+    let mut walk = SearchIter::new(copied(req), State::new(alloc));
     add_each(alloc, &mut walk, bounds, all)
 }
 
@@ -248,7 +241,7 @@ pub fn all_captures<S: Text, A: Allocator + Copy>(
 {
     let mut all = Vec::new(alloc);
     let mut bounds = Bounds::none();
-    add_all_captures(alloc, copied(req), &mut bounds, &mut all)?;
+    add_all_captures(alloc, req, &mut bounds, &mut all)?;
     Ok(all)
 }
 
@@ -275,10 +268,6 @@ pub fn captures_bounded<S: Text, A: Allocator + Copy>(
     ensures refused { OnErr result (Refused A) }
 {
     let mut all = Vec::new(alloc);
-    add_all_captures(alloc, copied(req), bounds, &mut all)?;
-    if bounds.limit_exceeded {
-        Ok(None)
-    } else {
-        Ok(Some(all))
-    }
+    add_all_captures(alloc, req, bounds, &mut all)?;
+    Ok(unless_exceeded(bounds, all))
 }

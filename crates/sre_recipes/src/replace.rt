@@ -1,6 +1,6 @@
 //! Replacement of all matches by a template.
 
-ghost use Rattle.std.specs.Prelude.{◌≡◌, ◌≤◌, ◌++◌, true, false, None, Some, slice_range};
+ghost use Rattle.std.specs.Prelude.{◌≡◌, ◌≤◌, ◌++◌, false, None, Some, slice_range};
 ghost use Rattle.std.specs.Prelude.{is_none, IfOk, IfSome, IsSome, OnErr};
 ghost use Rattle.std.specs.Str.{chars};
 ghost use Rattle.std.specs.String.{string_bytes};
@@ -14,11 +14,11 @@ ghost use Rattle.sre_engine.specs.Iterators.{request_of, left_of, has_ended};
 ghost use Rattle.sre_growth.specs.Refusal.{Refused};
 ghost use Rattle.sre_recipes.specs.Spans.{IsSpan};
 ghost use Rattle.sre_recipes.specs.Templates.{piece_of, written, replaced};
-ghost use Rattle.sre_recipes.specs.Limits.{OutlastRest, FollowedRest};
+ghost use Rattle.sre_recipes.specs.Limits.{FollowedRest};
 ghost use Rattle.sre_recipes.specs.Bounded.{first_of, AreLeft, Outlast};
 ghost use Rattle.sre_recipes.specs.Followed.{Followed};
 
-use crate::bounds::{Bounds, next_bounded};
+use crate::bounds::{Bounds, next_bounded, unless_exceeded};
 use crate::find::copied;
 use crate::slice::{group_text, up_to};
 use crate::span::Span;
@@ -146,9 +146,6 @@ fn append_replaced<S: Text, A: Allocator + Copy>(
         (written S.text (S.text (string_of (request_of walk.old))) template.now) (start_of (request_of walk.old))
         (end_of (request_of walk.old)) (first_of bounds.old.most (left_of walk.old t))) }
     ensures written { IfOk result (λ _. S.IsText output.new.items) }
-    ensures used { IfOk result (λ _. bounds.new.limit_exceeded ≡ true → bounds.new.steps ≡ Some 0) }
-    ensures steps { IfOk result (λ _. AreLeft bounds.old.steps bounds.new.steps) }
-    ensures lasts { OutlastRest walk.old bounds.old.steps → IfOk result (λ _. bounds.new.limit_exceeded ≡ false) }
     ensures followed { IfOk result (λ _. FollowedRest walk.old bounds.old bounds.new) }
     ensures refused { OnErr result (Refused A) }
 {
@@ -164,49 +161,41 @@ fn append_replaced<S: Text, A: Allocator + Copy>(
 // Appends the text of a range, with each match replaced.
 fn append_all<S: Text, A: Allocator + Copy>(
     alloc: A,
-    req: Request<'_, S>,
+    req: &Request<'_, S>,
     bounds: &mut Bounds,
     template: &[PieceOf<S>],
     output: &mut Vec<u8, A>,
 ) -> Result<(), SreError>
     requires { S.IsText output.old.items }
-    ensures ok { (t : Tree) → Whole (words_of (code_of req.entry)) t → IfOk result (λ _.
+    ensures ok { (t : Tree) → Whole (words_of (code_of req.now)) t → IfOk result (λ _.
         bounds.new.limit_exceeded ≡ false → S.characters output.new.items
         ≡ S.characters output.old.items
-        ++ replaced (S.text (string_of req.entry)) (written S.text (S.text (string_of req.entry)) template.now)
-        (start_of req.entry) (end_of req.entry) (first_of bounds.old.most (walk (asked_of req.entry) t))) }
+        ++ replaced (S.text (string_of req.now)) (written S.text (S.text (string_of req.now)) template.now)
+        (start_of req.now) (end_of req.now) (first_of bounds.old.most (walk (asked_of req.now) t))) }
     ensures written { IfOk result (λ _. S.IsText output.new.items) }
-    ensures used { IfOk result (λ _. bounds.new.limit_exceeded ≡ true → bounds.new.steps ≡ Some 0) }
-    ensures steps { IfOk result (λ _. AreLeft bounds.old.steps bounds.new.steps) }
-    ensures lasts { Outlast (asked_of req.entry) (code_of req.entry) bounds.old.steps
-        → IfOk result (λ _. bounds.new.limit_exceeded ≡ false) }
     ensures followed { IfOk result (λ _.
-        Followed A (asked_of req.entry) (code_of req.entry) bounds.old.most bounds.old.steps bounds.new) }
+        Followed A (asked_of req.now) (code_of req.now) bounds.old.most bounds.old.steps bounds.new) }
     ensures refused { OnErr result (Refused A) }
 {
     bounds.limit_exceeded = false;
-    let mut walk = SearchIter::new(req, State::new(alloc));
+    let mut walk = SearchIter::new(copied(req), State::new(alloc));
     append_replaced(&mut walk, bounds, template, output)
 }
 
 // The text of a range of a `&str`, with each match replaced.
 fn replaced_text<'t, A: Allocator + Copy>(
     alloc: A,
-    req: Request<'_, &'t str>,
+    req: &Request<'_, &'t str>,
     bounds: &mut Bounds,
     template: &[Piece<'t>],
 ) -> Result<String<A>, SreError>
-    ensures ok { (t : Tree) → Whole (words_of (code_of req.entry)) t → IfOk result (λ new.
+    ensures ok { (t : Tree) → Whole (words_of (code_of req.now)) t → IfOk result (λ new.
         bounds.new.limit_exceeded ≡ false → chars (string_bytes new)
-        ≡ replaced (chars (string_of req.entry).now)
-        (written (λ s. chars s.now) (chars (string_of req.entry).now) template.now)
-        (start_of req.entry) (end_of req.entry) (first_of bounds.old.most (walk (asked_of req.entry) t))) }
-    ensures used { IfOk result (λ _. bounds.new.limit_exceeded ≡ true → bounds.new.steps ≡ Some 0) }
-    ensures steps { IfOk result (λ _. AreLeft bounds.old.steps bounds.new.steps) }
-    ensures lasts { Outlast (asked_of req.entry) (code_of req.entry) bounds.old.steps
-        → IfOk result (λ _. bounds.new.limit_exceeded ≡ false) }
+        ≡ replaced (chars (string_of req.now).now)
+        (written (λ s. chars s.now) (chars (string_of req.now).now) template.now)
+        (start_of req.now) (end_of req.now) (first_of bounds.old.most (walk (asked_of req.now) t))) }
     ensures followed { IfOk result (λ _.
-        Followed A (asked_of req.entry) (code_of req.entry) bounds.old.most bounds.old.steps bounds.new) }
+        Followed A (asked_of req.now) (code_of req.now) bounds.old.most bounds.old.steps bounds.new) }
     ensures refused { OnErr result (Refused A) }
 {
     let mut output = Vec::new(alloc);
@@ -217,20 +206,16 @@ fn replaced_text<'t, A: Allocator + Copy>(
 // The same for bytes.
 fn replaced_bytes<'t, A: Allocator + Copy>(
     alloc: A,
-    req: Request<'_, &'t [u8]>,
+    req: &Request<'_, &'t [u8]>,
     bounds: &mut Bounds,
     template: &[PieceOf<&'t [u8]>],
 ) -> Result<Vec<u8, A>, SreError>
-    ensures ok { (t : Tree) → Whole (words_of (code_of req.entry)) t → IfOk result (λ new.
+    ensures ok { (t : Tree) → Whole (words_of (code_of req.now)) t → IfOk result (λ new.
         bounds.new.limit_exceeded ≡ false → new.items
-        ≡ replaced (string_of req.entry).now (written (λ s. s.now) (string_of req.entry).now template.now)
-        (start_of req.entry) (end_of req.entry) (first_of bounds.old.most (walk (asked_of req.entry) t))) }
-    ensures used { IfOk result (λ _. bounds.new.limit_exceeded ≡ true → bounds.new.steps ≡ Some 0) }
-    ensures steps { IfOk result (λ _. AreLeft bounds.old.steps bounds.new.steps) }
-    ensures lasts { Outlast (asked_of req.entry) (code_of req.entry) bounds.old.steps
-        → IfOk result (λ _. bounds.new.limit_exceeded ≡ false) }
+        ≡ replaced (string_of req.now).now (written (λ s. s.now) (string_of req.now).now template.now)
+        (start_of req.now) (end_of req.now) (first_of bounds.old.most (walk (asked_of req.now) t))) }
     ensures followed { IfOk result (λ _.
-        Followed A (asked_of req.entry) (code_of req.entry) bounds.old.most bounds.old.steps bounds.new) }
+        Followed A (asked_of req.now) (code_of req.now) bounds.old.most bounds.old.steps bounds.new) }
     ensures refused { OnErr result (Refused A) }
 {
     let mut output = Vec::new(alloc);
@@ -265,7 +250,7 @@ pub fn replace_all<A: Allocator + Copy>(
     ensures refused { OnErr result (Refused A) }
 {
     let mut bounds = Bounds::none();
-    replaced_text(alloc, copied(req), &mut bounds, &*template)
+    replaced_text(alloc, req, &mut bounds, &*template)
 }
 
 /// `replace_all` within bounds: replaces only the first `bounds.most` matches, as Python's `sub` does with `count`.
@@ -303,12 +288,8 @@ pub fn replace_bounded<A: Allocator + Copy>(
         Followed A (asked_of req.now) (code_of req.now) bounds.old.most bounds.old.steps bounds.new) }
     ensures refused { OnErr result (Refused A) }
 {
-    let new = replaced_text(alloc, copied(req), bounds, &*template)?;
-    if bounds.limit_exceeded {
-        Ok(None)
-    } else {
-        Ok(Some(new))
-    }
+    let new = replaced_text(alloc, req, bounds, &*template)?;
+    Ok(unless_exceeded(bounds, new))
 }
 
 /// `replace_all` for bytes.
@@ -337,7 +318,7 @@ pub fn replace_all_bytes<A: Allocator + Copy>(
     ensures refused { OnErr result (Refused A) }
 {
     let mut bounds = Bounds::none();
-    replaced_bytes(alloc, copied(req), &mut bounds, &*template)
+    replaced_bytes(alloc, req, &mut bounds, &*template)
 }
 
 /// `replace_bounded` for bytes.
@@ -364,10 +345,6 @@ pub fn replace_bounded_bytes<A: Allocator + Copy>(
         Followed A (asked_of req.now) (code_of req.now) bounds.old.most bounds.old.steps bounds.new) }
     ensures refused { OnErr result (Refused A) }
 {
-    let new = replaced_bytes(alloc, copied(req), bounds, &*template)?;
-    if bounds.limit_exceeded {
-        Ok(None)
-    } else {
-        Ok(Some(new))
-    }
+    let new = replaced_bytes(alloc, req, bounds, &*template)?;
+    Ok(unless_exceeded(bounds, new))
 }

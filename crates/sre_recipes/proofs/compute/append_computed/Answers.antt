@@ -8,7 +8,7 @@ use Rattle.sre_recipes.specs.Slices.{captured}
 use Rattle.sre_recipes.specs.Captured.{captures_shown}
 use Rattle.sre_recipes.specs.Computed.{Computes}
 use Rattle.sre_recipes.specs.Bounded.{first_of}
-use Rattle.sre_recipes.proofs.Bounding.{left_on, taken_step, stopped}
+use Rattle.sre_recipes.proofs.Bounding.{taken_step, stopped}
 use Rattle.sre_recipes.proofs.Following.{follow_on, follow_end}
 use Rattle.sre_recipes.proofs.Steps.{walk_on, kept_on, next_start}
 use Rattle.sre_recipes.proofs.Written.{computed_step, computed_end}
@@ -48,10 +48,6 @@ walk-preserved g c =
           kept.string gives told.1 c.in_ok-append_new-in-Ok.ensures.last;
       is_text = c.in_ok-append_new-in-Ok.ensures.written;
       going = takes.going;
-      steps =
-          left_on c.args.bounds.now.steps c.walk.bounds.steps c.next_bounded.new.bounds.steps c.walk.invariant.steps
-          takes.steps;
-      lasts = λ enough. takes.lasts (c.walk.invariant.lasts enough);
       begun = gives.after;
       followed = λ after rest.
           c.walk.invariant.followed after
@@ -92,10 +88,6 @@ returns-clause-ok g c = λ t tree going.
     (stopped before c.walk.bounds c.next_bounded.new.bounds (words_of (code_of asked)) t stops going
     c.walk.invariant.kept.words tree)
     (c.in_ok-append_to.ensures.ok ∙ ap (λ (cs : List ℕ). output ++ cs) cut) (c.walk.invariant.left t tree)
-
-pub returns-clause-lasts : goal.returns-clause-lasts
-returns-clause-lasts g c = λ enough.
-    (rw c.in_default.is at c.in_ok-span.ensures.gives).lasts (c.walk.invariant.lasts enough)
 
 pub returns-clause-followed : goal.returns-clause-followed
 returns-clause-followed g c =

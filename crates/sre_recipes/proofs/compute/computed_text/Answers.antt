@@ -16,9 +16,9 @@ returns-clause-ok g c = λ t tree going.
     let told = c.in_ok-append_all_computed.ensures.ok t tree going in
     let same =
     c.from_output.ensures ∙ rw (c.new-output.ensures.items, g.met.S.Text.none_characters) at told.1 in
-    let text = g.S.StrDrive.text (string_of c.args.req) in
+    let text = g.S.StrDrive.text (string_of c.args.req.now) in
     subst
     (ReplacedInOrder (Computes g.S.StrDrive.text (λ f d r h. goal.F-step g f d r h) g.S.Rewritten.shown text) text
-    c.args.compute (start_of c.args.req) (end_of c.args.req)
-    (first_of c.args.bounds.now.most (walk (asked_of c.args.req) t)))
+    c.args.compute (start_of c.args.req.now) (end_of c.args.req.now)
+    (first_of c.args.bounds.now.most (walk (asked_of c.args.req.now) t)))
     (sym same) told.2

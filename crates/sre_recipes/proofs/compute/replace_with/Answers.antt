@@ -1,8 +1,7 @@
-use Rattle.std.proofs.Common.{rules}
+use Rattle.sre_recipes.proofs.Telling.{ok_unlimited}
 use Rattle.sre_recipes.proofs.compute.replace_with.Goals as goal
 
 pub returns-clause-ok : goal.returns-clause-ok
-returns-clause-ok g c =
-    let ok = rw c.copied.ensures at c.computed_text.ensures.ok in
-    let lasts = rw c.copied.ensures at c.computed_text.ensures.lasts in
-    search rules
+returns-clause-ok g c = λ t tree.
+    ok_unlimited _ _ _ _ _ _ c.computed_text.result _ c.none-bounds.ensures.steps c.computed_text.ensures.followed
+    (rw c.none-bounds.ensures.most at c.computed_text.ensures.ok t tree)

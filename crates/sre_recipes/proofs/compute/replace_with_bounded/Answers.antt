@@ -1,7 +1,18 @@
-use Rattle.std.proofs.Common.{rules}
+use Rattle.sre_recipes.proofs.Telling.{tells, told_if}
 use Rattle.sre_recipes.proofs.compute.replace_with_bounded.Goals as goal
 
-pub returns-else-bounds-clause-ok : goal.returns-else-bounds-clause-ok
-returns-else-bounds-clause-ok g c =
-    let ok = rw c.copied.ensures at c.in_ok-new.ensures.ok in
-    search rules
+pub returns : goal.returns
+returns g c =
+    let followed = c.in_ok-new.ensures.followed in
+    let is = c.unless_exceeded.ensures in
+    let tells = tells followed c.in_ok-new.new is in
+    record {
+      ok = λ t tree. told_if _ c.in_ok-new.new _ _ is (λ going. c.in_ok-new.ensures.ok t tree going);
+      used = tells.used;
+      steps = tells.left;
+      lasts = tells.lasts;
+      unlimited = tells.unlimited;
+      exceeded = tells.exceeded;
+      followed = followed;
+      refused = λ _. tt;
+    }

@@ -8,7 +8,7 @@ use Rattle.sre_engine.specs.Answers.{match_shown}
 use Rattle.std.specs.Option.{option_map}
 use Rattle.sre_recipes.specs.Pieces.{first_groups, pieces_and_groups}
 use Rattle.sre_recipes.specs.Bounded.{first_of}
-use Rattle.sre_recipes.proofs.Bounding.{left_on, taken_step, stopped}
+use Rattle.sre_recipes.proofs.Bounding.{taken_step, stopped}
 use Rattle.sre_recipes.proofs.Following.{follow_on, follow_end}
 use Rattle.sre_recipes.proofs.Steps.{walk_on, kept_on, next_start}
 use Rattle.sre_recipes.proofs.Written.{groups_step, groups_end}
@@ -44,10 +44,6 @@ walk-preserved g c =
           walk_on before after (string_of asked) c.add_with_groups.new.last c.in-Some.span.start c.in-Some.span.end
           kept.string gives told.1 c.in_ok-add_with_groups.ensures.last;
       going = takes.going;
-      steps =
-          left_on c.args.bounds.now.steps c.walk.bounds.steps c.next_bounded.new.bounds.steps c.walk.invariant.steps
-          takes.steps;
-      lasts = λ enough. takes.lasts (c.walk.invariant.lasts enough);
       begun = gives.after;
       followed = λ after rest.
           c.walk.invariant.followed after
@@ -93,10 +89,6 @@ returns-clause-ok g c = λ t tree going.
     c.walk.invariant.kept.words tree)
     added
     (c.walk.invariant.left t tree)
-
-pub returns-clause-lasts : goal.returns-clause-lasts
-returns-clause-lasts g c = λ enough.
-    (rw c.in_default.is at c.in_ok-span.ensures.gives).lasts (c.walk.invariant.lasts enough)
 
 pub returns-clause-followed : goal.returns-clause-followed
 returns-clause-followed g c =

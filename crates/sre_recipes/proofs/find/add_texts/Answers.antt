@@ -7,7 +7,7 @@ use Rattle.sre_engine.specs.Answers.{match_shown}
 use Rattle.sre_recipes.specs.Slices.{slice_of}
 use Rattle.sre_recipes.specs.Spans.{IsSpan}
 use Rattle.sre_recipes.specs.Bounded.{first_of}
-use Rattle.sre_recipes.proofs.Bounding.{left_on, taken_step, stopped}
+use Rattle.sre_recipes.proofs.Bounding.{taken_step, stopped}
 use Rattle.sre_recipes.proofs.Following.{follow_on, follow_end}
 use Rattle.sre_recipes.proofs.Steps.{span_slice}
 use Rattle.sre_recipes.proofs.Written.{listed_step, none_left}
@@ -40,10 +40,6 @@ walk-preserved g c =
       string = gives.request.string ∙ c.walk.invariant.string;
       code = gives.request.pattern_codes ∙ c.walk.invariant.code;
       going = takes.going;
-      steps =
-          left_on c.args.bounds.now.steps c.walk.bounds.steps c.next_bounded.new.bounds.steps c.walk.invariant.steps
-          takes.steps;
-      lasts = λ enough. takes.lasts (c.walk.invariant.lasts enough);
       begun = gives.after;
       followed = λ after rest.
           c.walk.invariant.followed after
@@ -71,10 +67,6 @@ returns-clause-ok g c = λ t tree going.
     (stopped c.walk.walk c.walk.bounds c.next_bounded.new.bounds (words_of (code_of asked)) t stops going
     (ap words_of c.walk.invariant.code) tree)
     (c.walk.invariant.left t tree)
-
-pub returns-clause-lasts : goal.returns-clause-lasts
-returns-clause-lasts g c = λ enough.
-    (rw c.in_default.is at c.in_ok-span.ensures.gives).lasts (c.walk.invariant.lasts enough)
 
 pub returns-clause-followed : goal.returns-clause-followed
 returns-clause-followed g c =

@@ -5,9 +5,9 @@ use Rattle.sre_engine.specs.Codes.{words_of}
 use Rattle.sre_engine.specs.Requests.{string_of, code_of}
 use Rattle.sre_engine.specs.Iterators.{request_of, has_ended, left_of, most_items}
 use Rattle.sre_recipes.specs.Slices.{slice_of}
-use Rattle.sre_recipes.specs.Bounded.{first_of, AreLeft}
+use Rattle.sre_recipes.specs.Bounded.{first_of}
 use Rattle.sre_recipes.specs.declared.bounds.Bounds.{Bounds}
-use Rattle.sre_recipes.specs.Limits.{OutlastRest, FollowedRest}
+use Rattle.sre_recipes.specs.Limits.{FollowedRest}
 use Rattle.sre_recipes.proofs.find.add_texts.Given as goal
 
 abbrev pub invariant-walk : goal.invariant-walk
@@ -15,8 +15,6 @@ invariant-walk g l = record {
   string : string_of (request_of l.walk) ≡ string_of (request_of l.fn.walk);
   code : code_of (request_of l.walk) ≡ code_of (request_of l.fn.walk);
   going : l.bounds.limit_exceeded ≡ false;
-  steps : AreLeft l.fn.bounds.steps l.bounds.steps;
-  lasts : OutlastRest l.fn.walk l.fn.bounds.steps → OutlastRest l.walk l.bounds.steps;
   begun : has_ended l.walk ≡ false;
   followed : (after : Bounds) → FollowedRest l.walk l.bounds after → FollowedRest l.fn.walk l.fn.bounds after;
   left : (t : Tree) → Whole (words_of (code_of (request_of l.fn.walk))) t

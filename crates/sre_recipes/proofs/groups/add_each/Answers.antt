@@ -6,7 +6,7 @@ use Rattle.sre_engine.specs.Answers.{match_shown}
 use Rattle.sre_recipes.specs.Slices.{captured}
 use Rattle.sre_recipes.specs.Captured.{captures_shown}
 use Rattle.sre_recipes.specs.Bounded.{first_of}
-use Rattle.sre_recipes.proofs.Bounding.{left_on, taken_step, stopped}
+use Rattle.sre_recipes.proofs.Bounding.{taken_step, stopped}
 use Rattle.sre_recipes.proofs.Following.{follow_on, follow_end}
 use Rattle.sre_recipes.proofs.Written.{listed_step, none_left}
 use Rattle.sre_recipes.proofs.groups.add_each.Goals as goal
@@ -32,10 +32,6 @@ walk-preserved g c =
       string = gives.request.string ∙ c.walk.invariant.string;
       code = gives.request.pattern_codes ∙ c.walk.invariant.code;
       going = takes.going;
-      steps =
-          left_on c.args.bounds.now.steps c.walk.bounds.steps c.next_bounded.new.bounds.steps c.walk.invariant.steps
-          takes.steps;
-      lasts = λ enough. takes.lasts (c.walk.invariant.lasts enough);
       begun = gives.after;
       followed = λ after rest.
           c.walk.invariant.followed after
@@ -63,10 +59,6 @@ returns-clause-ok g c = λ t tree going.
     (stopped c.walk.walk c.walk.bounds c.next_bounded.new.bounds (words_of (code_of asked)) t stops going
     (ap words_of c.walk.invariant.code) tree)
     (c.walk.invariant.left t tree)
-
-pub returns-clause-lasts : goal.returns-clause-lasts
-returns-clause-lasts g c = λ enough.
-    (rw c.in_default.is at c.in_ok-span.ensures.gives).lasts (c.walk.invariant.lasts enough)
 
 pub returns-clause-followed : goal.returns-clause-followed
 returns-clause-followed g c =

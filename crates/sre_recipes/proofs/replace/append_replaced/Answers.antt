@@ -6,7 +6,7 @@ use Rattle.sre_engine.specs.Iterators.{request_of, shown_of, left_of}
 use Rattle.sre_engine.specs.Answers.{match_shown}
 use Rattle.sre_recipes.specs.Templates.{written, replaced}
 use Rattle.sre_recipes.specs.Bounded.{first_of}
-use Rattle.sre_recipes.proofs.Bounding.{left_on, taken_step, stopped}
+use Rattle.sre_recipes.proofs.Bounding.{taken_step, stopped}
 use Rattle.sre_recipes.proofs.Following.{follow_on, follow_end}
 use Rattle.sre_recipes.proofs.Steps.{walk_on, kept_on, next_start}
 use Rattle.sre_recipes.proofs.Written.{replaced_step, replaced_end}
@@ -42,10 +42,6 @@ walk-preserved g c =
           walk_on before after (string_of asked) c.append_match.new.last c.in-Some.span.start c.in-Some.span.end
           kept.string gives told.1 c.in_ok-append_match.ensures.last;
       going = takes.going;
-      steps =
-          left_on c.args.bounds.now.steps c.walk.bounds.steps c.next_bounded.new.bounds.steps c.walk.invariant.steps
-          takes.steps;
-      lasts = λ enough. takes.lasts (c.walk.invariant.lasts enough);
       begun = gives.after;
       followed = λ after rest.
           c.walk.invariant.followed after
@@ -89,10 +85,6 @@ returns-clause-ok g c = λ t tree going.
     (stopped before c.walk.bounds c.next_bounded.new.bounds (words_of (code_of asked)) t stops going
     c.walk.invariant.kept.words tree)
     (c.in_ok-append_to.ensures.ok ∙ ap (λ (cs : List ℕ). output ++ cs) cut) (c.walk.invariant.left t tree)
-
-pub returns-clause-lasts : goal.returns-clause-lasts
-returns-clause-lasts g c = λ enough.
-    (rw c.in_default.is at c.in_ok-span.ensures.gives).lasts (c.walk.invariant.lasts enough)
 
 pub returns-clause-followed : goal.returns-clause-followed
 returns-clause-followed g c =

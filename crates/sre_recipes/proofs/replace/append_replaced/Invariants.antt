@@ -5,9 +5,9 @@ use Rattle.sre_engine.specs.Codes.{words_of}
 use Rattle.sre_engine.specs.Requests.{string_of, start_of, end_of, code_of}
 use Rattle.sre_engine.specs.Iterators.{request_of, has_ended, left_of, most_items}
 use Rattle.sre_recipes.specs.Templates.{written, replaced}
-use Rattle.sre_recipes.specs.Bounded.{first_of, AreLeft}
+use Rattle.sre_recipes.specs.Bounded.{first_of}
 use Rattle.sre_recipes.specs.declared.bounds.Bounds.{Bounds}
-use Rattle.sre_recipes.specs.Limits.{OutlastRest, FollowedRest}
+use Rattle.sre_recipes.specs.Limits.{FollowedRest}
 use Rattle.sre_recipes.specs.Spans.{StandsAt}
 use Rattle.sre_recipes.proofs.Steps.{Kept}
 use Rattle.sre_recipes.proofs.replace.append_replaced.Given as goal
@@ -21,8 +21,6 @@ invariant-walk g l =
       stands : StandsAt (g.S.StrDrive.stands (string_of asked)) l.last (start_of (request_of l.walk));
       is_text : g.S.Text.IsText l.output.items;
       going : l.bounds.limit_exceeded ≡ false;
-      steps : AreLeft l.fn.bounds.steps l.bounds.steps;
-      lasts : OutlastRest l.fn.walk l.fn.bounds.steps → OutlastRest l.walk l.bounds.steps;
       begun : has_ended l.walk ≡ false;
       followed : (after : Bounds) → FollowedRest l.walk l.bounds after → FollowedRest l.fn.walk l.fn.bounds after;
       left : (t : Tree) → Whole (words_of (code_of asked)) t
