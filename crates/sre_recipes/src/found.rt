@@ -1,6 +1,6 @@
 //! An iterator over the texts of all matches, with a prefilter.
 
-ghost use Rattle.std.specs.Prelude.{◌≡◌, ◌<◌, false, IfSome};
+ghost use Rattle.std.specs.Prelude.{◌≡◌, ◌<◌, ◌≤◌, false, length, slice_range, IfSome};
 ghost use Rattle.sre_engine.specs.Requests.{start_of, code_of, stands_in};
 ghost use Rattle.sre_finder.specs.SpanIters.{request_of, has_ended, most_spans};
 
@@ -27,6 +27,21 @@ impl<'c, 'a, S: StrDrive, A: Allocator + Copy> Drop for FoundTexts<'c, 'a, S, A>
         let FoundTexts { walk, cursor: _ } = self;
         drop(walk);
     }
+}
+
+// The text between two positions at or behind a cursor, which moves to the second one.
+fn text_behind<S: Text>(text: S, cursor: &mut StringCursor, from: usize, to: usize) -> S
+    requires at { S.stands text cursor.old cursor.old.position }
+    requires behind { cursor.old.position ≤ from }
+    requires forward { from ≤ to }
+    requires inside { to ≤ length (S.text text) }
+    ensures text { S.text result ≡ slice_range (S.text text) from to }
+    ensures stands { S.stands text cursor.new cursor.new.position }
+    ensures position { cursor.new.position ≡ to }
+{
+    let start = on_by(text, cursor, from - cursor.position());
+    *cursor = on_by(text, &start, to - from);
+    text.between(&start, cursor)
 }
 
 impl<'c, 'a, S: Text + Haystack, A: Allocator + Copy> FoundTexts<'c, 'a, S, A> {
@@ -68,9 +83,7 @@ impl<'c, 'a, S: Text + Haystack, A: Allocator + Copy> FoundTexts<'c, 'a, S, A> {
             Some(Err(error)) => Some(Err(error)),
             Some(Ok(span)) => {
                 let text = self.walk.req().string();
-                let start = on_by(text, &self.cursor, span.start - self.cursor.position());
-                self.cursor = on_by(text, &start, span.end - span.start);
-                Some(Ok(text.between(&start, &self.cursor)))
+                Some(Ok(text_behind(text, &mut self.cursor, span.start, span.end)))
             }
         }
     }

@@ -1,6 +1,6 @@
 //! Matches with the texts of their groups.
 
-ghost use Rattle.std.specs.Prelude.{◌≡◌, ◌≤◌, ◌+◌, ◌^◌, ◌++◌, ◌∷◌, [], false, None, Some, length, map};
+ghost use Rattle.std.specs.Prelude.{◌≡◌, ◌≤◌, ◌+◌, ◌^◌, ◌++◌, ◌∷◌, [], true, false, None, Some, length, map};
 ghost use Rattle.std.specs.Prelude.{slice_index_or, is_none, is_some, IfOk, IfSome, OnErr, IsSome};
 ghost use Rattle.std.specs.List.{range_with_len};
 ghost use Rattle.std.specs.Option.{option_map};
@@ -98,6 +98,26 @@ pub(crate) fn shown_captures<S: Text, A: Allocator + Copy>(
     Ok(CapturesOf { groups })
 }
 
+// The state's match with its groups if one was found.
+fn captures_if<S: Text, A: Allocator + Copy>(
+    alloc: A,
+    found: bool,
+    text: S,
+    state: &State<A>,
+) -> Result<Option<CapturesOf<S, A>>, SreError>
+    requires { found ≡ true → S.stands text state.now.cursor state.now.cursor.position }
+    ensures ok { IfOk result (λ all. option_map (captures_shown S.text) all
+        ≡ option_map (captured (S.text text)) (answer_of found state.now)) }
+    ensures some { IfOk result (λ all. is_some all ≡ found) }
+    ensures refused { OnErr result (Refused A) }
+{
+    if found {
+        Ok(Some(shown_captures(alloc, text, state)?))
+    } else {
+        Ok(None)
+    }
+}
+
 /// Searches the range, as `State::search` does. Returns the match with the least start and its groups. The state then
 /// shows the match, so `group_text` can follow. Returns `None` if there is none, and the state then has no captures.
 ///
@@ -120,11 +140,8 @@ pub fn search_captures<S: Text, A: Allocator + Copy>(
     ensures no { IfOk result (λ all. all ≡ None → state.new.marks ≡ no_marks) }
     ensures refused { OnErr result (Refused A) }
 {
-    let text = req.string();
-    match search_text(req, state)? {
-        None => Ok(None),
-        Some(_) => Ok(Some(shown_captures(alloc, text, state)?)),
-    }
+    let found = search_text(req, state)?;
+    captures_if(alloc, found.is_some(), req.string(), state)
 }
 
 /// Matches at the start of the range, as `State::pymatch` does. Returns the match and its groups. The state then shows
@@ -149,10 +166,8 @@ pub fn match_captures<S: Text, A: Allocator + Copy>(
     ensures no { IfOk result (λ all. all ≡ None → state.new.marks ≡ no_marks) }
     ensures refused { OnErr result (Refused A) }
 {
-    match match_text(req, state)? {
-        None => Ok(None),
-        Some(_) => Ok(Some(shown_captures(alloc, req.string(), state)?)),
-    }
+    let found = match_text(req, state)?;
+    captures_if(alloc, found.is_some(), req.string(), state)
 }
 
 // Appends the state's match with its groups.
