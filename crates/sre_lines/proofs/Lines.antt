@@ -11,10 +11,13 @@ use Rattle.sre_lines.specs.declared.line.Subject.{Subject}
 use Rattle.sre_lines.specs.declared.line.Window.{Window}
 use Rattle.sre_lines.specs.declared.line.Window.TheVariants.{Whole, Span}
 use Rattle.sre_lines.specs.Fields.{hex_text, words_text, window_text, IsWindow, flags_text, form_text, bytes_text}
-use Rattle.sre_lines.specs.Fields.{IsText, subject_text, AreWords, verb_text, verb, fields_text, case_text}
+use Rattle.sre_lines.specs.Fields.{IsText, IsSubject, IsCase, subject_text, AreWords, verb_text, verb, fields_text}
+use Rattle.sre_lines.specs.Fields.{case_text}
 use Rattle.sre_lines.specs.declared.line.Case.{Case}
+use Rattle.sre_lines.specs.declared.line.Case.TheVariants.{Check, Find}
 use Rattle.sre_lines.specs.declared.line.Verb.{Verb}
 use Rattle.sre_lines.specs.declared.line.Verb.TheVariants.{Check as Verb-Check, Find as Verb-Find}
+use Rattle.sre_lines.specs.declared.line.Finding.{Finding}
 use Rattle.sre_lines.specs.declared.line.Finding.TheVariants.{Match, Search, Walk}
 use Rattle.sre_lines.proofs.Cuts.{cut_once, uncut}
 use Rattle.sre_lines.proofs.Numbers.{decimal_lacks}
@@ -222,3 +225,36 @@ pub other_verb_is_no_case : (line field left : List ℕ) → field ++ 32 ∷ lef
     → (case : Case) (words text : List ℕ) → case_text case words text ≢ line
 other_verb_is_no_case line field left cut none other case words text is =
     other (verb case) (after_verb line field left case words text cut none is).0
+
+-- `check` is no other verb
+no_check : (finding : Finding) → verb_text Verb-Check ≢ verb_text (Verb-Find finding)
+no_check Match is = let letters : 99 ≡ 109 = ap (λ xs. get_or xs 0 0) is in absurd (omega (arith, letters))
+no_check Search is = let letters : 99 ≡ 115 = ap (λ xs. get_or xs 0 0) is in absurd (omega (arith, letters))
+no_check Walk is = let letters : 99 ≡ 119 = ap (λ xs. get_or xs 0 0) is in absurd (omega (arith, letters))
+
+-- a line that begins with `check`, and whose other fields are no words
+pub no_words_no_case : (line field left : List ℕ) → field ++ 32 ∷ left ≡ line → Lacks field 32
+    → verb_text Verb-Check ≡ field → ((ws : List ℕ) → AreWords ws → words_text ws ≢ left)
+    → (case : Case) (words text : List ℕ) → IsCase case words text → case_text case words text ≢ line
+no_words_no_case line field left cut none begins other Check words text lawful is =
+    other words lawful (after_verb line field left Check words text cut none is).1
+no_words_no_case line field left cut none begins other (Find finding subject) words text lawful is =
+    no_check finding (begins ∙ sym (after_verb line field left (Find finding subject) words text cut none is).0)
+
+-- a line that begins with another verb, and whose other fields are none of a subject
+pub no_subject_no_case : (line field left : List ℕ) (finding : Finding) → field ++ 32 ∷ left ≡ line → Lacks field 32
+    → verb_text (Verb-Find finding) ≡ field
+    → ((subject : Subject) (ws text : List ℕ) → AreWords ws → IsSubject subject text
+    → words_text ws ++ subject_text subject text ≢ left)
+    → (case : Case) (words text : List ℕ) → IsCase case words text → case_text case words text ≢ line
+no_subject_no_case line field left finding cut none begins other Check words text lawful is =
+    no_check finding ((after_verb line field left Check words text cut none is).0 ∙ sym begins)
+no_subject_no_case line field left finding cut none begins other (Find given subject) words text lawful is =
+    other subject words text lawful.0 lawful.1
+    (after_verb line field left (Find given subject) words text cut none is).1
+
+-- a line without a space
+pub no_space_no_case : (line : List ℕ) → Lacks line 32 → (case : Case) (words text : List ℕ)
+    → case_text case words text ≢ line
+no_space_no_case line none case words text =
+    uncut 32 (verb_text (verb case)) (fields_text case words text) line none
