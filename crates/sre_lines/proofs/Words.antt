@@ -1,9 +1,10 @@
 -- Words read one after the other from numbers divided by commas.
 use Rattle.std.proofs.Common.{◌≡◌, ◌≢◌, ℕ, ◌<◌, ◌^◌, List, [], ◌∷◌, ◌++◌, map, arith, sym, ◌∙◌, append_assoc}
-use Rattle.std.specs.Prelude.{Contains, codes}
+use Rattle.std.proofs.Common.{Result, Ok, Err}
+use Rattle.std.specs.Prelude.{Contains, OnOk, codes}
 use Rattle.std.specs.Fmt.{decimal}
 use Rattle.std.specs.List.{join_with_byte}
-use Rattle.std.proofs.lemmas.List.Elements.{All-head, All-tail}
+use Rattle.std.proofs.lemmas.List.Elements.{All-head, All-tail, All-push}
 use Rattle.sre_lines.specs.Fields.{words_text, AreWords}
 use Rattle.sre_lines.proofs.Cuts.{cut_once, uncut}
 use Rattle.sre_lines.proofs.Numbers.{decimal_lacks}
@@ -93,3 +94,15 @@ pub no_last_word : (words left field : List ℕ) → IsLeft words left field →
 no_last_word words left field is_left none no_word ws all is =
     let of = is_left.whole ws all is in
     no_word of.word of.fits (only_word left of.word of.more none of.text)
+
+-- the last number is read
+pub last_word : {T E : Type 0} (r : Result T E) (words new left field : List ℕ) → IsLeft words left field
+    → OnOk r ((w : ℕ) × (decimal w ≡ left) × (new ≡ words ++ w ∷ []) × (w < 2 ^ 32))
+    → OnOk r (words_text new ≡ field)
+last_word (Ok x) words new left field is read = rw read.2 (is.read read.0 [] read.1)
+last_word (Err e) words new left field is read = tt
+
+pub last_fits : {T E : Type 0} (r : Result T E) (words new left : List ℕ) → AreWords words
+    → OnOk r ((w : ℕ) × (decimal w ≡ left) × (new ≡ words ++ w ∷ []) × (w < 2 ^ 32)) → OnOk r (AreWords new)
+last_fits (Ok x) words new left fit read = rw read.2 (All-push (λ w. w < 2 ^ 32) words read.0 fit read.3)
+last_fits (Err e) words new left fit read = tt

@@ -3,7 +3,8 @@ use Rattle.std.proofs.Common.{rules, ◌<◌, ◌^◌}
 use Rattle.std.proofs.lemmas.List.Elements.{All-nil, All-push}
 use Rattle.std.specs.Prelude.{codes}
 use Rattle.sre_lines.proofs.Cuts.{unequal}
-use Rattle.sre_lines.proofs.Words.{all_left, others_left, no_first_word, no_last_word}
+use Rattle.sre_lines.proofs.Words.{all_left, others_left, no_first_word, no_last_word, last_word}
+use Rattle.sre_lines.proofs.Words.{last_fits}
 use Rattle.sre_lines.proofs.line.read_words.Goals as goal
 
 pub words-init : goal.words-init
@@ -33,3 +34,13 @@ words-preserved g c =
           c.in-Some.ensures.parts c.in-Some.ensures.first read.1;
       fit = All-push (λ w. w < 2 ^ 32) c.words.words.items read.0 c.words.invariant.fit read.3;
     })
+
+pub returns-in_default-clause-read : goal.returns-in_default-clause-read
+returns-in_default-clause-read g c =
+    last_word c.push_word.result c.words.words.items c.push_word.new.words.items c.words.left.now c.args.field.now
+    c.words.invariant.left c.push_word.ensures.read
+
+pub returns-in_default-clause-fit : goal.returns-in_default-clause-fit
+returns-in_default-clause-fit g c =
+    last_fits c.push_word.result c.words.words.items c.push_word.new.words.items c.words.left.now
+    c.words.invariant.fit c.push_word.ensures.read
