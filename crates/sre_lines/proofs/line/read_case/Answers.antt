@@ -13,7 +13,8 @@ returns-in_err-read_words-in-Some-Check-clause-refused g c failed =
     c.in-Some.ensures.first (rw c.in-Some-Check.field-0-is at c.in-Some-Check.ensures.written)
     (c.in_err-read_words-in-Some-Check.ensures.refused (search rules))
 
-pub returns-in_err-read_subject-in-Some-Find-clause-refused : goal.returns-in_err-read_subject-in-Some-Find-clause-refused
+pub returns-in_err-read_subject-in-Some-Find-clause-refused :
+    goal.returns-in_err-read_subject-in-Some-Find-clause-refused
 returns-in_err-read_subject-in-Some-Find-clause-refused g c failed =
     no_subject_no_case c.args.line.now c.in-Some.verb.now c.in-Some.fields.now c.in-Some-Find.finding
     c.in-Some.ensures.parts c.in-Some.ensures.first (rw c.in-Some-Find.field-0-is at c.in-Some-Find.ensures.written)
