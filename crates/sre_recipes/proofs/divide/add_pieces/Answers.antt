@@ -40,7 +40,8 @@ walk-preserved g c =
       begun = gives.after;
       followed = λ after rest.
           c.walk.invariant.followed after
-          (follow_on c.walk.walk c.next_bounded.new.walk c.walk.bounds c.next_bounded.new.bounds after gives takes rest);
+          (follow_on c.walk.walk c.next_bounded.new.walk c.walk.bounds c.next_bounded.new.bounds
+          after gives takes rest);
       left = λ t tree.
           pieces_step text pieces (map shown c.add_piece.new.pieces.items) found
           (first_of c.walk.bounds.most (left_of before t))

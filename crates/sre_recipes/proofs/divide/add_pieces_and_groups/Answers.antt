@@ -47,7 +47,8 @@ walk-preserved g c =
       begun = gives.after;
       followed = λ after rest.
           c.walk.invariant.followed after
-          (follow_on c.walk.walk c.next_bounded.new.walk c.walk.bounds c.next_bounded.new.bounds after gives takes rest);
+          (follow_on c.walk.walk c.next_bounded.new.walk c.walk.bounds c.next_bounded.new.bounds
+          after gives takes rest);
       left = λ t tree.
           groups_step text several pieces longer found (first_of c.walk.bounds.most (left_of before t))
           (first_of c.next_bounded.new.bounds.most (left_of after t)) start (start_of (request_of after)) (end_of asked)

@@ -43,7 +43,8 @@ walk-preserved g c =
       begun = gives.after;
       followed = λ after rest.
           c.walk.invariant.followed after
-          (follow_on c.walk.walk c.next_bounded.new.walk c.walk.bounds c.next_bounded.new.bounds after gives takes rest);
+          (follow_on c.walk.walk c.next_bounded.new.walk c.walk.bounds c.next_bounded.new.bounds
+          after gives takes rest);
       left = λ t tree.
           listed_step (slice_of (g.S.StrDrive.text whole)) texts (map shown c.add_text.new.all.items) found
           (first_of c.walk.bounds.most (left_of before t))

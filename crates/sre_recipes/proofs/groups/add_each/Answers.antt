@@ -35,7 +35,8 @@ walk-preserved g c =
       begun = gives.after;
       followed = λ after rest.
           c.walk.invariant.followed after
-          (follow_on c.walk.walk c.next_bounded.new.walk c.walk.bounds c.next_bounded.new.bounds after gives takes rest);
+          (follow_on c.walk.walk c.next_bounded.new.walk c.walk.bounds c.next_bounded.new.bounds
+          after gives takes rest);
       left = λ t tree.
           listed_step shown all (map (captures_shown g.S.StrDrive.text) c.add_captures.new.all.items) found
           (first_of c.walk.bounds.most (left_of before t))

@@ -45,7 +45,8 @@ walk-preserved g c =
       begun = gives.after;
       followed = λ after rest.
           c.walk.invariant.followed after
-          (follow_on c.walk.walk c.next_bounded.new.walk c.walk.bounds c.next_bounded.new.bounds after gives takes rest);
+          (follow_on c.walk.walk c.next_bounded.new.walk c.walk.bounds c.next_bounded.new.bounds
+          after gives takes rest);
       is_text = c.in_ok-append_match.ensures.written;
       left = λ t tree.
           replaced_step text new output (g.S.Text.characters c.append_match.new.output.items) found
