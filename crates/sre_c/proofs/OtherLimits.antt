@@ -1,5 +1,5 @@
 -- Rows that are written under another step limit.
-use Rattle.std.proofs.Common.{◌≡◌, ◌≤◌, ◌+◌, ◌-◌, ℕ, List, [], ◌∷◌, false, Some, Ok, ap, refl, sym, subst, take, arith}
+use Rattle.std.proofs.Common.{◌≡◌, ◌≤◌, ◌+◌, ℕ, List, [], ◌∷◌, false, ap, refl, sym, subst, take, arith}
 use Rattle.sre_chars.specs.declared.string.StrDrive.{Ghosts}
 use Rattle.sre_model.specs.Found.{Asked, Match, asked_after, walk}
 use Rattle.sre_code.specs.Codes.{words_of}

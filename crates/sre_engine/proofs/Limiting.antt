@@ -1,5 +1,5 @@
 -- What a search says within a budget of steps, by what it says of its answer.
-use Rattle.std.proofs.Common.{◌≡◌, ◌≢◌, Bool, true, false, Option, Some, None, Result, Ok, Err, refl, ap}
+use Rattle.std.proofs.Common.{◌≡◌, ◌≢◌, Bool, true, false, Some, None, Ok, Err, refl}
 use Rattle.sre_chars.specs.declared.string.StrDrive.{Ghosts}
 use Rattle.sre_model.specs.Marks.{no_marks}
 use Rattle.sre_request.specs.declared.request.Request.{Request}
