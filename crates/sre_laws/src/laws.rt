@@ -28,6 +28,7 @@ use sre_emit::Part;
 use sre_engine::code::CodeError;
 use sre_engine::engine::{Found, SreError, all_matches};
 use sre_engine::{Code, Request, SearchIter, State, StrDrive, UniTable};
+use sre_recipes::{Bounds, Text, find_bounded};
 use std::alloc::Global;
 
 /// Two requests with equal parameters, for codes with the same tree, have equal answers from `pymatch`.
@@ -201,6 +202,24 @@ pub fn searched_with_its_number<S: StrDrive>(
     let _start = req.start(); // at most the range's end
     let mut steps = code.step_bound(characters)?;
     Some(state.search_within(req, &mut steps))
+}
+
+/// That number for each search suffices for a recipe over all matches, which makes at most 2n + 2 searches in a text of
+/// n characters, unless an allocation failed.
+pub fn found_with_their_number<S: Text>(
+    alloc: Global,
+    req: &Request<'_, S>,
+    characters: usize,
+) -> Option<Result<Option<Vec<S>>, SreError>>
+    requires { end_of req.now ≤ characters }
+    ensures { result ≡ Some (Ok None) → Refused Global }
+{
+    let code = req.pattern_codes();
+    let _start = req.start(); // at most the range's end
+    let bound = code.step_bound(characters)?;
+    let searches = (characters as u64).checked_mul(2)?.checked_add(2)?;
+    let mut bounds = Bounds::within(searches.checked_mul(bound)?);
+    Some(find_bounded(alloc, req, &mut bounds))
 }
 
 /// The step of an iteration returns an answer with a sufficient step budget, unless an allocation failed.

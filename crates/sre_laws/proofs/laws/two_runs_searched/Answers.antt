@@ -1,4 +1,4 @@
-use Rattle.std.proofs.Common.{◌≡◌, ℕ, ◌<◌, ◌≤◌, List, length, sym, ap, ◌∙◌, subst, arith}
+use Rattle.std.proofs.Common.{◌≡◌, ℕ, ◌≤◌, List, length, sym, ap, ◌∙◌, subst, arith}
 use Rattle.sre_engine.specs.Grammar.{Whole, behind_block}
 use Rattle.sre_engine.specs.Codes.{words_of, items_of}
 use Rattle.sre_engine.specs.Requests.{asked_of, code_of, start_of, end_of}
