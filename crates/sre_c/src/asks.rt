@@ -257,7 +257,8 @@ fn write_told<S: Haystack>(
     status
 }
 
-// Writes the matches by DFAs that find spans, if there are any, else by the machine and a finder.
+// Writes the matches by DFAs that find spans, if there are any, else by the machine and a finder. Captures of a span, and
+// what the DFAs leave open, cost steps that nothing counts. So within a limit it is the machine and a finder.
 fn write_by_automata<S: Haystack>(
     alloc: Global,
     request: &Request<'_, S>,
@@ -271,9 +272,11 @@ fn write_by_automata<S: Haystack>(
     ensures steps { walked.new.steps ≤ walked.old.steps }
     ensures unlimited { walked.old.steps ≡ no_limit → walked.new.steps ≡ walked.old.steps }
 {
-    let finder = SpanFinder::new(alloc, request.pattern_codes(), encoding);
-    if finder.tells_spans() {
-        return write_by_spans(alloc, request, finder, width, rows, walked);
+    if walked.steps == NO_LIMIT {
+        let finder = SpanFinder::new(alloc, request.pattern_codes(), encoding);
+        if finder.tells_spans() {
+            return write_by_spans(alloc, request, finder, width, rows, walked);
+        }
     }
     let mut finder = Finder::on_demand(alloc, request.pattern_codes(), encoding);
     write_by(alloc, request, &mut finder, width, rows, walked)
