@@ -1,5 +1,6 @@
 -- No fault of a table's lists is the want of memory.
-use Rattle.std.proofs.Common.{◌≡◌, ◌≢◌, ◌∙◌, ℕ, List, [], ◌∷◌, Bool, true, false, Option, Some, None, Result, Err, ap, refl, ◌+◌, rules}
+use Rattle.std.proofs.Common.{◌≡◌, ◌≢◌, ◌∙◌, ◌+◌, ℕ, List, [], ◌∷◌, Bool, true, false, Option, Some, None, Result, Err}
+use Rattle.std.proofs.Common.{ap, refl, rules}
 use Rattle.std.specs.Prelude.{if◌then◌else◌, not, nat_lt, ◌||◌}
 use Rattle.std.specs.Option.{option_or}
 use Rattle.sre_chars.specs.Errors.{entry_fault, list_fault, table_fault, is_scalar_entry, last_of}
@@ -41,5 +42,6 @@ no_fault None error never is memory = refl
 no_fault (Some e) error never is memory = absurd (never (is ∙ ap Some memory))
 
 -- the fault of a result
-pub fault_in : {T : Type 0} (fault : TableFault) → ◌≡◌ {A = Result T TableFault} (Err fault) (Err NoMemory) → fault ≡ NoMemory
+pub fault_in : {T : Type 0} (fault : TableFault) → ◌≡◌ {A = Result T TableFault} (Err fault) (Err NoMemory)
+    → fault ≡ NoMemory
 fault_in fault is = cc

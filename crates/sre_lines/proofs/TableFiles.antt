@@ -111,7 +111,8 @@ parts_of : (file list field rest name : List ℕ) → name ++ list ≡ file → 
     → (pairs : List (ℕ × ℕ)) (more : List ℕ) → AreWords (numbers_of pairs) → list_text name pairs more ≡ file
     → (words_text (numbers_of pairs) ≡ field) × (more ≡ rest)
 parts_of file list field rest name begins cut none pairs more fit is =
-    cut_once 10 (words_text (numbers_of pairs)) more field rest (words_lack 10 (omega arith) (numbers_of pairs) fit) none
+    cut_once 10 (words_text (numbers_of pairs)) more field rest (words_lack 10 (omega arith) (numbers_of pairs) fit)
+    none
     (append_cancel_left name (words_text (numbers_of pairs) ++ 10 ∷ more) list (is ∙ sym begins) ∙ sym cut)
 
 pub list_leaves : (file list field rest name : List ℕ) → name ++ list ≡ file → field ++ 10 ∷ rest ≡ list

@@ -5,7 +5,8 @@ use Rattle.sre_lines.proofs.table.read_list.Goals as goal
 
 pub returns-in_default-split_once-clause-refused : goal.returns-in_default-split_once-clause-refused
 returns-in_default-split_once-clause-refused c failed =
-    no_line c.args.file.now c.in-Some.list.now c.args.name.now c.in-Some.ensures.rest c.in_default-split_once.ensures.none
+    no_line c.args.file.now c.in-Some.list.now c.args.name.now c.in-Some.ensures.rest
+    c.in_default-split_once.ensures.none
 
 pub returns-in-Ok-clause-left : goal.returns-in-Ok-clause-left
 returns-in-Ok-clause-left c =
