@@ -68,8 +68,7 @@ class Bound:
             place = marked[0].place
             raise Unbounded(f"a capture at {place} in an atomic scope, and the one at {forks[0].place} branches")
         self.sides = 2 if forks else 1
-        self.counts = max([0, *(counted_to(*it.words[1:3]) for it in every if it.name in REPEATS),
-                           *(it.words[1] for it in every if it.name in LOOKAROUNDS)])
+        self.longest = max([0, *(it.words[1] for it in every if it.name in LOOKAROUNDS)])
         most = max([1, *map(self.most_states, self.items)])
         rows = most * 2 * (self.end + 1) // 64 + 1
         if most > MOST_STATES or most > FEW_STATES and rows > 2 ** 24 or places * rows > 2 ** 30:
@@ -103,7 +102,7 @@ class Bound:
         if item.name in REPEATS:
             low, high = item.words[1:3]
             ends = 0 if high == UNLIMITED or item.name == REPEATS[2] else max(0, min(high, self.end) - low)
-            self.pay(loops, (1 + ends) * (follow + 2))
+            self.pay(loops, (1 + ends) * (follow + 2) + min(counted_to(low, high), self.end) // 8)
             return 1
         if item.name == "BRANCH":
             self.pay(loops, sum(self.steps(it, follow + 1, loops) + 2 for it in item.parts) + 1)
@@ -128,7 +127,7 @@ class Bound:
         for item in reversed(self.items):
             follow = self.of(item, follow, 1)
             most = max(most, follow)
-        each = 1 + min(self.counts, self.end) // 8
+        each = 1 + min(self.longest, self.end) // 8
         number = (self.end + 1) * (32 + (1 + most + self.cost) * each) + 1
         if number >= 2 ** 64:
             raise Unbounded("more than 64 bits")

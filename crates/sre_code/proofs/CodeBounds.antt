@@ -5,8 +5,7 @@ use Rattle.std.proofs.Common.{sym, ap, ◌∙◌, subst, arith, IfSome}
 use Rattle.sre_model.specs.Tree.{Tree}
 use Rattle.sre_model.specs.Found.{Asked}
 use Rattle.sre_model.specs.Slots.{most_slots}
-use Rattle.sre_model.specs.RunCounts.{most_counts}
-use Rattle.sre_model.specs.LooksBehind.{backs}
+use Rattle.sre_model.specs.LooksBehind.{backs, longest_lookbehind}
 use Rattle.sre_model.specs.Nesting.{nesting}
 use Rattle.sre_model.specs.TreePrices.{cost_of, most_steps}
 use Rattle.sre_model.specs.References.{refers}
@@ -23,24 +22,24 @@ use Rattle.sre_code.specs.declared.code.prices.Prices.{Prices}
 abbrev written : Tree → ℕ → ℕ → ℕ
 written t start end =
     (end + 1 - (start - backs t))
-    * (32 + (1 + most_steps t + cost_of end 1 t 2 * sides t) * (1 + min (most_counts t) end / 8))
+    * (32 + (1 + most_steps t + cost_of end 1 t 2 * sides t) * (1 + min (longest_lookbehind t) end / 8))
 
 -- and for a whole text
 abbrev of_text : Tree → ℕ → ℕ
-of_text t n = bound_by (n + 1) (most_steps t) (cost_of n 1 t 2 * sides t) (min (most_counts t) n)
+of_text t n = bound_by (n + 1) (most_steps t) (cost_of n 1 t 2 * sides t) (min (longest_lookbehind t) n)
 
 from_start : (t : Tree) (n : ℕ) → written t 0 n ≡ of_text t n
 from_start t n =
     let all : n + 1 - (0 - backs t) ≡ n + 1 = omega arith in
-    ap (λ f. f * (32 + (1 + most_steps t + cost_of n 1 t 2 * sides t) * (1 + min (most_counts t) n / 8))) all
+    ap (λ f. f * (32 + (1 + most_steps t + cost_of n 1 t 2 * sides t) * (1 + min (longest_lookbehind t) n / 8))) all
 
 -- what is computed of prices is the bound of their tree
 by_prices : (t : Tree) (n : ℕ) (x : Prices) → IsPrice n t x.all → most_steps t ≡ max (x.since + 2) x.most
-    → bound_of x (sides t) (min (most_counts t) n) (n + 1) ≡ of_text t n
+    → bound_of x (sides t) (min (longest_lookbehind t) n) (n + 1) ≡ of_text t n
 by_prices t n x is most =
     let cost : cost_of n 1 t 2 ≡ cost_at x.all 2 + x.all.apart = omega (arith, is.cost 1 2) in
-    ap (λ m. bound_by (n + 1) m ((cost_at x.all 2 + x.all.apart) * sides t) (min (most_counts t) n)) (sym most)
-    ∙ ap (λ c. bound_by (n + 1) (most_steps t) (c * sides t) (min (most_counts t) n)) (sym cost)
+    ap (λ m. bound_by (n + 1) m ((cost_at x.all 2 + x.all.apart) * sides t) (min (longest_lookbehind t) n)) (sym most)
+    ∙ ap (λ c. bound_by (n + 1) (most_steps t) (c * sides t) (min (longest_lookbehind t) n)) (sym cost)
 
 module _ (places : ℕ) (t : Tree) (n : ℕ) where
   on_whole : (a : Asked) → IsWholeText n a → step_bound t a ≡ of_text t n
@@ -108,17 +107,17 @@ module _ (places : ℕ) (t : Tree) (n : ℕ) where
   pub deep_told : most_nested < nesting t → BoundTold places t n None
   deep_told deep = record { none = λ a w kept nested. absurd (omega (arith, deep, nested)) }
 
-pub bound_told : (ws : List ℕ) (n counts : ℕ) (c : Counted) (p : Prices) (r : Option ℕ) (t : Tree)
+pub bound_told : (ws : List ℕ) (n longest : ℕ) (c : Counted) (p : Prices) (r : Option ℕ) (t : Tree)
     → CountedTold t (Some c) → TreePriced n most_nested t (Some p)
-    → ((x : Prices) → AreHeld x p → NumberBy (length ws) c.slots (bound_of x c.sides (min counts n) (n + 1)) n r)
-    → (refers t ≡ false → counts ≡ most_counts t) → BoundTold (length ws) t n r
-bound_told ws n counts c p r t told priced number counted =
+    → ((x : Prices) → AreHeld x p → NumberBy (length ws) c.slots (bound_of x c.sides (min longest n) (n + 1)) n r)
+    → (refers t ≡ false → longest ≡ longest_lookbehind t) → BoundTold (length ws) t n r
+bound_told ws n longest c p r t told priced number counted =
     number_told (length ws) t n r told.0
     (subst (λ b. NumberBy (length ws) (most_slots t) b n r) (by_prices t n priced.0 priced.1 priced.2)
     (subst (λ k. NumberBy (length ws) (most_slots t) (bound_of priced.0 (sides t) (min k n) (n + 1)) n r)
     (counted told.0.no_reference)
-    (subst (λ m. NumberBy (length ws) (most_slots t) (bound_of priced.0 m (min counts n) (n + 1)) n r) told.2
-    (subst (λ s. NumberBy (length ws) s (bound_of priced.0 c.sides (min counts n) (n + 1)) n r) told.1
+    (subst (λ m. NumberBy (length ws) (most_slots t) (bound_of priced.0 m (min longest n) (n + 1)) n r) told.2
+    (subst (λ s. NumberBy (length ws) s (bound_of priced.0 c.sides (min longest n) (n + 1)) n r) told.1
     (number priced.0 priced.3)))))
 
 -- what is told of each tree, by whether a number is
@@ -132,11 +131,11 @@ pub enough_none : (places n : ℕ) (ws : List ℕ) (r : Option ℕ) → ((t : Tr
 enough_none places n ws r each is t w = subst (BoundTold places t n) is (each t w)
 
 -- what is told of the words behind a block is told of the whole
-pub behind_told : (ws items : List ℕ) (n counts : ℕ) (r : Option ℕ) → items ≡ behind_block ws
-    → ((t : Tree) → WholeItems items t → (refers t ≡ false → counts ≡ most_counts t)
+pub behind_told : (ws items : List ℕ) (n longest : ℕ) (r : Option ℕ) → items ≡ behind_block ws
+    → ((t : Tree) → WholeItems items t → (refers t ≡ false → longest ≡ longest_lookbehind t)
     → BoundTold (length items) t n r)
-    → ((t : Tree) → Whole ws t → refers t ≡ false → counts ≡ most_counts t)
+    → ((t : Tree) → Whole ws t → refers t ≡ false → longest ≡ longest_lookbehind t)
     → (t : Tree) → Whole ws t → BoundTold (length (behind_block ws)) t n r
-behind_told ws items n counts r same told counted t w =
+behind_told ws items n longest r same told counted t w =
     subst (λ (is : List ℕ). BoundTold (length is) t n r) same
     (told t (subst (λ (is : List ℕ). WholeItems is t) (sym same) w.1) (counted t w))

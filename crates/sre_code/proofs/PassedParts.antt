@@ -12,7 +12,7 @@ use Rattle.sre_model.specs.Roles.{role}
 use Rattle.sre_model.specs.Grammar.{Word, word, skip, Opcode, Reads}
 use Rattle.sre_model.proofs.Words.{word_of}
 use Rattle.sre_code.specs.Reading.{ReadsTest, NoCode}
-use Rattle.sre_code.specs.Instructions.{own_words, count_at, Behind, NoneBehind, StandsBehind}
+use Rattle.sre_code.specs.Instructions.{own_words, back_at, Behind, NoneBehind, StandsBehind}
 use Rattle.sre_code.specs.PlainItems.{has_barred_region, ArePlain, IsPlain, flat, AreTold, LoopTold}
 use Rattle.sre_code.specs.PlainItems.{OtherTold, ToldAt}
 use Rattle.sre_code.specs.declared.code.slots.Regions.{Regions}
@@ -99,7 +99,7 @@ module _ (ws : List ℕ) (i : ℕ) where
   one_behind k c l d x y = ⊎_elim
       (λ (z : (t : Test) × ReadsTest ws i k t × (c ≡ 0)). sym (behind_test ws i k l d z.0 z.1 y).0)
       (λ (z : (o : SreOpcode) × (n : ℕ) × Opcode ws i o × (own_words (role o) ≡ Some n) × (k ≡ i + n)
-      × (c ≡ count_at o ws i)).
+      × (c ≡ back_at o ws i)).
       z.4 ∙ sym (behind_own ws i l d z.1 z.0 z.2 z.3 y).0)
       x.one
 

@@ -12,13 +12,13 @@ use Rattle.sre_model.specs.Folding.{of_item, of_branch}
 use Rattle.sre_model.specs.References.{refers, by_references}
 use Rattle.sre_model.specs.Nesting.{nesting, by_nesting}
 use Rattle.sre_model.specs.Slots.{loop_slots}
-use Rattle.sre_model.specs.TreePrices.{steps_of, item_steps, branch_steps, other_ends, cost_of, item_cost, branch_cost, most_steps}
+use Rattle.sre_model.specs.TreePrices.{steps_of, item_steps, branch_steps, cost_of, item_cost, branch_cost, most_steps}
 use Rattle.sre_model.proofs.Places.{reads_within, operands_past, alternative_long}
 use Rattle.sre_model.proofs.Words.{word_of, word_within, same_opcode}
 use Rattle.sre_code.specs.Prices.{steps_at, cost_at, IsPrice, IsHeld, AreHeld, joined, passed}
-use Rattle.sre_code.specs.Prices.{straight_price, closed_price, run_price, scope_price, loop_price, possessive_price}
+use Rattle.sre_code.specs.Prices.{straight_price, closed_price, scope_price, loop_price, possessive_price}
 use Rattle.sre_code.specs.Prices.{with_alternative, TreePriced, ArePriced, BodyPriced, ItemPriced}
-use Rattle.sre_code.specs.Prices.{RunPriced, LoopPriced, PossessivePriced, ScopePriced, BranchPriced, kind_of}
+use Rattle.sre_code.specs.Prices.{LoopPriced, PossessivePriced, ScopePriced, BranchPriced, kind_of}
 use Rattle.sre_code.specs.Prices.{PricedBy, PricedAt}
 use Rattle.sre_code.specs.declared.code.prices.Price.{Price}
 use Rattle.sre_code.specs.declared.code.prices.Prices.{Prices}
@@ -208,21 +208,6 @@ module _ (e depth : ℕ) (ws : List ℕ) (i by : ℕ) (to : by ≡ word ws (i + 
             ),
           );
     }
-
--- a repeat of one character, by its counts
-pub run_law : (e : ℕ) (ws : List ℕ) (i least greatest ends : ℕ) (r : PricedItem) → least ≡ word ws (i + 2)
-    → greatest ≡ word ws (i + 3) → ends ≡ other_ends e least greatest → ends < 2 ^ 32
-    → r ≡ record { behind = skip ws (i + 1); price = run_price (ends + 1) }
-    → RunPriced (λ low high. 1 + other_ends e low high) ws i (Some r)
-run_law e ws i least greatest ends r first second is few same = record {
-  each = λ low high l h.
-      let all : ends + 1 ≡ 1 + other_ends e low high =
-      ap (λ n. n + 1) (is ∙ ap (λ n. other_ends e n greatest) (first ∙ word_of ws (i + 2) low l)
-      ∙ ap (λ n. other_ends e low n) (second ∙ word_of ws (i + 3) high h)) ∙ omega arith in (
-        omega (arith, all, few),
-        ap Some same ∙ ap (λ n. Some (record { behind = skip ws (i + 1); price = run_price n })) all,
-      );
-}
 
 -- what is told of an instruction by what it begins
 pub priced_as : (e depth : ℕ) (ws : List ℕ) (i : ℕ) (o : SreOpcode) (k : Kind) (r : Option PricedItem) → Opcode ws i o

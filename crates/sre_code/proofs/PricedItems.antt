@@ -1,5 +1,5 @@
 -- What is computed of items, one after the other, and of the alternatives of a branch, are the prices of their trees.
-use Rattle.std.proofs.Common.{ℕ, ◌+◌, ◌*◌, ◌^◌, ◌≡◌, ◌<◌, ◌≤◌, inl, true, false}
+use Rattle.std.proofs.Common.{ℕ, ◌+◌, ◌*◌, ◌^◌, ◌≡◌, ◌<◌, ◌≤◌, inl, Bool, true, false}
 use Rattle.std.proofs.Common.{List, Option, Some, None, refl, sym, ap, ◌∙◌, subst, arith}
 use Rattle.std.proofs.lemmas.Bool.{true≢false}
 use Rattle.sre_model.specs.Tree.{Tree, Item, Fail, One, At, Mark, Branch, Loop, Run, PossessiveLoop}
@@ -9,12 +9,12 @@ use Rattle.sre_model.specs.Grammar.{word, Operands, ReadsItem}
 use Rattle.sre_model.specs.Roles.{Role}
 use Rattle.sre_model.specs.Folding.{of_item}
 use Rattle.sre_model.specs.References.{refers, by_references}
-use Rattle.sre_model.specs.TreePrices.{item_steps, other_ends, item_cost}
+use Rattle.sre_model.specs.TreePrices.{item_steps, scan_price, item_cost}
 use Rattle.sre_model.proofs.Families.{HasRole, item_here, test_here}
 use Rattle.sre_code.specs.Saturating.{Held}
-use Rattle.sre_code.specs.Instructions.{own_words, count_by, Behind, StandsBehind}
+use Rattle.sre_code.specs.Instructions.{own_words, back_by, Behind, StandsBehind}
 use Rattle.sre_code.specs.Prices.{IsItemPrice, IsHeld}
-use Rattle.sre_code.specs.Prices.{straight_price, closed_price, run_price}
+use Rattle.sre_code.specs.Prices.{straight_price, closed_price, run_ends, run_price}
 use Rattle.sre_code.specs.Prices.{ItemPriced}
 use Rattle.sre_code.specs.Prices.{StraightPriced, RunPriced}
 use Rattle.sre_code.specs.Prices.{kind_of, PricedBy, PricedAt}
@@ -63,7 +63,7 @@ module _ (e depth : ℕ) (ws : List ℕ) where
 
     two_words : (j : ℕ) (o : Role) → HasRole ws i o → own_words o ≡ Some 2 → j ≡ i + 2 → StandsBehind ws i j
     two_words j o h has is =
-        let count : ℕ = count_by o (word ws (i + 2)) (word ws (i + 3)) in
+        let count : ℕ = back_by o (word ws (i + 2)) (word ws (i + 3)) in
         record { count = count; behind = subst (λ k. Behind ws i k count) (sym is) (role_behind ws i 2 o h has) }
 
     -- what has just this price
@@ -71,18 +71,21 @@ module _ (e depth : ℕ) (ws : List ℕ) where
         → r ≡ Some (record { behind = j; price = y }) → ItemPriced e depth x j r
     just x j y r is held same = subst (ItemPriced e depth x j) (sym same) (refl, (y, is, held))
 
-    repeat : (low high j : ℕ) (kind : RunKind) (t : Test) (ends : ℕ → ℕ → ℕ) (r : Option PricedItem)
-        → Operands ws i j (Run kind low high t) → RunPriced ends ws i r
-        → ((s b : ℕ) → item_cost e s (Run kind low high t) b ≡ s * (ends low high * (b + 2)))
+    repeat : (low high j : ℕ) (kind : RunKind) (t : Test) (possessive : Bool) (r : Option PricedItem)
+        → Operands ws i j (Run kind low high t) → RunPriced e possessive ws i r
+        → ((s b : ℕ) → item_cost e s (Run kind low high t) b
+        ≡ s * (run_ends e possessive low high * (b + 2) + scan_price e low high))
         → ItemPriced e depth (Run kind low high t) j r
-    repeat low high j kind t ends r w told is =
-        let n : ℕ = ends low high in
+    repeat low high j kind t possessive r w told is =
+        let n : ℕ = run_ends e possessive low high in
+        let m : ℕ = scan_price e low high in
         let priced = told.each low high w.1 w.2 in
         let few : n ≤ 2 ^ 32 = priced.0 in
-        just (Run kind low high t) j (run_price n) r (run_priced e low high kind t n is)
-        (held_closed (n * 2) n 0 (n * 2) n 0 (held_same (n * 2) (omega arith)) (held_same n (omega arith))
-        (held_same 0 (omega arith)))
-        (priced.1 ∙ ap (λ k. Some (record { behind = k; price = run_price n })) (sym w.0))
+        let short : m < 2 ^ 32 = priced.1 in
+        just (Run kind low high t) j (run_price n m) r (run_priced e low high kind t n m is)
+        (held_closed (n * 2 + m) n 0 (n * 2 + m) n 0 (held_same (n * 2 + m) (omega (arith, few, short)))
+        (held_same n (omega (arith, few))) (held_same 0 (omega arith)))
+        (priced.2 ∙ ap (λ k. Some (record { behind = k; price = run_price n m })) (sym w.0))
 
     look : (sign : Sign) (back : ℕ) (body : Tree) (j : ℕ) (r : Option PricedItem) → ItemPriced e depth (Atomic body) j r
         → ItemPriced e depth (Look sign back body) j r
@@ -115,13 +118,13 @@ module _ (e depth : ℕ) (ws : List ℕ) where
     item_priced (Loop o low high body) j r w plain told =
         (by_role _ kind.Loop r (item_here ws i j (Loop o low high body) w) refl told).each o low high body j w.1 plain
     item_priced (Run GreedyRun low high t) j r w plain told =
-        repeat low high j GreedyRun t (λ l h. 1 + other_ends e l h) r w.1
+        repeat low high j GreedyRun t false r w.1
         (by_role _ kind.Run r (item_here ws i j (Run GreedyRun low high t) w) refl told) (λ s b. refl)
     item_priced (Run LazyRun low high t) j r w plain told =
-        repeat low high j LazyRun t (λ l h. 1 + other_ends e l h) r w.1
+        repeat low high j LazyRun t false r w.1
         (by_role _ kind.Run r (item_here ws i j (Run LazyRun low high t) w) refl told) (λ s b. refl)
     item_priced (Run PossessiveRun low high t) j r w plain told =
-        repeat low high j PossessiveRun t (λ l h. 1) r w.1
+        repeat low high j PossessiveRun t true r w.1
         (by_role _ kind.PossessiveRun r (item_here ws i j (Run PossessiveRun low high t) w) refl told)
         (λ s b. omega arith)
     item_priced (PossessiveLoop low high body) j r w plain told =

@@ -34,11 +34,11 @@ one_step_price e x steps cost = record { steps = steps; cost = λ s b. omega (ar
 pub fail_price : (e : ℕ) → IsItemPrice e Fail (closed_price 0 0 0)
 fail_price e = record { steps = λ b. refl; cost = λ s b. omega arith }
 
--- a repeat of one character, by how many ends it has
-pub run_priced : (e low high : ℕ) (kind : RunKind) (t : Test) (n : ℕ)
-    → ((s b : ℕ) → item_cost e s (Run kind low high t) b ≡ s * (n * (b + 2)))
-    → IsItemPrice e (Run kind low high t) (run_price n)
-run_priced e low high kind t n is = record { steps = λ b. refl; cost = λ s b. omega (arith, is s b) }
+-- a repeat of one character, by how many ends it has, and by its scan
+pub run_priced : (e low high : ℕ) (kind : RunKind) (t : Test) (n m : ℕ)
+    → ((s b : ℕ) → item_cost e s (Run kind low high t) b ≡ s * (n * (b + 2) + m))
+    → IsItemPrice e (Run kind low high t) (run_price n m)
+run_priced e low high kind t n m is = record { steps = λ b. refl; cost = λ s b. omega (arith, is s b) }
 
 module _ (e : ℕ) (body : Tree) (x : Price) (is : IsPrice e body x) where
   pub scope_priced : IsItemPrice e (Atomic body) (scope_price x)

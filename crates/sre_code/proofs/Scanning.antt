@@ -10,9 +10,8 @@ use Rattle.sre_model.specs.Tree.{Tree, Fail, One, At, Mark, Branch, Loop, Run, P
 use Rattle.sre_model.specs.Tree.{Trees, Test, Order, RunKind, Sign}
 use Rattle.sre_model.specs.References.{refers, by_references}
 use Rattle.sre_model.specs.Folding.{Folding, of_tree}
-use Rattle.sre_model.specs.LooksBehind.{by_backs, backs}
+use Rattle.sre_model.specs.LooksBehind.{by_backs, backs, by_longest, longest_lookbehind}
 use Rattle.sre_model.proofs.Foldings.{paired, tree_paired}
-use Rattle.sre_model.specs.RunCounts.{most_counts, by_counts}
 use Rattle.sre_model.specs.Roles.{Role, ToTest, ToRun, ToLook, ToRefer, ToCheckGroup, TestKind, role}
 use Rattle.sre_model.specs.Grammar.{word, Opcode, test_opcode, WholeItems}
 use Rattle.sre_model.proofs.Families.{HasRole, test_kind, test_role}
@@ -20,7 +19,7 @@ use Rattle.sre_model.proofs.Words.{same_opcode, word_of}
 use Rattle.sre_model.proofs.Unique.{test_same}
 use Rattle.sre_model.proofs.Places.{test_past}
 use Rattle.sre_code.specs.Reading.{ReadsTest}
-use Rattle.sre_code.specs.Instructions.{own_words, count_by, count_at, back_by, back_at, Behind, NoneBehind}
+use Rattle.sre_code.specs.Instructions.{own_words, back_by, back_at, Behind, NoneBehind}
 use Rattle.sre_code.specs.Instructions.{StandsBehind}
 use Rattle.sre_code.proofs.Walking.{Scanner, Scan, Passed, Instructions, goes_on, stops_at, ends_at, step, behind}
 use Rattle.sre_code.proofs.Walking.{join, said_of, tree_walked}
@@ -46,25 +45,25 @@ module _ (ws : List ℕ) where
       (λ (x : (u : Test) × ReadsTest ws i k u × (c ≡ 0)).
       (sym (test_same t x.0 ws i j k r.0 r.1 x.1.0 x.1.1).1, x.2))
       (λ (x : (o : SreOpcode) × (n : ℕ) × Opcode ws i o × (own_words (role o) ≡ Some n) × (k ≡ i + n)
-      × (c ≡ count_at o ws i)).
+      × (c ≡ back_at o ws i)).
       let same : test_opcode t ≡ x.0 = same_opcode ws i (test_opcode t) x.0 r.0 x.2 in
       let none : None ≡ Some x.1 = sym (test_has_none t) ∙ ap (λ o. own_words (role o)) same ∙ x.3 in
       absurd (cc))
       b.one
 
   pub behind_own : (i k c n : ℕ) (o : SreOpcode) → Opcode ws i o → own_words (role o) ≡ Some n → Behind ws i k c
-      → (k ≡ i + n) × (c ≡ count_at o ws i)
+      → (k ≡ i + n) × (c ≡ back_at o ws i)
   behind_own i k c n o w e b = ⊎_elim
       (λ (x : (u : Test) × ReadsTest ws i k u × (c ≡ 0)).
       let same : test_opcode x.0 ≡ o = same_opcode ws i (test_opcode x.0) o x.1.0 w in
       let none : None ≡ Some n = sym (test_has_none x.0) ∙ ap (λ p. own_words (role p)) same ∙ e in
       absurd (cc))
       (λ (x : (p : SreOpcode) × (m : ℕ) × Opcode ws i p × (own_words (role p) ≡ Some m) × (k ≡ i + m)
-      × (c ≡ count_at p ws i)).
+      × (c ≡ back_at p ws i)).
       let same : o ≡ x.0 = same_opcode ws i o x.0 w x.2 in
       let counts : Some n ≡ Some x.1 = sym e ∙ ap (λ p. own_words (role p)) same ∙ x.3 in
       let count : x.1 ≡ n = cc in
-      (x.4 ∙ ap (λ d. i + d) count, x.5 ∙ ap (λ p. count_at p ws i) (sym same)))
+      (x.4 ∙ ap (λ d. i + d) count, x.5 ∙ ap (λ p. back_at p ws i) (sym same)))
       b.one
 
   -- neither a reference nor a condition is behind
@@ -75,7 +74,7 @@ module _ (ws : List ℕ) where
       by_kind : (k c : ℕ)
           → ((t : Test) × ReadsTest ws i k t × (c ≡ 0))
           ⊎ ((p : SreOpcode) × (m : ℕ) × Opcode ws i p × (own_words (role p) ≡ Some m) × (k ≡ i + m)
-          × (c ≡ count_at p ws i)) → ⊥
+          × (c ≡ back_at p ws i)) → ⊥
       by_kind k c (inl x) =
           let same : o ≡ test_opcode x.0 = same_opcode ws i o (test_opcode x.0) w x.1.0 in
           other (test_kind x.0) (ap role same ∙ test_role x.0)
@@ -86,13 +85,13 @@ module _ (ws : List ℕ) where
 
   -- by its role
   pub behind_role : (i k c n : ℕ) (o : Role) → HasRole ws i o → own_words o ≡ Some n → Behind ws i k c
-      → (k ≡ i + n) × (c ≡ count_by o (word ws (i + 2)) (word ws (i + 3)))
+      → (k ≡ i + n) × (c ≡ back_by o (word ws (i + 2)) (word ws (i + 3)))
   behind_role i k c n o h e b =
       let is = behind_own i k c n h.code h.there (ap own_words h.begins ∙ e) b in
-      (is.0, is.1 ∙ ap (λ p. count_by p (word ws (i + 2)) (word ws (i + 3))) h.begins)
+      (is.0, is.1 ∙ ap (λ p. back_by p (word ws (i + 2)) (word ws (i + 3))) h.begins)
 
   pub role_behind : (i n : ℕ) (o : Role) → HasRole ws i o → own_words o ≡ Some n
-      → Behind ws i (i + n) (count_by o (word ws (i + 2)) (word ws (i + 3)))
+      → Behind ws i (i + n) (back_by o (word ws (i + 2)) (word ws (i + 3)))
   role_behind i n o h e = record {
     one = inr (
       h.code,
@@ -100,7 +99,7 @@ module _ (ws : List ℕ) where
       h.there,
       ap own_words h.begins ∙ e,
       refl,
-      ap (λ p. count_by p (word ws (i + 2)) (word ws (i + 3))) (sym h.begins),
+      ap (λ p. back_by p (word ws (i + 2)) (word ws (i + 3))) (sym h.begins),
     );
   }
 
@@ -121,7 +120,7 @@ pub record Adding : Type 1 where
   pub sum : (m a b : ℕ) → add (add m a) b ≡ add m (by.both a b)
   -- what counts nothing adds nothing
   pub silent :
-      (o : Role) → ((low high : ℕ) → count_by o low high ≡ 0) → (low high : ℕ) → value o low high ≡ by.nothing
+      (o : Role) → ((low high : ℕ) → back_by o low high ≡ 0) → (low high : ℕ) → value o low high ≡ by.nothing
   -- a run and a look have what their words say, and any other item what its parts have
   pub run :
       (kind : RunKind) (low high : ℕ) (t : Test)
@@ -138,12 +137,12 @@ pub record Adding : Type 1 where
   pub possessive : (low high : ℕ) (body : Tree) (a : ℕ) → by.item (PossessiveLoop low high body) a ≡ a
   pub atomic : (body : Tree) (a : ℕ) → by.item (Atomic body) a ≡ a
 
--- how far runs count at most, and looks go back
+-- how far looks go back at most
 abbrev pub by_greatest : Adding
 by_greatest = record {
-  value = count_by;
+  value = back_by;
   add = max;
-  by = by_counts;
+  by = by_longest;
   Fits = λ m. Unit {0};
   none_fits = tt;
   fits = λ m a l. tt;
@@ -213,18 +212,18 @@ module _ (q : Adding) where
     counting i n o h has some =
         step (scanner ws) i (i + n) (false, q.value o (word ws (i + 2)) (word ws (i + 3))) (omega (arith, some))
         (λ k c b. (refl, (behind_role ws i k b.behind.count n o h has b.behind.behind).0, value_of i k c o h b))
-        (λ none. absurd (none.none (i + n) (count_by o (word ws (i + 2)) (word ws (i + 3)))
+        (λ none. absurd (none.none (i + n) (back_by o (word ws (i + 2)) (word ws (i + 3)))
         (role_behind ws i n o h has)))
 
     -- one that has nothing, and what is behind it
     silent : (i n : ℕ) (o : Role) → HasRole ws i o → own_words o ≡ Some n → 0 < n
-        → ((low high : ℕ) → count_by o low high ≡ 0) → Passes i (i + n) (false, q.by.nothing)
+        → ((low high : ℕ) → back_by o low high ≡ 0) → Passes i (i + n) (false, q.by.nothing)
     silent i n o h has some none =
         subst (λ c. Passes i (i + n) (false, c)) (q.silent o none (word ws (i + 2)) (word ws (i + 3)))
         (counting i n o h has some)
 
     inside : (i n j : ℕ) (o : Role) (a : Bool × ℕ) (m : ℕ) → HasRole ws i o → own_words o ≡ Some n → 0 < n
-        → ((low high : ℕ) → count_by o low high ≡ 0) → Passes (i + n) j a → m ≡ a.1 → Passes i j (a.0, m)
+        → ((low high : ℕ) → back_by o low high ≡ 0) → Passes (i + n) j a → m ≡ a.1 → Passes i j (a.0, m)
     inside i n j o a m h has some none y same =
         subst (λ c. Passes i j (a.0, c)) (sym same)
         (behind (scanner ws) i (i + n) j a (silent i n o h has some none) y)
@@ -328,39 +327,39 @@ module _ (q : Adding) where
           let same : m ≡ q.add 0 (of_tree q.by t) = cc in
           (x.0, same)
 
--- how far runs count at most
-abbrev pub OntoCounts : List ℕ → ℕ → ℕ → Type 0
-OntoCounts = Onto by_greatest
+-- how far looks go back at most
+abbrev pub OntoLongest : List ℕ → ℕ → ℕ → Type 0
+OntoLongest = Onto by_greatest
 
-behind_adds : (ws : List ℕ) (i k c : ℕ) → Behind ws i k c → Adds count_by ws i k c
+behind_adds : (ws : List ℕ) (i k c : ℕ) → Behind ws i k c → Adds back_by ws i k c
 behind_adds ws i k c b = ⊎_elim
     (λ (x : (t : Test) × ReadsTest ws i k t × (c ≡ 0)).
     record {
       behind = record { count = c; behind = b };
       code = test_opcode x.0;
       there = x.1.0;
-      is = x.2 ∙ sym (ap (λ o. count_by o (word ws (i + 2)) (word ws (i + 3))) (test_role x.0));
+      is = x.2 ∙ sym (ap (λ o. back_by o (word ws (i + 2)) (word ws (i + 3))) (test_role x.0));
     })
     (λ (x : (o : SreOpcode) × (n : ℕ) × Opcode ws i o × (own_words (role o) ≡ Some n) × (k ≡ i + n)
-    × (c ≡ count_at o ws i)).
+    × (c ≡ back_at o ws i)).
     record { behind = record { count = c; behind = b }; code = x.0; there = x.2; is = x.5 })
     b.one
 
-pub onto_next : (ws : List ℕ) (i m k c n : ℕ) → OntoCounts ws i m → i < length ws - 1 → Behind ws i k c → n ≡ max m c
-    → OntoCounts ws k n
+pub onto_next : (ws : List ℕ) (i m k c n : ℕ) → OntoLongest ws i m → i < length ws - 1 → Behind ws i k c → n ≡ max m c
+    → OntoLongest ws k n
 onto_next ws i m k c n o lt h most = added_next by_greatest ws i m k c n o lt (behind_adds ws i k c h) most
 
-pub scan_stops : (ws : List ℕ) (i m : ℕ) → OntoCounts ws i m → i < length ws - 1 → NoneBehind ws i → (t : Tree)
+pub scan_stops : (ws : List ℕ) (i m : ℕ) → OntoLongest ws i m → i < length ws - 1 → NoneBehind ws i → (t : Tree)
     → WholeItems ws t → refers t ≡ true
 scan_stops ws i m o lt none t w = added_stops by_greatest ws i m o lt none t w
 
-pub scan_ends : (ws : List ℕ) (i m : ℕ) → OntoCounts ws i m → length ws - 1 ≤ i → (t : Tree) → WholeItems ws t
+pub scan_ends : (ws : List ℕ) (i m : ℕ) → OntoLongest ws i m → length ws - 1 ≤ i → (t : Tree) → WholeItems ws t
     → refers t ≡ false
 scan_ends ws i m o le t w = (added_ends by_greatest ws i m o le t w).0
 
-pub scan_counts : (ws : List ℕ) (i m : ℕ) → OntoCounts ws i m → length ws - 1 ≤ i → (t : Tree) → WholeItems ws t
-    → m ≡ most_counts t
-scan_counts ws i m o le t w = (added_ends by_greatest ws i m o le t w).1 ∙ zero-max (most_counts t)
+pub scan_longest : (ws : List ℕ) (i m : ℕ) → OntoLongest ws i m → length ws - 1 ≤ i → (t : Tree) → WholeItems ws t
+    → m ≡ longest_lookbehind t
+scan_longest ws i m o le t w = (added_ends by_greatest ws i m o le t w).1 ∙ zero-max (longest_lookbehind t)
 
 -- how far looks go back together, held at the greatest number of 64 bits
 abbrev pub by_sum : Adding
@@ -373,7 +372,7 @@ by_sum = record {
   fits = λ m a l. omega arith;
   unit = λ m l. omega (arith, l);
   sum = λ m a b. omega arith;
-  silent = none_back;
+  silent = λ o none low high. none low high;
   run = λ kind low high t. refl;
   look = λ sign back next body a. refl;
   fail = refl;
@@ -385,18 +384,13 @@ by_sum = record {
   possessive = λ low high body a. refl;
   atomic = λ body a. refl;
 }
-  where
-    none_back : (o : Role) → ((low high : ℕ) → count_by o low high ≡ 0) → (low high : ℕ) → back_by o low high ≡ 0
-    none_back (ToLook sign) none low high = none low high
-    none_back o none low high = refl
 
 abbrev pub OntoBacks : List ℕ → ℕ → ℕ → Type 0
 OntoBacks = Onto by_sum
 
-pub backs_next : (ws : List ℕ) (i m k c n : ℕ) (o : SreOpcode) → OntoBacks ws i m → i < length ws - 1
-    → StandsBehind ws i k → Opcode ws i o → c ≡ back_at o ws i → n ≡ min (m + c) (2 ^ 64 - 1) → OntoBacks ws k n
-backs_next ws i m k c n o onto lt h w is sum =
-    added_next by_sum ws i m k c n onto lt (record { behind = h; code = o; there = w; is = is }) sum
+pub backs_next : (ws : List ℕ) (i m k c n : ℕ) → OntoBacks ws i m → i < length ws - 1 → Behind ws i k c
+    → n ≡ min (m + c) (2 ^ 64 - 1) → OntoBacks ws k n
+backs_next ws i m k c n onto lt h sum = added_next by_sum ws i m k c n onto lt (behind_adds ws i k c h) sum
 
 pub backs_stop : (ws : List ℕ) (i m : ℕ) → OntoBacks ws i m → i < length ws - 1 → NoneBehind ws i → (t : Tree)
     → WholeItems ws t → refers t ≡ true

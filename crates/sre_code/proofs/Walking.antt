@@ -14,7 +14,7 @@ use Rattle.sre_model.proofs.Families.{HasRole, role_here, item_here, until_role}
 use Rattle.sre_model.specs.Grammar.{Word, skip, Opcode, until_opcode, Operands, Reads, ReadsItem, ReadsBranch}
 use Rattle.sre_model.proofs.Places.{test_past, reads_within, operands_past, alternative_long}
 use Rattle.sre_code.specs.Reading.{ReadsTest}
-use Rattle.sre_code.specs.Instructions.{own_words, count_by}
+use Rattle.sre_code.specs.Instructions.{own_words, back_by}
 use Rattle.sre_code.specs.Sought.{is_fork, is_mark, is_sought}
 use Rattle.sre_code.specs.declared.code.sought.Sought.{Sought}
 use Rattle.sre_code.specs.declared.code.sought.Sought.TheVariants as sought
@@ -174,7 +174,7 @@ module _ {C R V : Type 0} (x : Scanner C R V) where
   pub record Instructions : Type 0 where
     pub own :
         (i n : ℕ) (o : Role) → HasRole ws i o → own_words o ≡ Some n → 0 < n
-        → ((low high : ℕ) → count_by o low high ≡ 0) → kind_of o ≡ kind.Other
+        → ((low high : ℕ) → back_by o low high ≡ 0) → kind_of o ≡ kind.Other
         → ((q : Sought) → is_sought q o ≡ false)
         → P i (i + n) f.nothing
     pub test : (i j : ℕ) (t : Test) → ReadsTest ws i j t → P i j f.nothing

@@ -32,14 +32,14 @@ abbrev pub AreWhole : ℕ → ℕ → Type 0
 AreWhole positions slots = 4096 < slots → slots * 2 * positions / 64 + 1 ≤ 2 ^ 24
 
 -- the step bound of so many positions, by the most steps before an instruction that may branch, by what these cost on
--- all sides, and by how far characters count
+-- all sides, and by how far lookbehinds go back
 abbrev pub bound_by : ℕ → ℕ → ℕ → ℕ → ℕ
-bound_by positions most cost counts = positions * (32 + (1 + most + cost) * (1 + counts / 8))
+bound_by positions most cost longest = positions * (32 + (1 + most + cost) * (1 + longest / 8))
 
 -- the same by prices
 abbrev pub bound_of : Prices → ℕ → ℕ → ℕ → ℕ
-bound_of p sides counts positions =
-    bound_by positions (max (p.since + 2) p.most) ((cost_at p.all 2 + p.all.apart) * sides) counts
+bound_of p sides longest positions =
+    bound_by positions (max (p.since + 2) p.most) ((cost_at p.all 2 + p.all.apart) * sides) longest
 
 -- one more, where there is room and it takes no more than 64 bits
 abbrev pub NumberBy : ℕ → ℕ → ℕ → ℕ → Option ℕ → Type 0

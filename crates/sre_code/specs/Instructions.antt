@@ -1,10 +1,10 @@
--- Instructions: where the next one is, bodies included, how far a repeat counts, and the group of a back-reference.
+-- Instructions: where the next one is, bodies included, how far a lookbehind goes back, and the group of a
+-- back-reference.
 -- Definitions for the check's contracts; what sre_engine makes public does not rest on it.
 use Rattle.std.specs.Prelude.{ℕ, ◌+◌, ◌≡◌, ◌<◌, ◌⊎◌, List, Option, Some, None}
 use Rattle.sre_chars.specs.declared.constants.SreOpcode.{SreOpcode}
 use Rattle.sre_model.specs.Tree.{Test, Fold}
 use Rattle.sre_model.specs.Grammar.{Opcode, word, reference_opcode}
-use Rattle.sre_model.specs.Slots.{counted_to}
 use Rattle.sre_model.specs.Roles.{Role, ToFail, ToEnd, ToCheckPosition, ToMark, ToBranch, ToJump, ToRun, ToRepeat}
 use Rattle.sre_model.specs.Roles.{ToLoop}
 use Rattle.sre_model.specs.Roles.{ToRepeatPossessively, ToGroupAtomically, ToLook, role}
@@ -27,17 +27,6 @@ own_words ToRepeat = Some 4
 own_words ToRepeatPossessively = Some 4
 own_words _ = None
 
--- up to which number the characters of a run with these counts make a difference, or how many a look goes back, by the
--- words behind the first two; 0 where neither is
-abbrev pub count_by : Role → ℕ → ℕ → ℕ
-count_by (ToRun kind) low high = counted_to low high
-count_by (ToLook sign) back next = back
-count_by _ low high = 0
-
--- the same of the instruction at i, which has this opcode
-abbrev pub count_at : SreOpcode → List ℕ → ℕ → ℕ
-count_at o ws i = count_by (role o) (word ws (i + 2)) (word ws (i + 3))
-
 -- how many characters a look goes back, by the words behind the first two; 0 where none is
 abbrev pub back_by : Role → ℕ → ℕ → ℕ
 back_by (ToLook sign) back next = back
@@ -47,18 +36,19 @@ back_by _ back next = 0
 abbrev pub back_at : SreOpcode → List ℕ → ℕ → ℕ
 back_at o ws i = back_by (role o) (word ws (i + 2)) (word ws (i + 3))
 
--- at i stands an instruction that is neither a reference nor a condition, and the next one at k; it counts c
+-- at i stands an instruction that is neither a reference nor a condition, and the next one at k; it goes back c
+-- characters
 pub record Behind (ws : List ℕ) (i k c : ℕ) : Type 0 where
   pub one :
       ((t : Test) × ReadsTest ws i k t × (c ≡ 0))
       ⊎ ((o : SreOpcode) × (n : ℕ) × Opcode ws i o × (own_words (role o) ≡ Some n) × (k ≡ i + n)
-      × (c ≡ count_at o ws i))
+      × (c ≡ back_at o ws i))
 
 -- no such instruction stands at i
 pub record NoneBehind (ws : List ℕ) (i : ℕ) : Type 0 where
   pub none : (k c : ℕ) → Behind ws i k c → ⊥
 
--- the same, whatever it counts
+-- the same, however far it goes back
 pub record StandsBehind (ws : List ℕ) (i k : ℕ) : Type 0 where
   pub count : ℕ
   pub behind : Behind ws i k count
@@ -69,17 +59,6 @@ NextPlaceAt ws i (Some k) = (i < k) × StandsBehind ws i k
 NextPlaceAt ws i None = NoneBehind ws i
 
 -- where the next instruction stands, and how far the one at i goes back, or that none such is at i
-pub record LooksBack (ws : List ℕ) (i k back : ℕ) : Type 0 where
-  pub behind : StandsBehind ws i k
-  pub code : SreOpcode
-  pub there : Opcode ws i code
-  pub is : back ≡ back_at code ws i
-
-abbrev pub BackAt : List ℕ → ℕ → Option (ℕ × ℕ) → Type 0
-BackAt ws i (Some p) = (i < p.0) × LooksBack ws i p.0 p.1
-BackAt ws i None = NoneBehind ws i
-
--- where the next instruction stands, and what the one at i counts, or that none such is at i
 abbrev pub NextAt : List ℕ → ℕ → Option (ℕ × ℕ) → Type 0
 NextAt ws i (Some p) = (i < p.0) × Behind ws i p.0 p.1
 NextAt ws i None = NoneBehind ws i

@@ -1,7 +1,8 @@
 -- Prices of items as they are computed: the steps and costs they come to, whatever follows and whatever loops are
 -- around them.
 -- Definitions for the check's contracts; what sre_engine makes public does not rest on it.
-use Rattle.std.specs.Prelude.{ℕ, ◌+◌, ◌-◌, ◌*◌, ◌^◌, ◌≡◌, ◌<◌, ◌≤◌, true, false, ◌&&◌, cond, max, List, Option, Some, None}
+use Rattle.std.specs.Prelude.{ℕ, ◌+◌, ◌-◌, ◌*◌, ◌^◌, ◌≡◌, ◌<◌, ◌≤◌, Bool, true, false, ◌&&◌, cond, max, List}
+use Rattle.std.specs.Prelude.{Option, Some, None}
 use Rattle.sre_chars.specs.declared.constants.SreOpcode.{SreOpcode}
 use Rattle.sre_model.specs.Tree.{Tree, Item, Branch, Loop, PossessiveLoop, Atomic, Trees, Order}
 use Rattle.sre_model.specs.Grammar.{Word, skip, Opcode, Operands, Reads, ReadsBranch}
@@ -11,7 +12,7 @@ use Rattle.sre_model.specs.Tree.{PossessiveRun}
 use Rattle.sre_model.specs.References.{refers, by_references}
 use Rattle.sre_model.specs.Folding.{of_item}
 use Rattle.sre_model.specs.Nesting.{nesting, by_nesting}
-use Rattle.sre_model.specs.TreePrices.{steps_of, item_steps, other_ends, cost_of, item_cost, most_steps}
+use Rattle.sre_model.specs.TreePrices.{steps_of, item_steps, other_ends, scan_price, cost_of, item_cost, most_steps}
 use Rattle.sre_code.specs.Saturating.{Held}
 use Rattle.sre_code.specs.Instructions.{StandsBehind, NoneBehind}
 use Rattle.sre_code.specs.declared.code.prices.Price.{Price}
@@ -74,9 +75,13 @@ straight_price n = record { steps = n; is_open = true; cost = 0; each = 0; apart
 abbrev pub closed_price : ℕ → ℕ → ℕ → Price
 closed_price cost each apart = record { steps = 1; is_open = false; cost = cost; each = each; apart = apart }
 
--- by the ends of a repeat of one character, the states of a loop, and the price of a body
-abbrev pub run_price : ℕ → Price
-run_price ends = closed_price (ends * 2) ends 0
+-- how many ends a repeat of one character has, by its counts: one where it is possessive
+abbrev pub run_ends : ℕ → Bool → ℕ → ℕ → ℕ
+run_ends e possessive low high = cond possessive 1 (1 + other_ends e low high)
+
+-- by the ends of a repeat of one character and its scan, the states of a loop, and the price of a body
+abbrev pub run_price : ℕ → ℕ → Price
+run_price ends scan = closed_price (ends * 2 + scan) ends 0
 
 abbrev pub scope_price : Price → Price
 scope_price p =
@@ -122,11 +127,14 @@ abbrev pub StraightPriced : List ℕ → ℕ → Option PricedItem → Type 0
 StraightPriced ws i (Some p) = StandsBehind ws i p.behind × (p.price ≡ straight_price 1)
 StraightPriced ws i None = NoneBehind ws i
 
--- a repeat of one character at i, with so many ends by its counts
-pub record RunPriced (ends : ℕ → ℕ → ℕ) (ws : List ℕ) (i : ℕ) (r : Option PricedItem) : Type 0 where
+-- a repeat of one character at i
+pub record RunPriced (e : ℕ) (possessive : Bool) (ws : List ℕ) (i : ℕ) (r : Option PricedItem) : Type 0 where
   pub each :
       (low high : ℕ) → Word ws (i + 2) low → Word ws (i + 3) high
-      → (ends low high ≤ 2 ^ 32) × (r ≡ Some (record { behind = skip ws (i + 1); price = run_price (ends low high) }))
+      → (run_ends e possessive low high ≤ 2 ^ 32) × (scan_price e low high < 2 ^ 32) × (r ≡ Some (record {
+        behind = skip ws (i + 1);
+        price = run_price (run_ends e possessive low high) (scan_price e low high);
+      }))
 
 pub record LoopPriced (e depth : ℕ) (ws : List ℕ) (i : ℕ) (r : Option PricedItem) : Type 0 where
   pub each :
@@ -167,8 +175,8 @@ kind_of _ = kind.Other
 -- the price of the item at i, by what its first instruction is
 abbrev pub PricedBy : Kind → ℕ → ℕ → List ℕ → ℕ → Option PricedItem → Type 0
 PricedBy kind.Fail e depth ws i r = FailPriced i r
-PricedBy kind.Run e depth ws i r = RunPriced (λ low high. 1 + other_ends e low high) ws i r
-PricedBy kind.PossessiveRun e depth ws i r = RunPriced (λ low high. 1) ws i r
+PricedBy kind.Run e depth ws i r = RunPriced e false ws i r
+PricedBy kind.PossessiveRun e depth ws i r = RunPriced e true ws i r
 PricedBy kind.Branch e depth ws i r = BranchPriced e depth ws (i + 1) r
 PricedBy kind.Loop e depth ws i r = LoopPriced e depth ws i r
 PricedBy kind.PossessiveLoop e depth ws i r = PossessivePriced e depth ws i r

@@ -5,13 +5,12 @@
 //!
 //! [`Code::check`] reads the items once from left to right, with an explicit stack of open parts. On the way it adds up
 //! the least width of a match. Two scans without a stack then compute [`Code::refers`], [`Code::asked_from`] and
-//! [`Code::most_counts`]. At last the claims of the INFO block are compared with the first items.
+//! [`Code::longest_lookbehind`]. At last the claims of the INFO block are compared with the first items.
 
 ghost use Rattle.std.specs.Prelude.{◌≡◌, ◌≢◌, ◌≤◌, ◌-◌, ◌^◌, false, length, IfOk, IfErr, OnOk, IfSome, None, min};
 ghost use Rattle.sre_model.specs.Tree.{Tree};
 ghost use Rattle.sre_model.specs.Grammar.{Whole};
 ghost use Rattle.sre_model.specs.References as references;
-ghost use Rattle.sre_model.specs.RunCounts as run_counts;
 ghost use Rattle.sre_model.specs.LooksBehind as looks_behind;
 ghost use Rattle.sre_model.specs.MarksSet.{marks_in_regions};
 ghost use Rattle.sre_code.specs.Hinted.{Confirmed};
@@ -33,6 +32,7 @@ mod condition;
 mod descent;
 mod error;
 mod first_set;
+mod instructions;
 mod item;
 mod looks_behind;
 mod marked_regions;
@@ -41,7 +41,6 @@ mod prefix;
 mod prices;
 mod region;
 mod repeat;
-mod run_counts;
 mod set;
 mod slots;
 mod sought;
@@ -75,12 +74,12 @@ pub struct Code<'a> {
     hints: Hints,
     refers: bool,
     asked_from: u32,
-    most_counts: u32,
+    longest_lookbehind: u32,
     ghost behind: { items.now ≡ behind_block words.now },
     ghost scanned: { (tree : Tree) → Whole words.now tree → refers ≡ references.refers tree },
     ghost asked: { (tree : Tree) → Whole words.now tree → asked_from ≡ references.asked_from tree },
     ghost counted: { (tree : Tree) → Whole words.now tree → references.refers tree ≡ false
-        → most_counts ≡ run_counts.most_counts tree },
+        → longest_lookbehind ≡ looks_behind.longest_lookbehind tree },
     pub ghost checked: { ∥ ((tree : Tree) × Whole words.now tree × Confirmed words.now uni.now tree hints) ∥₁ },
 }
 
@@ -138,8 +137,9 @@ impl<'a> Code<'a> {
     /// A view of bytecode that a check accepted before, built from the results of that check. It checks nothing, in
     /// constant time.
     ///
-    /// `hints`, `refers`, `asked_from` and `most_counts` are what [`Code::hints`], [`Code::refers`],
-    /// [`Code::asked_from`] and [`Code::most_counts`] returned for a code of the same bytecode and an equal table.
+    /// `hints`, `refers`, `asked_from` and `longest_lookbehind` are what [`Code::hints`], [`Code::refers`],
+    /// [`Code::asked_from`] and [`Code::longest_lookbehind`] returned for a code of the same bytecode and an equal
+    /// table.
     #[inline]
     pub fn from_checked(
         words: &'a [u32],
@@ -147,13 +147,13 @@ impl<'a> Code<'a> {
         hints: Hints,
         refers: bool,
         asked_from: u32,
-        most_counts: u32,
+        longest_lookbehind: u32,
     ) -> Code<'a>
         requires checked { ∥ ((tree : Tree) × Whole words.now tree × Confirmed words.now uni.now tree hints) ∥₁ }
         requires scanned { (tree : Tree) → Whole words.now tree → refers ≡ references.refers tree }
         requires asked { (tree : Tree) → Whole words.now tree → asked_from ≡ references.asked_from tree }
         requires counted { (tree : Tree) → Whole words.now tree → references.refers tree ≡ false
-            → most_counts ≡ run_counts.most_counts tree }
+            → longest_lookbehind ≡ looks_behind.longest_lookbehind tree }
         ensures words { words_of result ≡ words.now }
         ensures uni { uni_of result ≡ uni.now }
         ensures hints { hints_of result ≡ hints }
@@ -169,7 +169,7 @@ impl<'a> Code<'a> {
             hints,
             refers,
             asked_from,
-            most_counts,
+            longest_lookbehind,
         }
     }
 
@@ -249,15 +249,20 @@ impl<'a> Code<'a> {
         asked::asked(self.items()).to
     }
 
-    /// The greatest number up to which the length of a single-character repeat or lookbehind matters. That is the
-    /// maximum of the greatest counts of single-character repeats (the least count if there is no limit), and of the
-    /// distances, in characters, that lookbehinds go back. It means nothing if the code refers to groups.
+    /// The greatest distance, in characters, that a lookbehind of the code goes back. It means nothing if the code
+    /// refers to groups.
+    ///
+    /// ```
+    /// // The bytecode of `(?<=ab)(?<!c)`.
+    /// let words = [4, 7, 2, 16, 97, 16, 98, 1, 5, 5, 1, 16, 99, 1, 1];
+    /// assert_eq!(Code::check(alloc, &words, &uni)?.longest_lookbehind(), 2);
+    /// ```
     #[inline(always)]
-    pub fn most_counts(&self) -> u32
+    pub fn longest_lookbehind(&self) -> u32
         ensures { (tree : Tree) → Whole (words_of self.now) tree → references.refers tree ≡ false
-            → result ≡ run_counts.most_counts tree }
+            → result ≡ looks_behind.longest_lookbehind tree }
     {
-        self.most_counts
+        self.longest_lookbehind
     }
 
     /// Whether a capture is set inside an atomic scope: an atomic group, a lookaround or a possessive loop. `false` is
@@ -351,6 +356,6 @@ impl<'a> Code<'a> {
         ensures none { result ≡ None → (tree : Tree) → Whole (words_of self.now) tree
             → HasNoStepBound (length (items_of self.now)) tree characters }
     {
-        bounds::step_bound(self.items(), self.most_counts(), characters)
+        bounds::step_bound(self.items(), self.longest_lookbehind(), characters)
     }
 }

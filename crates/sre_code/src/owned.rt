@@ -4,7 +4,7 @@ ghost use Rattle.std.specs.Prelude.{◌≡◌, ◌≢◌, ◌≤◌, false, leng
 ghost use Rattle.sre_model.specs.Tree.{Tree};
 ghost use Rattle.sre_model.specs.Grammar.{Whole, IsCode};
 ghost use Rattle.sre_model.specs.References as references;
-ghost use Rattle.sre_model.specs.RunCounts as run_counts;
+ghost use Rattle.sre_model.specs.LooksBehind as looks_behind;
 ghost use Rattle.sre_code.specs.Hinted.{Confirmed};
 ghost use Rattle.sre_code.specs.Refusals.{place_of};
 ghost use Rattle.sre_growth.specs.Refusal.{Refused};
@@ -24,12 +24,12 @@ pub struct OwnedCode {
     hints: Hints,
     refers: bool,
     asked_from: u32,
-    most_counts: u32,
+    longest_lookbehind: u32,
     ghost checked: { ∥ ((tree : Tree) × Whole words.items tree × Confirmed words.items uni tree hints) ∥₁ },
     ghost scanned: { (tree : Tree) → Whole words.items tree → refers ≡ references.refers tree },
     ghost asked: { (tree : Tree) → Whole words.items tree → asked_from ≡ references.asked_from tree },
     ghost counted: { (tree : Tree) → Whole words.items tree → references.refers tree ≡ false
-        → most_counts ≡ run_counts.most_counts tree },
+        → longest_lookbehind ≡ looks_behind.longest_lookbehind tree },
 }
 
 // A copy of the bytecode.
@@ -51,11 +51,11 @@ struct CheckedCopy {
     hints: Hints,
     refers: bool,
     asked_from: u32,
-    most_counts: u32,
+    longest_lookbehind: u32,
     ghost scanned: { (tree : Tree) → Whole words.items tree → refers ≡ references.refers tree },
     ghost asked: { (tree : Tree) → Whole words.items tree → asked_from ≡ references.asked_from tree },
     ghost counted: { (tree : Tree) → Whole words.items tree → references.refers tree ≡ false
-        → most_counts ≡ run_counts.most_counts tree },
+        → longest_lookbehind ≡ looks_behind.longest_lookbehind tree },
 }
 
 // Checks the bytecode, and copies it.
@@ -75,7 +75,7 @@ fn checked_copy(alloc: Global, words: &[u32], uni: &UniTable) -> Result<CheckedC
         hints: code.hints(),
         refers: code.refers(),
         asked_from: code.asked_from(),
-        most_counts: code.most_counts(),
+        longest_lookbehind: code.longest_lookbehind(),
     })
 }
 
@@ -109,7 +109,7 @@ impl OwnedCode {
                     hints,
                     refers,
                     asked_from,
-                    most_counts,
+                    longest_lookbehind,
                 } = copy;
                 Ok(OwnedCode {
                     words,
@@ -117,7 +117,7 @@ impl OwnedCode {
                     hints,
                     refers,
                     asked_from,
-                    most_counts,
+                    longest_lookbehind,
                 })
             }
             Err(error) => Err(error),
@@ -135,7 +135,7 @@ impl OwnedCode {
             self.hints,
             self.refers,
             self.asked_from,
-            self.most_counts,
+            self.longest_lookbehind,
         )
     }
 }

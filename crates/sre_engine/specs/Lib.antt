@@ -11,7 +11,6 @@ pub use Rattle.sre_model.specs.References
 pub use Rattle.sre_model.specs.Regions
 pub use Rattle.sre_model.specs.MarksSet
 pub use Rattle.sre_model.specs.Slots
-pub use Rattle.sre_model.specs.RunCounts
 pub use Rattle.sre_model.specs.LooksBehind
 pub use Rattle.sre_model.specs.TreePrices
 pub use Rattle.sre_model.specs.Nesting

@@ -26,9 +26,9 @@ module _ {S : Type 0} {text : Ghosts S} (r : Request S text) (point : Point) (cu
   -- a repeat that goes on inside an atomic scope whose ends are not memoized is in no code of which steps are counted
   at_once : {M : Type 0} → RunsAtOnce r point keeping c m' → keeping ≡ Unmarked → TriesOn M r point cursor b m c m' →
       (all : List Way)
-      (l l' : Limit) → Arrives (run_of r) all l point cursor b → Goes (run_of r) all l' point cursor c
-      → Pays M r m l m' l'
-  at_once run unmarked tries all l l' x y = record {
+      (l l' more : Limit) → Arrives (run_of r) all l point cursor b → Goes (run_of r) all l' point cursor c
+      → Pays M r m l m' more
+  at_once run unmarked tries all l l' more x y = record {
     paid = λ pl opened start n h.
         let here = spot point cursor c in
         let code = run_code (run_of r) here y.runs in
@@ -46,17 +46,17 @@ module _ {S : Type 0} {text : Ghosts S} (r : Request S text) (point : Point) (cu
   pub paid_so : {M : Type 0} → IsKeeping r keeping point b m
       → (keeping ≢ Nothing → (RunsOnAt (run_of r).words point → ⊥) ⊎ RunsAtOnce r point keeping c m')
       → (keeping ≢ Nothing → RunsOnAt (run_of r).words point → TriesOn M r point cursor b m c m') → (all : List Way)
-      (l l' : Limit) → Arrives (run_of r) all l point cursor b → Goes (run_of r) all l' point cursor c
-      → ((RunsOnAt (run_of r).words point → ⊥) → Pays M r m l m' l') → Pays M r m l m' l'
-  paid_so {M} is off tries all l l' x y paid = go keeping refl
+      (l l' more : Limit) → Arrives (run_of r) all l point cursor b → Goes (run_of r) all l' point cursor c
+      → ((RunsOnAt (run_of r).words point → ⊥) → Pays M r m l m' more) → Pays M r m l m' more
+  paid_so {M} is off tries all l l' more x y paid = go keeping refl
     where
-      go : (k : Keeping) → keeping ≡ k → Pays M r m l m' l'
-      go Nothing e = pays_left r m m' l l' (is.left e)
-      go Marked e = pays_left r m m' l l' (λ opened. is.refers e)
-      go Idle e = pays_left r m m' l l' (λ opened. is.refers_idly e)
+      go : (k : Keeping) → keeping ≡ k → Pays M r m l m' more
+      go Nothing e = pays_left r m m' l more (is.left e)
+      go Marked e = pays_left r m m' l more (λ opened. is.refers e)
+      go Idle e = pays_left r m m' l more (λ opened. is.refers_idly e)
       go Unmarked e =
           let keeps : keeping ≢ Nothing = λ nothing. cc in
           elim (off keeps) [
             | inl none ↦ paid none
-            | inr run ↦ at_once run e (tries keeps run.runs) all l l' x y
+            | inr run ↦ at_once run e (tries keeps run.runs) all l l' more x y
           ]

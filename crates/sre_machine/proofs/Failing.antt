@@ -9,7 +9,7 @@ use Rattle.sre_model.specs.Marks.{Marks, no_marks}
 use Rattle.sre_model.specs.Ways.{Way}
 use Rattle.sre_turns.specs.Board.{BoardValue, Trying}
 use Rattle.sre_turns.specs.Machine.{IsAt, IsBack, Backs, Arrives, Goes}
-use Rattle.sre_turns.specs.Limits.{Limit, without_tried}
+use Rattle.sre_turns.specs.Limits.{Limit, raised, without_tried}
 use Rattle.sre_turns.specs.declared.Next.TheVariants as next
 use Rattle.sre_turns.specs.declared.Next.{Next}
 use Rattle.sre_turns.specs.declared.Point.TheVariants.{Instruction}
@@ -26,14 +26,14 @@ use Rattle.sre_request.specs.declared.request.Request.{Request}
 use Rattle.sre_request.specs.Requests.{code_of}
 use Rattle.sre_request.specs.Runs.{run_of}
 use Rattle.sre_machine.specs.Turns.{TurnAt, TurnOnce, Takes, GivesUp, GoesOn, TriesOn, StaysAt, LeavesOrStays, Fails}
-use Rattle.sre_machine.specs.Turns.{EndsThere, RunsOnAt}
+use Rattle.sre_machine.specs.Turns.{EndsThere, RunsOnAt, scan_at}
 use Rattle.sre_machine.specs.Paying.{Pays}
 use Rattle.sre_turns.specs.Fruit.{is_inside}
 use Rattle.sre_turns.specs.Moves.{spot_at}
 use Rattle.sre_board.specs.Failures.{Kept, HoldsOneMore, Remembers}
 use Rattle.sre_board.proofs.Remembering.{remembers_more}
 use Rattle.sre_machine.specs.Memos.{MemoValue}
-use Rattle.sre_machine.proofs.Paying.{grants_nothing, pays_nothing}
+use Rattle.sre_machine.proofs.Paying.{grants_nothing, pays_nothing, pays_less}
 use Rattle.sre_turns.proofs.BodyEnds.{end_taken}
 
 -- a mark was made, or none: the machine may stand there still
@@ -66,43 +66,56 @@ stays_on r point cursor b c m m' stays goes = record {
   goes = λ _. goes;
 }
 
--- an instruction that is gone on with takes its turn
+-- an instruction that is gone on with takes its turn, whose scan is charged no more than it may be
 pub turn_goes_on : {M S : Type 0} {text : Ghosts S} {E : Type 0} (r : Request S text) (point : Point)
-    (cursor : StringCursor) (b c d : BoardValue) (m m' : MemoValue) (result : Result Next E)
-    → GoesOn M r point cursor b m c m'
-    → ((all : List Way) (l l' : Limit) → Arrives (run_of r) all l point cursor b
+    (cursor : StringCursor) (b c d : BoardValue) (m m' : MemoValue) (result : Result Next E) (scan : ℕ)
+    → scan ≤ scan_at r point → GoesOn M r point cursor b m c m'
+    → ((all : List Way) (l l' more : Limit) → Arrives (run_of r) all l point cursor b
     → Goes (run_of r) all l' point cursor c
-    → ((RunsOnAt (run_of r).words point → ⊥) → Pays M r m l m' l') → Pays M r m l m' l')
+    → ((RunsOnAt (run_of r).words point → ⊥) → Pays M r m l m' more) → Pays M r m l m' more)
     → IfOk result (λ after. TurnAt r point cursor c after d)
-    → IfOk result (λ after. Takes M r point cursor b m after d m')
-turn_goes_on r point cursor b c d m m' (Ok after) goes paid turn = λ all limit x.
-    let g = goes all limit x in (g.0, g.1, turn all g.0 g.2, paid all limit g.0 x g.2 g.3)
-turn_goes_on r point cursor b c d m m' (Err e) goes paid turn = turn
+    → IfOk result (λ after. Takes M scan r point cursor b m after d m')
+turn_goes_on r point cursor b c d m m' (Ok after) scan few goes paid turn = λ all limit x.
+    let g = goes all limit x in (
+      g.0,
+      g.1,
+      turn all g.0 g.2,
+      pays_less r m m' limit (raised (scan_at r point) g.0) (raised scan g.0) refl (omega (arith, few))
+          (paid all limit g.0 (raised (scan_at r point) g.0) x g.2 g.3),
+    )
+turn_goes_on r point cursor b c d m m' (Err e) scan few goes paid turn = turn
 
 -- the same with one toll
 pub turn_tried : {M S : Type 0} {text : Ghosts S} {E : Type 0} (r : Request S text) (place : ℕ) (cursor : StringCursor)
-    (b c d : BoardValue) (m m' : MemoValue) (result : Result Next E) → TriesOn M r (Instruction place) cursor b m c m'
-    → IfOk result (λ after. TurnOnce r place cursor c after d)
-    → IfOk result (λ after. Takes M r (Instruction place) cursor b m after d m')
-turn_tried r place cursor b c d m m' (Ok after) goes turn = λ all limit x.
-    let g = goes all limit x in (g.0, g.1, turn all g.0 g.2, g.3)
-turn_tried r place cursor b c d m m' (Err e) goes turn = turn
+    (b c d : BoardValue) (m m' : MemoValue) (result : Result Next E) (scan : ℕ) → scan ≤ scan_at r (Instruction place)
+    → TriesOn M r (Instruction place) cursor b m c m' → IfOk result (λ after. TurnOnce r place cursor c after d)
+    → IfOk result (λ after. Takes M scan r (Instruction place) cursor b m after d m')
+turn_tried r place cursor b c d m m' (Ok after) scan few goes turn = λ all limit x.
+    let g = goes all limit x in (
+      g.0,
+      g.1,
+      turn all g.0 g.2,
+      pays_less r m m' limit (raised (scan_at r (Instruction place)) g.0) (raised scan g.0) refl (omega (arith, few))
+          g.3,
+    )
+turn_tried r place cursor b c d m m' (Err e) scan few goes turn = turn
 
 -- where it is left, nothing is granted
 pub turn_left : {M S : Type 0} {text : Ghosts S} (r : Request S text) (point : Point) (cursor : StringCursor)
     (b c : BoardValue) (m m' : MemoValue) → GivesUp M r point cursor b m c m'
-    → Takes M r point cursor b m next.Back c m'
+    → Takes M 0 r point cursor b m next.Back c m'
 turn_left r point cursor b c m m' left all limit x =
-    let g = left all limit x in (limit, grants_nothing limit, g.0, g.1)
+    let g = left all limit x in
+    (limit, grants_nothing limit, g.0, pays_less r m m' limit limit (raised 0 limit) refl (omega arith) g.1)
 
 -- and where the body that it is in is known to end, the machine goes there
 pub turn_ended : {M S : Type 0} {text : Ghosts S} (r : Request S text) (point : Point) (cursor end : StringCursor)
-    (b : BoardValue) (m : MemoValue) → EndsThere r point cursor b end → Takes M r point cursor b m (next.Done end) b m
+    (b : BoardValue) (m : MemoValue) → EndsThere r point cursor b end → Takes M 0 r point cursor b m (next.Done end) b m
 turn_ended r point cursor end b m e all limit x = (
   limit,
   grants_nothing limit,
   end_taken (run_of r) point cursor end b no_marks e.inside e.unmarked e.stands e.ends all limit x,
-  pays_nothing r m m limit limit refl (refl, refl, refl) (λ h. h) refl refl,
+  pays_nothing r m m limit (raised 0 limit) refl (refl, refl, refl) (λ h. h) refl (omega arith),
 )
 
 -- the groups that the words ask for are those from the one on that their code tells

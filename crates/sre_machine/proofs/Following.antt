@@ -2,7 +2,7 @@
 use Rattle.std.proofs.Common.{◌/◌, ◌≡◌, ℕ, ◌+◌, ◌*◌, ◌≤◌, ◌⊎◌, inl, inr, true}
 use Rattle.std.proofs.Common.{false, List, [], Result, Ok, Err, IfOk}
 use Rattle.std.proofs.Common.{refl, sym, ap, ◌∙◌, subst, arith}
-use Rattle.std.proofs.Common.{mul-le-mul, add-mul, one-mul}
+use Rattle.std.proofs.Common.{mul-le-mul, add-mul, one-mul, max}
 use Rattle.std.proofs.lemmas.Bool.{true≢false}
 use Rattle.sre_growth.specs.Refusal.{Refused}
 use Rattle.sre_chars.specs.declared.string.StrDrive.{Ghosts}
@@ -11,7 +11,7 @@ use Rattle.sre_model.specs.Tree.{Tree}
 use Rattle.sre_model.specs.Ways.{Way}
 use Rattle.sre_model.specs.Runs.{Run}
 use Rattle.sre_turns.specs.Board.{BoardValue, bare}
-use Rattle.sre_turns.specs.Limits.{Limit, Grants, earlier}
+use Rattle.sre_turns.specs.Limits.{Limit, Grants, earlier, raised}
 use Rattle.sre_turns.specs.Machine.{Stands, Later, spot, outcomes}
 use Rattle.sre_turns.specs.Settled.{Counted}
 use Rattle.sre_turns.specs.declared.Next.{Next}
@@ -28,7 +28,7 @@ use Rattle.sre_code.specs.declared.code.Code.{Code}
 use Rattle.sre_code.proofs.Checked.{whole_items}
 use Rattle.sre_model.specs.Grammar.{Whole}
 use Rattle.sre_model.specs.References.{refers}
-use Rattle.sre_model.specs.RunCounts.{most_counts}
+use Rattle.sre_model.specs.LooksBehind.{longest_lookbehind}
 use Rattle.sre_request.specs.Runs.{run_of}
 use Rattle.sre_machine.specs.Memos.{MemoValue, KeepsEndsOf, KeepsFrom}
 use Rattle.sre_machine.specs.Paying.{Pays, Remembering, rows_from, Within, Follows, Counts, Stops, Settles, Waited}
@@ -44,7 +44,7 @@ use Rattle.sre_model.specs.Grammar.{WholeItems}
 use Rattle.sre_model.specs.Standing.{AreWords}
 use Rattle.sre_model.proofs.TreeOf.{tree_of}
 use Rattle.sre_machine.specs.Turns.{Proceeds}
-use Rattle.sre_machine.proofs.Paying.{pays_nothing, pays_then, grants_nothing, held}
+use Rattle.sre_machine.proofs.Paying.{pays_nothing, pays_then, pays_raised, pays_less, grants_nothing, held}
 
 -- wherever the machine stands, no more steps were taken than the potential allows
 pub stands_within : (r : Run) (all : List Way) (l : Limit) (n : Next) (b : BoardValue) → Counted r
@@ -63,6 +63,12 @@ pub stands_there : (r : Run) (all : List Way) (l : Limit) (n n' : Next) (b b' : 
 stands_there r all l n n' b b' next board x =
     subst (λ z. Stands r all l z b') next (subst (λ z. Stands r all l n z) (sym board) x)
 
+-- a step without a scan
+pub unscanned : {M S : Type 0} {text : Ghosts S} (r : Request S text) (all : List Way) (n : Next) (b : BoardValue)
+    (m m' : MemoValue) (l : Limit) → Proceeds (run_of r) all l n b (λ more. Pays M r m l m' more)
+    → Proceeds (run_of r) all l n b (λ more. Pays M r m l m' (raised 0 more))
+unscanned r all n b m m' l z = (z.0, z.1, z.2, pays_less r m m' l z.0 (raised 0 z.0) refl (omega arith) z.3)
+
 module _ {S : Type 0} {text : Ghosts S} (r : Request S text) (all : List Way) (first : Next) (b : BoardValue)
     (m : MemoValue) (before : ℕ) where
   -- a memo that waits less keeps what it kept
@@ -75,23 +81,26 @@ module _ {S : Type 0} {text : Ghosts S} (r : Request S text) (all : List Way) (f
       )
       (λ h. ap (λ (k : MemoValue). k.is_open) same ∙ h) refl refl
 
-  -- a step more
-  pub follows_on : {M : Type 0} (n n' : Next) (b' b'' : BoardValue) (m' m₁ m'' : MemoValue) (turned counted : ℕ)
-      → counted ≡ turned + 1 → m₁ ≡ record m' { waits = m₁.waits }
-      → ((l : Limit) → Stands (run_of r) all l n b' → Proceeds (run_of r) all l n' b'' (λ more. Pays M r m₁ l m'' more))
-      → Follows M r all first n b b' m m' before turned → Follows M r all first n' b b'' m m'' before counted
-  follows_on n n' b' b'' m' m₁ m'' turned counted one waits turn f = record {
+  -- a step more, with what its scan is charged
+  pub follows_on : {M : Type 0} (n n' : Next) (b' b'' : BoardValue) (m' m₁ m'' : MemoValue)
+      (turned counted scans scan : ℕ) → counted ≡ turned + 1 → m₁ ≡ record m' { waits = m₁.waits }
+      → ((l : Limit) → Stands (run_of r) all l n b'
+      → Proceeds (run_of r) all l n' b'' (λ more. Pays M r m₁ l m'' (raised scan more)))
+      → Follows M r all first n b b' m m' before turned scans
+      → Follows M r all first n' b b'' m m'' before counted (scans + scan)
+  follows_on n n' b' b'' m' m₁ m'' turned counted scans scan one waits turn f = record {
     each = λ limit x.
         let y = f.each limit x in
-        let z = turn y.0 y.1 in (
+        let z = turn y.0 y.1 in
+        let last : Limit = raised scan (earlier z.0) in (
           earlier z.0,
           z.2.1,
           y.2 ∙ z.1.granted,
           y.3 ∙ z.1.start,
           omega (arith, y.4, z.1.taken, one),
-          pays_then r m m' m'' limit y.0 (earlier z.0) y.3 y.5
-              (pays_then r m' m₁ m'' y.0 y.0 (earlier z.0) refl (pays_waited m' m₁ y.0 waits)
-              (record { paid = z.3.paid })),
+          pays_less r m m'' limit (raised scans last) (raised (scans + scan) (earlier z.0)) refl (omega arith)
+              (pays_raised r scans m m' m'' limit y.0 last y.3 y.5
+              (pays_then r m' m₁ m'' y.0 y.0 last refl (pays_waited m' m₁ y.0 waits) (record { paid = z.3.paid }))),
         );
   }
 
@@ -102,21 +111,26 @@ module _ {S : Type 0} {text : Ghosts S} (r : Request S text) (all : List Way) (f
   nothing_granted n' b'' m' l x =
       (l, grants_nothing l, x, pays_nothing r m' m' l l refl (refl, refl, refl) (λ h. h) refl refl)
 
-  -- so many steps cost no more than the potential and the credits
-  cost_of : (pl : Remembering r) (limit more : Limit) (turned left left' : ℕ) → limit.granted ≡ more.granted
+  -- so many steps cost no more than the potential and the credits, with what scans are charged
+  cost_of : (pl : Remembering r) (limit more : Limit) (turned left left' scans : ℕ) → limit.granted ≡ more.granted
       → limit.taken ≡ before → more.taken + before ≡ limit.taken + turned → Within (run_of r) more
-      → left ≤ left' + (turned + 1) * each_of r pl
-      → left ≤ left' + (limit.granted + more.tolls + 1) * each_of r pl
-  cost_of pl limit more turned left left' granted none same within spent =
-      let l : (turned + 1) * each_of r pl
-      ≤ (limit.granted + more.tolls + 1) * each_of r pl =
+      → left ≤ left' + (turned + 1) * each_of r pl + scans
+      → left ≤ left' + (limit.granted + (more.tolls + scans) + 1) * each_of r pl
+  cost_of pl limit more turned left left' scans granted none same within spent =
+      let steps : (turned + 1 + scans) * each_of r pl ≤ (limit.granted + (more.tolls + scans) + 1) * each_of r pl =
       mul-le-mul (omega (arith, granted, none, same, within)) (omega arith) in
-      omega (arith, l, spent)
+      let parts : (turned + 1 + scans) * each_of r pl ≡ (turned + 1) * each_of r pl + scans * each_of r pl =
+      add-mul (turned + 1) scans (each_of r pl) in
+      let whole : scans * 1 ≤ scans * each_of r pl = mul-le-mul (omega arith) (omega arith) in
+      omega (arith, steps, parts, whole, spent)
 
-  module _ {M : Type 0} (m' : MemoValue) (turned given left left' due : ℕ) (counts : Counts M r m m' given left turned)
-      (few : m'.is_open ≡ true → (pl : Remembering r) → due ≤ each_of r pl) (spent : left ≤ left' + due) where
+  module _ {M : Type 0} (m' : MemoValue) (turned given left left' due scans pending : ℕ) (n : Next)
+      (b' : BoardValue) (f : Follows M r all first n b b' m m' before turned scans)
+      (counts : Counts M r m m' given left turned scans pending)
+      (few : m'.is_open ≡ true → (pl : Remembering r) → due ≤ each_of r pl + pending) (spent : left ≤ left' + due) where
     -- what one step more costs
-    spent_more : (pl : Remembering r) → m.is_open ≡ true → Refused M ⊎ (given ≤ left' + (turned + 1) * each_of r pl)
+    spent_more : (pl : Remembering r) → m.is_open ≡ true
+        → Refused M ⊎ (given ≤ left' + (turned + 1) * each_of r pl + scans)
     spent_more pl keeps = elim (counts.spent keeps) [
       | inl refused ↦ inl refused
       | inr x ↦
@@ -125,10 +139,11 @@ module _ {S : Type 0} {text : Ghosts S} (r : Request S text) (all : List Way) (f
           inr (omega (arith, x.1 pl, few x.0 pl, spent, one))
     ]
 
-    -- a step is counted
-    pub counts_on : (m'' : MemoValue) (counted : ℕ) → counted ≡ turned + 1
-        → (m'.is_open ≡ true → (m''.is_open ≡ true) ⊎ Refused M) → Counts M r m m'' given left' counted
-    counts_on m'' counted one keeps_on = record {
+    -- a step is counted, whose scan is still pending
+    pub counts_on : (m'' : MemoValue) (counted scan : ℕ) → counted ≡ turned + 1
+        → (m'.is_open ≡ true → (m''.is_open ≡ true) ⊎ Refused M)
+        → Counts M r m m'' given left' counted (scans + scan) scan
+    counts_on m'' counted scan one keeps_on = record {
       spent = λ keeps. elim (counts.spent keeps) [
         | inl refused ↦ inl refused
         | inr x ↦ elim (keeps_on x.0) [
@@ -146,9 +161,8 @@ module _ {S : Type 0} {text : Ghosts S} (r : Request S text) (all : List Way) (f
     }
 
     -- what they all cost, this one too
-    pub stops : (n : Next) (b' : BoardValue) → Follows M r all first n b b' m m' before turned
-        → (m.is_open ≡ false → given ≤ left' + m.waits) → Stops M r all first b m before given left'
-    stops n b' f waited = record {
+    pub stops : (m.is_open ≡ false → given ≤ left' + m.waits) → Stops M r all first b m before given left'
+    stops waited = record {
       cost = λ pl keeps limit x start none k h.
           let y = f.each limit x in
           elim (y.5.paid pl keeps start k h) [
@@ -159,9 +173,9 @@ module _ {S : Type 0} {text : Ghosts S} (r : Request S text) (all : List Way) (f
                   let few_bits : z.0 ≤ most_paid (run_of r) pl.plain (rows_from r pl) =
                   account_few (run_of r) pl.plain (rows_from r pl) m'.kept m'.ends y.0.trying z.0 z.1.account in
                   inr (
-                    y.0.tolls,
+                    y.0.tolls + scans,
                     omega (arith, z.3, few_bits),
-                    cost_of pl limit y.0 turned given left' y.2 none y.4
+                    cost_of pl limit y.0 turned given left' scans y.2 none y.4
                         (stands_within (run_of r) all y.0 n b' pl.plain y.1) more,
                   )
             ]
@@ -170,16 +184,15 @@ module _ {S : Type 0} {text : Ghosts S} (r : Request S text) (all : List Way) (f
     }
 
     -- the whole is decided, with no outcome
-    pub settles : (n : Next) (b' : BoardValue) (m₁ m'' : MemoValue) → Follows M r all first n b b' m m' before turned
-        → m₁ ≡ record m' { waits = m₁.waits }
+    pub settles : (m₁ m'' : MemoValue) → m₁ ≡ record m' { waits = m₁.waits }
         → ((l : Limit) → Stands (run_of r) all l n b' → (more : Limit) × Grants l more × Pays M r m₁ l m'' more
         × (Counted (run_of r) → (more.trying ≡ []) × Within (run_of r) more))
         → (m.is_open ≡ false → Waited m m'' given left') → Settles M r all first b m m'' before given left'
-    settles n b' m₁ m'' f waits last waited = record {
+    settles m₁ m'' waits last waited = record {
       cost = λ pl keeps limit x start none k h.
           let y = f.each limit x in
           let w = last y.0 y.1 in
-          let all_ = pays_then r m m' m'' limit y.0 w.0 y.3 y.5
+          let all_ = pays_raised r scans m m' m'' limit y.0 w.0 y.3 y.5
           (pays_then r m' m₁ m'' y.0 y.0 w.0 refl (pays_waited m' m₁ y.0 waits) w.2) in
           let ends = w.3 pl.plain in
           elim (all_.paid pl keeps start k h) [
@@ -187,12 +200,12 @@ module _ {S : Type 0} {text : Ghosts S} (r : Request S text) (all : List Way) (f
             | inr z ↦ elim (spent_more pl keeps) [
               | inl refused ↦ inl refused
               | inr more ↦ inr (
-                w.0.tolls,
+                w.0.tolls + scans,
                 z.0,
                 z.3,
                 held r pl m'' m'' w.0.trying [] z.0 refl (refl, refl, refl) (sym ends.0) z.1,
                 z.2,
-                cost_of pl limit w.0 turned given left' (y.2 ∙ w.1.granted) none
+                cost_of pl limit w.0 turned given left' scans (y.2 ∙ w.1.granted) none
                     (omega (arith, y.4, w.1.taken)) ends.1 more,
               )
             ]
@@ -348,13 +361,14 @@ pub if_ok : {T E : Type 0} {A B : T → Type 0} (x : Result T E) → ((t : T) �
 if_ok (Ok t) f h = f t refl h
 if_ok (Err e) f h = h
 
--- what a step goes over while failures are memoized counts for so much
-pub each_most : {S : Type 0} {text : Ghosts S} (r : Request S text) (code : Code) (most counted window passed : ℕ)
-    → code ≡ code_of r → ((t : Tree) → Whole (words_of code) t → refers t ≡ false → most ≡ most_counts t)
-    → window ≤ end_of r → passed ≤ window → counted ≤ passed → counted ≤ most → (pl : Remembering r)
-    → 1 + counted / 8 ≤ each_of r pl
-each_most r code most counted window passed same tells inside short few less pl =
+-- what a step goes over while failures are memoized counts for so much, beside its scan
+pub each_most : {S : Type 0} {text : Ghosts S} (r : Request S text) (code : Code)
+    (longest scan window passed counted : ℕ) → code ≡ code_of r
+    → ((t : Tree) → Whole (words_of code) t → refers t ≡ false → longest ≡ longest_lookbehind t)
+    → window ≤ end_of r → passed ≤ window → counted ≤ passed / 8 → counted ≤ max (longest / 8) scan
+    → (pl : Remembering r) → 1 + counted ≤ each_of r pl + scan
+each_most r code longest scan window passed counted same tells inside short few less pl =
     let w : Whole (words_of (code_of r)) pl.plain.tree = whole_items (code_of r) pl.plain.tree pl.plain.whole in
-    let is : most ≡ most_counts pl.plain.tree =
+    let is : longest ≡ longest_lookbehind pl.plain.tree =
     tells pl.plain.tree (subst (λ k. Whole (words_of k) pl.plain.tree) (sym same) w) pl.plain.no_reference in
     omega (arith, is, inside, short, few, less)

@@ -28,9 +28,9 @@ use Rattle.sre_turns.specs.declared.Point.{Point}
 use Rattle.sre_turns.proofs.Faring.{run_code}
 use Rattle.sre_turns.proofs.HereMoves.{here_settled, here_forked}
 use Rattle.sre_turns.proofs.Straight.{StraightPoint, forks_never}
-use Rattle.sre_machine.specs.Turns.{RefersToGroups, ForksThere, NoEndTold, BringsNoTolls, RunsOnAt}
-use Rattle.sre_turns.proofs.GrantedTolls.{toll_few, split_few, no_toll}
-use Rattle.sre_turns.specs.Prices.{price_of, toll, split_toll}
+use Rattle.sre_machine.specs.Turns.{RefersToGroups, ForksThere, NoEndTold, BringsNoTolls, RunsOnAt, scan_at}
+use Rattle.sre_turns.proofs.GrantedTolls.{toll_few, split_few, no_toll, no_scan}
+use Rattle.sre_turns.specs.Prices.{price_of, toll, split_toll, scan_toll}
 use Rattle.sre_turns.proofs.Hopeless.{no_reference}
 use Rattle.sre_turns.proofs.Moving.{arrived_at, arrived_once}
 use Rattle.sre_turns.proofs.OpenMarks.{none_tried}
@@ -97,18 +97,19 @@ forking_place r (Instruction place) cursor b forks runs =
 forking_place r Again cursor b forks runs = again_place (run_of r) cursor b runs
 forking_place r point cursor b forks runs = absurd forks
 
--- a point brings no more than its bit pays for, but for a repeat without a greatest count
+-- a point with its scan brings no more than its bit pays for, but for a repeat without a greatest count
 few_tolls : (r : Run) (point : Point) (cursor : StringCursor) (b : BoardValue) (o : SreOpcode)
     → CodeAt r.words point o → (RunsOnAt r.words point → ⊥) → {os : List Way} {n : ℕ}
     → Runs r.words r.subject (spot point cursor b) os n
-    → toll r.words r.subject.end o point (repeats b.frames) ≤ toll_at r (spot point cursor b)
+    → toll r.words r.subject.end o point (repeats b.frames) + scan_toll r.words r.subject.end point
+    ≤ toll_at r (spot point cursor b)
 few_tolls r (Instruction place) cursor b o code counted runs =
     toll_few r.words r.subject.end place (repeats b.frames) o code counted runs
 few_tolls r point cursor b o code counted runs = omega arith
 
 -- nor does a repeat that is split
 few_split : (r : Run) (point : Point) (cursor : StringCursor) (b : BoardValue)
-    → split_toll r.words point ≤ toll_at r (spot point cursor b)
+    → split_toll r.words point + scan_toll r.words r.subject.end point ≤ toll_at r (spot point cursor b)
 few_split r (Instruction place) cursor b = split_few r.words r.subject.end place (repeats b.frames)
 few_split r point cursor b = omega arith
 
@@ -232,15 +233,15 @@ module _ {M S : Type 0} {text : Ghosts S} (r : Request S text) (point : Point) (
         held
 
     -- credits are granted, and the configuration's bit is taken in
-    pays_tried : (k : ℕ) → k ≤ toll_at (run_of r) here
+    pays_tried : (k : ℕ) → k + scan_at r point ≤ toll_at (run_of r) here
         → IsOpen m'.kept (run_of r).words (is_inside b.choices) here
-        → Pays M r m limit m' (with_tried there (raised k limit))
+        → Pays M r m limit m' (raised (scan_at r point) (with_tried there (raised k limit)))
     pays_tried k few opened = record { paid = λ pl keeps at n h. go pl keeps at n h m'.stopped refl }
       where
         go : (pl : Remembering r) → m.is_open ≡ true → limit.start ≡ start_of r → (n : ℕ) → Holding r pl m limit n
             → (stopped : Bool) → m'.stopped ≡ stopped
             → Refused M ⊎ ((n' : ℕ) × Holding r pl m' (with_tried there (raised k limit)) n' × (m'.is_open ≡ true)
-            × (limit.tolls + k + n ≤ limit.tolls + n'))
+            × (limit.tolls + k + scan_at r point + n ≤ limit.tolls + n'))
         go pl keeps at n h true e = inl (p.refused e)
         go pl keeps at n h false e =
             let held = holds pl at n h e in
@@ -263,13 +264,13 @@ module _ {M S : Type 0} {text : Ghosts S} (r : Request S text) (point : Point) (
 
   -- a configuration has a bit, so of one that has none no credits are left to be paid
   pays_untried : (k : ℕ) → (HasBit m'.kept (run_of r).words (is_inside b.choices) here → ⊥)
-      → Pays M r m limit m' (raised k limit)
+      → Pays M r m limit m' (raised (scan_at r point) (raised k limit))
   pays_untried k none = record { paid = λ pl keeps at n h. go pl at n h m'.stopped refl }
     where
       go : (pl : Remembering r) → limit.start ≡ start_of r → (n : ℕ) → Holding r pl m limit n
           → (stopped : Bool) → m'.stopped ≡ stopped
           → Refused M ⊎ ((n' : ℕ) × Holding r pl m' (raised k limit) n' × (m'.is_open ≡ true)
-          × (limit.tolls + k + n ≤ limit.tolls + n'))
+          × (limit.tolls + k + scan_at r point + n ≤ limit.tolls + n'))
       go pl at n h true e = inl (p.refused e)
       go pl at n h false e =
           absurd (none (has_bit pl at n h e (is_inside b.choices)))
@@ -287,7 +288,7 @@ module _ {M S : Type 0} {text : Ghosts S} (r : Request S text) (point : Point) (
   -- an instruction without a bit is executed, and no mark is made
   module _ (none : HasBit m'.kept (run_of r).words (is_inside b.choices) here → ⊥) where
     pub goes_untried : (more : Limit) × Grants limit more × Goes (run_of r) all more point cursor b
-        × ((RunsOnAt (run_of r).words point → ⊥) → Pays M r m limit m' more)
+        × ((RunsOnAt (run_of r).words point → ⊥) → Pays M r m limit m' (raised (scan_at r point) more))
     goes_untried = (
       raised own limit,
       record { turns = refl; taken = refl; granted = refl; start = refl },
@@ -297,7 +298,7 @@ module _ {M S : Type 0} {text : Ghosts S} (r : Request S text) (point : Point) (
 
     -- the same for a repeat that is split
     pub tries_untried : (more : Limit) × Grants limit more × Tries (run_of r) all more point cursor b
-        × Pays M r m limit m' more
+        × Pays M r m limit m' (raised (scan_at r point) more)
     tries_untried = (
       split,
       record { turns = refl; taken = refl; granted = refl; start = refl },
@@ -311,17 +312,17 @@ module _ {M S : Type 0} {text : Ghosts S} (r : Request S text) (point : Point) (
       (left : made ≡ false → c ≡ b) (none : made ≡ false → Refused M)
       (opened : IsOpen m'.kept (run_of r).words (is_inside b.choices) here) where
     -- so many are few, but for a repeat without a greatest count
-    few_units : (RunsOnAt (run_of r).words point → ⊥) → own ≤ toll_at (run_of r) here
+    few_units : (RunsOnAt (run_of r).words point → ⊥) → own + scan_at r point ≤ toll_at (run_of r) here
     few_units counted = few_tolls (run_of r) point cursor b code.0 code.1 counted x.runs
 
     -- so the instruction is executed, where its mark was made; it was not where an allocation failed
     pub goes_tried : (more : Limit) × Grants limit more × Goes (run_of r) all more point cursor c
-        × ((RunsOnAt (run_of r).words point → ⊥) → Pays M r m limit m' more)
+        × ((RunsOnAt (run_of r).words point → ⊥) → Pays M r m limit m' (raised (scan_at r point) more))
     goes_tried = go made refl
       where
         go : (told : Bool) → made ≡ told → (more : Limit) × Grants limit more
             × Goes (run_of r) all more point cursor c
-            × ((RunsOnAt (run_of r).words point → ⊥) → Pays M r m limit m' more)
+            × ((RunsOnAt (run_of r).words point → ⊥) → Pays M r m limit m' (raised (scan_at r point) more))
         go true e = (
           with_tried there (raised own limit),
           record { turns = refl; taken = refl; granted = refl; start = refl },
@@ -334,16 +335,16 @@ module _ {M S : Type 0} {text : Ghosts S} (r : Request S text) (point : Point) (
           record { turns = refl; taken = refl; granted = refl; start = refl },
           subst (λ z. Goes (run_of r) all (raised own limit) point cursor z) (sym (left e))
               (arrived_at code.0 code.1 x),
-          λ counted. pays_refused r m m' limit (raised own limit) (none e),
+          λ counted. pays_refused r m m' limit (raised (scan_at r point) (raised own limit)) (none e),
         )
 
     -- the same for a repeat that is split
     pub tries_tried : (more : Limit) × Grants limit more × Tries (run_of r) all more point cursor c
-        × Pays M r m limit m' more
+        × Pays M r m limit m' (raised (scan_at r point) more)
     tries_tried = go made refl
       where
         go : (told : Bool) → made ≡ told → (more : Limit) × Grants limit more
-            × Tries (run_of r) all more point cursor c × Pays M r m limit m' more
+            × Tries (run_of r) all more point cursor c × Pays M r m limit m' (raised (scan_at r point) more)
         go true e = (
           with_tried there split,
           record { turns = refl; taken = refl; granted = refl; start = refl },
@@ -354,7 +355,7 @@ module _ {M S : Type 0} {text : Ghosts S} (r : Request S text) (point : Point) (
           split,
           record { turns = refl; taken = refl; granted = refl; start = refl },
           subst (λ z. Tries (run_of r) all split point cursor z) (sym (left e)) (arrived_once x),
-          pays_refused r m m' limit split (none e),
+          pays_refused r m m' limit (raised (scan_at r point) split) (none e),
         )
 
 module _ {S : Type 0} {text : Ghosts S} (r : Request S text) (point : Point) (cursor : StringCursor) (b : BoardValue)
@@ -363,30 +364,33 @@ module _ {S : Type 0} {text : Ghosts S} (r : Request S text) (point : Point) (cu
   -- an instruction is executed, where it brings no credits
   pub goes_freely : {M : Type 0} → BringsNoTolls r point
       → (more : Limit) × Grants limit more × Goes (run_of r) all more point cursor b
-      × ((RunsOnAt (run_of r).words point → ⊥) → Pays M r m limit m more)
+      × ((RunsOnAt (run_of r).words point → ⊥) → Pays M r m limit m (raised (scan_at r point) more))
   goes_freely free =
       let code = run_code (run_of r) (spot point cursor b) x.runs in
       let k : ℕ = toll (run_of r).words (run_of r).subject.end code.0 point (repeats b.frames) in
       let none : k ≡ 0 = no_toll (run_of r).words (run_of r).subject.end code.0 point (repeats b.frames)
+      (free code.0 code.1) in
+      let free_scan : scan_at r point ≡ 0 = no_scan (run_of r).words (run_of r).subject.end code.0 point code.1
       (free code.0 code.1) in (
         raised k limit,
         record { turns = refl; taken = refl; granted = refl; start = refl },
         arrived_at code.0 code.1 x,
         λ counted.
-            pays_nothing r m m limit (raised k limit) refl (refl, refl, refl) (λ h. h) refl (omega (arith, none)),
+            pays_nothing r m m limit (raised (scan_at r point) (raised k limit)) refl (refl, refl, refl) (λ h. h) refl
+            (omega (arith, none, free_scan)),
       )
 
   -- and where failures are not memoized
   pub goes_forgetting : {M : Type 0} → (m.is_open ≡ true → HasReference (run_of r).words)
       → (more : Limit) × Grants limit more × Goes (run_of r) all more point cursor b
-      × ((RunsOnAt (run_of r).words point → ⊥) → Pays M r m limit m' more)
+      × ((RunsOnAt (run_of r).words point → ⊥) → Pays M r m limit m' (raised (scan_at r point) more))
   goes_forgetting left =
       let code = run_code (run_of r) (spot point cursor b) x.runs in
       let k : ℕ = toll (run_of r).words (run_of r).subject.end code.0 point (repeats b.frames) in (
         raised k limit,
         record { turns = refl; taken = refl; granted = refl; start = refl },
         arrived_at code.0 code.1 x,
-        λ counted. pays_left r m m' limit (raised k limit) left,
+        λ counted. pays_left r m m' limit (raised (scan_at r point) (raised k limit)) left,
       )
 
 -- where words have a reference nothing is paid: an instruction is executed, whether its mark was made or not
@@ -399,12 +403,12 @@ module _ {S : Type 0} {text : Ghosts S} (r : Request S text) (point : Point) (cu
   parted = raised (split_toll (run_of r).words point) limit
 
   pub goes_marked : {M : Type 0} → (more : Limit) × Grants limit more × Goes (run_of r) all more point cursor c
-      × ((RunsOnAt (run_of r).words point → ⊥) → Pays M r m limit m' more)
+      × ((RunsOnAt (run_of r).words point → ⊥) → Pays M r m limit m' (raised (scan_at r point) more))
   goes_marked {M} = go made refl
     where
       go : (told : Bool) → made ≡ told → (more : Limit) × Grants limit more
           × Goes (run_of r) all more point cursor c
-          × ((RunsOnAt (run_of r).words point → ⊥) → Pays M r m limit m' more)
+          × ((RunsOnAt (run_of r).words point → ⊥) → Pays M r m limit m' (raised (scan_at r point) more))
       go true e =
           let code = run_code (run_of r) (spot point cursor b) x.runs in
           let k : ℕ = toll (run_of r).words (run_of r).subject.end code.0 point (repeats b.frames) in (
@@ -413,7 +417,8 @@ module _ {S : Type 0} {text : Ghosts S} (r : Request S text) (point : Point) (cu
             trying_goes (run_of r) point cursor b c (marked e) all (raised k limit)
                 (arrived_at code.0 code.1 x),
             λ counted.
-                pays_left r m m' limit (with_tried (attempt b.choices (spot point cursor b)) (raised k limit))
+                pays_left r m m' limit
+                (raised (scan_at r point) (with_tried (attempt b.choices (spot point cursor b)) (raised k limit)))
                 (λ _. has),
           )
       go false e =
@@ -423,25 +428,26 @@ module _ {S : Type 0} {text : Ghosts S} (r : Request S text) (point : Point) (cu
             record { turns = refl; taken = refl; granted = refl; start = refl },
             subst (λ z. Goes (run_of r) all (raised k limit) point cursor z) (sym (left e))
                 (arrived_at code.0 code.1 x),
-            λ counted. pays_left r m m' limit (raised k limit) (λ _. has),
+            λ counted. pays_left r m m' limit (raised (scan_at r point) (raised k limit)) (λ _. has),
           )
 
   -- the same for a repeat that is split
   pub tries_marked : {M : Type 0} → (more : Limit) × Grants limit more × Tries (run_of r) all more point cursor c
-      × Pays M r m limit m' more
+      × Pays M r m limit m' (raised (scan_at r point) more)
   tries_marked {M} = go made refl
     where
       go : (told : Bool) → made ≡ told → (more : Limit) × Grants limit more
-          × Tries (run_of r) all more point cursor c × Pays M r m limit m' more
+          × Tries (run_of r) all more point cursor c × Pays M r m limit m' (raised (scan_at r point) more)
       go true e = (
         with_tried (attempt b.choices (spot point cursor b)) parted,
         record { turns = refl; taken = refl; granted = refl; start = refl },
         trying_tries (run_of r) point cursor b c (marked e) all parted (arrived_once x),
-        pays_left r m m' limit (with_tried (attempt b.choices (spot point cursor b)) parted) (λ _. has),
+        pays_left r m m' limit
+            (raised (scan_at r point) (with_tried (attempt b.choices (spot point cursor b)) parted)) (λ _. has),
       )
       go false e = (
         parted,
         record { turns = refl; taken = refl; granted = refl; start = refl },
         subst (λ z. Tries (run_of r) all parted point cursor z) (sym (left e)) (arrived_once x),
-        pays_left r m m' limit parted (λ _. has),
+        pays_left r m m' limit (raised (scan_at r point) parted) (λ _. has),
       )

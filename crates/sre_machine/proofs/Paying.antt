@@ -1,10 +1,10 @@
 -- Credits that are paid one after the other.
-use Rattle.std.proofs.Common.{◌≡◌, ℕ, inl, inr, true, List, refl, sym, ◌∙◌, subst, arith}
+use Rattle.std.proofs.Common.{◌≡◌, ℕ, ◌+◌, ◌≤◌, inl, inr, true, List, refl, sym, ◌∙◌, subst, arith}
 use Rattle.std.specs.List.{AllByRecursion}
 use Rattle.sre_chars.specs.declared.string.StrDrive.{Ghosts}
 use Rattle.sre_growth.specs.Refusal.{Refused}
 use Rattle.sre_model.specs.Regions.{has_forked_region}
-use Rattle.sre_turns.specs.Limits.{Limit, Grants}
+use Rattle.sre_turns.specs.Limits.{Limit, Grants, raised}
 use Rattle.sre_turns.specs.Attempts.{Attempt}
 use Rattle.sre_turns.specs.MovesAtReferences.{HasReference}
 use Rattle.sre_turns.proofs.Hopeless.{no_reference}
@@ -52,6 +52,34 @@ module _ {S : Type 0} {text : Ghosts S} (r : Request S text) where
         | inl refused ↦ inl refused
         | inr y ↦ inr (y.0, y.1, y.2, omega (arith, x.3, y.3))
       ]
+    ];
+  }
+
+  -- the same, where the first of them raised what is paid
+  pub pays_raised : {M : Type 0} (k : ℕ) (m m' m'' : MemoValue) (l l' l'' : Limit) → l.start ≡ l'.start
+      → Pays M r m l m' (raised k l') → Pays M r m' l' m'' l'' → Pays M r m l m'' (raised k l'')
+  pays_raised k m m' m'' l l' l'' start first second = record {
+    paid = λ pl keeps at n h. elim (first.paid pl keeps at n h) [
+      | inl refused ↦ inl refused
+      | inr x ↦ elim (second.paid pl x.2 (sym start ∙ at) x.0 x.1) [
+        | inl refused ↦ inl refused
+        | inr y ↦ inr (y.0, y.1, y.2, omega (arith, x.3, y.3))
+      ]
+    ];
+  }
+
+  -- what is paid pays for less
+  pub pays_less : {M : Type 0} (m m' : MemoValue) (l l' l'' : Limit) → l''.trying ≡ l'.trying → l''.tolls ≤ l'.tolls
+      → Pays M r m l m' l' → Pays M r m l m' l''
+  pays_less m m' l l' l'' trying less paid = record {
+    paid = λ pl keeps at n h. elim (paid.paid pl keeps at n h) [
+      | inl refused ↦ inl refused
+      | inr x ↦ inr (
+        x.0,
+        held pl m' m' l'.trying l''.trying x.0 refl (refl, refl, refl) trying x.1,
+        x.2,
+        omega (arith, x.3, less),
+      )
     ];
   }
 

@@ -9,11 +9,11 @@ use Rattle.sre_chars.specs.declared.string.StrDrive.{Ghosts}
 use Rattle.sre_chars.specs.declared.string.StringCursor.{StringCursor}
 use Rattle.sre_growth.specs.Refusal.{Refused}
 use Rattle.sre_model.specs.Runs.{Run}
-use Rattle.sre_turns.specs.Limits.{Limit}
+use Rattle.sre_turns.specs.Limits.{Limit, raised}
 use Rattle.sre_model.specs.TreePrices.{most_steps}
 use Rattle.sre_turns.specs.Settled.{Counted}
 use Rattle.sre_model.specs.Ways.{Way}
-use Rattle.sre_model.specs.RunCounts.{most_counts}
+use Rattle.sre_model.specs.LooksBehind.{longest_lookbehind}
 use Rattle.sre_model.specs.MarksSet.{marks_in_regions}
 use Rattle.sre_model.specs.Regions.{has_forked_region}
 use Rattle.sre_turns.specs.Board.{BoardValue}
@@ -60,9 +60,9 @@ abbrev pub Holding : {S : Type 0} {text : Ghosts S} (r : Request S text) → Rem
     → Type 0
 Holding r pl m l n = Holds r pl m l.trying n
 
--- for how many a step counts at most while failures are memoized
+-- for how many a step counts at most while failures are memoized, beside what its scan is charged
 abbrev pub each_of : {S : Type 0} {text : Ghosts S} (r : Request S text) → Remembering r → ℕ
-each_of r pl = 1 + min (most_counts pl.plain.tree) (end_of r) / 8
+each_of r pl = 1 + min (longest_lookbehind pl.plain.tree) (end_of r) / 8
 
 -- from one memo and limit to another the credits are paid, if failures were memoized and no allocation failed meanwhile
 pub record Pays (M : Type 0) {S : Type 0} {text : Ghosts S} (r : Request S text) (m : MemoValue) (l : Limit)
@@ -83,19 +83,21 @@ HoldsTried r x k k' =
     → Account (run_of r) pl.plain (rows_from r pl) k es (x ∷ xs) n
     → Account (run_of r) pl.plain (rows_from r pl) k' es xs n
 
--- from where some steps began the machine has come here, by so many more of them, and all credits are paid
+-- from where some steps began the machine has come here, by so many more of them, and all credits are paid, with what
+-- their scans are charged
 pub record Follows (M : Type 0) {S : Type 0} {text : Ghosts S} (r : Request S text) (all : List Way) (first next : Next)
-    (b b' : BoardValue) (m m' : MemoValue) (before turned : ℕ) : Type 0 where
+    (b b' : BoardValue) (m m' : MemoValue) (before turned scans : ℕ) : Type 0 where
   pub each : (limit : Limit) → Stands (run_of r) all limit first b
       → (more : Limit) × Stands (run_of r) all more next b' × (limit.granted ≡ more.granted)
-      × (limit.start ≡ more.start) × (more.taken + before ≡ limit.taken + turned) × Pays M r m limit m' more
+      × (limit.start ≡ more.start) × (more.taken + before ≡ limit.taken + turned)
+      × Pays M r m limit m' (raised scans more)
 
--- while failures are memoized each step counts for so much; if they are not any more, an allocation failed
+-- while failures are memoized each step counts for so much, and scans are charged, of which the last is still pending;
+-- if they are not memoized any more, an allocation failed
 pub record Counts (M : Type 0) {S : Type 0} {text : Ghosts S} (r : Request S text) (m m' : MemoValue)
-    (left left' turned : ℕ) :
-    Type 0 where
-  pub spent : m.is_open ≡ true
-      → Refused M ⊎ ((m'.is_open ≡ true) × ((pl : Remembering r) → left ≤ left' + turned * each_of r pl))
+    (left left' turned scans pending : ℕ) : Type 0 where
+  pub spent : m.is_open ≡ true → Refused M ⊎ ((m'.is_open ≡ true)
+      × ((pl : Remembering r) → left + pending ≤ left' + turned * each_of r pl + scans))
 
 -- failures were not memoized, and each step that was taken was waited for
 pub record Waited (m m' : MemoValue) (left left' : ℕ) : Type 0 where

@@ -23,7 +23,8 @@ use Rattle.sre_turns.specs.BodyEnds.{EndsAt}
 use Rattle.sre_turns.specs.Machine.{Ends, spot}
 use Rattle.sre_turns.specs.Machine.{Refuses, DemandsAny, Continues, SkipsBoth, IsRead}
 use Rattle.sre_turns.specs.RunEnds.{RunsOn}
-use Rattle.sre_turns.specs.Limits.{Limit, Grants, CodeAt, has_toll}
+use Rattle.sre_turns.specs.Limits.{Limit, Grants, CodeAt, has_toll, raised}
+use Rattle.sre_turns.specs.Prices.{scan_toll}
 use Rattle.sre_turns.specs.declared.Next.TheVariants as next
 use Rattle.sre_turns.specs.declared.Next.{Next}
 use Rattle.sre_turns.specs.declared.Point.{Point}
@@ -106,13 +107,17 @@ Turn r place cursor b next c = TurnAt r (Instruction place) cursor b next c
 abbrev pub Proceeds : Run → List Way → Limit → Next → BoardValue → (Limit → Type 0) → Type 0
 Proceeds r all limit next c Paid = (more : Limit) × Grants limit more × Later r all more next c × Paid more
 
--- the step of a point that was just come to
-abbrev pub Takes : Type 0 → {S : Type 0} {text : Ghosts S} → Request S text → Point → StringCursor → BoardValue
+-- what the scan of a point is charged at most
+abbrev pub scan_at : {S : Type 0} {text : Ghosts S} → Request S text → Point → ℕ
+scan_at r point = scan_toll (run_of r).words (run_of r).subject.end point
+
+-- the step of a point that was just come to, with what its scan is charged
+abbrev pub Takes : Type 0 → ℕ → {S : Type 0} {text : Ghosts S} → Request S text → Point → StringCursor → BoardValue
     → MemoValue
     → Next → BoardValue → MemoValue → Type 0
-Takes M r point cursor b m next c m' =
+Takes M scan r point cursor b m next c m' =
     (all : List Way) (limit : Limit) → Arrives (run_of r) all limit point cursor b
-    → Proceeds (run_of r) all limit next c (λ more. Pays M r m limit m' more)
+    → Proceeds (run_of r) all limit next c (λ more. Pays M r m limit m' (raised scan more))
 
 -- the same where the machine backtracks, and keeps what failed or does not
 abbrev pub Retreats : Type 0 → {S : Type 0} {text : Ghosts S} → Request S text → Bool → BoardValue → MemoValue → Next
@@ -143,23 +148,23 @@ abbrev pub RunsOnAt : List ℕ → Point → Type 0
 RunsOnAt ws (Instruction i) = RunsOn ws i
 RunsOnAt ws pt = ⊥
 
--- it is executed, which is paid where it is no repeat without a greatest count
+-- it is executed, which is paid with its scan where it is no repeat without a greatest count
 abbrev pub GoesOn : Type 0 → {S : Type 0} {text : Ghosts S} → Request S text → Point → StringCursor → BoardValue
     → MemoValue
     → BoardValue → MemoValue → Type 0
 GoesOn M r point cursor b m c m' =
     (all : List Way) (limit : Limit) → Arrives (run_of r) all limit point cursor b
     → (more : Limit) × Grants limit more × Goes (run_of r) all more point cursor c
-    × ((RunsOnAt (run_of r).words point → ⊥) → Pays M r m limit m' more)
+    × ((RunsOnAt (run_of r).words point → ⊥) → Pays M r m limit m' (raised (scan_at r point) more))
 
--- the credits of a repeat that is split are granted for it
+-- the credits of a repeat that is split are granted for it, and paid with its scan
 abbrev pub TriesOn : Type 0 → {S : Type 0} {text : Ghosts S} → Request S text → Point → StringCursor → BoardValue
     → MemoValue
     → BoardValue → MemoValue → Type 0
 TriesOn M r point cursor b m c m' =
     (all : List Way) (limit : Limit) → Arrives (run_of r) all limit point cursor b
     → (more : Limit) × Grants limit more × Tries (run_of r) all more point cursor c
-    × Pays M r m limit m' more
+    × Pays M r m limit m' (raised (scan_at r point) more)
 
 -- the step of an instruction to which the credits of a repeat that is split were granted
 abbrev pub TurnOnce : {S : Type 0} {text : Ghosts S} → Request S text → ℕ → StringCursor → BoardValue → Next

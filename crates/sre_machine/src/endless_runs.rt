@@ -235,8 +235,9 @@ fn later_start<S: StrDrive>(
     Some(after)
 }
 
-/// The longer counts of a repeat that were saved before the memo opened: the next of them, and the same repeat from
-/// later on for the others. So these are looked up and tried as those of any repeat.
+/// The longer counts of a repeat that were saved. If they were saved before the memo opened, and the repeat has no
+/// greatest count: the next of them, and the same repeat from later on for the others. So these are looked up and tried
+/// as those of any repeat. All others are tried in brief steps, so that no step costs more than one.
 #[inline(never)]
 pub(super) fn later_run<S: StrDrive, A: Allocator>(
     req: &Request<'_, S>,
@@ -251,10 +252,10 @@ pub(super) fn later_run<S: StrDrive, A: Allocator>(
     let operands = run_operands(req, place);
     let least = operands.least;
     if least > 1 {
-        return longer(req, board, place, count, start);
+        return longer::<S, A, true>(req, board, place, count, start);
     }
     if !goes_on_lazily(req, place) {
-        return longer(req, board, place, count, start);
+        return longer::<S, A, true>(req, board, place, count, start);
     }
     let test = one_character::opcode(req, place + 4);
     let Some(end) = one_longer(req, place, operands, test, count, start) else {

@@ -75,10 +75,11 @@ struct Reach {
     end: Option<StringCursor>,
 }
 
-// The first of the longer counts after which the tail may match, if there is one. It is out of line, so that its loop
-// has the registers to itself.
+// The first of the longer counts after which the tail may match, if there is one. If BRIEF is set, a scan ends after 63
+// characters, at a count after which the tail may fail. It is out of line, so that its loop has the registers to
+// itself.
 #[inline(never)]
-fn first_longer<S: StrDrive>(
+fn first_longer<S: StrDrive, const BRIEF: bool>(
     req: &Request<'_, S>,
     place: usize,
     tail: usize,
@@ -110,6 +111,12 @@ fn first_longer<S: StrDrive>(
                 end: Some(cursor),
             };
         }
+        if BRIEF && count.saturating_sub(least) >= 63 {
+            return Reach {
+                count,
+                end: Some(cursor),
+            };
+        }
         let Some(after) = one_longer(req, place, operands, opcode, count, cursor) else {
             return Reach { count, end: None };
         };
@@ -118,9 +125,10 @@ fn first_longer<S: StrDrive>(
     }
 }
 
-/// The longer counts of a repeat, after so many characters, each followed by the tail.
+/// The longer counts of a repeat, after so many characters, each followed by the tail. If BRIEF is set, the step scans
+/// less than 64 characters, for which nothing is charged.
 #[inline(always)]
-pub(super) fn longer<S: StrDrive, A: Allocator>(
+pub(super) fn longer<S: StrDrive, A: Allocator, const BRIEF: bool>(
     req: &Request<'_, S>,
     board: &mut Board<A>,
     place: usize,
@@ -131,7 +139,7 @@ pub(super) fn longer<S: StrDrive, A: Allocator>(
     ensures { IfOk result (λ next. TurnAt req.now (Longer place count) start board.old next board.new) }
 {
     let tail = run_operands(req, place).tail;
-    let reach = first_longer(req, place, tail, count, start);
+    let reach = first_longer::<S, BRIEF>(req, place, tail, count, start);
     board.pass(reach.count.saturating_sub(count));
     let Some(end) = reach.end else {
         return Ok(Next::Back);
@@ -164,7 +172,7 @@ pub(super) fn min_repeat_one<S: StrDrive, A: Allocator>(
         return Ok(Next::Back);
     }
     if refuses(req, tail, run.end) {
-        return Ok(longer(req, board, place, least, run.end)?);
+        return Ok(longer::<S, A, false>(req, board, place, least, run.end)?);
     }
     Ok(choose(req, board, tail, Point::Longer(place, least), run.end)?)
 }

@@ -269,7 +269,7 @@ fn longer_saved<S: StrDrive, A: Allocator, const KEEPS: bool>(
     if KEEPS && memo.is_open() {
         return later_run(req, board, place, count, start);
     }
-    longer(req, board, place, count, start)
+    longer::<S, A, false>(req, board, place, count, start)
 }
 
 /// Continues with the newest choice, if there is one. Markers of tried instructions are popped: these failed, which is

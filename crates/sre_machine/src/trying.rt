@@ -24,6 +24,7 @@ use crate::endless_runs::{endless_run, is_better_at_once, is_endless_run};
 use crate::machine::{instruction, opcode};
 use crate::memo::Memo;
 use crate::possessive_loops::again;
+use crate::run_operands::scan_price;
 use sre_board::{Board, Known};
 use sre_chars::constants::SreOpcode;
 use sre_chars::string::{StrDrive, StringCursor};
@@ -400,7 +401,7 @@ fn goes_on_endlessly<S: StrDrive, A: Allocator, const LIMITED: bool>(
 }
 
 /// One instruction. The machine backtracks at once if it is known to fail, and ends the scope at once if its end is
-/// known.
+/// known. `scan` is set to the price of its scan, if the instruction is executed with a step limit.
 #[tactic(auto, using(sre_turns::proofs::Moving::on_board))]
 #[inline(always)]
 pub(super) fn instruction_or_back<S: StrDrive, A: Allocator, const LIMITED: bool>(
@@ -409,15 +410,17 @@ pub(super) fn instruction_or_back<S: StrDrive, A: Allocator, const LIMITED: bool
     memo: &mut Memo<A>,
     place: usize,
     cursor: StringCursor,
+    scan: &mut u64,
 ) -> Result<Next, Refusal<A>>
     requires stands { AtOnBoard req.now (Instruction place) cursor board.old }
     requires remembers { RecallsOf req.now memo.old }
     ensures turn { IfOk result (λ next.
-        Takes A req.now (Instruction place) cursor board.old memo.old next board.new memo.new) }
+        Takes A scan.new req.now (Instruction place) cursor board.old memo.old next board.new memo.new) }
     ensures remembers { RecallsOf req.now memo.new }
     ensures closed { memo.old.is_open ≡ false → memo.new ≡ memo.old }
     ensures still { memo.old.is_open ≡ true → memo.new.is_open ≡ true ⊎ Refused A }
 {
+    *scan = 0;
     let point = Point::Instruction(place);
     let keeping = keeping_at(req, board, memo, point, cursor);
     if let Some(end) = known_end(req, board, memo, keeping, point, cursor) {
@@ -425,6 +428,9 @@ pub(super) fn instruction_or_back<S: StrDrive, A: Allocator, const LIMITED: bool
     }
     if is_hopeless(req, board, memo, keeping, point, cursor) {
         return Ok(Next::Back);
+    }
+    if LIMITED && memo.is_open() {
+        *scan = scan_price(req, place, cursor);
     }
     if goes_on_endlessly::<S, A, LIMITED>(req, board, memo, keeping, place, cursor) {
         return endless_run(req, board, place, cursor);
@@ -444,7 +450,7 @@ pub(super) fn again_or_back<S: StrDrive, A: Allocator>(
 ) -> Result<Next, Refusal<A>>
     requires stands { AtOnBoard req.now Again cursor board.old }
     requires remembers { RecallsOf req.now memo.old }
-    ensures turn { IfOk result (λ next. Takes A req.now Again cursor board.old memo.old next board.new memo.new) }
+    ensures turn { IfOk result (λ next. Takes A 0 req.now Again cursor board.old memo.old next board.new memo.new) }
     ensures remembers { RecallsOf req.now memo.new }
     ensures closed { memo.old.is_open ≡ false → memo.new ≡ memo.old }
     ensures still { memo.old.is_open ≡ true → memo.new.is_open ≡ true ⊎ Refused A }

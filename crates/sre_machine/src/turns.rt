@@ -127,29 +127,31 @@ pub(crate) enum Decision {
 }
 
 // The cost of the next step: 1, plus 1 for each 8 characters of the long stretches that the step before scanned. These
-// count at most as many characters as the range has. With an open memo they also count at most `most_counts`, since a
-// step then scans no more than a repeat counts or a lookbehind goes back. Without a limit the cost is 0.
+// count at most as many characters as the range has. With an open memo they also count at most those of the longest
+// lookbehind, or `scan`, the price of the scan of the repeat that was executed: the step scanned no more. Without a
+// limit the cost is 0.
 #[inline(always)]
 fn turns_due<S: StrDrive, A: Allocator, const LIMITED: bool>(
     req: &Request<'_, S>,
     board: &mut Board<A>,
     memo: &Memo<A>,
+    scan: u64,
 ) -> u64
     ensures board { board.new ≡ board.old }
     ensures least { LIMITED ≡ true → 1 ≤ result }
     ensures most { result ≤ most_each (asked_of req.now) }
-    ensures each { memo.now.is_open ≡ true → (pl : Remembering req.now) → result ≤ each_of req.now pl }
+    ensures each { memo.now.is_open ≡ true → (pl : Remembering req.now) → result ≤ each_of req.now pl + scan }
 {
     if !LIMITED {
         return 0;
     }
     let window = req.end().saturating_sub(req.start());
-    let passed = board.take_passed().min(window);
+    let passed = board.take_passed().min(window) as u64 / 8;
     if memo.is_open() {
-        let counted = passed.min(req.pattern_codes().most_counts() as usize);
-        return 1 + counted as u64 / 8;
+        let longest = req.pattern_codes().longest_lookbehind() as u64 / 8;
+        return 1 + passed.min(longest.max(scan));
     }
-    1 + passed as u64 / 8
+    1 + passed
 }
 
 // Charges a cost to the limit. Returns whether so many steps were left. Without a limit it charges nothing.
@@ -224,8 +226,10 @@ fn remembering_turns<L: Ledger, K: Plan, S: StrDrive, A: Allocator, const LIMITE
 {
     let waits = may_wait::<A, LIMITED>(memo);
     let mut next = first;
+    let mut scan = 0;
     'turn: loop {
-        let turns = turns_due::<S, A, LIMITED>(req, board, memo);
+        let turns = turns_due::<S, A, LIMITED>(req, board, memo, scan);
+        scan = 0;
         if !waits_on(memo, waits, turns) {
             return Ok(Decision::Opened);
         }
@@ -235,7 +239,9 @@ fn remembering_turns<L: Ledger, K: Plan, S: StrDrive, A: Allocator, const LIMITE
         turned.tick();
         match next {
             Next::At(place, cursor) => {
-                next = instruction_or_back::<S, A, LIMITED>(req, board, memo, place, cursor)?;
+                next = instruction_or_back::<S, A, LIMITED>(
+                    req, board, memo, place, cursor, &mut scan,
+                )?;
             }
             Next::Again(cursor) => next = again_or_back(req, board, memo, cursor)?,
             Next::Back => match back::<S, A, true>(req, board, memo)? {

@@ -6,9 +6,9 @@ use Rattle.sre_model.specs.Tree.{Atomic, Look, Reference, Exists, ExistsElse, Tr
 use Rattle.sre_model.specs.Tree.{PossessiveRun}
 use Rattle.sre_model.specs.Ways.{unlimited}
 use Rattle.sre_model.specs.Found.{Asked}
-use Rattle.sre_model.specs.Slots.{loop_slots, most_slots}
-use Rattle.sre_model.specs.TreePrices.{steps_of, other_ends, cost_of, item_cost, branch_cost, most_steps}
-use Rattle.sre_model.specs.Remembered.{kept_positions, words_at_place, IsRemembered, counts_at_most, sides, step_bound}
+use Rattle.sre_model.specs.Slots.{counted_to, loop_slots, most_slots}
+use Rattle.sre_model.specs.TreePrices.{steps_of, other_ends, scan_price, cost_of, item_cost, branch_cost, most_steps}
+use Rattle.sre_model.specs.Remembered.{kept_positions, words_at_place, IsRemembered, looks_at_most, sides, step_bound}
 
 -- one window lies inside another
 pub record IsInside (a b : Asked) : Type 0 where
@@ -25,6 +25,14 @@ module _ (e f : ℕ) (wider : e ≤ f) where
       by true = omega arith
       by false = omega (arith, wider)
 
+  scan_grows : (low high : ℕ) → scan_price e low high ≤ scan_price f low high
+  scan_grows low high =
+      let few : min (counted_to low high) e ≤ min (counted_to low high) f = omega (arith, wider) in omega (arith, few)
+
+  run_grows : (low high b : ℕ) → (1 + other_ends e low high) * (b + 2) + scan_price e low high
+      ≤ (1 + other_ends f low high) * (b + 2) + scan_price f low high
+  run_grows low high b = omega (arith, mul-le-mul_right (b + 2) (ends_grow low high), scan_grows low high)
+
   mutual
     pub cost_grows : (s : ℕ) (t : Tree) (b : ℕ) → cost_of e s t b ≤ cost_of f s t b
     cost_grows s Empty b = omega arith
@@ -37,9 +45,9 @@ module _ (e f : ℕ) (wider : e ≤ f) where
     item_grows s (Mark n) b = omega arith
     item_grows s (Branch ts) b = omega (arith, branch_grows s ts b)
     item_grows s (Loop o low high body) b = omega (arith, cost_grows (loop_slots low high * s) body 1)
-    item_grows s (Run GreedyRun low high t) b = mul-le-mul_left s (mul-le-mul_right (b + 2) (ends_grow low high))
-    item_grows s (Run LazyRun low high t) b = mul-le-mul_left s (mul-le-mul_right (b + 2) (ends_grow low high))
-    item_grows s (Run PossessiveRun low high t) b = omega arith
+    item_grows s (Run GreedyRun low high t) b = mul-le-mul_left s (run_grows low high b)
+    item_grows s (Run LazyRun low high t) b = mul-le-mul_left s (run_grows low high b)
+    item_grows s (Run PossessiveRun low high t) b = mul-le-mul_left s (omega (arith, scan_grows low high))
     item_grows s (PossessiveLoop low high body) b = omega (arith, cost_grows 1 body 2)
     item_grows s (Atomic body) b = cost_grows 1 body 2
     item_grows s (Look sign back body) b = cost_grows 1 body 2
@@ -62,8 +70,8 @@ module _ (places : ℕ) (t : Tree) (a b : Asked) (inside : IsInside a b) where
       mul-le-mul_left (most_slots t * 2) positions in
       omega arith
 
-  counts : counts_at_most t a ≤ counts_at_most t b
-  counts = omega arith
+  looks : looks_at_most t a ≤ looks_at_most t b
+  looks = omega arith
 
   pub remembered_inside : IsRemembered places t b → IsRemembered places t a
   remembered_inside r = record {
@@ -85,7 +93,7 @@ module _ (t : Tree) (a b : Asked) (inside : IsInside a b) where
   bound_inside =
       let costs : cost_of a.end 1 t 2 * sides t ≤ cost_of b.end 1 t 2 * sides t =
       mul-le-mul_right (sides t) (cost_grows a.end b.end inside.to 1 t 2) in
-      let long : counts_at_most t a / 8 ≤ counts_at_most t b / 8 = omega (arith, counts 0 t a b inside) in
-      let each : at_position a * (1 + counts_at_most t a / 8) ≤ at_position b * (1 + counts_at_most t b / 8) =
+      let long : looks_at_most t a / 8 ≤ looks_at_most t b / 8 = omega (arith, looks 0 t a b inside) in
+      let each : at_position a * (1 + looks_at_most t a / 8) ≤ at_position b * (1 + looks_at_most t b / 8) =
       mul-le-mul (omega (arith, costs)) (omega (arith, long)) in
       mul-le-mul (positions 0 t a b inside) (omega (arith, each))

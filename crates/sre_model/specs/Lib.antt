@@ -19,7 +19,6 @@ pub mod References
 pub mod Regions
 pub mod MarksSet
 pub mod Slots
-pub mod RunCounts
 pub mod LooksBehind
 pub mod TreePrices
 pub mod Nesting

@@ -1,6 +1,6 @@
--- How far the lookbehinds of a tree reach back together.
+-- How far the lookbehinds of a tree reach back: together, and the longest of them.
 -- Of the specification: what sre_engine makes public rests on it.
-use Rattle.std.specs.Prelude.{ℕ, ◌+◌}
+use Rattle.std.specs.Prelude.{ℕ, ◌+◌, max}
 use Rattle.sre_model.specs.Tree.{Tree, Item, Look}
 use Rattle.sre_model.specs.Folding.{Folding, of_tree}
 
@@ -15,3 +15,15 @@ by_backs = record { nothing = 0; both = ◌+◌; item = backs_here }
 -- how far all looks of a tree go back together: from where it begins it is never looked further back
 abbrev pub backs : Tree → ℕ
 backs = of_tree by_backs
+
+-- how far each look goes back
+abbrev pub by_longest : Folding ℕ
+by_longest = record { nothing = 0; both = max; item = longest_here }
+  where
+    longest_here : Item → ℕ → ℕ
+    longest_here (Look sign back body) inside = max back inside
+    longest_here x inside = inside
+
+-- the greatest number of characters that a look of a tree goes back
+abbrev pub longest_lookbehind : Tree → ℕ
+longest_lookbehind = of_tree by_longest

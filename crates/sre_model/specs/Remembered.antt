@@ -7,8 +7,7 @@ use Rattle.sre_model.specs.References.{refers}
 use Rattle.sre_model.specs.Regions.{has_forked_region}
 use Rattle.sre_model.specs.MarksSet.{marks_in_regions}
 use Rattle.sre_model.specs.Slots.{most_slots}
-use Rattle.sre_model.specs.RunCounts.{most_counts}
-use Rattle.sre_model.specs.LooksBehind.{backs}
+use Rattle.sre_model.specs.LooksBehind.{backs, longest_lookbehind}
 use Rattle.sre_model.specs.TreePrices.{most_steps, cost_of}
 
 -- from which position on what failed is kept: as far before the window as looks may go back
@@ -34,18 +33,18 @@ pub record IsRemembered (places : ℕ) (t : Tree) (a : Asked) : Type 0 where
   pub room : places * words_at_place t a ≤ 2 ^ 30
   pub order : a.start ≤ a.end
 
--- up to which number the characters of a run make a difference, in a text of this length
-abbrev pub counts_at_most : Tree → Asked → ℕ
-counts_at_most t a = min (most_counts t) a.end
+-- how many characters a lookbehind goes back at most, in a text of this length
+abbrev pub looks_at_most : Tree → Asked → ℕ
+looks_at_most t a = min (longest_lookbehind t) a.end
 
 -- where an atomic scope may branch, an address has configurations of its own inside of scopes, beside those outside
 abbrev pub sides : Tree → ℕ
 sides t = cond (has_forked_region t) 2 1
 
 -- so many steps suffice for a search. Each position pays for those before failures are memoized, for a run that begins
--- there, and for what each instruction that may branch costs. A step that scans characters costs one more for each
--- eight of those that make a difference
+-- there, and for what each instruction that may branch costs. A step that goes back by a lookbehind costs one more for
+-- each eight characters
 abbrev pub step_bound : Tree → Asked → ℕ
 step_bound t a =
     kept_positions t a
-    * (32 + (1 + most_steps t + cost_of a.end 1 t 2 * sides t) * (1 + counts_at_most t a / 8))
+    * (32 + (1 + most_steps t + cost_of a.end 1 t 2 * sides t) * (1 + looks_at_most t a / 8))

@@ -36,12 +36,12 @@ steps_of_alternatives : step_bound (items (Loop Greedy 1 unlimited
     (items (a ∷ Branch (Or Empty (Only (items (a ∷ [])))) ∷ [])) ∷ At END ∷ [])) (letters 100) ≡ 10807
 steps_of_alternatives = refl
 
--- a{0,20}b: the repeat tries as many ends, and each step may count for two more
-steps_of_a_counted_run : step_bound (items (Run GreedyRun 0 20 is_a ∷ b ∷ [])) (letters 100) ≡ 36259
+-- a{0,20}b: the repeat tries as many ends, and its scan may cost two more
+steps_of_a_counted_run : step_bound (items (Run GreedyRun 0 20 is_a ∷ b ∷ [])) (letters 100) ≡ 14443
 steps_of_a_counted_run = refl
 
--- or for one, where the range has ten characters
-steps_of_a_short_window : step_bound (items (Run GreedyRun 0 20 is_a ∷ b ∷ [])) (letters 10) ≡ 1650
+-- or one, where the range has ten characters
+steps_of_a_short_window : step_bound (items (Run GreedyRun 0 20 is_a ∷ b ∷ [])) (letters 10) ≡ 1012
 steps_of_a_short_window = refl
 
 -- (?:a*+b|a)*c: a possessive repeat without a greatest count goes on step by step, so its number is a multiple of the

@@ -67,7 +67,7 @@ abbrev uuid : Tree
 uuid = items (Run GreedyRun 8 8 is_a ∷ Loop Greedy 3 3 (items (a ∷ Run GreedyRun 4 4 is_a ∷ [])) ∷ a ∷ Run
     GreedyRun 12 12 is_a ∷ [])
 
-steps_of_uuid : step_bound uuid (letters 100) ≡ 19392
+steps_of_uuid : step_bound uuid (letters 100) ≡ 11514
 steps_of_uuid = refl
 
 -- log line: (\d+(?:\.\d+){3}) (\S+) (\S+) \[([^]]+)\] "([A-Z]+) (\S+)[^"]*" (\d{3}) (\d+|-)
@@ -95,5 +95,5 @@ abbrev password_rule : Tree
 password_rule = items (Look Positive 0 (items (any ∷ a ∷ [])) ∷ Look Positive 0 (items (any ∷ a ∷ [])) ∷ Look
     Positive 0 (items (any ∷ a ∷ [])) ∷ Run GreedyRun 8 64 is_a ∷ [])
 
-steps_of_password_rule : step_bound password_rule (letters 100) ≡ 455005
+steps_of_password_rule : step_bound password_rule (letters 100) ≡ 55045
 steps_of_password_rule = refl

@@ -2,12 +2,12 @@
 -- those of what follows; and what all instructions that may branch cost at a position, each once for each state of the
 -- loops around it.
 -- Of the specification: what sre_engine makes public rests on it.
-use Rattle.std.specs.Prelude.{ℕ, ◌+◌, ◌-◌, ◌*◌, cond, min, max, nat_eq}
+use Rattle.std.specs.Prelude.{ℕ, ◌+◌, ◌-◌, ◌*◌, ◌/◌, cond, min, max, nat_eq}
 use Rattle.sre_model.specs.Tree.{Tree, Empty, Then, Item, Fail, One, At, Mark, Branch, Loop, Run, PossessiveLoop}
 use Rattle.sre_model.specs.Tree.{Atomic, Look, Reference, Exists, ExistsElse, Trees, Only, Or, GreedyRun, LazyRun}
 use Rattle.sre_model.specs.Tree.{PossessiveRun}
 use Rattle.sre_model.specs.Ways.{unlimited}
-use Rattle.sre_model.specs.Slots.{loop_slots}
+use Rattle.sre_model.specs.Slots.{counted_to, loop_slots}
 
 abbrev mutual
   -- the steps up to the next instruction that may branch, where b follow
@@ -39,6 +39,10 @@ branch_steps (Or t ts) b = steps_of t (1 + b) + 2 + branch_steps ts b
 abbrev pub other_ends : ℕ → ℕ → ℕ → ℕ
 other_ends e low high = cond (nat_eq high unlimited) 0 (min high e - low)
 
+-- what a repeat of one character is charged for its scan at most: one for each eight characters that make a difference
+abbrev pub scan_price : ℕ → ℕ → ℕ → ℕ
+scan_price e low high = min (counted_to low high) e / 8
+
 abbrev mutual
   -- what the instructions that may branch cost where b steps follow, in a range that ends at e, under loops of s states
   pub cost_of : ℕ → ℕ → Tree → ℕ → ℕ
@@ -54,9 +58,9 @@ abbrev mutual
   item_cost e s (Loop o low high body) b =
       s * (steps_of body 1 + b + 2) + loop_slots low high * s * (steps_of body 1 + b + 1)
       + cost_of e (loop_slots low high * s) body 1
-  item_cost e s (Run GreedyRun low high t) b = s * ((1 + other_ends e low high) * (b + 2))
-  item_cost e s (Run LazyRun low high t) b = s * ((1 + other_ends e low high) * (b + 2))
-  item_cost e s (Run PossessiveRun low high t) b = s * (b + 2)
+  item_cost e s (Run GreedyRun low high t) b = s * ((1 + other_ends e low high) * (b + 2) + scan_price e low high)
+  item_cost e s (Run LazyRun low high t) b = s * ((1 + other_ends e low high) * (b + 2) + scan_price e low high)
+  item_cost e s (Run PossessiveRun low high t) b = s * (b + 2 + scan_price e low high)
   item_cost e s (PossessiveLoop low high body) b =
       s * 1 + loop_slots low high * s * (steps_of body 2 + b + 1) + cost_of e 1 body 2
   item_cost e s (Atomic body) b = cost_of e 1 body 2

@@ -1,9 +1,9 @@
--- The credits of an instruction are no more than what a memoized failure there pays for, but for a repeat without a
--- greatest count. Where there is one way to go on, there are none.
+-- The credits of an instruction, with what its scan is charged, are no more than what a memoized failure there pays
+-- for, but for a repeat without a greatest count. Where there is one way to go on, there are none.
 -- That the step bound suffices (`enough` of sre_engine) rests on this.
 use Rattle.std.proofs.Common.{◌≡◌, ℕ, ◌+◌, ◌-◌, ◌*◌, ◌≤◌, ◌⊎◌, inl, inr, Bool, true, false, cond, min, nat_eq, List}
 use Rattle.std.proofs.Common.{refl}
-use Rattle.std.proofs.Common.{subst, sym, ◌∙◌, arith, add-mul, one-mul, mul-le-mul_right}
+use Rattle.std.proofs.Common.{subst, sym, ap, ◌∙◌, arith, add-mul, one-mul, mul-le-mul_right}
 use Rattle.std.proofs.lemmas.Bool.Decides.{nat_tests}
 use Rattle.sre_chars.specs.declared.constants.SreOpcode.{SreOpcode}
 use Rattle.sre_chars.specs.declared.constants.SreOpcode.TheVariants as opcode
@@ -18,11 +18,11 @@ use Rattle.sre_model.proofs.Words.{word_of}
 use Rattle.sre_turns.specs.declared.Frame.{Frame}
 use Rattle.sre_turns.specs.declared.Point.TheVariants.{Instruction, Again}
 use Rattle.sre_turns.specs.declared.Point.{Point}
-use Rattle.sre_turns.specs.Limits.{has_toll}
+use Rattle.sre_turns.specs.Limits.{has_toll, CodeAt}
 use Rattle.sre_turns.specs.Machine.{Runs}
 use Rattle.sre_turns.specs.Moves.{spot_at}
-use Rattle.sre_turns.specs.Prices.{toll, toll_by, bit_by, bit_toll, end_price, ends_beside, split_toll, split_by}
-use Rattle.sre_turns.specs.Prices.{role_at}
+use Rattle.sre_turns.specs.Prices.{toll, toll_by, bit_by, bit_toll, end_price, ends_beside, split_toll}
+use Rattle.sre_turns.specs.Prices.{split_by, scan_by, scan_toll, role_at}
 use Rattle.sre_turns.specs.RunEnds.{RunsOn}
 use Rattle.sre_turns.specs.Straight.{forking}
 use Rattle.sre_turns.proofs.Moving.{in_role}
@@ -41,17 +41,25 @@ module _ (ws : List ℕ) (e i : ℕ) (ks : List ℕ) where
       go false u = omega arith
 
   by_bit : (f : Role) → ((kind : RunKind) → f ≡ ToRun kind → word ws (i + 3) ≡ unlimited → ⊥)
-      → toll_by ws e i ks f ≤ bit_by ws e i ks f
-  by_bit (ToRun GreedyRun) h = mul-le-mul_right (end_price ws i) (omega (arith, ends_counted (h GreedyRun refl)))
-  by_bit (ToRun LazyRun) h = mul-le-mul_right (end_price ws i) (omega (arith, ends_counted (h LazyRun refl)))
+      → toll_by ws e i ks f + scan_by ws e i f ≤ bit_by ws e i ks f
+  by_bit (ToRun GreedyRun) h =
+      let ends : (1 + ends_beside ws e i) * end_price ws i
+      ≤ (1 + other_ends e (word ws (i + 2)) (word ws (i + 3))) * end_price ws i =
+      mul-le-mul_right (end_price ws i) (omega (arith, ends_counted (h GreedyRun refl))) in
+      omega (arith, ends)
+  by_bit (ToRun LazyRun) h =
+      let ends : (1 + ends_beside ws e i) * end_price ws i
+      ≤ (1 + other_ends e (word ws (i + 2)) (word ws (i + 3))) * end_price ws i =
+      mul-le-mul_right (end_price ws i) (omega (arith, ends_counted (h LazyRun refl))) in
+      omega (arith, ends)
   by_bit f h = omega arith
 
   -- an instruction at which the machine is, and is no repeat without a greatest count
   pub toll_few : {s : Subject} {p n : ℕ} {fs : List Frame} {m : Marks} {os : List Way} (o : SreOpcode) → Opcode ws i o
       → (RunsOn ws i → ⊥) → Runs ws s (spot_at (Instruction i) fs p m) os n
-      → toll ws e o (Instruction i) ks ≤ bit_toll ws e (Instruction i) ks
+      → toll ws e o (Instruction i) ks + scan_toll ws e (Instruction i) ≤ bit_toll ws e (Instruction i) ks
   toll_few o w counted x =
-      subst (λ f. toll_by ws e i ks (role o) ≤ bit_by ws e i ks f) (sym (role_there ws i o w))
+      subst (λ f. toll_by ws e i ks (role o) + scan_by ws e i f ≤ bit_by ws e i ks f) (sym (role_there ws i o w))
       (by_bit (role o) greatest)
     where
       greatest : (kind : RunKind) → role o ≡ ToRun kind → word ws (i + 3) ≡ unlimited → ⊥
@@ -74,15 +82,15 @@ module _ (ws : List ℕ) (e i : ℕ) (ks : List ℕ) where
           run_code o kind is w = absurd (cc)
 
   -- nor is that of a repeat that is split
-  pub split_few : split_toll ws (Instruction i) ≤ bit_toll ws e (Instruction i) ks
+  pub split_few : split_toll ws (Instruction i) + scan_toll ws e (Instruction i) ≤ bit_toll ws e (Instruction i) ks
   split_few = go (role_at ws i)
     where
       one_end : (n : ℕ) → end_price ws i ≤ (1 + n) * end_price ws i
       one_end n = omega (arith, add-mul 1 n (end_price ws i), one-mul (end_price ws i))
 
-      go : (f : Role) → split_by ws i f ≤ bit_by ws e i ks f
-      go (ToRun GreedyRun) = one_end (other_ends e (word ws (i + 2)) (word ws (i + 3)))
-      go (ToRun LazyRun) = one_end (other_ends e (word ws (i + 2)) (word ws (i + 3)))
+      go : (f : Role) → split_by ws i f + scan_by ws e i f ≤ bit_by ws e i ks f
+      go (ToRun GreedyRun) = omega (arith, one_end (other_ends e (word ws (i + 2)) (word ws (i + 3))))
+      go (ToRun LazyRun) = omega (arith, one_end (other_ends e (word ws (i + 2)) (word ws (i + 3))))
       go (ToRun PossessiveRun) = omega arith
       go f = omega arith
 
@@ -100,3 +108,13 @@ no_toll ws e o (Instruction i) ks none = go (role o) none
     go f h = refl
 no_toll ws e o Again ks none = absurd (cc)
 no_toll ws e o pt ks none = refl
+
+-- nor is there a scan
+pub no_scan : (ws : List ℕ) (e : ℕ) (o : SreOpcode) (pt : Point) → CodeAt ws pt o → has_toll o pt ≡ false
+    → scan_toll ws e pt ≡ 0
+no_scan ws e o (Instruction i) w none = ap (scan_by ws e i) (role_there ws i o w) ∙ go (role o) none
+  where
+    go : (f : Role) → forking f ≡ false → scan_by ws e i f ≡ 0
+    go (ToRun kind) h = absurd (cc)
+    go f h = refl
+no_scan ws e o pt w none = refl

@@ -22,6 +22,7 @@ use Rattle.sre_model.specs.Grammar.{WholeItems, until_opcode}
 use Rattle.sre_model.specs.Roles.{Role, ToEnd, ToJump, ToLoop}
 use Rattle.sre_model.specs.Slots.{loop_slots}
 use Rattle.sre_model.specs.TreePrices.{steps_of, branch_steps, cost_of, item_cost, branch_cost, other_ends}
+use Rattle.sre_model.specs.TreePrices.{scan_price}
 use Rattle.sre_model.proofs.Families.{HasRole, role_here, item_role, item_here, until_role}
 use Rattle.sre_model.proofs.Words.{word_of}
 use Rattle.sre_turns.specs.declared.Point.TheVariants.{Instruction, Alternatives, Shorter, Longer, Again}
@@ -246,11 +247,19 @@ module _ (ws : List ℕ) (e : ℕ) {A : Type 0} (point : A → Point) (loops : A
       go true own h = omega arith
       go false own h = omega (arith, own, h)
 
-  -- the ends of a repeat
+  -- the ends of a repeat, and its scan
   ends_few : (i j low high b : ℕ) → j ≡ skip ws (i + 1) → word ws (i + 2) ≡ low → word ws (i + 3) ≡ high
       → steps ws j ≡ b
-      → (1 + other_ends e (word ws (i + 2)) (word ws (i + 3))) * end_price ws i ≤ (1 + other_ends e low high) * (b + 2)
+      → (1 + other_ends e (word ws (i + 2)) (word ws (i + 3))) * end_price ws i
+      + scan_price e (word ws (i + 2)) (word ws (i + 3)) ≤ (1 + other_ends e low high) * (b + 2) + scan_price e low high
   ends_few i j low high b tail least greatest behind =
+      rw (sym behind, tail, least, greatest) (omega arith)
+
+  -- of a possessive one
+  end_few : (i j low high b : ℕ) → j ≡ skip ws (i + 1) → word ws (i + 2) ≡ low → word ws (i + 3) ≡ high
+      → steps ws j ≡ b
+      → end_price ws i + scan_price e (word ws (i + 2)) (word ws (i + 3)) ≤ b + 2 + scan_price e low high
+  end_few i j low high b tail least greatest behind =
       rw (sym behind, tail, least, greatest) (omega arith)
 
   -- the states of a loop's body
@@ -371,16 +380,17 @@ module _ (ws : List ℕ) (e : ℕ) {A : Type 0} (point : A → Point) (loops : A
         (with_one u (ToLoop o) (i ∷ js) (loop_slots low high * s) (steps_of body 1 + b + 1) end states
         (omega (arith, inner, tail, behind)) rest) (inl (refl, refl))))
     item_costs i j (Run GreedyRun low high t) r js s b same behind Rest n rest at =
-        own i j (Run GreedyRun low high t) r js s ((1 + other_ends e low high) * (b + 2)) same
+        own i j (Run GreedyRun low high t) r js s ((1 + other_ends e low high) * (b + 2) + scan_price e low high) same
         (ends_few i j low high b r.1.0 (word_of ws (i + 2) low r.1.1) (word_of ws (i + 3) high r.1.2) behind)
         (ends_free i j js Rest n rest)
     item_costs i j (Run LazyRun low high t) r js s b same behind Rest n rest at =
-        own i j (Run LazyRun low high t) r js s ((1 + other_ends e low high) * (b + 2)) same
+        own i j (Run LazyRun low high t) r js s ((1 + other_ends e low high) * (b + 2) + scan_price e low high) same
         (ends_few i j low high b r.1.0 (word_of ws (i + 2) low r.1.1) (word_of ws (i + 3) high r.1.2) behind)
         (ends_free i j js Rest n rest)
     item_costs i j (Run PossessiveRun low high t) r js s b same behind Rest n rest at =
-        own i j (Run PossessiveRun low high t) r js s (b + 2) same
-        (omega (arith, ap (λ k. steps ws k) r.1.0, behind)) (ends_free i j js Rest n rest)
+        own i j (Run PossessiveRun low high t) r js s (b + 2 + scan_price e low high) same
+        (end_few i j low high b r.1.0 (word_of ws (i + 2) low r.1.1) (word_of ws (i + 3) high r.1.2) behind)
+        (ends_free i j js Rest n rest)
     item_costs i j (PossessiveLoop low high body) r js s b same behind Rest n rest at =
         let u : ℕ = skip ws (i + 1) in
         let v : ℕ = steps_of body 2 + b + 1 in

@@ -7,7 +7,7 @@ use Rattle.std.specs.Prelude.{nat_eq, slice_index_or}
 use Rattle.sre_chars.specs.declared.constants.SreOpcode.{SreOpcode}
 use Rattle.sre_chars.specs.declared.constants.SreOpcode.TheVariants as opcode
 use Rattle.sre_model.specs.Tree.{GreedyRun, LazyRun, PossessiveRun}
-use Rattle.sre_model.specs.TreePrices.{other_ends}
+use Rattle.sre_model.specs.TreePrices.{other_ends, scan_price}
 use Rattle.sre_model.specs.Grammar.{word, skip}
 use Rattle.sre_model.specs.Ways.{unlimited}
 use Rattle.sre_model.specs.Roles.{Role, TestKind, OfAny, OfAnyAll, OfCategory, OfLiteral, OfNotLiteral, OfSet}
@@ -131,12 +131,24 @@ toll ws e o (Instruction i) ks = toll_by ws e i ks (role o)
 toll ws e o Again ks = again_toll ws ks
 toll ws e o pt ks = 0
 
--- what a memoized failure pays for at an instruction of a role. A repeat without a greatest count is split: one bit
--- pays for its first end, and for the same repeat one character later
+-- what a repeat of one character is charged for its scan, beside its steps
+abbrev pub scan_by : List ℕ → ℕ → ℕ → Role → ℕ
+scan_by ws e i (ToRun kind) = scan_price e (word ws (i + 2)) (word ws (i + 3))
+scan_by ws e i f = 0
+
+-- and any point
+abbrev pub scan_toll : List ℕ → ℕ → Point → ℕ
+scan_toll ws e (Instruction i) = scan_by ws e i (role_at ws i)
+scan_toll ws e pt = 0
+
+-- what a memoized failure pays for at an instruction of a role. A repeat pays for its scan, too. One without a greatest
+-- count is split: one bit pays for its first end, and for the same repeat one character later
 abbrev pub bit_by : List ℕ → ℕ → ℕ → List ℕ → Role → ℕ
-bit_by ws e i ks (ToRun GreedyRun) = (1 + other_ends e (word ws (i + 2)) (word ws (i + 3))) * end_price ws i
-bit_by ws e i ks (ToRun LazyRun) = (1 + other_ends e (word ws (i + 2)) (word ws (i + 3))) * end_price ws i
-bit_by ws e i ks (ToRun PossessiveRun) = end_price ws i
+bit_by ws e i ks (ToRun GreedyRun) =
+    (1 + other_ends e (word ws (i + 2)) (word ws (i + 3))) * end_price ws i + scan_by ws e i (ToRun GreedyRun)
+bit_by ws e i ks (ToRun LazyRun) =
+    (1 + other_ends e (word ws (i + 2)) (word ws (i + 3))) * end_price ws i + scan_by ws e i (ToRun LazyRun)
+bit_by ws e i ks (ToRun PossessiveRun) = end_price ws i + scan_by ws e i (ToRun PossessiveRun)
 bit_by ws e i ks f = toll_by ws e i ks f
 
 -- and for any point

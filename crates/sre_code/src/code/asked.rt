@@ -1,5 +1,5 @@
 //! The least and the greatest group that the items refer to: a scan from one instruction to the next, into each body,
-//! as in `run_counts`.
+//! as in `instructions`.
 
 ghost use Rattle.std.specs.Prelude.{◌≡◌, Option, min};
 ghost use Rattle.sre_model.specs.Tree.{Tree};
@@ -7,7 +7,7 @@ ghost use Rattle.sre_model.specs.Grammar.{WholeItems};
 ghost use Rattle.sre_model.specs.References.{asked_from, asked_to, no_group};
 ghost use Rattle.sre_code.specs.Instructions.{AskingAt};
 
-use crate::code::run_counts::next_place;
+use crate::code::instructions::next_place;
 use crate::code::words;
 use crate::operands::word_or_zero;
 use sre_chars::constants::SreOpcode;

@@ -1,14 +1,14 @@
 //! The step bound of a code for texts of so many characters, if it is known.
 //!
-//! A first scan counts the counter states of codes whose atomic scopes do not branch. If it fails, and no atomic scope
-//! sets a capture, a second scan counts those of codes whose scopes may branch.
+//! A first scan longest the counter states of codes whose atomic scopes do not branch. If it fails, and no atomic scope
+//! sets a capture, a second scan longest those of codes whose scopes may branch.
 
 ghost use Rattle.std.specs.Prelude.{◌≡◌, ◌+◌, ℕ, ◌-◌, ◌*◌, ◌^◌, length, min, nat_le, true, false, IfSome, ◌≤◌};
 ghost use Rattle.sre_model.specs.Tree.{Tree};
 ghost use Rattle.sre_model.specs.Grammar.{WholeItems};
 ghost use Rattle.sre_code.specs.MostSlots.{SlotsTold};
 ghost use Rattle.sre_model.specs.References.{refers};
-ghost use Rattle.sre_model.specs.RunCounts.{most_counts};
+ghost use Rattle.sre_model.specs.LooksBehind.{longest_lookbehind};
 ghost use Rattle.sre_code.specs.Bounds.{CountedTold, BoundTold, NumberBy, AreWhole, room_by, bound_by, bound_of};
 ghost use Rattle.sre_code.specs.Prices.{AreHeld};
 ghost use Rattle.sre_code.specs.Saturating.{Held};
@@ -67,21 +67,21 @@ fn has_room(places: u64, positions: u64, slots: u64) -> bool
 }
 
 /// The step bound from its parts, or the greatest 64-bit number if it is more.
-fn bound_by(positions: u64, most: u64, cost: u64, counts: u64) -> u64
-    ensures { (x y : ℕ) → Held x most → Held y cost → Held (bound_by positions x y counts) result }
+fn bound_by(positions: u64, most: u64, cost: u64, longest: u64) -> u64
+    ensures { (x y : ℕ) → Held x most → Held y cost → Held (bound_by positions x y longest) result }
 {
     let each = most.saturating_add(cost).saturating_add(1);
-    let long = each.saturating_mul(counts / 8 + 1);
+    let long = each.saturating_mul(longest / 8 + 1);
     positions.saturating_mul(long.saturating_add(32))
 }
 
 /// The step bound from the prices of the items.
-fn bound_of(prices: Prices, sides: u64, counts: u64, positions: u64) -> u64
-    ensures { (x : Prices) → AreHeld x prices → Held (bound_of x sides counts positions) result }
+fn bound_of(prices: Prices, sides: u64, longest: u64, positions: u64) -> u64
+    ensures { (x : Prices) → AreHeld x prices → Held (bound_of x sides longest positions) result }
 {
     let most = prices.since.saturating_add(2).max(prices.most);
     let cost = cost_before(prices.all, 2).saturating_add(prices.all.apart);
-    bound_by(positions, most, cost.saturating_mul(sides), counts)
+    bound_by(positions, most, cost.saturating_mul(sides), longest)
 }
 
 /// One more than the step bound for a text of so many characters. `None` if the memo has no room for all failures, or
@@ -90,17 +90,17 @@ fn number(
     places: u64,
     counted: Counted,
     prices: Prices,
-    counts: u64,
+    longest: u64,
     characters: u64,
 ) -> Option<u64>
     ensures { (x : Prices) → AreHeld x prices → NumberBy places counted.slots
-        (bound_of x counted.sides (min counts characters) (characters + 1)) characters result }
+        (bound_of x counted.sides (min longest characters) (characters + 1)) characters result }
 {
     let positions = characters.checked_add(1)?;
     if !has_room(places, positions, counted.slots) || !are_whole(positions, counted.slots) {
         return None;
     }
-    bound_of(prices, counted.sides, counts.min(characters), positions).checked_add(1)
+    bound_of(prices, counted.sides, longest.min(characters), positions).checked_add(1)
 }
 
 /// The counter states and sides of the items. `None` if there is a back-reference or a conditional, if an atomic scope
@@ -138,10 +138,10 @@ pub fn most_slots(items: &[u32]) -> Option<u32>
     }
 }
 
-/// One more than the step bound of the items for a text of so many characters. `counts` is their `most_counts`. `None`
-/// if it is not known, or takes more than 64 bits.
-pub fn step_bound(items: &[u32], counts: u32, characters: usize) -> Option<u64>
-    ensures { (tree : Tree) → WholeItems items.now tree → (refers tree ≡ false → counts ≡ most_counts tree)
+/// One more than the step bound of the items for a text of so many characters. `longest` is their longest lookbehind.
+/// `None` if it is not known, or takes more than 64 bits.
+pub fn step_bound(items: &[u32], longest: u32, characters: usize) -> Option<u64>
+    ensures { (tree : Tree) → WholeItems items.now tree → (refers tree ≡ false → longest ≡ longest_lookbehind tree)
         → BoundTold (length items.now) tree characters result }
 {
     let counted = count(items)?;
@@ -151,7 +151,7 @@ pub fn step_bound(items: &[u32], counts: u32, characters: usize) -> Option<u64>
         items.len() as u64,
         counted,
         prices,
-        counts as u64,
+        longest as u64,
         characters as u64,
     )
 }

@@ -9,7 +9,7 @@ ghost use Rattle.sre_growth.specs.Refusal.{Refused};
 
 use crate::code::asked::asked;
 use crate::code::descent::descend;
-use crate::code::{Code, CodeError, block, claims, run_counts};
+use crate::code::{Code, CodeError, block, claims, looks_behind};
 use sre_chars::string::LentTable;
 use std::alloc::Allocator;
 
@@ -33,14 +33,14 @@ pub fn check_in<'a, A: Allocator + Copy>(
         Ok(least) => least,
         Err(error) => return Err(error.moved(length)),
     };
-    let counts = run_counts::most_counts(items);
+    let longest = looks_behind::longest_lookbehind(items);
     Ok(Code {
         words,
         items,
         uni,
         hints: claims::confirmed(words, length, uni, items, least),
-        refers: counts.is_none(),
+        refers: longest.is_none(),
         asked_from: asked(items).from,
-        most_counts: counts.unwrap_or(u32::MAX),
+        longest_lookbehind: longest.unwrap_or(u32::MAX),
     })
 }

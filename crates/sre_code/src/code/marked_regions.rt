@@ -17,8 +17,8 @@ ghost use Rattle.sre_model.specs.References.{refers};
 ghost use Rattle.sre_code.specs.RegionWords.{closing_place, RegionWord};
 ghost use Rattle.sre_code.specs.UnmarkedRegions.{UnmarkedAt, MarkedOrRefers};
 
+use crate::code::instructions::next_place;
 use crate::code::region::body_offset;
-use crate::code::run_counts::next_place;
 use crate::code::sought::{Sought, has_or_refers};
 use crate::code::words;
 use crate::operands::word_or_zero;

@@ -4,18 +4,17 @@
 //! it. So a few numbers describe it, and two prices compose. A scan adds up the prices of the items of one level, and
 //! calls itself for each body.
 
-ghost use Rattle.std.specs.Prelude.{ℕ, ◌≡◌, ◌<◌, ◌≤◌, ◌+◌, ◌*◌, ◌^◌, length, IfSome, false, cond};
-ghost use Rattle.sre_model.specs.Grammar.{skip};
+ghost use Rattle.std.specs.Prelude.{ℕ, ◌≡◌, ◌<◌, ◌≤◌, ◌+◌, ◌*◌, ◌^◌, length, Some, IfSome, false, cond};
 ghost use Rattle.sre_model.specs.Roles.{role};
-ghost use Rattle.sre_model.specs.TreePrices.{other_ends};
+ghost use Rattle.sre_model.specs.TreePrices.{scan_price};
 ghost use Rattle.sre_code.specs.Saturating.{Held};
 ghost use Rattle.sre_code.specs.Prices.{IsHeld, AreHeld, steps_at, cost_at, joined, passed, kind_of, straight_price};
-ghost use Rattle.sre_code.specs.Prices.{run_price, scope_price, loop_price, possessive_price, with_alternative};
+ghost use Rattle.sre_code.specs.Prices.{run_ends, scope_price, loop_price, possessive_price, with_alternative};
 ghost use Rattle.sre_code.specs.Prices.{BodyPriced, ArePriced, StraightPriced, RunPriced, LoopPriced, PossessivePriced};
 ghost use Rattle.sre_code.specs.Prices.{ScopePriced, BranchPriced, PricedAt};
 
-use crate::code::run_counts::next_place;
-use crate::code::slots::loop_slots;
+use crate::code::instructions::next_place;
+use crate::code::slots::{counted_to, loop_slots};
 use crate::code::words;
 use crate::operands::word_or_zero;
 use sre_chars::constants::SreOpcode;
@@ -230,26 +229,38 @@ fn one_step(words: &[u32], place: usize) -> Option<PricedItem>
     }
 }
 
-/// How many ends a repeat of one character has on a text of so many, besides one.
-fn other_ends(low: u32, high: u32, characters: u64) -> u64
-    ensures ends { result ≡ other_ends characters low high }
-    ensures few { result < 2 ^ 32 }
+/// How many ends a repeat of one character has on a text of so many: one if it is possessive.
+fn run_ends(low: u32, high: u32, is_possessive: bool, characters: u64) -> u64
+    ensures ends { result ≡ run_ends characters is_possessive low high }
+    ensures few { result ≤ 2 ^ 32 }
 {
-    if high == u32::MAX {
-        return 0;
+    if is_possessive || high == u32::MAX {
+        return 1;
     }
-    (high as u64).min(characters).saturating_sub(low as u64)
+    (high as u64).min(characters).saturating_sub(low as u64) + 1
 }
 
-/// The repeat of one character at `place`, which has so many ends.
-fn run(words: &[u32], place: usize, ends: u64) -> PricedItem
-    requires here { place < length words.now }
-    requires few { ends ≤ 2 ^ 32 }
-    ensures told { result ≡ record { behind = skip words.now (place + 1); price = run_price ends } }
+/// What a repeat of one character is charged for a scan of a text of so many, beside its step.
+fn scan_price(low: u32, high: u32, characters: u64) -> u64
+    ensures price { result ≡ scan_price characters low high }
+    ensures few { result < 2 ^ 32 }
 {
+    (counted_to(low, high) as u64).min(characters) / 8
+}
+
+/// The repeat of one character at `place`.
+fn run(words: &[u32], place: usize, is_possessive: bool, characters: u64) -> PricedItem
+    requires here { place < length words.now }
+    ensures told { RunPriced characters is_possessive words.now place (Some result) }
+    ensures forward { place < result.behind }
+{
+    let low = word_or_zero(words, place + 2);
+    let high = word_or_zero(words, place + 3);
+    let ends = run_ends(low, high, is_possessive, characters);
+    let scan = scan_price(low, high, characters);
     PricedItem {
         behind: place + 1 + word_or_zero(words, place + 1) as usize,
-        price: closed(ends * 2, ends, 0),
+        price: closed(ends * 2 + scan, ends, 0),
     }
 }
 
@@ -372,15 +383,8 @@ fn part(words: &[u32], place: usize, depth: u32, characters: u64) -> Option<Pric
             behind: place + 1,
             price: closed(0, 0, 0),
         }),
-        Kind::Run => {
-            let ends = other_ends(
-                word_or_zero(words, place + 2),
-                word_or_zero(words, place + 3),
-                characters,
-            );
-            Some(run(words, place, ends + 1))
-        }
-        Kind::PossessiveRun => Some(run(words, place, 1)),
+        Kind::Run => Some(run(words, place, false, characters)),
+        Kind::PossessiveRun => Some(run(words, place, true, characters)),
         Kind::Branch => branch(words, place + 1, depth, characters),
         Kind::Loop => looped(words, place, depth, characters),
         Kind::PossessiveLoop => possessive(words, place, depth, characters),

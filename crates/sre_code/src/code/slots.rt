@@ -12,11 +12,11 @@
 
 ghost use Rattle.std.specs.Prelude.{◌≡◌, ◌<◌, ◌≤◌, length, IfSome};
 ghost use Rattle.sre_model.specs.Roles.{role};
-ghost use Rattle.sre_model.specs.Slots.{loop_slots};
+ghost use Rattle.sre_model.specs.Slots.{counted_to, loop_slots};
 ghost use Rattle.sre_code.specs.PlainItems.{kind_of, stops_at_forks, AreTold, LoopTold, RegionTold};
 ghost use Rattle.sre_code.specs.PlainItems.{OtherTold, PossessiveTold, ToldAt};
 
-use crate::code::run_counts::{counted_to, next_place};
+use crate::code::instructions::next_place;
 use crate::code::sought::{Sought, has_or_refers};
 use crate::code::words;
 use crate::operands::word_or_zero;
@@ -47,6 +47,16 @@ enum Kind {
     Look,
     PossessiveLoop,
     Other,
+}
+
+/// The greatest count of a repeat or a loop that makes a difference, by its least and greatest.
+pub fn counted_to(low: u32, high: u32) -> u32
+    ensures { result ≡ counted_to low high }
+{
+    if high == u32::MAX {
+        return low;
+    }
+    low.max(high)
 }
 
 fn kind_of(code: SreOpcode) -> Kind

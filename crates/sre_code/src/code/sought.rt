@@ -1,5 +1,5 @@
 //! Whether the items of a body have a fork or a MARK: a scan from one instruction to the next, into each body, as in
-//! `run_counts`.
+//! `instructions`.
 //!
 //! A fork is a branch, a single-character repeat, a loop or a possessive loop: from there the machine may have more
 //! than one match path. The scan returns `true` at a back-reference or a conditional, too.
@@ -8,7 +8,7 @@ ghost use Rattle.std.specs.Prelude.{◌≡◌};
 ghost use Rattle.sre_model.specs.Roles.{role};
 ghost use Rattle.sre_code.specs.Sought.{is_fork, is_mark, is_sought, WithoutAt, HasOrRefers};
 
-use crate::code::run_counts::next_place;
+use crate::code::instructions::next_place;
 use crate::code::words;
 use sre_chars::constants::SreOpcode;
 

@@ -1,5 +1,5 @@
 use Rattle.sre_turns.specs.declared.Point.TheVariants.{Again}
-use Rattle.std.proofs.Common.{inl}
+use Rattle.std.proofs.Common.{inl, arith}
 use Rattle.sre_machine.proofs.Failing.{turn_goes_on, turn_left, turn_ended}
 use Rattle.sre_machine.proofs.AtOnce.{paid_so}
 use Rattle.sre_machine.proofs.trying.again_or_back.Goals as goal
@@ -10,7 +10,7 @@ again-requires g c =
 
 pub returns-clause-turn : goal.returns-clause-turn
 returns-clause-turn g c =
-    turn_goes_on c.args.req.now Again c.args.cursor _ _ _ _ _ c.again.result
+    turn_goes_on c.args.req.now Again c.args.cursor _ _ _ _ _ c.again.result 0 (omega arith)
     (c.is_hopeless.ensures.leaves.goes c.if-is_hopeless.false)
     (paid_so c.args.req.now Again c.args.cursor c.args.board.now c.is_hopeless.new.board c.args.memo.now
     c.is_hopeless.new.memo c.keeping_at-keeping.result c.keeping_at-keeping.ensures (λ _. inl (λ on. on))

@@ -1,3 +1,4 @@
+use Rattle.std.proofs.Common.{rules}
 use Rattle.sre_turns.specs.declared.Point.TheVariants.{Instruction}
 use Rattle.sre_machine.proofs.Failing.{turn_goes_on, turn_tried, turn_left, turn_ended}
 use Rattle.sre_machine.proofs.AtOnce.{paid_so}
@@ -19,7 +20,7 @@ returns-then-is_hopeless-clause-turn g c =
 
 pub returns-clause-turn : goal.returns-clause-turn
 returns-clause-turn g c =
-    turn_goes_on c.args.req.now (Instruction c.args.place) c.args.cursor _ _ _ _ _ c.instruction.result
+    turn_goes_on c.args.req.now (Instruction c.args.place) c.args.cursor _ _ _ _ _ c.instruction.result _ (search rules)
     (c.is_hopeless.ensures.leaves.goes c.if-is_hopeless.false)
     (paid_so c.args.req.now (Instruction c.args.place) c.args.cursor c.args.board.now c.is_hopeless.new.board
     c.args.memo.now c.is_hopeless.new.memo c.keeping_at-keeping.result c.keeping_at-keeping.ensures
@@ -29,7 +30,7 @@ returns-clause-turn g c =
 
 pub returns-then-goes_on_endlessly-clause-turn : goal.returns-then-goes_on_endlessly-clause-turn
 returns-then-goes_on_endlessly-clause-turn g c =
-    turn_tried c.args.req.now c.args.place c.args.cursor _ _ _ _ _ c.endless_run.result
+    turn_tried c.args.req.now c.args.place c.args.cursor _ _ _ _ _ c.endless_run.result _ (search rules)
     (c.is_hopeless.ensures.tries c.if-is_hopeless.false
     (c.goes_on_endlessly.ensures.keeps c.if-goes_on_endlessly.true)
     (c.goes_on_endlessly.ensures.on c.if-goes_on_endlessly.true)) c.endless_run.ensures

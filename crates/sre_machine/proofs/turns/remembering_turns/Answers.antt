@@ -1,4 +1,5 @@
-use Rattle.std.proofs.Common.{◌≡◌, ◌-◌, ◌∙◌, inl, inr, true, refl, arith, ap}
+use Rattle.std.proofs.Common.{◌≡◌, ◌+◌, ◌-◌, ◌∙◌, inl, inr, true, refl, arith, ap}
+use Rattle.sre_turns.specs.Limits.{raised}
 use Rattle.sre_turns.specs.Machine.{StandsWithin}
 use Rattle.sre_turns.specs.declared.Next.TheVariants as next
 use Rattle.sre_model.proofs.TurnBounds.{turn_spent, last_spent}
@@ -10,7 +11,7 @@ use Rattle.sre_machine.specs.Memos.{MemoValue}
 use Rattle.sre_machine.proofs.Taken.{stands_at, proceeds_taken, later_taken, end_taken}
 use Rattle.sre_machine.specs.Paying.{Pays}
 use Rattle.sre_machine.proofs.Paying.{pays_nothing}
-use Rattle.sre_machine.proofs.Following.{follows_on, stops, settles, stands_there}
+use Rattle.sre_machine.proofs.Following.{follows_on, unscanned, stops, settles, stands_there}
 use Rattle.sre_machine.proofs.Following.{counts_on, waited_on, same_memo, kept_memo}
 use Rattle.sre_machine.proofs.Ending.{kept_then, ended_then}
 use Rattle.sre_machine.specs.Turns.{KeepsBodyEnd}
@@ -45,9 +46,16 @@ turn-init g c =
     let r = c.args.req.now in
     let m = c.args.memo.now in record {
       stands = c.requires.stands;
+      scans = 0;
       follows = record {
-        each = λ limit x.
-            (limit, x, refl, refl, refl, pays_nothing r m m limit limit refl (refl, refl, refl) (λ h. h) refl refl);
+        each = λ limit x. (
+          limit,
+          x,
+          refl,
+          refl,
+          refl,
+          pays_nothing r m m limit (raised 0 limit) refl (refl, refl, refl) (λ h. h) refl (omega arith),
+        );
       };
       within = c.requires.within;
       limited = refl;
@@ -76,18 +84,21 @@ turn-preserved g c =
       refused = c.keep_ends.ensures.refused;
     } in
     record {
+      scans = c.turn.invariant.scans + 0;
       follows =
           follows_on c.args.req.now g.K.Plan.all c.args.first c.args.board.now c.args.memo.now c.args.turned.now
           c.turn.next
           next.Back c.turn.board c.end.new.board c.turn.memo c.waits_on.new.memo c.keep_ends.new.memo
-          c.turn.turned c.tick.new.self c.tick.ensures c.waits_on.ensures.same
-          (λ l x. kept_then c.args.req.now c.in-Done.cursor c.turns_due-turns.new.board c.waits_on.new.memo
+          c.turn.turned c.tick.new.self c.turn.invariant.scans 0 c.tick.ensures c.waits_on.ensures.same
+          (λ l x. unscanned c.args.req.now g.K.Plan.all next.Back c.end.new.board c.waits_on.new.memo
+          c.keep_ends.new.memo l (kept_then c.args.req.now c.in-Done.cursor c.turns_due-turns.new.board
+          c.waits_on.new.memo
           c.keep_ends.new.memo keeps g.K.Plan.all l next.Back c.end.new.board
           (refused_over r _ l c.position.result c.turn.next c.in-Done.cursor c.turns_due-turns.new.board
           c.end.new.board _
           c.in-Done.is c.position.ensures c.is_accepted.ensures c.in-None-end.ensures
           (stands_there r _ l c.turn.next c.turn.next c.turn.board c.turns_due-turns.new.board refl
-          c.turns_due-turns.ensures.board x) c.if-is_accepted.false)) c.turn.invariant.follows;
+          c.turns_due-turns.ensures.board x) c.if-is_accepted.false))) c.turn.invariant.follows;
       stands = t.1;
       within = omega (arith, c.tick.ensures, t.0);
       remembers = c.keep_ends.ensures.remembers;
@@ -95,8 +106,9 @@ turn-preserved g c =
           counts_on c.args.req.now g.K.Plan.all c.args.first c.args.board.now c.args.memo.now
           c.args.turned.now c.turn.memo c.turn.turned (left_of c.args.allowed.now) (left_of c.turn.allowed)
           (left_of c.takes_turns.new.allowed)
-          c.turns_due-turns.result c.turn.invariant.counts c.turns_due-turns.ensures.each c.takes_turns.ensures.spent
-          c.keep_ends.new.memo c.tick.new.self c.tick.ensures
+          c.turns_due-turns.result c.turn.invariant.scans c.turn.scan c.turn.next c.turn.board c.turn.invariant.follows
+          c.turn.invariant.counts c.turns_due-turns.ensures.each c.takes_turns.ensures.spent
+          c.keep_ends.new.memo c.tick.new.self 0 c.tick.ensures
           (λ h. c.keep_ends.ensures.still (ap (λ (k : MemoValue). k.is_open) c.waits_on.ensures.same ∙ h));
       waited = λ w.
           waited_on c.args.memo.now c.turn.memo c.waits_on.new.memo c.keep_ends.new.memo (left_of c.args.allowed.now)
@@ -118,7 +130,8 @@ turn-smaller-in-At g c =
     rw c.turns_due-turns.ensures.board c.turn.invariant.stands in
     let t = proceeds_taken r g.K.Plan.all g.K.Plan.limit c.turn.turned c.tick.new.self c.turns_due-turns.new.board
     c.instruction_or_back.new.board c.in_ok-next-in-At.next c.tick.ensures (next.At c.in-At.place c.in-At.cursor)
-    (λ l more. Pays g.row.A.Denot c.args.req.now c.waits_on.new.memo l c.instruction_or_back.new.memo more)
+    (λ l more. Pays g.row.A.Denot c.args.req.now c.waits_on.new.memo l c.instruction_or_back.new.memo
+    (raised c.instruction_or_back.new.scan more))
     (λ l x. c.in_ok-next-in-At.ensures.turn g.K.Plan.all l x) (stands_at r _ _ _ _ _ c.in-At.is stands) in
     omega (arith, c.tick.ensures, t.0)
 
@@ -129,14 +142,18 @@ turn-preserved-in-At g c =
     rw c.turns_due-turns.ensures.board c.turn.invariant.stands in
     let t = proceeds_taken r g.K.Plan.all g.K.Plan.limit c.turn.turned c.tick.new.self c.turns_due-turns.new.board
     c.instruction_or_back.new.board c.in_ok-next-in-At.next c.tick.ensures (next.At c.in-At.place c.in-At.cursor)
-    (λ l more. Pays g.row.A.Denot c.args.req.now c.waits_on.new.memo l c.instruction_or_back.new.memo more)
+    (λ l more. Pays g.row.A.Denot c.args.req.now c.waits_on.new.memo l c.instruction_or_back.new.memo
+    (raised c.instruction_or_back.new.scan more))
     (λ l x. c.in_ok-next-in-At.ensures.turn g.K.Plan.all l x) (stands_at r _ _ _ _ _ c.in-At.is stands) in
     record {
+      scans = c.turn.invariant.scans + c.instruction_or_back.new.scan;
       follows =
           follows_on c.args.req.now g.K.Plan.all c.args.first c.args.board.now c.args.memo.now c.args.turned.now
           c.turn.next
           c.in_ok-next-in-At.next c.turn.board c.instruction_or_back.new.board c.turn.memo c.waits_on.new.memo
-          c.instruction_or_back.new.memo c.turn.turned c.tick.new.self c.tick.ensures c.waits_on.ensures.same
+          c.instruction_or_back.new.memo c.turn.turned c.tick.new.self c.turn.invariant.scans
+          c.instruction_or_back.new.scan c.tick.ensures
+          c.waits_on.ensures.same
           (λ l x. c.in_ok-next-in-At.ensures.turn g.K.Plan.all l
           (stands_there r _ l c.turn.next (next.At c.in-At.place c.in-At.cursor) c.turn.board
           c.turns_due-turns.new.board
@@ -148,8 +165,9 @@ turn-preserved-in-At g c =
           counts_on c.args.req.now g.K.Plan.all c.args.first c.args.board.now c.args.memo.now
           c.args.turned.now c.turn.memo c.turn.turned (left_of c.args.allowed.now) (left_of c.turn.allowed)
           (left_of c.takes_turns.new.allowed)
-          c.turns_due-turns.result c.turn.invariant.counts c.turns_due-turns.ensures.each c.takes_turns.ensures.spent
-          c.instruction_or_back.new.memo c.tick.new.self c.tick.ensures
+          c.turns_due-turns.result c.turn.invariant.scans c.turn.scan c.turn.next c.turn.board c.turn.invariant.follows
+          c.turn.invariant.counts c.turns_due-turns.ensures.each c.takes_turns.ensures.spent
+          c.instruction_or_back.new.memo c.tick.new.self c.instruction_or_back.new.scan c.tick.ensures
           (λ h. c.in_ok-next-in-At.ensures.still (ap (λ (k : MemoValue). k.is_open) c.waits_on.ensures.same ∙ h));
       waited = λ w.
           waited_on c.args.memo.now c.turn.memo c.waits_on.new.memo c.instruction_or_back.new.memo
@@ -172,7 +190,7 @@ turn-smaller-in-Again g c =
     rw c.turns_due-turns.ensures.board c.turn.invariant.stands in
     let t = proceeds_taken r g.K.Plan.all g.K.Plan.limit c.turn.turned c.tick.new.self c.turns_due-turns.new.board
     c.again_or_back.new.board c.in_ok-next-in-Again.next c.tick.ensures (next.Again c.in-Again.cursor)
-    (λ l more. Pays g.row.A.Denot c.args.req.now c.waits_on.new.memo l c.again_or_back.new.memo more)
+    (λ l more. Pays g.row.A.Denot c.args.req.now c.waits_on.new.memo l c.again_or_back.new.memo (raised 0 more))
     (λ l x. c.in_ok-next-in-Again.ensures.turn g.K.Plan.all l x) (stands_at r _ _ _ _ _ c.in-Again.is stands) in
     omega (arith, c.tick.ensures, t.0)
 
@@ -183,14 +201,16 @@ turn-preserved-in-Again g c =
     rw c.turns_due-turns.ensures.board c.turn.invariant.stands in
     let t = proceeds_taken r g.K.Plan.all g.K.Plan.limit c.turn.turned c.tick.new.self c.turns_due-turns.new.board
     c.again_or_back.new.board c.in_ok-next-in-Again.next c.tick.ensures (next.Again c.in-Again.cursor)
-    (λ l more. Pays g.row.A.Denot c.args.req.now c.waits_on.new.memo l c.again_or_back.new.memo more)
+    (λ l more. Pays g.row.A.Denot c.args.req.now c.waits_on.new.memo l c.again_or_back.new.memo (raised 0 more))
     (λ l x. c.in_ok-next-in-Again.ensures.turn g.K.Plan.all l x) (stands_at r _ _ _ _ _ c.in-Again.is stands) in
     record {
+      scans = c.turn.invariant.scans + 0;
       follows =
           follows_on c.args.req.now g.K.Plan.all c.args.first c.args.board.now c.args.memo.now c.args.turned.now
           c.turn.next
           c.in_ok-next-in-Again.next c.turn.board c.again_or_back.new.board c.turn.memo c.waits_on.new.memo
-          c.again_or_back.new.memo c.turn.turned c.tick.new.self c.tick.ensures c.waits_on.ensures.same
+          c.again_or_back.new.memo c.turn.turned c.tick.new.self c.turn.invariant.scans 0 c.tick.ensures
+          c.waits_on.ensures.same
           (λ l x. c.in_ok-next-in-Again.ensures.turn g.K.Plan.all l
           (stands_there r _ l c.turn.next (next.Again c.in-Again.cursor) c.turn.board
           c.turns_due-turns.new.board
@@ -202,8 +222,9 @@ turn-preserved-in-Again g c =
           counts_on c.args.req.now g.K.Plan.all c.args.first c.args.board.now c.args.memo.now
           c.args.turned.now c.turn.memo c.turn.turned (left_of c.args.allowed.now) (left_of c.turn.allowed)
           (left_of c.takes_turns.new.allowed)
-          c.turns_due-turns.result c.turn.invariant.counts c.turns_due-turns.ensures.each c.takes_turns.ensures.spent
-          c.again_or_back.new.memo c.tick.new.self c.tick.ensures
+          c.turns_due-turns.result c.turn.invariant.scans c.turn.scan c.turn.next c.turn.board c.turn.invariant.follows
+          c.turn.invariant.counts c.turns_due-turns.ensures.each c.takes_turns.ensures.spent
+          c.again_or_back.new.memo c.tick.new.self 0 c.tick.ensures
           (λ h. c.in_ok-next-in-Again.ensures.still (ap (λ (k : MemoValue). k.is_open) c.waits_on.ensures.same ∙ h));
       waited = λ w.
           waited_on c.args.memo.now c.turn.memo c.waits_on.new.memo c.again_or_back.new.memo
@@ -235,17 +256,21 @@ turn-preserved-in-Some-end g c =
       refused = c.keep_ends.ensures.refused;
     } in
     record {
+      scans = c.turn.invariant.scans + 0;
       follows =
           follows_on c.args.req.now g.K.Plan.all c.args.first c.args.board.now c.args.memo.now c.args.turned.now
           c.turn.next
           c.in-Some-end.after c.turn.board c.end.new.board c.turn.memo c.waits_on.new.memo
-          c.keep_ends.new.memo c.turn.turned c.tick.new.self c.tick.ensures c.waits_on.ensures.same
+          c.keep_ends.new.memo c.turn.turned c.tick.new.self c.turn.invariant.scans 0 c.tick.ensures
+          c.waits_on.ensures.same
           (λ l x.
           let here = stands_there r _ l c.turn.next (next.Done c.in-Done.cursor) c.turn.board
           c.turns_due-turns.new.board c.in-Done.is c.turns_due-turns.ensures.board x in
-          ended_then c.args.req.now c.in-Done.cursor c.turns_due-turns.new.board c.waits_on.new.memo
+          unscanned c.args.req.now g.K.Plan.all c.in-Some-end.after c.end.new.board c.waits_on.new.memo
+          c.keep_ends.new.memo l
+          (ended_then c.args.req.now c.in-Done.cursor c.turns_due-turns.new.board c.waits_on.new.memo
           c.keep_ends.new.memo keeps c.in-Some-end.ensures.0 g.K.Plan.all l here c.in-Some-end.after c.end.new.board
-          (c.in-Some-end.ensures.1 g.K.Plan.all l here)) c.turn.invariant.follows;
+          (c.in-Some-end.ensures.1 g.K.Plan.all l here))) c.turn.invariant.follows;
       stands = t.1;
       within = omega (arith, c.tick.ensures, t.0);
       remembers = c.keep_ends.ensures.remembers;
@@ -253,8 +278,9 @@ turn-preserved-in-Some-end g c =
           counts_on c.args.req.now g.K.Plan.all c.args.first c.args.board.now c.args.memo.now
           c.args.turned.now c.turn.memo c.turn.turned (left_of c.args.allowed.now) (left_of c.turn.allowed)
           (left_of c.takes_turns.new.allowed)
-          c.turns_due-turns.result c.turn.invariant.counts c.turns_due-turns.ensures.each c.takes_turns.ensures.spent
-          c.keep_ends.new.memo c.tick.new.self c.tick.ensures
+          c.turns_due-turns.result c.turn.invariant.scans c.turn.scan c.turn.next c.turn.board c.turn.invariant.follows
+          c.turn.invariant.counts c.turns_due-turns.ensures.each c.takes_turns.ensures.spent
+          c.keep_ends.new.memo c.tick.new.self 0 c.tick.ensures
           (λ h. c.keep_ends.ensures.still (ap (λ (k : MemoValue). k.is_open) c.waits_on.ensures.same ∙ h));
       waited = λ w.
           waited_on c.args.memo.now c.turn.memo c.waits_on.new.memo c.keep_ends.new.memo (left_of c.args.allowed.now)
@@ -280,13 +306,15 @@ turn-preserved-in-Some g c =
     (λ l more. true ≡ true → Pays g.row.A.Denot c.args.req.now c.waits_on.new.memo l c.back.new.memo more)
     (λ l x. retreats g.K.Plan.all l x) (stands_at r _ _ _ _ _ c.in-Back.is stands) in
     record {
+      scans = c.turn.invariant.scans + 0;
       follows =
           follows_on c.args.req.now g.K.Plan.all c.args.first c.args.board.now c.args.memo.now c.args.turned.now
           c.turn.next c.in-Some.after c.turn.board c.back.new.board c.turn.memo c.waits_on.new.memo c.back.new.memo
-          c.turn.turned c.tick.new.self c.tick.ensures c.waits_on.ensures.same
+          c.turn.turned c.tick.new.self c.turn.invariant.scans 0 c.tick.ensures c.waits_on.ensures.same
           (λ l x.
           let y = retreats g.K.Plan.all l (stands_there r _ l c.turn.next next.Back c.turn.board
           c.turns_due-turns.new.board c.in-Back.is c.turns_due-turns.ensures.board x) in
+          unscanned c.args.req.now g.K.Plan.all c.in-Some.after c.back.new.board c.waits_on.new.memo c.back.new.memo l
           (y.0, y.1, y.2, y.3 refl)) c.turn.invariant.follows;
       stands = t.1;
       within = omega (arith, c.tick.ensures, t.0);
@@ -295,8 +323,9 @@ turn-preserved-in-Some g c =
           counts_on c.args.req.now g.K.Plan.all c.args.first c.args.board.now c.args.memo.now
           c.args.turned.now c.turn.memo c.turn.turned (left_of c.args.allowed.now) (left_of c.turn.allowed)
           (left_of c.takes_turns.new.allowed)
-          c.turns_due-turns.result c.turn.invariant.counts c.turns_due-turns.ensures.each c.takes_turns.ensures.spent
-          c.back.new.memo c.tick.new.self c.tick.ensures
+          c.turns_due-turns.result c.turn.invariant.scans c.turn.scan c.turn.next c.turn.board c.turn.invariant.follows
+          c.turn.invariant.counts c.turns_due-turns.ensures.each c.takes_turns.ensures.spent
+          c.back.new.memo c.tick.new.self 0 c.tick.ensures
           (λ h. inl (ap (λ (k : MemoValue). k.is_open) c.in_ok-after-in-Back.ensures.same ∙
           (ap (λ (k : MemoValue). k.is_open) c.waits_on.ensures.same ∙ h)));
       waited = λ w.
@@ -328,9 +357,10 @@ returns-in-None-clause-costs g c = record {
       let finishes = rw c.in-None.is at c.in_ok-after-in-Back.ensures.next in
       settles c.args.req.now g.K.Plan.all c.args.first c.args.board.now c.args.memo.now
       c.args.turned.now c.turn.memo c.turn.turned (left_of c.args.allowed.now) (left_of c.turn.allowed)
-      (left_of c.takes_turns.new.allowed) c.turns_due-turns.result c.turn.invariant.counts
-      c.turns_due-turns.ensures.each c.takes_turns.ensures.spent c.turn.next c.turn.board
-      c.waits_on.new.memo c.back.new.memo c.turn.invariant.follows c.waits_on.ensures.same
+      (left_of c.takes_turns.new.allowed) c.turns_due-turns.result c.turn.invariant.scans c.turn.scan c.turn.next
+      c.turn.board
+      c.turn.invariant.follows c.turn.invariant.counts c.turns_due-turns.ensures.each c.takes_turns.ensures.spent
+      c.waits_on.new.memo c.back.new.memo c.waits_on.ensures.same
       (λ l x.
       let y = (finishes g.K.Plan.all l (stands_there r _ l c.turn.next next.Back c.turn.board
       c.turns_due-turns.new.board c.in-Back.is c.turns_due-turns.ensures.board x)).1 in (y.0, y.1, y.2 refl, y.3))
@@ -347,7 +377,8 @@ pub returns-then-not-waits_on-clause-stops : goal.returns-then-not-waits_on-clau
 returns-then-not-waits_on-clause-stops g c = λ limited.
     stops c.args.req.now g.K.Plan.all c.args.first c.args.board.now c.args.memo.now c.args.turned.now c.turn.memo
     c.turn.turned (left_of c.args.allowed.now) (left_of c.turn.allowed) (left_of c.turn.allowed) 0
-    c.turn.invariant.counts (λ _ _. omega arith) (omega arith) c.turn.next c.turn.board c.turn.invariant.follows
+    c.turn.invariant.scans c.turn.scan c.turn.next c.turn.board c.turn.invariant.follows c.turn.invariant.counts (λ _
+    _. omega arith) (omega arith)
     (λ closed. omega (
       arith,
       (c.turn.invariant.waited (c.may_wait-waits.ensures.waits (c.requires.limits ∙ limited) closed)).turns,
@@ -357,8 +388,9 @@ pub returns-then-not-takes_turns-clause-stops : goal.returns-then-not-takes_turn
 returns-then-not-takes_turns-clause-stops g c = λ limited.
     stops c.args.req.now g.K.Plan.all c.args.first c.args.board.now c.args.memo.now c.args.turned.now c.turn.memo
     c.turn.turned (left_of c.args.allowed.now) (left_of c.turn.allowed) (left_of c.takes_turns.new.allowed)
-    c.turns_due-turns.result c.turn.invariant.counts c.turns_due-turns.ensures.each c.takes_turns.ensures.spent
-    c.turn.next c.turn.board c.turn.invariant.follows
+    c.turns_due-turns.result c.turn.invariant.scans c.turn.scan c.turn.next c.turn.board c.turn.invariant.follows
+    c.turn.invariant.counts
+    c.turns_due-turns.ensures.each c.takes_turns.ensures.spent
     (λ closed.
     let w = c.may_wait-waits.ensures.waits (c.requires.limits ∙ limited) closed in
     omega (
@@ -372,8 +404,9 @@ pub returns-in_err-next-in-At-clause-stops : goal.returns-in_err-next-in-At-clau
 returns-in_err-next-in-At-clause-stops g c = λ limited.
     stops c.args.req.now g.K.Plan.all c.args.first c.args.board.now c.args.memo.now c.args.turned.now c.turn.memo
     c.turn.turned (left_of c.args.allowed.now) (left_of c.turn.allowed) (left_of c.takes_turns.new.allowed)
-    c.turns_due-turns.result c.turn.invariant.counts c.turns_due-turns.ensures.each c.takes_turns.ensures.spent
-    c.turn.next c.turn.board c.turn.invariant.follows
+    c.turns_due-turns.result c.turn.invariant.scans c.turn.scan c.turn.next c.turn.board c.turn.invariant.follows
+    c.turn.invariant.counts
+    c.turns_due-turns.ensures.each c.takes_turns.ensures.spent
     (λ closed.
     let w = c.may_wait-waits.ensures.waits (c.requires.limits ∙ limited) closed in
     omega (
@@ -387,8 +420,9 @@ pub returns-in_err-next-in-Again-clause-stops : goal.returns-in_err-next-in-Agai
 returns-in_err-next-in-Again-clause-stops g c = λ limited.
     stops c.args.req.now g.K.Plan.all c.args.first c.args.board.now c.args.memo.now c.args.turned.now c.turn.memo
     c.turn.turned (left_of c.args.allowed.now) (left_of c.turn.allowed) (left_of c.takes_turns.new.allowed)
-    c.turns_due-turns.result c.turn.invariant.counts c.turns_due-turns.ensures.each c.takes_turns.ensures.spent
-    c.turn.next c.turn.board c.turn.invariant.follows
+    c.turns_due-turns.result c.turn.invariant.scans c.turn.scan c.turn.next c.turn.board c.turn.invariant.follows
+    c.turn.invariant.counts
+    c.turns_due-turns.ensures.each c.takes_turns.ensures.spent
     (λ closed.
     let w = c.may_wait-waits.ensures.waits (c.requires.limits ∙ limited) closed in
     omega (
@@ -402,8 +436,9 @@ pub returns-in_err-after-in-Back-clause-stops : goal.returns-in_err-after-in-Bac
 returns-in_err-after-in-Back-clause-stops g c = λ limited.
     stops c.args.req.now g.K.Plan.all c.args.first c.args.board.now c.args.memo.now c.args.turned.now c.turn.memo
     c.turn.turned (left_of c.args.allowed.now) (left_of c.turn.allowed) (left_of c.takes_turns.new.allowed)
-    c.turns_due-turns.result c.turn.invariant.counts c.turns_due-turns.ensures.each c.takes_turns.ensures.spent
-    c.turn.next c.turn.board c.turn.invariant.follows
+    c.turns_due-turns.result c.turn.invariant.scans c.turn.scan c.turn.next c.turn.board c.turn.invariant.follows
+    c.turn.invariant.counts
+    c.turns_due-turns.ensures.each c.takes_turns.ensures.spent
     (λ closed.
     let w = c.may_wait-waits.ensures.waits (c.requires.limits ∙ limited) closed in
     omega (
@@ -417,8 +452,9 @@ pub returns-in-None-clause-stops : goal.returns-in-None-clause-stops
 returns-in-None-clause-stops g c = λ limited.
     stops c.args.req.now g.K.Plan.all c.args.first c.args.board.now c.args.memo.now c.args.turned.now c.turn.memo
     c.turn.turned (left_of c.args.allowed.now) (left_of c.turn.allowed) (left_of c.takes_turns.new.allowed)
-    c.turns_due-turns.result c.turn.invariant.counts c.turns_due-turns.ensures.each c.takes_turns.ensures.spent
-    c.turn.next c.turn.board c.turn.invariant.follows
+    c.turns_due-turns.result c.turn.invariant.scans c.turn.scan c.turn.next c.turn.board c.turn.invariant.follows
+    c.turn.invariant.counts
+    c.turns_due-turns.ensures.each c.takes_turns.ensures.spent
     (λ closed.
     let w = c.may_wait-waits.ensures.waits (c.requires.limits ∙ limited) closed in
     omega (
@@ -432,8 +468,9 @@ pub returns-then-is_accepted-clause-stops : goal.returns-then-is_accepted-clause
 returns-then-is_accepted-clause-stops g c = λ limited.
     stops c.args.req.now g.K.Plan.all c.args.first c.args.board.now c.args.memo.now c.args.turned.now c.turn.memo
     c.turn.turned (left_of c.args.allowed.now) (left_of c.turn.allowed) (left_of c.takes_turns.new.allowed)
-    c.turns_due-turns.result c.turn.invariant.counts c.turns_due-turns.ensures.each c.takes_turns.ensures.spent
-    c.turn.next c.turn.board c.turn.invariant.follows
+    c.turns_due-turns.result c.turn.invariant.scans c.turn.scan c.turn.next c.turn.board c.turn.invariant.follows
+    c.turn.invariant.counts
+    c.turns_due-turns.ensures.each c.takes_turns.ensures.spent
     (λ closed.
     let w = c.may_wait-waits.ensures.waits (c.requires.limits ∙ limited) closed in
     omega (

@@ -10,8 +10,8 @@ returns-clause-enough c =
     let n = c.args.characters in
     let r = c.step_bound.result in
     enough_some (length (items_of c.args.self.now)) n ws r
-    (behind_told ws c.items.result.now n c.most_counts.result r c.items.ensures.same c.step_bound.ensures
-    c.most_counts.ensures)
+    (behind_told ws c.items.result.now n c.longest_lookbehind.result r c.items.ensures.same c.step_bound.ensures
+    c.longest_lookbehind.ensures)
 
 pub returns-clause-none : goal.returns-clause-none
 unfolding items_of
@@ -20,5 +20,5 @@ returns-clause-none c =
     let n = c.args.characters in
     let r = c.step_bound.result in
     enough_none (length (items_of c.args.self.now)) n ws r
-    (behind_told ws c.items.result.now n c.most_counts.result r c.items.ensures.same c.step_bound.ensures
-    c.most_counts.ensures)
+    (behind_told ws c.items.result.now n c.longest_lookbehind.result r c.items.ensures.same c.step_bound.ensures
+    c.longest_lookbehind.ensures)

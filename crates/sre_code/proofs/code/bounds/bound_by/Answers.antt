@@ -5,7 +5,7 @@ use Rattle.sre_code.proofs.code.bounds.bound_by.Goals as goal
 pub returns : goal.returns
 returns c = λ x y most cost.
     let n = c.args.positions in
-    let k = c.args.counts / 8 + 1 in
+    let k = c.args.longest / 8 + 1 in
     let both = held_plus x y _ _ _ most cost c.saturating_add.ensures in
     let each = held_plus (x + y) 1 _ 1 _ both (held_same 1 (omega arith)) c.saturating_add-each.ensures in
     let long = held_times (x + y + 1) k _ k _ each (held_same k (omega arith)) c.saturating_mul-long.ensures in

@@ -12,9 +12,8 @@ returns-in_default c = λ t w plain.
 pub instruction-preserved : goal.instruction-preserved
 instruction-preserved c =
     let i = c.instruction.place in
-    let goes = c.in-Some.ensures.1 in
     backs_next c.args.words.now i c.instruction.sum c.in-Some.behind c.in-Some.back c.saturating_add-sum.result
-    goes.code c.instruction.invariant (omega arith) goes.behind goes.there goes.is (grind (arith, common_steps))
+    c.instruction.invariant (omega arith) c.in-Some.ensures.1 (grind (arith, common_steps))
 
 pub returns : goal.returns
 returns c = λ t w plain.

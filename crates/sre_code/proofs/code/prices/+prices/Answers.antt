@@ -1,8 +1,8 @@
 use Rattle.sre_code.proofs.PriceScans.{loop_law, possessive_law, branch_ends, branch_cut, branch_deep, branch_next}
 use Rattle.sre_code.proofs.PriceScans.{onto_start, onto_next, scan_stops, scan_ends}
-use Rattle.sre_code.proofs.PriceScans.{Onto, run_law, priced_as}
-use Rattle.sre_code.specs.Prices.{IsHeld, BodyPriced, PricedAt}
+use Rattle.sre_code.proofs.PriceScans.{Onto, priced_as}
 use Rattle.sre_code.specs.declared.code.prices.Kind.TheVariants as kind
+use Rattle.sre_code.specs.Prices.{IsHeld, BodyPriced, PricedAt}
 use Rattle.std.proofs.Common.{◌+◌, ◌∙◌, Some, arith, sym, subst}
 use Rattle.sre_code.proofs.code.prices.+prices.Goals as goal
 
@@ -47,14 +47,14 @@ branch-returns-clause-told t c =
 
 pub part-returns-in-Run-clause-told : goal.part-returns-in-Run-clause-told
 part-returns-in-Run-clause-told t c =
-    let e = c.args.characters in
-    let ws = c.args.words.now in
-    let i = c.args.place in
-    priced_as e c.args.depth ws i c.in-Ok.code kind.Run (Some c.run.result) c.in-Ok.ensures.1
-    (sym c.in-Run.is ∙ c.kind_of.ensures)
-    (run_law e ws i c.word_or_zero.result c.word_or_zero-in-Run.result c.other_ends-ends.result c.run.result
-    c.word_or_zero.ensures c.word_or_zero-in-Run.ensures c.other_ends-ends.ensures.ends c.other_ends-ends.ensures.few
-    c.run.ensures.told)
+    priced_as c.args.characters c.args.depth c.args.words.now c.args.place c.in-Ok.code kind.Run (Some c.run.result)
+    c.in-Ok.ensures.1 (sym c.in-Run.is ∙ c.kind_of.ensures) c.run.ensures.told
+
+pub part-returns-in-PossessiveRun-clause-told : goal.part-returns-in-PossessiveRun-clause-told
+part-returns-in-PossessiveRun-clause-told t c =
+    priced_as c.args.characters c.args.depth c.args.words.now c.args.place c.in-Ok.code kind.PossessiveRun
+    (Some c.run-in-PossessiveRun.result) c.in-Ok.ensures.1 (sym c.in-PossessiveRun.is ∙ c.kind_of.ensures)
+    c.run-in-PossessiveRun.ensures.told
 
 pub prices_of-part-init : goal.prices_of-part-init
 prices_of-part-init t c =

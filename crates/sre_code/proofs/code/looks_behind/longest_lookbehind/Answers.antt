@@ -1,7 +1,7 @@
 use Rattle.std.proofs.Common.{arith}
 use Rattle.std.proofs.lemmas.Grind.{common_steps}
-use Rattle.sre_code.proofs.Scanning.{onto_next, scan_stops, scan_ends, scan_counts}
-use Rattle.sre_code.proofs.code.run_counts.most_counts.Goals as goal
+use Rattle.sre_code.proofs.Scanning.{onto_next, scan_stops, scan_ends, scan_longest}
+use Rattle.sre_code.proofs.code.looks_behind.longest_lookbehind.Goals as goal
 
 pub returns-in_default : goal.returns-in_default
 returns-in_default c =
@@ -11,7 +11,7 @@ returns-in_default c =
 pub instruction-preserved : goal.instruction-preserved
 instruction-preserved c =
     let i = c.instruction.place in
-    onto_next c.args.words.now i c.instruction.most c.in-Some.behind c.in-Some.count c.max-most.result
+    onto_next c.args.words.now i c.instruction.most c.in-Some.behind c.in-Some.back c.max-most.result
     c.instruction.invariant (omega arith) c.in-Some.ensures.1 (grind (arith, common_steps))
 
 pub returns : goal.returns
@@ -20,5 +20,5 @@ returns c = λ t w.
     let i = c.instruction.place in
     let m = c.instruction.most in (
       scan_ends ws i m c.instruction.invariant (omega arith) t w,
-      scan_counts ws i m c.instruction.invariant (omega arith) t w,
+      scan_longest ws i m c.instruction.invariant (omega arith) t w,
     )
