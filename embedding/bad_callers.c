@@ -322,6 +322,7 @@ static void no_memory(void) {
 }
 
 int main(void) {
+  CHECK(sre_abi() == SRE_ABI);
   CHECK(sre_check_table(&ascii) == SRE_YES);
   windows();
   no_steps();

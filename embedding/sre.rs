@@ -1,6 +1,6 @@
 //! The structs and functions of `sre.h` that a search in a `&str` needs, for Rust (docs/EMBEDDING.md).
 //!
-//! Copy this file, write `mod sre;`, and link `libsre_c.a`.
+//! Copy this file, write `mod sre;`, and link `libsre_c.a` of the same release.
 #![allow(dead_code)] // fields that only the engine reads or writes
 
 use std::mem::{offset_of, size_of};
@@ -68,6 +68,9 @@ pub struct Found {
     pub steps: u64,
 }
 
+/// `SRE_ABI` of the `sre.h` whose structs are above.
+pub const ABI: u32 = 972021780;
+
 // The layout of `sre.h`: the engine would write past the end of a struct that is shorter.
 const _: () = {
     assert!(size_of::<Table>() == 72 && offset_of!(Table, error) == 64 && offset_of!(Table, checked) == 68);
@@ -79,6 +82,7 @@ const _: () = {
 };
 
 unsafe extern "C" {
+    safe fn sre_abi() -> u32;
     fn sre_check_code(code: &mut Code<'_>) -> u32;
     fn sre_step_bound(code: &Code<'_>, characters: usize, steps: &mut u64) -> u32;
     fn sre_answer_utf8(
@@ -94,7 +98,12 @@ unsafe extern "C" {
 
 impl<'a> Code<'a> {
     /// The code of a pattern's bytecode, or the status with which the engine rejects it.
+    ///
+    /// # Panics
+    ///
+    /// If the library has another ABI than this file.
     pub fn check(words: &'a [u32], table: &'a Table) -> Result<Box<Self>, u32> {
+        assert!(sre_abi() == ABI, "libsre_c.a has the ABI {}, and sre.rs needs {ABI}", sre_abi());
         let (words, words_count) = (words.as_ptr(), words.len());
         let hints = Hints::default();
         let mut code = Box::new(Code { words, words_count, table, place: 0, error: 0, hints, checked: false });

@@ -1,6 +1,7 @@
 // Calls each export of `sre_c`, since a program contains only what it calls (`tools/unproved.py`).
 fn main(rt: HostRuntime) -> Result<(), std::alloc::AllocError> {
     let alloc = rt.alloc();
+    sre_abi();
     let mut table = SreTable {
         lower: &[],
         upper: &[],

@@ -4,13 +4,19 @@ A caller in C compiles against include/sre.h alone, and nothing else compares it
 have is written here as C declares it, and compared with the header, declaration by declaration: each status by its
 number, each struct by its fields in order, each function by its parameters. A slice is a pointer and a count, and a
 `Global` is nothing. The gate asks for it (`standing.py`).
+
+The number of an ABI is computed from these declarations. The crate returns it, and the header and the modules in Python
+and Rust have it as a constant. So whoever changes a declaration has to change the number, and to look at each module.
 """
+import hashlib
 import re
 
 from repository import ROOT, read
 
 CRATE = f"{ROOT}/crates/sre_c"
 HEADER = "crates/sre_c/include/sre.h"
+# The modules that declare the structs anew, and how each writes the number of the ABI.
+MODULES = {"python/gaffsilver/_library.py": r"(?m)^ABI = (\d+)\b", "embedding/sre.rs": r"const ABI: u32 = (\d+);"}
 # The file of sre_chars with the struct that the crate takes from there, and what C calls it.
 PAIRS, CALLED = "crates/sre_chars/src/table/entries.rt", {"UniPair": "sre_pair"}
 
@@ -23,10 +29,13 @@ STRUCT = re.compile(r"#\[repr\(C\)\]\n(?:#\[[^\n]*\]\n)*pub struct (\w+)(?:<'a>)
 FIELD = re.compile(r"    (?:pub )?(\w+): (.*),")
 EXPORT = re.compile(r'#\[unsafe\(no_mangle\)\]\npub extern "C" fn (\w+)\((.*?)\) -> (\w+)\n', re.S)
 PARAMETER = re.compile(r"(\w+): ([^,]+)")
+NUMBERED = re.compile(r"fn sre_abi\(\) -> u32\n    ensures \{ result ≡ (\d+) \}")
+SIZE = re.compile(r"size_of::<(\w+)>\(\) == (\d+)")
 
 COMMENT = re.compile(r"/\*.*?\*/|//[^\n]*", re.S)
 DEFINED = re.compile(r"(?m)^#define (SRE_\w+) (\d+)\b")
 C_STRUCT = re.compile(r"typedef struct (\w+) \{(.*?)\} \1;", re.S)
+C_SIZE = re.compile(r"sizeof\((\w+)\) == (\d+)")
 C_FUNCTION = re.compile(r"(?m)^(\w+) (\w+)\(([^;{}]*)\);")
 
 
@@ -55,6 +64,12 @@ def joined(pairs):
     return ", ".join(it for name, written in pairs for it in declared(name, written))
 
 
+def abi_of(declarations):
+    """The number of declarations, which is an `int` in C. Others have another one."""
+    lines = "".join(f"{name}: {it}\n" for name, it in sorted(declarations.items()) if name != "SRE_ABI")
+    return str(int(hashlib.sha256(lines.encode()).hexdigest()[:8], 16) >> 1)
+
+
 def exported():
     """What the crate exports, as C declares it, by the name."""
     status, types, code, root = (read(f"{CRATE}/src/{it}.rt") for it in ("status", "types", "code", "lib"))
@@ -62,7 +77,8 @@ def exported():
     structs = STRUCT.findall(types + code + read(f"{ROOT}/{PAIRS}"))
     found.update({type_of(name): joined(FIELD.findall(body)) for name, body in structs})
     for name, parameters, result in EXPORT.findall(root):
-        found[name] = f"{type_of(result)} ({joined(PARAMETER.findall(parameters))})"
+        found[name] = f"{type_of(result)} ({joined(PARAMETER.findall(parameters)) or 'void'})"
+    found["SRE_ABI"] = "".join(NUMBERED.findall(root))
     return found
 
 
@@ -77,6 +93,23 @@ def in_header():
     return found
 
 
+def other_numbers(own):
+    """Where another number of the ABI, or another size of a struct, is written than that of the declarations."""
+    number, header = abi_of(own), read(f"{ROOT}/{HEADER}")
+    if own["SRE_ABI"] != number:
+        yield f"sre_abi returns {own['SRE_ABI'] or 'no number'}, and its declarations have the number {number}"
+    sizes = dict(C_SIZE.findall(header))
+    for name in sorted({name for name, _ in C_STRUCT.findall(header)} - {*sizes}):
+        yield f"{HEADER} has no size of {name}"
+    for path, form in MODULES.items():
+        text = read(f"{ROOT}/{path}")
+        if re.findall(form, text) != [number]:
+            yield f"{path} has another ABI than {number}: compare its structs with the header, and then write that"
+        for name, size in SIZE.findall(text):
+            if sizes.get(type_of(f"Sre{name}")) != size:
+                yield f"{path} has {name} with the size {size}"
+
+
 def unlike():
     """What differs between the header and the crate."""
     own, there = exported(), in_header()
@@ -84,6 +117,7 @@ def unlike():
         in_c, in_crate = (it.get(name, "nothing") for it in (there, own))
         if in_c != in_crate:
             yield f"{HEADER} has {name} as {in_c}, and sre_c as {in_crate}"
+    yield from other_numbers(own)
     marked = read(f"{CRATE}/src/lib.rt").count("no_mangle")
     if marked != sum(it.startswith("uint32_t (") for it in own.values()):
         yield f"crates/sre_c/src/lib.rt marks {marked} functions, and not all of them are read"

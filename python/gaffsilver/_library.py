@@ -11,6 +11,7 @@ TYPE_CHECKING = False
 if TYPE_CHECKING:
     from typing import Any
 
+ABI = 972021780  # SRE_ABI of the `sre.h` whose structs are below
 NO, YES, STEP_LIMIT, MEMORY, NO_CODE, NO_ROOM = range(6)
 UNSET = FOREVER = 2**64 - 1
 
@@ -76,10 +77,18 @@ class Walked(Structure):
     ]
 
 
+def _check_abi(library: Any, path: str) -> None:
+    """Refuses a library that has other structs or functions, or does not say which."""
+    has = library.sre_abi() if hasattr(library, "sre_abi") else None
+    if has != ABI:
+        raise ImportError(f"{path} has {'no ABI' if has is None else f'the ABI {has}'}, and this package needs {ABI}")
+
+
 _path = os.path.join(os.path.dirname(os.path.abspath(__file__)), "libsre_c.so")
 if not os.path.isfile(_path):
     raise ImportError(f"{_path} is missing: `python/build.py package DIR` makes the package with its library")
 _library = ctypes.CDLL(_path)
+_check_abi(_library, _path)
 
 
 def _function(name: str, *arguments: Any) -> Any:

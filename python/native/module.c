@@ -87,8 +87,17 @@ static bool is_main_interpreter(void) {
   return false;
 }
 
+/* The archive and the header may come from two builds. */
+static bool has_abi_of_header(void) {
+  uint32_t abi = sre_abi();
+  if (abi != SRE_ABI)
+    PyErr_Format(PyExc_ImportError, "the library in gaffsilver._native has the ABI %u, and this package needs %u",
+                 (unsigned)abi, (unsigned)SRE_ABI);
+  return abi == SRE_ABI;
+}
+
 static int fill(PyObject *module) {
-  bool is_well = is_main_interpreter() && ready_types() && read_shared() &&
+  bool is_well = has_abi_of_header() && is_main_interpreter() && ready_types() && read_shared() &&
                  PyModule_AddObjectRef(module, "Pattern", (PyObject *)&PatternType) == 0 &&
                  PyModule_AddObjectRef(module, "Match", (PyObject *)&MatchType) == 0;
   return is_well ? 0 : -1;

@@ -32,6 +32,7 @@
 #ifndef SRE_H
 #define SRE_H
 
+#include <assert.h>
 #include <stdbool.h>
 #include <stddef.h>
 #include <stdint.h>
@@ -39,6 +40,10 @@
 #ifdef __cplusplus
 extern "C" {
 #endif
+
+/* The number of the declarations below, and the result of sre_abi. It changes with each status, struct and function. So
+ * a program that was compiled with the header of another library can find that out. */
+#define SRE_ABI 972021780
 
 /* What a function returns. */
 #define SRE_NO 0           /* there is no match, or no further one */
@@ -133,6 +138,20 @@ typedef struct sre_walked {
   uint64_t steps_before; /* that were left before the last match was searched */
   bool must_advance;
 } sre_walked;
+
+/* The sizes of the structs in bytes, for languages that declare them anew. */
+#if defined(static_assert) || defined(__cplusplus) /* C99 has no assertions */
+static_assert(sizeof(sre_pair) == 8, "sre_pair");
+static_assert(sizeof(sre_table) == 72, "sre_table");
+static_assert(sizeof(sre_hints) == 28, "sre_hints");
+static_assert(sizeof(sre_code) == 72, "sre_code");
+static_assert(sizeof(sre_asked) == 32, "sre_asked");
+static_assert(sizeof(sre_found) == 40, "sre_found");
+static_assert(sizeof(sre_walked) == 40, "sre_walked");
+#endif
+
+/* The SRE_ABI of the library. Before any other call, compare it if the library was not linked by the same header. */
+uint32_t sre_abi(void);
 
 /* Checks a table's lists: SRE_YES, SRE_FAULTY_TABLE. */
 uint32_t sre_check_table(sre_table *table);

@@ -1,8 +1,9 @@
 //! The engine for callers in C. Bytecode, tables and texts belong to the caller.
 //!
 //! `include/sre.h` declares the exports, and says what a caller owes. No export has a `requires`: for all numbers the
-//! result is that of a status, and the clause says what that status implies. `sre_answer_*` and `sre_walk_*` check
-//! bytecode and lists whose `checked` is not set; if it is set, the struct carries the result as a fact.
+//! result is that of a status, and the clause says what that status implies. `sre_abi` alone returns another number.
+//! `sre_answer_*` and `sre_walk_*` check bytecode and lists whose `checked` is not set; if it is set, the struct carries
+//! the result as a fact.
 #![tactic(auto)]
 
 ghost use Rattle.std.specs.Prelude.{◌≡◌, ◌≤◌, length};
@@ -39,6 +40,15 @@ use step_bound::step_bound;
 use table::check_table;
 use types::{SreAsked, SreFound, SreTable, SreWalked};
 use walk::{begun, walk};
+
+/// The number of the declarations of `include/sre.h`, which are these statuses, structs and functions
+/// (`tools/header.py`).
+#[unsafe(no_mangle)]
+pub extern "C" fn sre_abi() -> u32
+    ensures { result ≡ 972021780 }
+{
+    972_021_780
+}
 
 /// Checks the lists of a table, and sets `checked` and `error`.
 #[unsafe(no_mangle)]
