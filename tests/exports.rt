@@ -15,7 +15,7 @@ fn main(rt: HostRuntime) -> Result<(), std::alloc::AllocError> {
         width: 0,
         prefix: 0,
         prefix_skip: 0,
-        most_counts: 0,
+        longest_lookbehind: 0,
         asked_from: 0,
         has_width: false,
         has_prefix: false,

@@ -11,7 +11,7 @@ TYPE_CHECKING = False
 if TYPE_CHECKING:
     from typing import Any
 
-ABI = 972021780  # SRE_ABI of the `sre.h` whose structs are below
+ABI = 1301173013  # SRE_ABI of the `sre.h` whose structs are below
 NO, YES, STEP_LIMIT, MEMORY, NO_CODE, NO_ROOM = range(6)
 UNSET = FOREVER = 2**64 - 1
 
@@ -31,7 +31,7 @@ class Table(Structure):
 
 class Hints(Structure):
     _fields_ = [
-        *((name, c_uint32) for name in ("width", "prefix", "prefix_skip", "most_counts", "asked_from")),
+        *((name, c_uint32) for name in ("width", "prefix", "prefix_skip", "longest_lookbehind", "asked_from")),
         *((name, c_bool) for name in ("has_width", "has_prefix", "literal", "first_set", "refers")),
     ]
 

@@ -43,7 +43,7 @@ extern "C" {
 
 /* The number of the declarations below, and the result of sre_abi. It changes with each status, struct and function. So
  * a program that was compiled with the header of another library can find that out. */
-#define SRE_ABI 972021780
+#define SRE_ABI 1301173013
 
 /* What a function returns. */
 #define SRE_NO 0           /* there is no match, or no further one */
@@ -90,7 +90,7 @@ typedef struct sre_hints {
   uint32_t width;       /* the least width of a match in characters; 0 unless has_width */
   uint32_t prefix;      /* the length of the literal prefix of each match in characters; 0 unless has_prefix */
   uint32_t prefix_skip; /* how many of these a match need not test again */
-  uint32_t most_counts; /* the greatest length of a single-character repeat or lookbehind that matters */
+  uint32_t longest_lookbehind; /* how many characters a lookbehind goes back at most */
   uint32_t asked_from;  /* the least group that the code refers to, counted from 0; 4294967295 if it refers to none */
   bool has_width;
   bool has_prefix;

@@ -6,7 +6,7 @@ use Rattle.sre_chars.specs.Tables.{Table}
 use Rattle.sre_model.specs.Tree.{Tree}
 use Rattle.sre_model.specs.Grammar.{Whole, IsCode}
 use Rattle.sre_model.specs.References.{refers, asked_from}
-use Rattle.sre_model.specs.RunCounts.{most_counts}
+use Rattle.sre_model.specs.LooksBehind.{longest_lookbehind}
 use Rattle.sre_model.proofs.Unique.{whole_same}
 use Rattle.sre_model.proofs.Props.{kept_tree}
 use Rattle.sre_code.specs.Hinted.{Confirmed}
@@ -30,8 +30,8 @@ module _ (words : List ℕ) (table : Table) (h : SreHints) (known : ∥ IsKnown 
       ∥∥₁_elim known (hlevel props)
       (λ k. k.hints.asked ∙ ap asked_from (whole_same words k.tree t k.whole whole))
 
-  pub known_counts : (t : Tree) → Whole words t → refers t ≡ false → h.most_counts ≡ most_counts t
+  pub known_counts : (t : Tree) → Whole words t → refers t ≡ false → h.longest_lookbehind ≡ longest_lookbehind t
   known_counts t whole none =
       ∥∥₁_elim known (hlevel props)
       (λ k. let same = whole_same words k.tree t k.whole whole in
-      k.hints.counts (ap refers same ∙ none) ∙ ap most_counts same)
+      k.hints.counts (ap refers same ∙ none) ∙ ap longest_lookbehind same)

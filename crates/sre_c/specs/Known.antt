@@ -6,7 +6,7 @@ use Rattle.sre_chars.specs.Lists.{lent_table}
 use Rattle.sre_model.specs.Tree.{Tree}
 use Rattle.sre_model.specs.Grammar.{Whole}
 use Rattle.sre_model.specs.References.{refers, asked_from}
-use Rattle.sre_model.specs.RunCounts.{most_counts}
+use Rattle.sre_model.specs.LooksBehind.{longest_lookbehind}
 use Rattle.sre_code.specs.Hinted.{Confirmed}
 use Rattle.sre_code.specs.declared.code.Hints.{Hints}
 use Rattle.sre_c.specs.declared.types.SreTable.{SreTable}
@@ -30,7 +30,7 @@ pub record AreHints (words : List ℕ) (table : Table) (t : Tree) (h : SreHints)
   pub confirmed : Confirmed words table t (hints_told h)
   pub reference : h.refers ≡ refers t
   pub asked : h.asked_from ≡ asked_from t
-  pub counts : refers t ≡ false → h.most_counts ≡ most_counts t
+  pub counts : refers t ≡ false → h.longest_lookbehind ≡ longest_lookbehind t
 
 -- words are a code, whose hints are these
 pub record IsKnown (words : List ℕ) (table : Table) (h : SreHints) : Type 0 where

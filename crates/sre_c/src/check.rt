@@ -26,7 +26,7 @@ fn hints(code: &Code<'_>) -> SreHints
         width: hints.width.unwrap_or(0),
         prefix,
         prefix_skip,
-        most_counts: code.most_counts(),
+        longest_lookbehind: code.longest_lookbehind(),
         asked_from: code.asked_from(),
         has_width: hints.width.is_some(),
         has_prefix: hints.prefix.is_some(),
@@ -102,7 +102,7 @@ pub fn code<'a>(
             hints_told(hints),
             hints.refers,
             hints.asked_from,
-            hints.most_counts,
+            hints.longest_lookbehind,
         ));
     }
     Code::check_lent(alloc, given.words, uni)

@@ -2,8 +2,8 @@
 //!
 //! `include/sre.h` declares the exports, and says what a caller owes. No export has a `requires`: for all numbers the
 //! result is that of a status, and the clause says what that status implies. `sre_abi` alone returns another number.
-//! `sre_answer_*` and `sre_walk_*` check bytecode and lists whose `checked` is not set; if it is set, the struct carries
-//! the result as a fact.
+//! `sre_answer_*` and `sre_walk_*` check bytecode and lists whose `checked` is not set; if it is set, the struct
+//! carries the result as a fact.
 #![tactic(auto)]
 
 ghost use Rattle.std.specs.Prelude.{◌≡◌, ◌≤◌, length};
@@ -45,9 +45,9 @@ use walk::{begun, walk};
 /// (`tools/header.py`).
 #[unsafe(no_mangle)]
 pub extern "C" fn sre_abi() -> u32
-    ensures { result ≡ 972021780 }
+    ensures { result ≡ 1301173013 }
 {
-    972_021_780
+    1_301_173_013
 }
 
 /// Checks the lists of a table, and sets `checked` and `error`.

@@ -35,7 +35,7 @@ pub struct SreHints {
     /// How many of these characters a match need not test again.
     pub prefix_skip: u32,
     /// The greatest number up to which the length of a single-character repeat or lookbehind matters, unless `refers`.
-    pub most_counts: u32,
+    pub longest_lookbehind: u32,
     /// The least group that a back-reference refers to, counted from 0. It is 0 with a conditional, and 4294967295 with
     /// neither.
     pub asked_from: u32,

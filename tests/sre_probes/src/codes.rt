@@ -20,10 +20,11 @@ pub(crate) fn push_code(
     match Code::check(desk.alloc, desk.operands.words.as_slice(), table) {
         Ok(code) => {
             push_hints(answer, &code.hints())?;
-            let (items, refers, counts) = (code.items().len(), code.refers(), code.most_counts());
+            let (items, refers, longest) =
+                (code.items().len(), code.refers(), code.longest_lookbehind());
             write!(
                 answer,
-                " items {items} refers {refers} counts {counts} asked {} to {}",
+                " items {items} refers {refers} lookbehind {longest} asked {} to {}",
                 code.asked_from(),
                 code.asked_to()
             )
