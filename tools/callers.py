@@ -23,9 +23,9 @@ import subprocess
 import sys
 import tempfile
 
-from embedding import found_pythons
+from embedding import BLOCK, found_pythons
 from ending import Fault, ended
-from repository import ROOT, read, row_of, write
+from repository import ROOT, read, row_of, run, write
 
 PAGES = ("README.md", "docs/CALLING.md",
          *sorted(f"examples/{it}" for it in os.listdir(f"{ROOT}/examples") if it.endswith(".md")))
@@ -33,7 +33,6 @@ COMMAND_PAGES = ("README.md", *(f"docs/{it}.md" for it in ("CALLING", "PYTHON", 
 
 # A line of crates.txt as a page gives it, by itself or in a sentence.
 LISTED = re.compile(r"(?:^|(?<=`))(\w+):\s+(sre_\w+(?:\s+\w+)*)(?=$|`)", re.M)
-BLOCK = re.compile(r"(?ms)^```(\w*)\n(.*?)^```$")
 COMMANDS = re.compile(r"(?ms)^```sh\n(.*?)^```$|`(python3 [^`]*)`")
 SHOWN = re.compile(r"^\$ (.*)\n((?:(?!\$ ).*\n)*)", re.M)
 # What is run elsewhere: by hand, as callers, or by the full verification; and what answers a file that a reader has.
@@ -145,11 +144,10 @@ def prepare(room):
 
 def commands_answer(room):
     """Runs all commands, and returns whether each prints what its page shows."""
-    how = {"env": prepare(room), "stdin": subprocess.DEVNULL, "stderr": subprocess.STDOUT, "stdout": subprocess.PIPE}
-    held = []
+    env, held = prepare(room), []
     for command, written in commands():
         words = command.replace("/tmp/", f"{room}/").replace("/path/to", room)
-        ran = subprocess.run(["bash", "-c", words], cwd=f"{room}/repository", encoding="utf-8", **how)
+        ran = run("bash", "-c", words, cwd=f"{room}/repository", env=env, encoding="utf-8")
         held.append(not ran.returncode if written is None else ran.stdout == written)
         came_to = "runs" if written is None else "prints what the page shows"
         print(f"{command}: {came_to if held[-1] else f'FAILED, status {ran.returncode}'}", flush=True)

@@ -27,7 +27,7 @@ import hostile
 import large
 import refused
 from ending import ended
-from repository import ROOT, read
+from repository import ROOT, read, tallied
 
 BEFORE, BEHIND = b"# all lines count\n\ncheck -\n", b"\ncheck -\n"
 ANSWER, EXPLAINED = b"refused\n", b"refused Truncated 0\n"
@@ -173,9 +173,7 @@ def main(words):
         programs.setdefault(name, []).append(os.path.realpath(path))
     if not programs or set(programs) - named:
         return None
-    passed, failed = Cases(print, programs).run()
-    print(f"{passed} passed, {failed} failed")
-    return 0 if passed and not failed else 1
+    return tallied(*Cases(print, programs).run())
 
 
 if __name__ == "__main__":

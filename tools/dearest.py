@@ -39,7 +39,7 @@ def main(words):
     if not crate:
         return None
     with tempfile.TemporaryDirectory(prefix="dearest-") as folder:
-        command = [f"{kit()}/bin/rattle", "check", *crate.words(kit(), lambda it: f"{it.folder}/out/rlib"),
+        command = [f"{kit()}/bin/rattle", "check", *crate.words(lambda it: f"{it.folder}/out/rlib"),
                    "--incremental", folder, *words[1:]]
         check = run(*command, cwd=crate.folder)
         found = figures(crate.name, folder)

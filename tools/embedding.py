@@ -16,7 +16,7 @@ import tempfile
 
 import kept
 from ending import Fault, ended
-from repository import PARTS, ROOT, crates, kit, read as text_of, run, write
+from repository import PARTS, ROOT, crates, kit, read, run, tallied, write
 
 PAGE = "docs/EMBEDDING.md"
 EXAMPLES = ("docs/PYTHON.md", "README.md")
@@ -35,22 +35,18 @@ CRATE = "sre_c"
 ASKED = "import importlib.util as u, sys; print('%d.%d' % sys.version_info[:2], bool(u.find_spec('test.test_re')))"
 
 
-def read(path):
-    return text_of(f"{ROOT}/{path}")
-
-
 def built(room, rlibs):
     """The crate's archive, proved and built over proved crates, apart from the work tree, and whether an earlier run
     built it of the very same files (kept.py); or none, and what the build said."""
     crate = crates()[CRATE]
-    store = kept.Store(kit(), crate, PARTS, [os.path.realpath(__file__)])
+    store = kept.Store(crate, PARTS, [os.path.realpath(__file__)])
     if store.path():
         return store.path(), True
     made = f"{room}/lib{CRATE}.a"
     for part in PARTS:
         if os.path.isdir(f"{crate.folder}/{part}"):
             shutil.copytree(f"{crate.folder}/{part}", f"{room}/{CRATE}/{part}")
-    words = [f"{kit()}/bin/rattle", "build", *crate.words(kit(), rlibs), "--backend", "llvm"]
+    words = [f"{kit()}/bin/rattle", "build", *crate.words(rlibs), "--backend", "llvm"]
     ran = run(*words, "--toolchain", f"{kit()}/toolchain", "-o", made, cwd=f"{room}/{CRATE}")
     if ran.returncode:
         return None, ran.stdout
@@ -77,11 +73,11 @@ def found_pythons():
 
 def programs():
     """The programs of the pages: the page, the language, the source, and what each has to print."""
-    blocks = BLOCK.findall(read(PAGE))
+    blocks = BLOCK.findall(read(f"{ROOT}/{PAGE}"))
     for (language, source), (_, written) in zip(blocks, blocks[1:]):
         if language in ("c", "rust") and "main(" in source:
             yield PAGE, language, source, written
-    for language, source in BLOCK.findall(read("README.md")):
+    for language, source in BLOCK.findall(read(f"{ROOT}/README.md")):
         if language in LINES:
             kind, above, below = LINES[language]
             # what they print is in the comment of the last line
@@ -92,8 +88,7 @@ class Embedding:
     """The trials of a library, with a count of those that passed and failed."""
 
     def __init__(self, tell):
-        self.tell, self.passed, self.failed = tell, 0, 0
-        self.room = None
+        self.tell, self.passed, self.failed, self.room = tell, 0, 0, None
 
     def count(self, is_well, line):
         self.tell(f"embedding: {line}{'' if is_well else ': FAILED'}")
@@ -118,7 +113,7 @@ class Embedding:
         return True
 
     def try_programs(self, library):
-        commands = [it.replace("/tmp/sre", library).split() for it in COMPILED.findall(read(PAGE))]
+        commands = [it.replace("/tmp/sre", library).split() for it in COMPILED.findall(read(f"{ROOT}/{PAGE}"))]
         compilers = dict(zip(("c", "rust"), zip(("settings.c", "settings.rs"), commands)))
         found = list(programs())
         self.count(sorted(it[1] for it in found) == sorted([*compilers] * 2), "two pages have C and Rust")
@@ -159,7 +154,7 @@ class Embedding:
         path = {"PYTHONPATH": site, "PYTHONDONTWRITEBYTECODE": "1"}
         examples = f"{self.room}/examples.txt"
         for page in EXAMPLES:
-            write(examples, "\n".join(it[1] for it in BLOCK.findall(read(page)) if it[0] == "python"))
+            write(examples, "\n".join(it[1] for it in BLOCK.findall(read(f"{ROOT}/{page}")) if it[0] == "python"))
             self.ran(f"the examples of {page}, Python {version}", python, "-m", "doctest", examples, **path, writes="")
         tests = [python, "-W", "error", "-m", "unittest", "discover", "-s", f"{ROOT}/python/tests"]
         has_extension = bool(glob.glob(f"{site}/gaffsilver/_native*"))
@@ -210,9 +205,7 @@ def main(words):
         return None
     if not os.path.isfile(f"{words[0]}/libsre_c.a"):
         raise Fault(f"{words[0]}/libsre_c.a: no such file; `python/build.py library {words[0]}` makes it")
-    passed, failed = Embedding(lambda line: print(line, flush=True)).over(os.path.realpath(words[0]))
-    print(f"{passed} passed, {failed} failed")
-    return 0 if passed and not failed else 1
+    return tallied(*Embedding(lambda line: print(line, flush=True)).over(os.path.realpath(words[0])))
 
 
 if __name__ == "__main__":

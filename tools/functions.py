@@ -3,10 +3,7 @@
 Functions that macros write and those inside others are left out.
 """
 import functools
-import os
 import re
-
-from repository import read
 
 FUNCTION = re.compile(r'( *)(?:pub(?:\([\w:]+\))? )?(?:const )?(?:extern "C" )?fn (\w+)')
 TYPE = re.compile(r"(?m)^(?:pub(?:\([\w:]+\))? )?(?:struct|enum) (\w+)")
@@ -15,12 +12,11 @@ TRAITS_METHODS = re.compile(r"(?:unsafe )?impl(?:<(.*?)>)? (\w+)(?:<(.*)>)? for 
 
 
 class Function:
-    """A function: its path below the crate, its file, its first and last line there, with what is written on it, the
-    name of its cycle, if it is in one, and whether it is a trait's."""
+    """A function: its file, its first and last line there, with what is written on it, the name of its cycle, if it is
+    in one, and whether it is a trait's."""
 
-    def __init__(self, path, file, begin, end, cycle, is_of_trait):
-        self.path, self.file, self.begin, self.end, self.cycle = path, file, begin, end, cycle
-        self.is_of_trait = is_of_trait
+    def __init__(self, file, begin, end, cycle, is_of_trait):
+        self.file, self.begin, self.end, self.cycle, self.is_of_trait = file, begin, end, cycle, is_of_trait
 
     def parts(self, texts):
         """The text of its file in three parts: before it, it, and behind it."""
@@ -36,14 +32,6 @@ def module_of(file):
     """The path of a file's module: of src/a/b.rt it is a::b, and of the root's none."""
     path = file.removeprefix("src/").removesuffix(".rt").split("/")
     return [] if path in (["lib"], ["main"]) else path
-
-
-def sources(folder):
-    """The texts of a crate's sources, by their paths in its folder."""
-    texts = {}
-    for at, _, names in os.walk(f"{folder}/src"):
-        texts.update({os.path.relpath(f"{at}/{it}", folder): read(f"{at}/{it}") for it in names if it.endswith(".rt")})
-    return texts
 
 
 def extent(lines, at, indent):
@@ -78,7 +66,7 @@ def functions_of(file, text, owners):
             begin, end = extent(lines, at, head[1])
             cycle = re.search(r"#\[cycle\((\w+)\)\]", "\n".join(lines[begin:at]))
             path = "::".join([*owner, head[2]])
-            found[path] = Function(path, file, begin, end, cycle[1] if cycle else "", bool(of_trait))
+            found[path] = Function(file, begin, end, cycle[1] if cycle else "", bool(of_trait))
     return found
 
 

@@ -21,7 +21,7 @@ import quick
 import standing
 from ending import ended
 from quick import tell
-from repository import ROOT, crates, read
+from repository import ROOT, crates, heard, read, tallied
 
 BEGAN = time.monotonic()
 
@@ -73,17 +73,13 @@ class Prover:
                 self.end(it, False)
 
     def prove(self):
-        how = {"stdin": subprocess.DEVNULL, "stdout": subprocess.PIPE, "stderr": subprocess.STDOUT}
-        rt = subprocess.Popen(["rt", "ci"], cwd=self.folder, text=True, errors="replace", **how)
-        for line in rt.stdout:
-            self.hear(line.rstrip("\n"))
-        _, status, used = os.wait4(rt.pid, 0)
+        status, seconds = heard(self.hear, "rt", "ci", cwd=self.folder)
         found = re.fullmatch(r"(\d+) passed, (\d+) failed", self.last)
         passed, failed = map(int, found.groups()) if found else (0, 1)
         lacking = [it.name for it in crates().values() if it.is_program and self.programs.count(it.name) != 2]
         for name in lacking:
             tell(f"{name}: it was not run as both compilers build it")
-        self.count.add(passed, failed + len(lacking) + bool(status), used.ru_utime + used.ru_stime)
+        self.count.add(passed, failed + len(lacking) + bool(status), seconds)
 
     def hear(self, line):
         tell(line)
@@ -181,9 +177,7 @@ def main(words):
     used = os.times()
     whole = used.children_user + used.children_system
     tell(f"minutes: all until {minutes(time.monotonic() - BEGAN)}, {minutes(whole)} of processors")
-    passed, failed = (sum(getattr(it, what) for it in phases) for what in ("passed", "failed"))
-    tell(f"{passed} passed, {failed} failed")
-    return 0 if passed and not failed else 1
+    return tallied(sum(it.passed for it in phases), sum(it.failed for it in phases))
 
 
 if __name__ == "__main__":

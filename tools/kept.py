@@ -8,7 +8,7 @@ import shutil
 import stat
 import tempfile
 
-from repository import PARTS
+from repository import PARTS, files, kit
 
 
 def home():
@@ -23,25 +23,16 @@ def home():
     return at if is_own and not os.environ.get("GATE_ANEW") else None
 
 
-def files_below(folder):
-    """The files below a folder, in one order."""
-    for at, folders, names in os.walk(folder):
-        folders.sort()
-        yield from (f"{at}/{it}" for it in sorted(names))
-
-
 class Store:
-    """A place for what is found of a crate: its name is the sum of the kit, of files, of these parts of the crate and
-    of the sources of all crates below it."""
+    """A place for what is found of a crate: its name is the sum of the kit, of these tools, of these parts of the
+    crate and of the sources of all crates below it."""
 
-    def __init__(self, kit, crate, parts, files):
-        whole = hashlib.sha256()
-        program = os.stat(f"{kit}/bin/rattle")
-        whole.update(f"{crate.name} {program.st_size} {program.st_mtime_ns}\n".encode())
+    def __init__(self, crate, parts, tools):
+        program = os.stat(f"{kit()}/bin/rattle")
+        whole = hashlib.sha256(f"{crate.name} {program.st_size} {program.st_mtime_ns}\n".encode())
         folders = [f"{crate.folder}/{it}" for it in parts]
         folders += [f"{it.folder}/{part}" for it in crate.below() for part in PARTS]
-        listed = [f"{kit}/KIT-ID", *files, *(it for folder in folders for it in files_below(folder))]
-        for path in listed:
+        for path in [f"{kit()}/KIT-ID", *tools, *(it for folder in folders for it in files(folder))]:
             with open(path, "rb") as file:
                 data = file.read()
             name = path.rpartition("/crates/")[2] if "/crates/" in path else os.path.basename(path)
@@ -53,11 +44,11 @@ class Store:
         path = f"{self.home}/{self.name}"
         return path if self.home and os.path.isfile(path) else None
 
-    def keep(self, path, most=60):
-        """Keeps a copy of a file, and of all that is kept the newest. A copy is made apart, and then renamed."""
+    def keep(self, path):
+        """Keeps a copy of a file, and of all that is kept the newest 60. A copy is made apart, and then renamed."""
         if self.home:
             with tempfile.NamedTemporaryFile(dir=self.home, delete=False) as made:
                 shutil.copyfile(path, made.name)
             os.replace(made.name, f"{self.home}/{self.name}")
-            for old in sorted(glob.glob(f"{self.home}/*"), key=os.path.getmtime)[:-most]:
+            for old in sorted(glob.glob(f"{self.home}/*"), key=os.path.getmtime)[:-60]:
                 os.remove(old)

@@ -72,8 +72,7 @@ def members(words):
     return [it for high, number in enumerate(numbers) for it in bits(blocks[8 * number:][:8], 256 * high)]
 
 
-# What a line says behind a name, from the listing, the place and the operands: by the pattern that the name is a match
-# of, whole.
+# By patterns for `family_of`: what a line says behind a name, from the listing, the place and the operands.
 BEHIND = {
     r'AT': lambda own, at, word: ' '.join([str(word), *POSITIONS[word:word + 1]]),
     r'CATEGORY': lambda own, at, word: ' '.join([str(word), *CATEGORIES[word:word + 1]]),

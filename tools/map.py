@@ -17,7 +17,7 @@ import re
 
 from ending import ended
 from functions import FUNCTION, extent
-from repository import PARTS, ROOT, read, rows, told
+from repository import ROOT, read, rows, texts_of, told
 
 PAGE = "docs/DESIGN.md"
 SENTENCE = re.compile(r".*?\.(?= [A-Z`\[]|$)")
@@ -44,9 +44,8 @@ KITS_LOOK = re.compile(r"regex_hir\S*\bLook\b")
 def files():
     """The names of the crates' files of code, specs and proofs, with their texts."""
     for crate in (name for name, _, _ in rows() if name.startswith("sre_")):
-        for part in PARTS:
-            for path in sorted(glob.glob(f"{ROOT}/crates/{crate}/{part}/**/*.*t", recursive=True)):
-                yield os.path.splitext(os.path.relpath(path, f"{ROOT}/crates"))[0], read(path)
+        for path, text in texts_of(f"{ROOT}/crates/{crate}").items():
+            yield f"{crate}/{os.path.splitext(path)[0]}", text
 
 
 def heads():

@@ -11,6 +11,7 @@ taken over (`kept.py`). The status is 0 if each mutant is refused as it must be,
 """
 import concurrent.futures
 import copy
+import glob
 import os
 import re
 import subprocess
@@ -21,8 +22,8 @@ import typing
 
 import kept
 from ending import ended
-from functions import emptied, functions, sources
-from repository import PARTS, crates, kit, read, write
+from functions import emptied, functions
+from repository import PARTS, crates, kit, read, texts_of, write
 
 # An answer that names what a mutant took away says nothing of the contract.
 TAKEN_AWAY = re.compile(r"has no field|is not in scope|has no `|was not admitted|stands by its signature")
@@ -120,11 +121,9 @@ class Mutant:
 
 def mutants_of(crate):
     """The mutants of a crate, by its files and in their order."""
-    folder, found = f"{crate.folder}/wrong", []
-    for name in sorted(os.listdir(folder)) if os.path.isdir(folder) else []:
-        blocks = read(f"{folder}/{name}").strip("\n").split("\n\n")
-        found += [Mutant(crate, name.removesuffix(".edit"), it) for it in blocks]
-    return found
+    return [Mutant(crate, os.path.basename(path).removesuffix(".edit"), block)
+            for path in sorted(glob.glob(f"{crate.folder}/wrong/*.edit"))
+            for block in read(path).strip("\n").split("\n\n")]
 
 
 class Round:
@@ -151,11 +150,7 @@ class Trial:
     """The checks of one crate's mutants."""
 
     def __init__(self, crate, words):
-        self.crate, self.words, self.before, self.seconds, self.dearest = crate, words, {}, 0, []
-        for part in PARTS:
-            for at, _, names in os.walk(f"{crate.folder}/{part}"):
-                for name in names:
-                    self.before[os.path.relpath(f"{at}/{name}", crate.folder)] = read(f"{at}/{name}")
+        self.crate, self.words, self.before, self.seconds, self.dearest = crate, words, texts_of(crate.folder), 0, []
 
     def opened(self, own):
         """The folders of the proofs of all other functions, but for those of cycles."""
@@ -282,9 +277,9 @@ class Judged(typing.NamedTuple):
 
 def tried(crate, rlibs):
     """Tries a crate's mutants."""
-    mutants, texts, tool = mutants_of(crate), sources(crate.folder), os.path.realpath(__file__)
+    mutants, texts, tool = mutants_of(crate), texts_of(crate.folder, ["src"]), os.path.realpath(__file__)
     tools = [tool, *(f"{os.path.dirname(tool)}/{it}.py" for it in ("functions", "repository"))]
-    store = kept.Store(kit(), crate, [*PARTS, "wrong"], tools)
+    store = kept.Store(crate, [*PARTS, "wrong"], tools)
     if store.path():
         return Judged([(True, it) for it in read(store.path()).splitlines()], 0, [], True)
     faults = [(it, it.fault(texts)) for it in mutants]
@@ -292,7 +287,7 @@ def tried(crate, rlibs):
     good = [it for it, fault in faults if not fault]
     plain = [it for it in good if not it.cycle and it.function in functions(texts)]
     plain.sort(key=lambda it: len(functions(texts)[it.function].text(texts)))
-    trial = Trial(crate, crate.words(kit(), rlibs))
+    trial = Trial(crate, crate.words(rlibs))
     # the shortest function goes along unchanged, and must not be refused
     unchanged = [copy.copy(it) for it in plain[:1]]
     for it in unchanged:

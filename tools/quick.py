@@ -34,7 +34,7 @@ class Quick:
     def tests(self, name):
         """A crate's tests: as many as its sources count."""
         passed, failed, lines = self.repository.test(name)
-        counted = sum(map(standing.tests_in, standing.files(f"{ROOT}/tests/{name}/src", ".rt")))
+        counted = standing.tests_in(f"{ROOT}/tests/{name}")
         if failed or passed != counted:
             tell("\n".join([*lines, f"{name}: its sources count {counted} tests, and {passed} ran and passed"]))
         return passed, max(failed, counted - passed)

@@ -8,6 +8,8 @@ import tempfile
 ROOT = os.path.dirname(os.path.dirname(os.path.realpath(__file__)))
 # The parts of a crate's folder that are code, specs and proofs.
 PARTS = ("src", "specs", "proofs")
+# How a command runs: nothing is given to it, and what it says on both outputs is one text.
+HOW = {"stdin": subprocess.DEVNULL, "stdout": subprocess.PIPE, "stderr": subprocess.STDOUT, "errors": "replace"}
 
 
 def read(path):
@@ -20,10 +22,32 @@ def write(path, text):
         file.write(text)
 
 
+def files(folder, ends="", but=None):
+    """The files below a folder whose names end so, in one order. Folders of the name `but` are left out."""
+    found = []
+    for at, folders, names in os.walk(folder):
+        folders[:] = [it for it in folders if it != but]
+        found += [f"{at}/{it}" for it in names if it.endswith(ends)]
+    return sorted(found)
+
+
+def texts_of(folder, parts=PARTS):
+    """The texts of the files of a crate's parts, by their paths in its folder."""
+    return {os.path.relpath(it, folder): read(it) for part in parts for it in files(f"{folder}/{part}")}
+
+
 def run(*words, **how):
-    """How a command ended, and what it said on both outputs."""
-    how = {"stdin": subprocess.DEVNULL, "stdout": subprocess.PIPE, "stderr": subprocess.STDOUT, **how}
-    return subprocess.run(words, text=True, errors="replace", **how)
+    """How a command ended, and what it said."""
+    return subprocess.run(words, **{**HOW, **how})
+
+
+def heard(hear, *words, **how):
+    """Runs a command whose lines are heard as they come: its status, and the processor seconds that it took."""
+    with subprocess.Popen(words, **HOW, **how) as command:
+        for line in command.stdout:
+            hear(line.rstrip("\n"))
+        _, command.returncode, used = os.wait4(command.pid, 0)
+    return command.returncode, used.ru_utime + used.ru_stime
 
 
 def told(faults):
@@ -32,6 +56,12 @@ def told(faults):
     for line in lines:
         print(line)
     return int(bool(lines))
+
+
+def tallied(passed, failed):
+    """The status of a tool that counts: 0 if all has passed, and there is something. The counts are its last line."""
+    print(f"{passed} passed, {failed} failed")
+    return 0 if passed and not failed else 1
 
 
 def answers(program, lines):
@@ -75,19 +105,19 @@ class Crate:
             found.update({it.name: it for it in [*crate.below(), crate]})
         return list(found.values())
 
-    def words(self, kit, rlibs):
+    def words(self, rlibs):
         """What names the crate and its libraries to `rattle check`."""
         words = ["--crate-name", self.name, "src/main.rt" if self.is_program else "src/lib.rt"]
         for name in self.of_kit:
-            words += ["--extern", f"{name}={kit}/rlibs/{name}.rlib"]
-        words += ["-L", f"dependency={kit}/rlibs"]
+            words += ["--extern", f"{name}={kit()}/rlibs/{name}.rlib"]
+        words += ["-L", f"dependency={kit()}/rlibs"]
         for crate in self.own:
             words += ["--extern", f"{crate.name}={rlibs(crate)}/{crate.name}.rlib"]
         for crate in self.below():
             words += ["-L", f"dependency={rlibs(crate)}"]
         words += ["--crate-type", "staticlib"] if self.is_static else []
-        words += ["--antt-project", f"{kit}/rattle/logic/antt-project.json"]
-        return [*words, "--logic-built", f"{kit}/logic_built", "--jobs", "1"]
+        words += ["--antt-project", f"{kit()}/rattle/logic/antt-project.json"]
+        return [*words, "--logic-built", f"{kit()}/logic_built", "--jobs", "1"]
 
 
 def row_of(line):

@@ -16,7 +16,7 @@ import header
 import map as code_map
 import mutants
 from ending import ended
-from repository import ROOT, crates, kit, of_kit, read, rows, told
+from repository import ROOT, crates, files, kit, of_kit, read, rows, told, write
 
 COUNTS = f"{ROOT}/.ci/counts"
 # What is counted, how many there are, and where that fell: the greatest number before, and why.
@@ -41,32 +41,19 @@ NAMED = {
 ALLOCATOR = re.compile(r"\bAllocator\s+(?:for|as)\b")
 
 
-def files(folder, *ends):
-    """The files below a folder whose names end so, outside out/."""
-    found = []
-    for at, folders, names in os.walk(folder):
-        folders[:] = sorted(it for it in folders if it != "out")
-        found += [f"{at}/{it}" for it in sorted(names) if it.endswith(ends)]
-    return found
-
-
-def listed(folder, end):
-    """The files right in a folder whose names end so, as the tools list them."""
-    return sorted(glob.glob(f"{folder}/*{end}"))
-
-
 def folders():
     """The folders of the crates, and of the tests' crates."""
-    return [it for top in ("crates", "tests") for it in listed(f"{ROOT}/{top}", "") if os.path.isdir(it)]
+    return [it for top in ("crates", "tests") for it in sorted(glob.glob(f"{ROOT}/{top}/*")) if os.path.isdir(it)]
 
 
-def lines_in(paths):
-    return sum(read(it).count("\n") for it in paths)
+def counts_in(paths, text="\n"):
+    """How often a text is in files; by default, how many lines they have."""
+    return sum(read(it).count(text) for it in glob.glob(paths))
 
 
-def tests_in(path):
-    """The number of tests of a source."""
-    return sum(it.strip() == "#[test]" for it in read(path).split("\n"))
+def tests_in(folder):
+    """The number of tests of a crate."""
+    return sum(it.strip() == "#[test]" for path in files(f"{folder}/src", ".rt") for it in read(path).split("\n"))
 
 
 def counted():
@@ -74,16 +61,14 @@ def counted():
     found = {}
     for folder in folders():
         name = os.path.basename(folder)
-        found[f"{name} tests"] = sum(map(tests_in, files(f"{folder}/src", ".rt")))
-        found[f"{name} answers"] = lines_in(listed(f"{folder}/cases", ".expected"))
-        found[f"{name} faults"] = len(listed(f"{folder}/cases", ".fault"))
-        found[f"{name} rows"] = lines_in(listed(f"{folder}/cases", ".jsonl"))
-    found["examples answers"] = lines_in(listed(f"{ROOT}/examples", ".expected"))
-    lines = read(f"{ROOT}/examples/patterns.txt").split("\n")
-    found["examples patterns"] = sum(it.startswith("pattern:") for it in lines)
-    tests = listed(f"{ROOT}/python/tests", ".py")
-    found["python test methods"] = sum(read(it).count("\n    def test_") for it in tests)
-    found["embedding checks"] = sum(read(it).count(" CHECK(") for it in listed(f"{ROOT}/embedding", ".c"))
+        found[f"{name} tests"] = tests_in(folder)
+        found[f"{name} answers"] = counts_in(f"{folder}/cases/*.expected")
+        found[f"{name} faults"] = len(glob.glob(f"{folder}/cases/*.fault"))
+        found[f"{name} rows"] = counts_in(f"{folder}/cases/*.jsonl")
+    found["examples answers"] = counts_in(f"{ROOT}/examples/*.expected")
+    found["examples patterns"] = counts_in(f"{ROOT}/examples/patterns.txt", "\npattern:")
+    found["python test methods"] = counts_in(f"{ROOT}/python/tests/*.py", "\n    def test_")
+    found["embedding checks"] = counts_in(f"{ROOT}/embedding/*.c", " CHECK(")
     of_all = (mutants.mutants_of(it) for it in crates().values())
     found.update(collections.Counter(f"mutants of {it.call}" for own in of_all for it in own))
     return {what: number for what, number in found.items() if number}
@@ -139,7 +124,7 @@ def unread():
     """Files beside those that a tool reads, which nothing reads."""
     for folder in folders():
         for part, form in READ.items():
-            for path in files(f"{folder}/{part}", ""):
+            for path in files(f"{folder}/{part}"):
                 begun, end = os.path.splitext(path)
                 is_alone = end in (".txt", ".fault", ".flags") and not os.path.isfile(f"{begun}.expected")
                 if is_alone or not re.fullmatch(form, os.path.relpath(path, f"{folder}/{part}")):
@@ -152,14 +137,14 @@ def unsealed():
         if "sre_refusal_seal" in below and name != "sre_growth":
             yield f"crates.txt: {name} lists sre_refusal_seal"
     named, top = {}, f"{ROOT}/crates/"
-    for path in files(top, ".rt", ".antt"):
+    for path in files(top, (".rt", ".antt"), but="out"):
         short = path[len(top):]
         lines = [it for it in read(path).split("\n") if "sre_refusal_seal" in it and it.strip()[:2] not in ("//", "--")]
         if lines and not short.startswith("sre_refusal_seal/"):
             named[short] = lines
     if named != NAMED:
         yield f"other lines than the seal's name sre_refusal_seal: {[it for it in named if named[it] != NAMED.get(it)]}"
-    own = {path[len(top):] for path in files(f"{top}sre_growth", ".antt")}
+    own = {path[len(top):] for path in files(f"{top}sre_growth", ".antt", but="out")}
     if own != {*NAMED, "sre_growth/specs/Lib.antt", "sre_growth/proofs/Lib.antt"}:
         yield f"sre_growth has other files of specs and proofs: {sorted(own)}"
     for name in GROWTHS:
@@ -175,7 +160,7 @@ def refusing():
     for it in sorted(of_the_kit | {*of_kit(of_the_kit)} - {*of_kit(["std"])}):
         if any(ALLOCATOR.search(read(path)) for path in files(f"{kit()}/rattle/{it}/src", ".rt")):
             yield f"crates.txt lists {it}, or what lists it, which has an allocator of its own"
-    for path in files(f"{ROOT}/crates", ".rt"):
+    for path in files(f"{ROOT}/crates", ".rt", but="out"):
         if ALLOCATOR.search(read(path)):
             yield f"{os.path.relpath(path, ROOT)} has an allocator of its own"
 
@@ -187,18 +172,17 @@ def fallen():
     return [*kept, *header.unlike(), *code_map.stale()]
 
 
-def write():
+def renew():
     """Writes today's numbers. A row that says why its number fell keeps that while it is less."""
     numbers, before = counted(), rows_now()
     reasons = {what: f" # was {was}: {why}" for what, (_, was, why) in before.items() if numbers.get(what, 0) < was}
-    with open(COUNTS, "w", encoding="utf-8") as file:
-        for what in [*numbers, *(it for it in reasons if it not in numbers)]:
-            file.write(f"{what} {numbers.get(what, 0)}{reasons.get(what, '')}\n")
+    lines = [f"{it} {numbers.get(it, 0)}{reasons.get(it, '')}\n" for it in dict.fromkeys([*numbers, *reasons])]
+    write(COUNTS, "".join(lines))
 
 
 def main(words):
     if words == ["--write"]:
-        write()
+        renew()
     elif words:
         return None
     return told(fallen())

@@ -18,7 +18,7 @@ import shutil
 import subprocess
 
 from ending import Fault, ended
-from repository import PARTS, ROOT, crates, read, row_of, write
+from repository import PARTS, ROOT, crates, read, row_of, run, texts_of, write
 
 DEFAULT = "sre_engine"
 PART = re.compile(r"^# Gaffsilver begins.*?(?:^# Gaffsilver ends\n|\Z)", re.M | re.S)
@@ -26,12 +26,6 @@ BEGIN = "# Gaffsilver begins: commit {}; no crate but sre_growth may list sre_re
 END = "# Gaffsilver ends"
 # What writes bytecode and tables, with the modules that it imports.
 TOOLS = ("words.py", "unicode.py", "constants.py", "ending.py", "grammar.py", "listing.py", "repository.py", "trees.py")
-
-
-def files_of(folder):
-    """The contents of a crate's files that are copied, by their paths in its folder."""
-    found = (f"{at}/{it}" for part in PARTS for at, _, names in os.walk(f"{folder}/{part}") for it in names)
-    return {os.path.relpath(it, folder): read(it) for it in found}
 
 
 def line_of(crate):
@@ -53,22 +47,22 @@ def table(known):
 
 def copy(crate, folder):
     """Copies a crate over what is there of it, and reports that."""
-    if files_of(folder) == files_of(crate.folder):
+    if texts_of(folder) == texts_of(crate.folder):
         return f"{crate.name}: is the same already"
     for part in PARTS:
         shutil.rmtree(f"{folder}/{part}", ignore_errors=True)
-    for path, text in files_of(crate.folder).items():
+    for path, text in texts_of(crate.folder).items():
         os.makedirs(os.path.dirname(f"{folder}/{path}"), exist_ok=True)
         write(f"{folder}/{path}", text)
     shutil.copy(f"{ROOT}/LICENSE", folder)
-    return f"{crate.name}: {len(files_of(folder))} files copied"
+    return f"{crate.name}: {len(texts_of(folder))} files copied"
 
 
 def differing(taken, top, own):
     """What would be overwritten by something else: crates, and lines of the target's own."""
     rows = {row_of(it)[0]: row_of(it) for it in own}
     for crate in taken:
-        if files_of(f"{top}/{crate.name}") not in ({}, files_of(crate.folder)):
+        if texts_of(f"{top}/{crate.name}") not in ({}, texts_of(crate.folder)):
             yield f"crates/{crate.name} differs"
         row = row_of(line_of(crate))
         if rows.get(crate.name, row) != row:
@@ -77,12 +71,11 @@ def differing(taken, top, own):
 
 def commit(taken):
     """The commit here, and whether the crates that are taken differ from it."""
-    def git(*words):
-        return subprocess.run(["git", "-C", ROOT, *words], stdout=subprocess.PIPE, stderr=subprocess.DEVNULL, text=True)
-
+    git, how = ("git", "-C", ROOT), {"stderr": subprocess.DEVNULL}
     try:
-        name = git("rev-parse", "--short", "HEAD").stdout.strip()
-        changed = git("status", "--porcelain", "--", *(f"{it.folder}/{part}" for it in taken for part in PARTS))
+        name = run(*git, "rev-parse", "--short", "HEAD", **how).stdout.strip()
+        parts = [f"{it.folder}/{part}" for it in taken for part in PARTS]
+        changed = run(*git, "status", "--porcelain", "--", *parts, **how)
     except OSError:
         return "unknown"
     return f"{name}-dirty" if name and changed.stdout else name or "unknown"
