@@ -107,15 +107,15 @@ class Prover:
 
 
 def try_mutants(crate, prover, count):
-    """Tries the mutants of a crate once those below it are proved. Gives what came of them."""
+    """Tries the mutants of a crate once those below it are proved. Gives how many were taken over."""
     if not prover.are_proved([it.name for it in crate.below()]):
         count.check(False, f"mutants of {crate.name}: not tried, since a crate below it is not proved")
-        return mutants.Judged([], 0, [], False)
-    judged = mutants.tried(crate, prover.rlibs_of)
-    for is_well, line in judged.found:
-        count.check(is_well, f"{line}{' (by an earlier run)' if judged.is_kept else ''}")
-    count.add(0, 0, judged.seconds)
-    return judged
+        return 0
+    found, seconds, is_kept = mutants.tried(crate, prover.rlibs_of)
+    for is_well, line in found:
+        count.check(is_well, f"{line}{' (by an earlier run)' if is_kept else ''}")
+    count.add(0, 0, seconds)
+    return len(found) if is_kept else 0
 
 
 def try_library(prover, count):
@@ -144,13 +144,11 @@ def verified():
             with_mutants = filter(mutants.mutants_of, crates().values())
             tried = [pool.submit(try_mutants, it, prover, of_mutants) for it in with_mutants]
             building = pool.submit(try_library, prover, library)
-            judged = [it.result() for it in tried]
+            mutants_kept = sum(it.result() for it in tried)
             proving.result(), building.result(), testing.result()
         built = f"{prover.folder}/crates/sre_cases/out/sre_cases"
         of_cases.add(*cases.Cases(tell, {"sre_cases": [built, f"{built}.by-rattle"]}).run())
-    for line in mutants.dear([it for each in judged for it in each.dearest]):
-        tell(line)
-    return phases, prover.taken_over, sum(len(it.found) for it in judged if it.is_kept)
+    return phases, prover.taken_over, mutants_kept
 
 
 def kit_at_hand():

@@ -14,16 +14,13 @@ import copy
 import glob
 import os
 import re
-import subprocess
 import tempfile
 import threading
-import time
-import typing
 
 import kept
 from ending import ended
 from functions import emptied, functions
-from repository import PARTS, crates, kit, read, texts_of, write
+from repository import PARTS, crates, heard, kit, read, texts_of, write
 
 # An answer that names what a mutant took away says nothing of the contract.
 TAKEN_AWAY = re.compile(r"has no field|is not in scope|has no `|was not admitted|stands by its signature")
@@ -150,7 +147,7 @@ class Trial:
     """The checks of one crate's mutants."""
 
     def __init__(self, crate, words):
-        self.crate, self.words, self.before, self.seconds, self.dearest = crate, words, texts_of(crate.folder), 0, []
+        self.crate, self.words, self.before, self.seconds = crate, words, texts_of(crate.folder), 0
 
     def opened(self, own):
         """The folders of the proofs of all other functions, but for those of cycles."""
@@ -194,21 +191,11 @@ class Trial:
                 os.makedirs(os.path.dirname(f"{folder}/{path}"), exist_ok=True)
                 write(f"{folder}/{path}", text)
             only = [word for it in made.placed for word in ("--only", it.function)]
-            words = ["nice", f"{kit()}/bin/rattle", "check", *self.words, "--allow-holes", "--progress", *only]
-            return self.said(words, folder)
-
-    def said(self, words, folder):
-        """What a command says, with its processor seconds, and those of each function by the clock."""
-        how = {"stdin": subprocess.DEVNULL, "stdout": subprocess.PIPE, "stderr": subprocess.STDOUT}
-        check, said, before = subprocess.Popen(words, cwd=folder, text=True, errors="replace", **how), "", None
-        for line in check.stdout:
-            said, ended = said + line, re.match(r"checked (\S+), \d+ of \d+", line)
-            if ended and before:
-                self.dearest.append((time.monotonic() - before, ended[1]))
-            before = time.monotonic() if ended or "ahead of the check" in line else before
-        _, check.returncode, used = os.wait4(check.pid, 0)
-        self.seconds += used.ru_utime + used.ru_stime
-        return said
+            words = ["nice", f"{kit()}/bin/rattle", "check", *self.words, "--allow-holes", *only]
+            lines = []
+            _, seconds = heard(lines.append, *words, cwd=folder)
+            self.seconds += seconds
+            return "\n".join(lines)
 
     def judged(self, made):
         """For each mutant of a round whether it is judged as it must be, and a line that says so."""
@@ -265,23 +252,14 @@ def rounds(mutants, texts):
     return made
 
 
-class Judged(typing.NamedTuple):
-    """Of a crate's mutants: for each whether it is judged as it must be, with a line; the processor seconds that they
-    took, and those of each function by the clock; and whether an earlier run judged them."""
-
-    found: list
-    seconds: float
-    dearest: list
-    is_kept: bool
-
-
 def tried(crate, rlibs):
-    """Tries a crate's mutants."""
+    """Tries a crate's mutants: whether each is judged as it must be, with a line; the processor seconds that they took;
+    and whether an earlier run judged them."""
     mutants, texts, tool = mutants_of(crate), texts_of(crate.folder, ["src"]), os.path.realpath(__file__)
     tools = [tool, *(f"{os.path.dirname(tool)}/{it}.py" for it in ("functions", "repository"))]
     store = kept.Store(crate, [*PARTS, "wrong"], tools)
     if store.path():
-        return Judged([(True, it) for it in read(store.path()).splitlines()], 0, [], True)
+        return [(True, it) for it in read(store.path()).splitlines()], 0, True
     faults = [(it, it.fault(texts)) for it in mutants]
     found = [(False, f"{it.label()}: BAD: {fault}") for it, fault in faults if fault]
     good = [it for it, fault in faults if not fault]
@@ -298,12 +276,7 @@ def tried(crate, rlibs):
         with tempfile.TemporaryDirectory() as room:
             write(f"{room}/judged", "\n".join(line for _, line in found))
             store.keep(f"{room}/judged")
-    return Judged(found, trial.seconds, trial.dearest, False)
-
-
-def dear(dearest):
-    """The lines on the ten functions that took longest."""
-    return [f"dearest: {seconds:.0f} seconds, {function}" for seconds, function in sorted(dearest, reverse=True)[:10]]
+    return found, trial.seconds, False
 
 
 def calls():
@@ -322,14 +295,13 @@ def main(words):
     known, failed = crates(), 0
     if not set(words) <= set(known):
         return None
-    picked, dearest = [known[it] for it in words] or [it for it in known.values() if mutants_of(it)], []
+    picked = [known[it] for it in words] or [it for it in known.values() if mutants_of(it)]
     with concurrent.futures.ThreadPoolExecutor(os.cpu_count()) as pool:
-        for judged in pool.map(lambda it: tried(it, lambda below: f"{below.folder}/out/rlib"), picked):
-            for is_well, line in judged.found:
+        for found, _, _ in pool.map(lambda it: tried(it, lambda below: f"{below.folder}/out/rlib"), picked):
+            for is_well, line in found:
                 print(line, flush=True)
                 failed += not is_well
-            dearest += judged.dearest
-    print(*dear(dearest), f"{failed} mutants not judged as they must be", sep="\n")
+    print(f"{failed} mutants not judged as they must be")
     return 1 if failed else 0
 
 
