@@ -1,4 +1,4 @@
-"""The engine that patterns run on: the extension in C, or without it and in subinterpreters the library by ctypes.
+"""The engine that patterns run on: the extension in C, or if that is missing, the library by ctypes.
 
 `GAFFSILVER_ENGINE=ctypes` in the environment selects the library even if there is the extension.
 """
@@ -49,14 +49,7 @@ def _engine() -> Any:
     check_processor()
     has_extension = importlib.util.find_spec("gaffsilver._native") is not None
     if has_extension and os.environ.get("GAFFSILVER_ENGINE") != "ctypes":
-        try:
-            return importlib.import_module("gaffsilver._native")
-        except ImportError as error:
-            if "interpreter" not in str(error):
-                raise
-            import warnings
-
-            warnings.warn(f"{error}; this engine runs by ctypes, which is slower", RuntimeWarning)
+        return importlib.import_module("gaffsilver._native")
     return importlib.import_module("gaffsilver._foreign")
 
 

@@ -10,11 +10,11 @@
 
 /* ---- tables ---- */
 
-/* Fills in and checks the table of this Python's Unicode data, whose lists are never freed. */
-static bool fill_unicode(sre_table *table) {
-  PyObject *lists = PyObject_CallNoArgs(shared.unicode_lists);
+/* Fills in and checks the table of this Python's Unicode data, and returns the lists that it points to. */
+static PyObject *fill_unicode(const State *state, sre_table *table) {
+  PyObject *lists = PyObject_CallFunctionObjArgs(state->unicode_lists, NULL);
   if (!lists)
-    return false;
+    return NULL;
   const sre_pair *pairs[4];
   size_t counts[4];
   for (Py_ssize_t at = 0; at < 4; at++) {
@@ -25,31 +25,38 @@ static bool fill_unicode(sre_table *table) {
   *table = (sre_table){pairs[0], counts[0], pairs[1], counts[1], pairs[2], counts[2], pairs[3], counts[3], 0, false};
   uint32_t status = sre_check_table(table);
   if (status == SRE_YES)
-    return true;
+    return lists;
   engine_fail(status);
   Py_DECREF(lists);
-  return false;
+  return NULL;
 }
 
-/* Fills in and checks the table of ASCII. */
-static bool fill_ascii(sre_table *table) {
-  *table = (sre_table)SRE_ASCII;
-  uint32_t status = sre_check_table(table);
-  if (status != SRE_YES)
-    engine_fail(status);
-  return status == SRE_YES;
-}
-
-const sre_table *engine_table(bool is_unicode) {
-  static sre_table unicode, ascii;
-  sre_table *table = is_unicode ? &unicode : &ascii, made;
-  if (table->checked)
-    return table;
-  if (!(is_unicode ? fill_unicode(&made) : fill_ascii(&made)))
+static const sre_table *unicode_table(State *state) {
+  sre_table made;
+  if (state->unicode.checked)
+    return &state->unicode;
+  PyObject *lists = fill_unicode(state, &made);
+  if (!lists)
     return NULL;
-  if (!table->checked) /* another thread may have made it meanwhile */
-    *table = made;
-  return table;
+  if (state->unicode.checked) { /* another thread made it meanwhile */
+    Py_DECREF(lists);
+  } else {
+    state->lists = lists;
+    state->unicode = made;
+  }
+  return &state->unicode;
+}
+
+static const sre_table *ascii_table(State *state) {
+  uint32_t status = state->ascii.checked ? SRE_YES : sre_check_table(&state->ascii);
+  if (status == SRE_YES)
+    return &state->ascii;
+  engine_fail(status);
+  return NULL;
+}
+
+const sre_table *engine_table(State *state, bool is_unicode) {
+  return is_unicode ? unicode_table(state) : ascii_table(state);
 }
 
 /* ---- calls ---- */
@@ -69,7 +76,8 @@ void engine_fail_in(uint32_t status, const Pattern *pattern, size_t start, uint6
     return;
   }
   Py_ssize_t pos = (Py_ssize_t)start;
-  PyObject *error = PyObject_CallFunction(shared.exceeded, "OnK", pattern->pattern, pos, (unsigned long long)max_steps);
+  PyObject *error =
+      PyObject_CallFunction(pattern->state->exceeded, "OnK", pattern->pattern, pos, (unsigned long long)max_steps);
   if (error)
     PyErr_SetObject((PyObject *)Py_TYPE(error), error);
   Py_XDECREF(error);
@@ -89,10 +97,13 @@ sre_asked engine_asked(const Text *text, Py_ssize_t pos, Py_ssize_t endpos, uint
   };
 }
 
-/* Whether no other thread has a state in Python, in any interpreter. */
+/* Whether no other thread can wait for the lock: there is no other interpreter, and no other thread in this one. Other
+ * threads may add and free the states of other interpreters meanwhile, so none of them is read. */
 static bool is_alone(void) {
   PyThreadState *own = PyThreadState_Get();
-  return PyInterpreterState_ThreadHead(PyInterpreterState_Head()) == own && !PyThreadState_Next(own);
+  PyInterpreterState *interpreter = PyThreadState_GetInterpreter(own);
+  return PyInterpreterState_Head() == interpreter && !PyInterpreterState_Next(interpreter) &&
+         PyInterpreterState_ThreadHead(interpreter) == own && !PyThreadState_Next(own);
 }
 
 /* Whether other threads may run during a call: none can change the text, it is long enough, and there is one. */

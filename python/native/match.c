@@ -34,7 +34,8 @@ static bool append(PyObject *list, PyObject *made) {
 
 PyObject *parts_of(const Pattern *pattern, PyObject *template) {
   bool is_text = PyUnicode_Check(template) || PyBytes_Check(template);
-  return PyObject_CallFunctionObjArgs(is_text ? shared.parts_of_text : shared.parts_of, pattern, template, NULL);
+  const State *state = pattern->state;
+  return PyObject_CallFunctionObjArgs(is_text ? state->parts_of_text : state->parts_of, pattern, template, NULL);
 }
 
 bool parts_append(PyObject *list, PyObject *parts, const Text *text, const size_t *row) {
@@ -68,7 +69,7 @@ PyObject *pieces_joined(PyObject *pieces, bool is_bytes) {
 
 PyObject *match_new(const Pattern *pattern, PyObject *string, Window window, const size_t *row) {
   size_t width = ROW_WIDTH(pattern);
-  Match *self = PyObject_GC_NewVar(Match, &MatchType, (Py_ssize_t)width);
+  Match *self = PyObject_GC_NewVar(Match, pattern->state->match, (Py_ssize_t)width);
   if (!self)
     return NULL;
   self->pattern = (Pattern *)Py_NewRef((PyObject *)pattern);
@@ -82,21 +83,19 @@ PyObject *match_new(const Pattern *pattern, PyObject *string, Window window, con
 }
 
 static int traverse(Match *self, visitproc visit, void *arg) {
+  Py_VISIT(Py_TYPE(self));
   Py_VISIT(self->pattern);
   Py_VISIT(self->string);
   return 0;
 }
 
-static int clear(Match *self) {
-  Py_CLEAR(self->pattern);
-  Py_CLEAR(self->string);
-  return 0;
-}
-
 static void dealloc(Match *self) {
+  PyTypeObject *type = Py_TYPE(self);
   PyObject_GC_UnTrack(self);
-  clear(self);
+  Py_DECREF(self->pattern);
+  Py_DECREF(self->string);
   PyObject_GC_Del(self);
+  Py_DECREF(type);
 }
 
 /* ---- groups ---- */
@@ -326,20 +325,23 @@ static PyMethodDef methods[] = {
     {NULL},
 };
 
-static PyMappingMethods mapping = {.mp_subscript = (binaryfunc)group_by};
+static PyType_Slot slots[] = {
+    {Py_tp_doc, "The result of re.match() and re.search().\nMatch objects always have a boolean value of True."},
+    {Py_tp_dealloc, dealloc},
+    {Py_tp_traverse, traverse},
+    {Py_tp_repr, repr},
+    {Py_mp_subscript, group_by},
+    {Py_tp_methods, methods},
+    {Py_tp_members, members},
+    {Py_tp_getset, attributes},
+    {0, NULL},
+};
 
-PyTypeObject MatchType = {
-    PyVarObject_HEAD_INIT(NULL, 0).tp_name = "re.Match",
-    .tp_doc = "The result of re.match() and re.search().\nMatch objects always have a boolean value of True.",
-    .tp_basicsize = sizeof(Match),
-    .tp_itemsize = sizeof(Py_ssize_t),
-    .tp_flags = Py_TPFLAGS_DEFAULT | Py_TPFLAGS_HAVE_GC | Py_TPFLAGS_DISALLOW_INSTANTIATION,
-    .tp_dealloc = (destructor)dealloc,
-    .tp_traverse = (traverseproc)traverse,
-    .tp_clear = (inquiry)clear,
-    .tp_repr = (reprfunc)repr,
-    .tp_as_mapping = &mapping,
-    .tp_methods = methods,
-    .tp_members = members,
-    .tp_getset = attributes,
+/* There is no tp_clear: a match cannot be changed, so another object of each cycle can, and that breaks it. */
+PyType_Spec match_spec = {
+    .name = "re.Match",
+    .basicsize = sizeof(Match),
+    .itemsize = sizeof(Py_ssize_t),
+    .flags = TYPE_FLAGS | Py_TPFLAGS_DISALLOW_INSTANTIATION,
+    .slots = slots,
 };

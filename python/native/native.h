@@ -9,23 +9,40 @@
 
 #include "sre.h"
 
-/* ---- from a module in Python (module.c) ---- */
+/* ---- the state of the module (module.c) ---- */
 
-/* The functions of gaffsilver._shared and gaffsilver._unicode. */
+/* What a module owns. Each interpreter has its own module, and no two share an object. Each pattern holds a reference
+ * to its module, so no method meets a state that was freed. */
 typedef struct {
+  PyObject *module;   /* borrowed, since the state is a part of it */
+  PyTypeObject *type; /* the type of `pattern` and `match` */
+  PyTypeObject *pattern, *match, *matches, *scanner;
+  PyObject *twins[2]; /* the own Pattern and Match of `re` while this engine is installed, else null */
+  /* functions of gaffsilver._shared and gaffsilver._unicode */
   PyObject *exceeded;      /* (pattern string, position, step limit): the error of a call that exceeds its limit */
   PyObject *parts_of;      /* (pattern, template): a literal, or a list of literals and numbers of groups */
   PyObject *parts_of_text; /* the same for a str or bytes, faster */
   PyObject *repr_of;       /* (pattern): its repr */
   PyObject *unicode_lists; /* (): the four lists of a table, each as bytes */
-} Shared;
+  PyObject *lists;         /* those to which `unicode` points */
+  sre_table unicode, ascii;
+  uint64_t default_max_steps; /* of a call that has none */
+  bool is_whole;              /* its initialization has ended */
+} State;
 
-extern Shared shared;
+/* The state of a module; null with SystemError if it is not whole. */
+State *state_of(PyObject *module);
+
+/* As a static type has them: no attribute can be set. */
+#define TYPE_FLAGS (Py_TPFLAGS_DEFAULT | Py_TPFLAGS_HAVE_GC | Py_TPFLAGS_IMMUTABLETYPE)
+
+extern PyType_Spec pattern_spec, match_spec, matches_spec, scanner_spec;
 
 /* ---- patterns (pattern.c) ---- */
 
 typedef struct {
   PyObject_HEAD
+  State *state;         /* of its module, to which it holds a reference */
   PyObject *pattern;    /* str, bytes, or None if a Scanner made it */
   PyObject *words;      /* bytes: the bytecode, 32 bits a word */
   PyObject *groupindex; /* dict: the number of each name */
@@ -36,8 +53,6 @@ typedef struct {
   uint64_t max_steps; /* the step limit of a call without one; UINT64_MAX for the default */
   sre_code code;
 } Pattern;
-
-extern PyTypeObject PatternType;
 
 /* A new pattern, with the arguments of `_sre.compile`. */
 PyObject *pattern_compile(PyObject *module, PyObject *args);
@@ -114,7 +129,7 @@ bool arguments_steps(PyObject *given, uint64_t otherwise, uint64_t *into);
 #define WALK_WIDTH(pattern) ((pattern)->groups ? ROW_WIDTH(pattern) : 2)
 
 /* The table of this Python's own letters, digits and cases, or with false that of ASCII. Null with an exception. */
-const sre_table *engine_table(bool is_unicode);
+const sre_table *engine_table(State *state, bool is_unicode);
 
 /* The request for the range from pos to endpos of a text. */
 sre_asked engine_asked(const Text *text, Py_ssize_t pos, Py_ssize_t endpos, uint64_t steps);
@@ -158,8 +173,6 @@ const size_t *walk_next(Walk *walk);
 
 /* ---- matches (match.c) ---- */
 
-extern PyTypeObject MatchType;
-
 /* The range of a request, or a span. */
 typedef struct {
   Py_ssize_t pos, endpos;
@@ -188,8 +201,5 @@ PyObject *pattern_sub(Pattern *self, PyObject *const *args, Py_ssize_t count, Py
 PyObject *pattern_subn(Pattern *self, PyObject *const *args, Py_ssize_t count, PyObject *names);
 PyObject *pattern_finditer(Pattern *self, PyObject *const *args, Py_ssize_t count, PyObject *names);
 PyObject *pattern_scanner(Pattern *self, PyObject *const *args, Py_ssize_t count, PyObject *names);
-
-extern PyTypeObject MatchesType;
-extern PyTypeObject ScannerType;
 
 #endif

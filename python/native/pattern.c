@@ -30,7 +30,7 @@ static bool check(Pattern *self) {
   self->code = (sre_code){
       .words = (const uint32_t *)PyBytes_AS_STRING(self->words),
       .words_count = (size_t)PyBytes_GET_SIZE(self->words) / sizeof(uint32_t),
-      .table = engine_table(!PyBytes_Check(self->pattern)),
+      .table = engine_table(self->state, !PyBytes_Check(self->pattern)),
   };
   if (!self->code.table)
     return false;
@@ -40,21 +40,32 @@ static bool check(Pattern *self) {
   return status == SRE_YES;
 }
 
+/* A new pattern of a module, without its attributes. The collector does not see it yet. */
+static Pattern *pattern_new(State *state) {
+  Pattern *self = PyObject_GC_New(Pattern, state->pattern);
+  if (!self)
+    return NULL;
+  Py_INCREF(state->module);
+  self->state = state;
+  self->weak_references = NULL;
+  return self;
+}
+
 PyObject *pattern_compile(PyObject *module, PyObject *args) {
   PyObject *pattern, *list, *groupindex, *indexgroup;
   int flags;
   Py_ssize_t groups;
-  if (!PyArg_ParseTuple(args, "OiO!nO!O!:compile", &pattern, &flags, &PyList_Type, &list, &groups, &PyDict_Type,
-                        &groupindex, &PyTuple_Type, &indexgroup))
+  State *state = state_of(module);
+  if (!state || !PyArg_ParseTuple(args, "OiO!nO!O!:compile", &pattern, &flags, &PyList_Type, &list, &groups,
+                                  &PyDict_Type, &groupindex, &PyTuple_Type, &indexgroup))
     return NULL;
   if (groups < 0 || groups > INT32_MAX) {
     PyErr_SetString(PyExc_ValueError, "no such number of groups");
     return NULL;
   }
-  Pattern *self = PyObject_GC_New(Pattern, &PatternType);
+  Pattern *self = pattern_new(state);
   if (!self)
     return NULL;
-  self->weak_references = NULL;
   self->groups = groups;
   self->flags = flags;
   self->max_steps = UINT64_MAX;
@@ -71,6 +82,8 @@ PyObject *pattern_compile(PyObject *module, PyObject *args) {
 }
 
 static int traverse(Pattern *self, visitproc visit, void *arg) {
+  Py_VISIT(Py_TYPE(self));
+  Py_VISIT(self->state->module);
   Py_VISIT(self->pattern);
   Py_VISIT(self->groupindex);
   Py_VISIT(self->indexgroup);
@@ -78,6 +91,8 @@ static int traverse(Pattern *self, visitproc visit, void *arg) {
 }
 
 static void dealloc(Pattern *self) {
+  PyTypeObject *type = Py_TYPE(self);
+  PyObject *module = self->state->module;
   PyObject_GC_UnTrack(self);
   if (self->weak_references)
     PyObject_ClearWeakRefs((PyObject *)self);
@@ -86,6 +101,8 @@ static void dealloc(Pattern *self) {
   Py_XDECREF(self->groupindex);
   Py_XDECREF(self->indexgroup);
   PyObject_GC_Del(self);
+  Py_DECREF(type);
+  Py_DECREF(module);
 }
 
 /* The same pattern with another step limit, for each call without one. */
@@ -93,14 +110,13 @@ static PyObject *within(Pattern *self, PyObject *given) {
   uint64_t steps;
   if (!arguments_steps(given, UINT64_MAX, &steps))
     return NULL;
-  Pattern *made = PyObject_GC_New(Pattern, &PatternType);
+  Pattern *made = pattern_new(self->state);
   if (!made)
     return NULL;
   made->pattern = Py_NewRef(self->pattern);
   made->words = Py_NewRef(self->words);
   made->groupindex = Py_NewRef(self->groupindex);
   made->indexgroup = Py_NewRef(self->indexgroup);
-  made->weak_references = NULL;
   made->groups = self->groups;
   made->flags = self->flags;
   made->max_steps = steps;
@@ -111,13 +127,12 @@ static PyObject *within(Pattern *self, PyObject *given) {
 
 /* ---- step limits ---- */
 
-static uint64_t default_max_steps = UINT64_MAX;
-
 PyObject *set_default_max_steps(PyObject *module, PyObject *given) {
   uint64_t steps;
-  if (!arguments_steps(given, UINT64_MAX, &steps))
+  State *state = state_of(module);
+  if (!state || !arguments_steps(given, UINT64_MAX, &steps))
     return NULL;
-  default_max_steps = steps;
+  state->default_max_steps = steps;
   Py_RETURN_NONE;
 }
 
@@ -125,10 +140,14 @@ static PyObject *number_or_none(uint64_t steps) {
   return steps == UINT64_MAX ? Py_NewRef(Py_None) : PyLong_FromUnsignedLongLong(steps);
 }
 
-PyObject *get_default_max_steps(PyObject *module, PyObject *unused) { return number_or_none(default_max_steps); }
+PyObject *get_default_max_steps(PyObject *module, PyObject *unused) {
+  State *state = state_of(module);
+  return state ? number_or_none(state->default_max_steps) : NULL;
+}
 
 bool pattern_steps(const Pattern *self, PyObject *given, uint64_t *into) {
-  return arguments_steps(given, self->max_steps == UINT64_MAX ? default_max_steps : self->max_steps, into);
+  uint64_t own = self->max_steps;
+  return arguments_steps(given, own == UINT64_MAX ? self->state->default_max_steps : own, into);
 }
 
 /* ---- one match ---- */
@@ -187,7 +206,7 @@ static PyObject *search(Pattern *self, PyObject *const *args, Py_ssize_t count, 
 
 /* ---- what it is ---- */
 
-static PyObject *repr(PyObject *self) { return PyObject_CallOneArg(shared.repr_of, self); }
+static PyObject *repr(Pattern *self) { return PyObject_CallFunctionObjArgs(self->state->repr_of, self, NULL); }
 
 static Py_hash_t hash(Pattern *self) {
   Py_hash_t of_words = PyObject_Hash(self->words), of_pattern = PyObject_Hash(self->pattern);
@@ -198,7 +217,7 @@ static Py_hash_t hash(Pattern *self) {
 }
 
 static PyObject *compare(PyObject *one, PyObject *two, int how) {
-  if ((how != Py_EQ && how != Py_NE) || Py_TYPE(two) != &PatternType)
+  if ((how != Py_EQ && how != Py_NE) || Py_TYPE(two) != Py_TYPE(one))
     Py_RETURN_NOTIMPLEMENTED;
   Pattern *left = (Pattern *)one, *right = (Pattern *)two;
   int same = left->flags == right->flags && left->groups == right->groups && left->max_steps == right->max_steps &&
@@ -254,6 +273,7 @@ static PyMemberDef members[] = {
     {"pattern", T_OBJECT, offsetof(Pattern, pattern), READONLY, "The pattern string that was compiled."},
     {"flags", T_INT, offsetof(Pattern, flags), READONLY, "The regex matching flags."},
     {"groups", T_PYSSIZET, offsetof(Pattern, groups), READONLY, "The number of capturing groups in the pattern."},
+    {"__weaklistoffset__", T_PYSSIZET, offsetof(Pattern, weak_references), READONLY, NULL},
     {NULL},
 };
 
@@ -302,18 +322,23 @@ static PyMethodDef methods[] = {
     {NULL},
 };
 
-PyTypeObject PatternType = {
-    PyVarObject_HEAD_INIT(NULL, 0).tp_name = "re.Pattern",
-    .tp_doc = "Compiled regular expression object.",
-    .tp_basicsize = sizeof(Pattern),
-    .tp_flags = Py_TPFLAGS_DEFAULT | Py_TPFLAGS_HAVE_GC | Py_TPFLAGS_DISALLOW_INSTANTIATION,
-    .tp_dealloc = (destructor)dealloc,
-    .tp_traverse = (traverseproc)traverse,
-    .tp_repr = repr,
-    .tp_hash = (hashfunc)hash,
-    .tp_richcompare = compare,
-    .tp_weaklistoffset = offsetof(Pattern, weak_references),
-    .tp_methods = methods,
-    .tp_members = members,
-    .tp_getset = attributes,
+static PyType_Slot slots[] = {
+    {Py_tp_doc, "Compiled regular expression object."},
+    {Py_tp_dealloc, dealloc},
+    {Py_tp_traverse, traverse},
+    {Py_tp_repr, repr},
+    {Py_tp_hash, hash},
+    {Py_tp_richcompare, compare},
+    {Py_tp_methods, methods},
+    {Py_tp_members, members},
+    {Py_tp_getset, attributes},
+    {0, NULL},
+};
+
+/* There is no tp_clear, as for matches. */
+PyType_Spec pattern_spec = {
+    .name = "re.Pattern",
+    .basicsize = sizeof(Pattern),
+    .flags = TYPE_FLAGS | Py_TPFLAGS_DISALLOW_INSTANTIATION,
+    .slots = slots,
 };

@@ -54,17 +54,20 @@ static Reader *reader_new(PyTypeObject *type, Pattern *pattern, const Signature 
 }
 
 static int traverse(Reader *self, visitproc visit, void *arg) {
+  Py_VISIT(Py_TYPE(self));
   Py_VISIT(self->pattern);
   Py_VISIT(self->string);
   return 0;
 }
 
 static void let_go(Reader *self) {
+  PyTypeObject *type = Py_TYPE(self);
   PyObject_GC_UnTrack(self);
   text_close(&self->text);
   Py_XDECREF(self->pattern);
   Py_XDECREF(self->string);
   PyObject_GC_Del(self);
+  Py_DECREF(type);
 }
 
 /* ---- finditer ---- */
@@ -76,7 +79,7 @@ typedef struct {
 
 PyObject *pattern_finditer(Pattern *pattern, PyObject *const *args, Py_ssize_t count, PyObject *names) {
   sre_asked asked;
-  Matches *self = (Matches *)reader_new(&MatchesType, pattern, &of_finditer, args, count, names, &asked);
+  Matches *self = (Matches *)reader_new(pattern->state->matches, pattern, &of_finditer, args, count, names, &asked);
   if (!self)
     return NULL;
   walk_begin(&self->walk, pattern, &self->reader.text, &asked, 0);
@@ -101,15 +104,20 @@ static void matches_dealloc(Matches *self) {
   let_go(&self->reader);
 }
 
-PyTypeObject MatchesType = {
-    PyVarObject_HEAD_INIT(NULL, 0).tp_name = "gaffsilver.Matches",
-    .tp_doc = "An iterator over the matches of a text.",
-    .tp_basicsize = sizeof(Matches),
-    .tp_flags = Py_TPFLAGS_DEFAULT | Py_TPFLAGS_HAVE_GC | Py_TPFLAGS_DISALLOW_INSTANTIATION,
-    .tp_dealloc = (destructor)matches_dealloc,
-    .tp_traverse = (traverseproc)traverse,
-    .tp_iter = PyObject_SelfIter,
-    .tp_iternext = (iternextfunc)matches_next,
+static PyType_Slot slots_of_matches[] = {
+    {Py_tp_doc, "An iterator over the matches of a text."},
+    {Py_tp_dealloc, matches_dealloc},
+    {Py_tp_traverse, traverse},
+    {Py_tp_iter, PyObject_SelfIter},
+    {Py_tp_iternext, matches_next},
+    {0, NULL},
+};
+
+PyType_Spec matches_spec = {
+    .name = "gaffsilver.Matches",
+    .basicsize = sizeof(Matches),
+    .flags = TYPE_FLAGS | Py_TPFLAGS_DISALLOW_INSTANTIATION,
+    .slots = slots_of_matches,
 };
 
 /* ---- the scanner ---- */
@@ -122,7 +130,7 @@ typedef struct {
 
 PyObject *pattern_scanner(Pattern *pattern, PyObject *const *args, Py_ssize_t count, PyObject *names) {
   sre_asked asked;
-  Scanner *self = (Scanner *)reader_new(&ScannerType, pattern, &of_scanner, args, count, names, &asked);
+  Scanner *self = (Scanner *)reader_new(pattern->state->scanner, pattern, &of_scanner, args, count, names, &asked);
   if (!self)
     return NULL;
   self->asked = asked;
@@ -173,12 +181,17 @@ static PyMethodDef methods[] = {
 
 static PyGetSetDef attributes[] = {{"pattern", (getter)get_pattern, NULL, NULL, NULL}, {NULL}};
 
-PyTypeObject ScannerType = {
-    PyVarObject_HEAD_INIT(NULL, 0).tp_name = "_sre.SRE_Scanner",
-    .tp_basicsize = sizeof(Scanner),
-    .tp_flags = Py_TPFLAGS_DEFAULT | Py_TPFLAGS_HAVE_GC | Py_TPFLAGS_DISALLOW_INSTANTIATION,
-    .tp_dealloc = (destructor)let_go,
-    .tp_traverse = (traverseproc)traverse,
-    .tp_methods = methods,
-    .tp_getset = attributes,
+static PyType_Slot slots_of_scanner[] = {
+    {Py_tp_dealloc, let_go},
+    {Py_tp_traverse, traverse},
+    {Py_tp_methods, methods},
+    {Py_tp_getset, attributes},
+    {0, NULL},
+};
+
+PyType_Spec scanner_spec = {
+    .name = "_sre.SRE_Scanner",
+    .basicsize = sizeof(Scanner),
+    .flags = TYPE_FLAGS | Py_TPFLAGS_DISALLOW_INSTANTIATION,
+    .slots = slots_of_scanner,
 };

@@ -3,11 +3,13 @@
 Each line of the tables is a call. `re` in it stands for the module that is asked.
 """
 import array
+import copy
 import pickle
 import re
 import typing
 import unittest
 import warnings
+import weakref
 
 import gaffsilver
 
@@ -236,6 +238,25 @@ re.match("a", "a").span(0, 1)
 re.compile("a").scanner()
 '''
 
+# What types in C have in common.
+OF_TYPES = r'''
+setattr(re.Pattern, "search", None)
+setattr(type(re.compile("a").scanner("a")), "match", None)
+(re.Pattern.__module__, re.Match.__module__, type(re.compile("a").scanner("a")).__module__)
+(re.compile("a").__module__, re.search("a", "a").__module__, re.compile("a").scanner("a").__module__)
+(re.Pattern.__flags__, re.Match.__flags__, type(re.compile("a").scanner("a")).__flags__)
+(re.Pattern.__qualname__, re.Match.__qualname__)
+object.__new__(re.Pattern)
+re.Pattern()
+re.Match()
+type(re.compile("a").scanner("a"))()
+type("Own", (re.Pattern,), {})
+weakref.ref(re.compile("weak"))() is re.compile("weak")
+weakref.ref(re.search("a", "a"))
+re.search("a", "a").__dict__
+copy.copy(re.compile("a").scanner("a"))
+'''
+
 BY_CTYPES = gaffsilver.Pattern.__class__.__module__ == "gaffsilver._foreign"
 
 
@@ -244,7 +265,7 @@ def answer(module, line):
     with warnings.catch_warnings(record=True) as warned:
         warnings.simplefilter("always")
         try:
-            made = eval(line, {"re": module, "array": array, "pickle": pickle})
+            made = eval(line, {"re": module, "array": array, "copy": copy, "pickle": pickle, "weakref": weakref})
         except Exception as error:
             return type(error), str(error).replace("gaffsilver", "re")
     return type(made).__name__, repr(made), [str(it.message) for it in warned]
@@ -258,6 +279,12 @@ class Interface(unittest.TestCase):
                 # by ctypes Python itself writes the texts of many errors
                 is_by_type = BY_CTYPES and theirs[0] in (TypeError, AttributeError)
                 self.assertEqual(*((it[:1] if is_by_type else it) for it in (ours, theirs)))
+
+    @unittest.skipIf(BY_CTYPES, "the types are classes in Python")
+    def test_the_types_are_as_those_of_re(self):
+        for line in OF_TYPES.strip().split("\n"):
+            with self.subTest(line):
+                self.assertEqual(answer(gaffsilver, line), answer(re, line))
 
     def test_errors_have_the_same_type(self):
         for line in SAME_TYPE.strip().split("\n"):
