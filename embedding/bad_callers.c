@@ -131,6 +131,24 @@ static void step_bounds(void) {
   let_go(&code);
 }
 
+/* The characters with which a match of (\w+)=(\d+) may begin, and a code of which that is not known. */
+static void beginnings(void) {
+  bool flags[200] = {false};
+  sre_code code = code_of(setting, COUNT(setting));
+  CHECK(sre_begins(&code, flags, COUNT(flags)) == SRE_YES);
+  CHECK(flags['a'] && flags['_'] && flags['0'] && !flags['='] && !flags['\n'] && flags[128] && flags[199]);
+  flags[1] = true;
+  CHECK(sre_begins(&code, flags, 1) == SRE_YES && !flags[0] && flags[1]);
+  CHECK(sre_begins(&code, flags, 0) == SRE_YES);
+  code.words_count--;
+  CHECK(sre_begins(&code, flags, COUNT(flags)) == SRE_NO_CODE);
+  let_go(&code);
+  static const uint32_t nothing[] = {1};
+  code = code_of(nothing, COUNT(nothing));
+  CHECK(sre_begins(&code, flags, COUNT(flags)) == SRE_NO);
+  let_go(&code);
+}
+
 /* ---- no room ---- */
 
 static void no_room(void) {
@@ -327,6 +345,7 @@ int main(void) {
   windows();
   no_steps();
   step_bounds();
+  beginnings();
   no_room();
   no_code();
   no_utf8();

@@ -43,7 +43,7 @@ extern "C" {
 
 /* The number of the declarations below, and the result of sre_abi. It changes with each status, struct and function. So
  * a program that was compiled with the header of another library can find that out. */
-#define SRE_ABI 1301173013
+#define SRE_ABI 2055166334
 
 /* What a function returns. */
 #define SRE_NO 0           /* there is no match, or no further one */
@@ -164,6 +164,11 @@ uint32_t sre_check_code(sre_code *code);
  * and row over any range of such a text, unless an allocation fails. SRE_YES, with `steps`; SRE_NO, there is none;
  * SRE_NO_CODE; SRE_FAULTY_TABLE; SRE_MEMORY. `steps` is 0 except after SRE_YES. It is computed from the bytecode. */
 uint32_t sre_step_bound(const sre_code *code, size_t characters, uint64_t *steps);
+
+/* The characters with which a match may begin. SRE_YES: for each character below `flags_count` and 128, its flag says
+ * whether one may begin with it; with a later character one may begin, and at the end of a range none does. SRE_NO, that
+ * is not known; SRE_NO_CODE; SRE_FAULTY_TABLE; SRE_MEMORY. */
+uint32_t sre_begins(const sre_code *code, bool *flags, size_t flags_count);
 
 /* The match: SRE_YES, with `found` and its captures in `marks`; SRE_NO; SRE_NO_ROOM, with `found`, if the match has
  * more capture slots than `marks_count`; SRE_STEP_LIMIT; SRE_MEMORY; SRE_NO_CODE; SRE_NOT_UTF8; SRE_FAULTY_TABLE. */

@@ -8,3 +8,4 @@ pub mod Replies
 pub mod Walked
 pub mod Rows
 pub mod Bounded
+pub mod Beginnings

@@ -257,8 +257,8 @@ fn write_told<S: Haystack>(
     status
 }
 
-// Writes the matches by DFAs that find spans, if there are any, else by the machine and a finder. Captures of a span, and
-// what the DFAs leave open, cost steps that nothing counts. So within a limit it is the machine and a finder.
+// Writes the matches by DFAs that find spans, if there are any, else by the machine and a finder. Captures of a span,
+// and what the DFAs leave open, cost steps that nothing counts. So within a limit it is the machine and a finder.
 fn write_by_automata<S: Haystack>(
     alloc: Global,
     request: &Request<'_, S>,

@@ -15,9 +15,11 @@ ghost use Rattle.sre_c.specs.Answered.{Answers};
 ghost use Rattle.sre_c.specs.Walked.{begun_of, Walks};
 ghost use Rattle.sre_c.specs.Budgets.{no_limit};
 ghost use Rattle.sre_c.specs.Bounded.{Bounds};
+ghost use Rattle.sre_c.specs.Beginnings.{Begins};
 
 mod answer;
 mod asks;
+mod beginnings;
 mod check;
 mod code;
 mod numbers;
@@ -31,6 +33,7 @@ mod walk;
 
 use answer::answer;
 use asks::{InBytes, InText, Machine};
+use beginnings::begins;
 use check::check_code;
 use code::SreCode;
 use numbers::{Points, Units};
@@ -45,9 +48,9 @@ use walk::{begun, walk};
 /// (`tools/header.py`).
 #[unsafe(no_mangle)]
 pub extern "C" fn sre_abi() -> u32
-    ensures { result ≡ 1301173013 }
+    ensures { result ≡ 2055166334 }
 {
-    1_301_173_013
+    2_055_166_334
 }
 
 /// Checks the lists of a table, and sets `checked` and `error`.
@@ -81,6 +84,15 @@ pub extern "C" fn sre_step_bound(
     ensures bounds { Tells result (λ status. Bounds status code.now characters steps.new) }
 {
     step_bound(alloc, code, characters, steps).number()
+}
+
+/// Writes for each character below the number of flags whether a match may begin with it, if that is known. Then no
+/// match begins at the end of a range. With a character without a flag one may begin.
+#[unsafe(no_mangle)]
+pub extern "C" fn sre_begins(alloc: Global, code: &SreCode<'_>, flags: &mut [bool]) -> u32
+    ensures begins { Tells result (λ status. Begins status code.now flags.new) }
+{
+    begins(alloc, code, flags).number()
 }
 
 /// The match in bytes, each of which is a character. Positions are byte offsets.

@@ -32,6 +32,7 @@ pub use Rattle.sre_code.specs.MostSlots
 pub use Rattle.sre_request.specs.Requests
 pub use Rattle.sre_code.specs.declared.code.Hints
 pub mod Answers
+pub mod Beginnings
 pub mod Walks
 pub mod Iterators
 pub mod Listed

@@ -10,9 +10,12 @@ ghost use Rattle.sre_model.specs.FirstCharacters.{NoWay, NoneOf, NotPassed, Lead
 ghost use Rattle.sre_model.specs.FirstCharacters.{TreeStands, HasTree, HasAlternatives};
 ghost use Rattle.sre_model.specs.Roles.{begins_test};
 ghost use Rattle.sre_reading.specs.AsciiSets.{TakesAscii};
+ghost use Rattle.sre_code.specs.Codes.{words_of};
+ghost use Rattle.sre_engine.specs.Beginnings.{BeginsIn};
 ghost use Rattle.sre_engine.specs.Starts.{IsElsewhere, NotAmong, IsLacking, Bars, TestsThere, PassesRun};
 
 use sre_chars::constants::{SreAtCode, SreOpcode};
+use sre_code::Code;
 use sre_code::ascii_set::AsciiSet;
 use sre_code::operands::{operand, word};
 use sre_reading::ascii::ascii_taken;
@@ -56,6 +59,24 @@ impl First {
             at: reached.at,
             wanted: wanted_at(words, reached.place, reads_sets),
         }
+    }
+}
+
+/// The ASCII characters with which a match of a code may begin, if they are known. Then no match begins at the end of
+/// the range, nor with another ASCII character. With a character past ASCII one may begin.
+pub fn first_ascii(code: &Code<'_>) -> Option<AsciiSet>
+    ensures { IfSome result (λ set. BeginsIn (words_of code.now) set) }
+{
+    let words = code.items();
+    let first = First::of_items(words, true);
+    if first.back > 0 {
+        return None;
+    }
+    match first.wanted {
+        Wanted::Anything => None,
+        Wanted::Test(place) => ascii_taken(words, place),
+        Wanted::Set(_, characters) => Some(characters),
+        Wanted::Characters(characters) => Some(characters),
     }
 }
 
