@@ -5,9 +5,9 @@
     mutants.py --calls       prints a row for each public call: its mutants, and the clauses that refuse them
 
 A file crates/CRATE/wrong/CALL.edit has a block for each mutant, in lines 'WORD: TEXT': title, fn, goal, file, old and
-new. Further pairs of old and new may follow, and `cycle` names the cycle of calls that the function is in. If a check
-does not reach its end, its mutants are tried one by one. What a run on this machine judged of the very same files is
-taken over (`kept.py`). The status is 0 if each mutant is refused as it must be, and each unchanged function is not.
+new. Further pairs of old and new may follow. A function of a cycle of calls has no mutants. If a check does not reach
+its end, its mutants are tried one by one. What a run on this machine judged of the very same files is taken over
+(`kept.py`). The status is 0 if each mutant is refused as it must be, and each unchanged function is not.
 """
 import concurrent.futures
 import copy
@@ -66,26 +66,24 @@ class Mutant:
             said[word.removesuffix(":")] = text
             if word.startswith("new"):
                 self.pairs.append((said.get("file", ""), said.get("old", ""), text))
-        self.title, self.function, self.goal, self.cycle = (said.get(it, "") for it in ("title", "fn", "goal", "cycle"))
-        self.name = self.function.rpartition("::")[2]
+        self.title, self.function, self.goal = (said.get(it, "") for it in ("title", "fn", "goal"))
 
     def label(self):
         return f"mutant of {self.call} in {self.crate.name}: {self.title}"
 
     def proof(self):
-        """The folder of the function's proof, or of its cycle's, below proofs/."""
-        module = self.function.rpartition("::")[0].replace("::", "/")
-        return f"{module}/{f'+{self.cycle}' if self.cycle else self.name}".lstrip("/")
+        """The folder of the function's proof, below proofs/."""
+        return self.function.replace("::", "/")
 
     def written(self, texts):
-        """The texts with the mutant in them; none where an old text is not once in its function."""
+        """The texts with the mutant in them; none where an old text is not once in its function, or this in a cycle."""
         texts = dict(texts)
         for file, old, new in self.pairs:
             own = functions(texts, with_traits=True).get(self.function)
             # what a trait's function does can be in an item beside it
             is_inside = own and own.file == file and (old in own.text(texts) or not own.is_of_trait)
             parts = own.parts(texts) if is_inside else ["", texts.get(file, ""), ""]
-            if parts[1].count(old) != 1:
+            if parts[1].count(old) != 1 or own and own.cycle:
                 return None
             texts[file] = parts[0] + parts[1].replace(old, new) + parts[2]
         return texts
@@ -96,23 +94,23 @@ class Mutant:
             return "it has no title, function, goal or change"
         made = self.written(texts)
         if made is None:
-            return "an old text is not once in its function"
+            return "an old text is not once in its function, or this is in a cycle of calls"
         if any(promises(text) != promises(texts[file]) for file, text in made.items() if text != texts[file]):
             return "it changes a contract, an attribute or ghost code"
         return None
 
     def copied(self, texts, changed, number):
         """The changed texts with a copy of its function that is the mutant, and the mutant of that copy; nothing where
-        the function can't be copied, as a method of a trait or one of a cycle."""
-        own = functions(texts).get(self.function)
-        if not own or self.cycle:
+        the function can't be copied, as a method of a trait."""
+        own, name = functions(texts).get(self.function), self.function.rpartition("::")[2]
+        if not own:
             return None, None
         placed = copy.copy(self)
-        placed.function, placed.name = f"{self.function}_{number}", f"{self.name}_{number}"
+        placed.function = f"{self.function}_{number}"
         whole = self.written(texts)
         text = functions(whole)[self.function].text(whole)
         now = functions(changed)[self.function].parts(changed)
-        added = re.sub(rf"\bfn {self.name}\b", f"fn {placed.name}", text, count=1)
+        added = re.sub(rf"\bfn {name}\b", f"fn {name}_{number}", text, count=1)
         return {**changed, own.file: f"{now[0]}{now[1]}\n{added}{now[2]}"}, placed
 
 
@@ -124,10 +122,11 @@ def mutants_of(crate):
 
 
 class Round:
-    """Mutants that one check tries, each in a function of its own name."""
+    """Mutants that one check tries, each in a function of its own name. `proofs` has the folder of the proof of each,
+    with that of the function of which it is a copy, or else with the same."""
 
     def __init__(self, texts):
-        self.before, self.texts, self.mutants, self.placed, self.copies = texts, texts, [], [], {}
+        self.before, self.texts, self.mutants, self.placed, self.proofs = texts, texts, [], [], {}
 
     def take(self, mutant):
         """Takes a mutant in, in its function or in a copy of it: whether it could."""
@@ -137,8 +136,7 @@ class Round:
             texts, placed = mutant.copied(self.before, self.texts, taken + 1)
         if not texts:
             return False
-        if taken:
-            self.copies[placed.proof()] = mutant.proof()
+        self.proofs[placed.proof()] = mutant.proof()
         self.texts, self.mutants, self.placed = texts, [*self.mutants, mutant], [*self.placed, placed]
         return True
 
@@ -152,34 +150,28 @@ class Trial:
     def opened(self, own):
         """The folders of the proofs of all other functions, but for those of cycles."""
         listed = {path.replace("::", "/") for path, it in functions(self.before).items() if not it.cycle}
-        named = [it.removeprefix("proofs/") for it in self.before if it.startswith("proofs/")]
-        answered = {os.path.dirname(it) for it in named if os.path.basename(it) in ("Answers.antt", "Invariants.antt")}
-        return (listed | {it for it in answered if "+" not in it}) - own
+        answered = map(re.compile(r"proofs/([^+]*)/(?:Answers|Invariants)\.antt").fullmatch, self.before)
+        return (listed | {it[1] for it in answered if it}) - own
 
     def copied_proof(self, of, to):
         """What a function's proof has, for a copy of the function."""
-        texts = {}
-        for path, text in self.before.items():
-            if path.startswith(f"proofs/{of}/"):
-                for part in ("proofs", "specs.contracts"):
-                    text = text.replace(f"Rattle.{self.crate.name}.{part}.{of.replace('/', '.')}.",
-                                        f"Rattle.{self.crate.name}.{part}.{to.replace('/', '.')}.")
-                texts[f"proofs/{to}/{path.removeprefix(f'proofs/{of}/')}"] = text
-        return texts
+        module, copied = (it.replace("/", ".") for it in (of, to))
+        named = re.compile(rf"(Rattle\.{self.crate.name}\.(?:proofs|specs\.contracts))\.{re.escape(module)}\.")
+        return {path.replace(f"proofs/{of}/", f"proofs/{to}/", 1): named.sub(rf"\1.{copied}.", text)
+                for path, text in self.before.items() if path.startswith(f"proofs/{of}/")}
 
     def files(self, made):
         """The files that a check of a round reads of its crate."""
         texts = {**self.before, **emptied(made.texts, {it.function for it in made.placed})}
-        for to, of in made.copies.items():
+        for to, of in made.proofs.items():
             texts.update(self.copied_proof(of, to))
-        own = {it.proof() for it in made.placed}
-        opened = self.opened(own)
+        opened = self.opened({*made.proofs})
         begins = tuple(f"proofs/{it}/" for it in opened)
         texts = {path: text for path, text in texts.items() if not path.startswith(begins)}
         for proof in opened:
             path, name = proof.replace("/", "."), os.path.basename(proof)
             texts[f"proofs/{proof}/Proof.antt"] = HOLE.format(crate=self.crate.name, path=path, name=name)
-        for proof in own:
+        for proof in made.proofs:
             answers = f"proofs/{proof}/Answers.antt"
             texts[answers] = texts.get(answers, "") + NO_OFFERS
         return texts
@@ -223,8 +215,7 @@ def refusals(lines, crate):
             open_goals = []
     answers = re.compile(r"(?:\./)?proofs/(\S+)/(?:Answers|Invariants|Proof)\.antt:\d+:\d+: error: `([^`]+)`(.*)")
     for path, goal, why in (it.groups() for it in map(answers.match, lines) if it):
-        # the answers of a cycle name the function in the goal
-        name = re.sub(r"\+\w+$", goal.partition("-")[0], path).replace("/", "::")
+        name = path.replace("/", "::")
         if name in found and not TAKEN_AWAY.search(why):
             found[name].append(goal)
     return found
@@ -232,13 +223,12 @@ def refusals(lines, crate):
 
 def verdict(mutant, goals, is_named, first):
     """Whether a mutant is judged as it must be where these goals of its function are open, and a line that says so."""
-    own = [it for it in goals if not mutant.cycle or it.startswith(f"{mutant.name}-")]
     if not is_named:
         return False, f"{mutant.label()}: BAD: the check does not name {mutant.function}: {first}"
     if not mutant.pairs:
-        return not own, f"{mutant.label()}: {f'REFUSED at {own[0]}' if own else 'not refused'}"
-    if mutant.goal not in own:
-        return False, f"{mutant.label()}: NOT REFUSED: {mutant.goal} is not open; open are {', '.join(own) or 'none'}"
+        return not goals, f"{mutant.label()}: {f'REFUSED at {goals[0]}' if goals else 'not refused'}"
+    if mutant.goal not in goals:
+        return False, f"{mutant.label()}: NOT REFUSED: {mutant.goal} is not open; open are {', '.join(goals) or 'none'}"
     return True, f"{mutant.label()}: refused at {mutant.goal}"
 
 
@@ -263,7 +253,7 @@ def tried(crate, rlibs):
     faults = [(it, it.fault(texts)) for it in mutants]
     found = [(False, f"{it.label()}: BAD: {fault}") for it, fault in faults if fault]
     good = [it for it, fault in faults if not fault]
-    plain = [it for it in good if not it.cycle and it.function in functions(texts)]
+    plain = [it for it in good if it.function in functions(texts)]
     plain.sort(key=lambda it: len(functions(texts)[it.function].text(texts)))
     trial = Trial(crate, crate.words(rlibs))
     # the shortest function goes along unchanged, and must not be refused
