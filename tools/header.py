@@ -15,8 +15,12 @@ from repository import ROOT, read
 
 CRATE = f"{ROOT}/crates/sre_c"
 HEADER = "crates/sre_c/include/sre.h"
-# The modules that declare the structs anew, and how each writes the number of the ABI.
-MODULES = {"python/gaffsilver/_library.py": r"(?m)^ABI = (\d+)\b", "embedding/sre.rs": r"const ABI: u32 = (\d+);"}
+# What returns the number of the ABI, and the modules that declare the structs anew: how each writes the number.
+NUMBERED = {
+    "crates/sre_c/src/lib.rt": r"fn sre_abi\(\) -> u32\n    ensures \{ result ≡ (\d+) \}",
+    "python/gaffsilver/_library.py": r"(?m)^ABI = (\d+)\b",
+    "embedding/sre.rs": r"const ABI: u32 = (\d+);",
+}
 # The file of sre_chars with the struct that the crate takes from there, and what C calls it.
 PAIRS, CALLED = "crates/sre_chars/src/table/entries.rt", {"UniPair": "sre_pair"}
 
@@ -29,7 +33,6 @@ STRUCT = re.compile(r"#\[repr\(C\)\]\n(?:#\[[^\n]*\]\n)*pub struct (\w+)(?:<'a>)
 FIELD = re.compile(r"    (?:pub )?(\w+): (.*),")
 EXPORT = re.compile(r'#\[unsafe\(no_mangle\)\]\npub extern "C" fn (\w+)\((.*?)\) -> (\w+)\n', re.S)
 PARAMETER = re.compile(r"(\w+): ([^,]+)")
-NUMBERED = re.compile(r"fn sre_abi\(\) -> u32\n    ensures \{ result ≡ (\d+) \}")
 SIZE = re.compile(r"size_of::<(\w+)>\(\) == (\d+)")
 
 COMMENT = re.compile(r"/\*.*?\*/|//[^\n]*", re.S)
@@ -64,22 +67,17 @@ def joined(pairs):
     return ", ".join(it for name, written in pairs for it in declared(name, written))
 
 
-def abi_of(declarations):
-    """The number of declarations, which is an `int` in C. Others have another one."""
-    lines = "".join(f"{name}: {it}\n" for name, it in sorted(declarations.items()) if name != "SRE_ABI")
-    return str(int(hashlib.sha256(lines.encode()).hexdigest()[:8], 16) >> 1)
-
-
 def exported():
-    """What the crate exports, as C declares it, by the name."""
+    """What the crate exports, as C declares it, by the name, and the number of all that."""
     status, types, code, root = (read(f"{CRATE}/src/{it}.rt") for it in ("status", "types", "code", "lib"))
     found = {f"SRE_{in_words(name).upper()}": number for name, number in STATUS.findall(status)}
     structs = STRUCT.findall(types + code + read(f"{ROOT}/{PAIRS}"))
     found.update({type_of(name): joined(FIELD.findall(body)) for name, body in structs})
     for name, parameters, result in EXPORT.findall(root):
         found[name] = f"{type_of(result)} ({joined(PARAMETER.findall(parameters)) or 'void'})"
-    found["SRE_ABI"] = "".join(NUMBERED.findall(root))
-    return found
+    lines = "".join(f"{name}: {it}\n" for name, it in sorted(found.items()))
+    # an `int` in C
+    return {**found, "SRE_ABI": str(int(hashlib.sha256(lines.encode()).hexdigest()[:8], 16) >> 1)}
 
 
 def in_header():
@@ -93,15 +91,13 @@ def in_header():
     return found
 
 
-def other_numbers(own):
+def other_numbers(number):
     """Where another number of the ABI, or another size of a struct, is written than that of the declarations."""
-    number, header = abi_of(own), read(f"{ROOT}/{HEADER}")
-    if own["SRE_ABI"] != number:
-        yield f"sre_abi returns {own['SRE_ABI'] or 'no number'}, and its declarations have the number {number}"
+    header = read(f"{ROOT}/{HEADER}")
     sizes = dict(C_SIZE.findall(header))
     for name in sorted({name for name, _ in C_STRUCT.findall(header)} - {*sizes}):
         yield f"{HEADER} has no size of {name}"
-    for path, form in MODULES.items():
+    for path, form in NUMBERED.items():
         text = read(f"{ROOT}/{path}")
         if re.findall(form, text) != [number]:
             yield f"{path} has another ABI than {number}: compare its structs with the header, and then write that"
@@ -117,7 +113,7 @@ def unlike():
         in_c, in_crate = (it.get(name, "nothing") for it in (there, own))
         if in_c != in_crate:
             yield f"{HEADER} has {name} as {in_c}, and sre_c as {in_crate}"
-    yield from other_numbers(own)
+    yield from other_numbers(own["SRE_ABI"])
     marked = read(f"{CRATE}/src/lib.rt").count("no_mangle")
     if marked != sum(it.startswith("uint32_t (") for it in own.values()):
         yield f"crates/sre_c/src/lib.rt marks {marked} functions, and not all of them are read"
