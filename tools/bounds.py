@@ -34,16 +34,16 @@ def states(low, high):
     return 2 * (counted_to(low, high) + 1)
 
 
-def bodies(item):
-    return [] if item.name in REPEATS or item.name.startswith("IN") else item.parts
+def inside(item):
+    """The items of an item's bodies."""
+    return [] if item.name in REPEATS or item.name.startswith("IN") else [it for body in item.parts for it in body]
 
 
 def within(item):
     """An item, and all items inside it."""
     yield item
-    for body in bodies(item):
-        for it in body:
-            yield from within(it)
+    for it in inside(item):
+        yield from within(it)
 
 
 class Bound:
@@ -60,10 +60,9 @@ class Bound:
         for item in every:
             if item.name.startswith("GROUPREF"):
                 raise Unbounded(f"a back-reference or conditional at {item.place}")
-        scopes = [it for it in every if it.name in SCOPES]
-        inner = {it: [inside for inside in within(it) if inside is not it] for it in scopes}
-        forks = [it for it in scopes if it.name == "POSSESSIVE_REPEAT" or any(x.name in BRANCHING for x in inner[it])]
-        marked = [x for it in scopes for x in inner[it] if x.name == "MARK"]
+        inner = {it: [*within(it)][1:] for it in every if it.name in SCOPES}
+        forks = [it for it in inner if it.name == "POSSESSIVE_REPEAT" or any(x.name in BRANCHING for x in inner[it])]
+        marked = [x for it in inner for x in inner[it] if x.name == "MARK"]
         if forks and marked:
             place = marked[0].place
             raise Unbounded(f"a capture at {place} in an atomic scope, and the one at {forks[0].place} branches")
@@ -78,14 +77,13 @@ class Bound:
 
     def most_states(self, item):
         """The counter states of loops within each other, at most."""
-        inside = max([1, *(self.most_states(it) for body in bodies(item) for it in body)])
+        most = max([1, *map(self.most_states, inside(item))])
         if item.name == "REPEAT":
-            return inside * states(*item.words[1:3])
-        return max(inside, states(*item.words[1:3])) if item.name == "POSSESSIVE_REPEAT" else inside
+            return most * states(*item.words[1:3])
+        return max(most, states(*item.words[1:3])) if item.name == "POSSESSIVE_REPEAT" else most
 
     def depth(self, item):
-        inside = max([0, *(self.depth(it) for body in bodies(item) for it in body)])
-        return inside + (item.name in (*SCOPES, "BRANCH", "REPEAT"))
+        return max([0, *map(self.depth, inside(item))]) + (item.name in (*SCOPES, "BRANCH", "REPEAT"))
 
     def pay(self, loops, cost):
         self.cost += loops * self.sides * cost
@@ -97,30 +95,25 @@ class Bound:
         return follow
 
     def of(self, item, follow, loops):
-        if item.name == "FAILURE":
-            return 1
+        """The steps from an item on, where so many follow it. One that may branch is a step, and pays for the rest."""
         if item.name in REPEATS:
             low, high = item.words[1:3]
             ends = 0 if high == UNLIMITED or item.name == REPEATS[2] else max(0, min(high, self.end) - low)
             self.pay(loops, (1 + ends) * (follow + 2) + min(counted_to(low, high), self.end) // 8)
-            return 1
-        if item.name == "BRANCH":
+        elif item.name == "BRANCH":
             self.pay(loops, sum(self.steps(it, follow + 1, loops) + 2 for it in item.parts) + 1)
-            return 1
-        if item.name == "REPEAT":
-            inside = loops * states(*item.words[1:3])
-            body = self.steps(item.parts[0], 1, inside)
+        elif item.name == "REPEAT":
+            of_loop = loops * states(*item.words[1:3])
+            body = self.steps(item.parts[0], 1, of_loop)
             self.pay(loops, body + follow + 2)
-            self.pay(inside, body + follow + 1)
-            return 1
-        if item.name == "POSSESSIVE_REPEAT":
+            self.pay(of_loop, body + follow + 1)
+        elif item.name == "POSSESSIVE_REPEAT":
             body = self.steps(item.parts[0], 2, 1)
             self.pay(loops, 1)
             self.pay(loops * states(*item.words[1:3]), body + follow + 1)
-            return 1
-        if item.name in SCOPES:
+        elif item.name in SCOPES:
             return 2 + self.steps(item.parts[0], 2, 1) + follow
-        return 1 + follow
+        return 1 if item.name in (*BRANCHING, "FAILURE") else 1 + follow
 
     def number(self):
         follow = most = 2
@@ -198,7 +191,8 @@ def main(given):
     import words  # which ends an older Python
 
     if given[0] == "--of":
-        named = [(it["name"][0], words.pattern_in(it)) for it in words.blocks_of(given[1])]
+        blocks = words.blocks_of(given[1])
+        named = [(it["name"][0], words.pattern_of("\n".join(it["pattern"]), it["flags"], it["bytes"])) for it in blocks]
     else:
         named = [(it, words.compiled(it, 0)) for it in given]
     print("| Pattern | 100 characters | 10,000 characters |\n|---|---|---|")

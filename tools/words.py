@@ -91,14 +91,6 @@ class Asked(typing.NamedTuple):
     match_all: bool = False
 
 
-def flags_of(letters):
-    """The number that `re` has for flags given as letters."""
-    unknown = ''.join(letter for letter in letters if letter not in FLAGS)
-    if unknown:
-        raise Fault(f'unknown flags {unknown}: take letters of {"".join(FLAGS)}')
-    return sum(FLAGS[letter] for letter in set(letters))
-
-
 def compiled(source, flags):
     """The pattern that `source` is, or Python's own message as a fault."""
     try:
@@ -143,6 +135,15 @@ def window_of(written):
     if not window or max(window) >= 2 ** 64:
         raise Fault(f'{written} is no range: write all, or START..END with numbers below 2^64')
     return window
+
+
+def pattern_of(source, flags, is_bytes):
+    """The pattern that is given, with flags as letters, in one text or several."""
+    letters = ''.join(flags)
+    unknown = ''.join(letter for letter in letters if letter not in FLAGS)
+    if unknown:
+        raise Fault(f'unknown flags {unknown}: take letters of {"".join(FLAGS)}')
+    return compiled(characters(source, is_bytes), sum(FLAGS[letter] for letter in set(letters)))
 
 
 def case_line(words, asked):
@@ -206,12 +207,6 @@ def blocks_of(path):
         yield fields
 
 
-def pattern_in(fields):
-    """The pattern of a block."""
-    source = characters('\n'.join(fields['pattern']), bool(fields['bytes']))
-    return compiled(source, flags_of(''.join(fields['flags'])))
-
-
 def cases_of(fields, cut):
     """The bytecode, the lines and the answers of a block."""
     verb, is_bytes = ''.join(fields['verb']) or 'search', bool(fields['bytes'])
@@ -219,7 +214,7 @@ def cases_of(fields, cut):
             and verb in ('match', 'search', 'walk', 'fullmatch')):
         raise Fault('a block has a name, a pattern, either text or bytes, and optionally a verb: '
                     'match, search, walk or fullmatch')
-    pattern = pattern_in(fields)
+    pattern = pattern_of('\n'.join(fields['pattern']), fields['flags'], is_bytes)
     words = without_block(pattern.words, cut)
     asked = [Asked(verb.removeprefix('full'), characters(text, is_bytes, True),
                    window_of(''.join(fields['window']) or 'all'), verb == 'fullmatch')
@@ -316,11 +311,6 @@ def arguments():
     return parser
 
 
-def pattern_of(source, options):
-    """The pattern that is given, with the flags of the options."""
-    return compiled(characters(source, options.bytes), flags_of(''.join(options.flags)))
-
-
 def one_case(options):
     """Does what the options say with one pattern, and returns the status."""
     verb, *given = options.words or ['']
@@ -335,7 +325,7 @@ def one_case(options):
         raise Fault('--table names a table for the program: write --run PROGRAM as well')
     if options.raw and (options.flags or options.no_block):
         raise Fault('--raw takes bytecode as it is, and neither --flags nor --no-block')
-    pattern = None if options.raw else pattern_of(given[0], options)
+    pattern = None if options.raw else pattern_of(given[0], options.flags, options.bytes)
     code = without_block(pattern.words, options.no_block) if pattern else words_of(given[0])
     listing = Listing(code, pattern and pattern.names())
     asked = Asked(verb, characters(''.join(given[1:]), options.bytes), window_of(options.window), options.match_all)
@@ -360,7 +350,8 @@ def show_constants(options):
     """Writes the bytecode of patterns as constants; if a name can't be one, nothing but a line for each fault."""
     if not options.words or len(options.words) % 2:
         raise Fault('--rust takes pairs, a name and a pattern each; --help lists the options')
-    named = [(name, pattern_of(source, options)) for name, source in zip(options.words[::2], options.words[1::2])]
+    named = [(name, pattern_of(source, options.flags, options.bytes))
+             for name, source in zip(options.words[::2], options.words[1::2])]
     faults = list(constants.faults(named))
     if faults:
         raise Fault(*faults)
@@ -379,7 +370,7 @@ def main(given):
     if options.rust:
         show_constants(options)
     elif options.tree is not None:
-        print(trees.expression(without_block(pattern_of(options.tree, options).words)))
+        print(trees.expression(without_block(pattern_of(options.tree, options.flags, options.bytes).words)))
     else:
         write_cases(*options.cases, options.no_block)
     return 0
