@@ -128,9 +128,9 @@ def row_of(line):
     return name, kind == ["staticlib"], listed.split()
 
 
-def rows():
-    """The lines of the repository's crates.txt that name a crate, lowest first."""
-    return [it for it in map(row_of, read(f"{ROOT}/crates.txt").split("\n")) if it[0]]
+def rows(path="crates.txt"):
+    """The lines of such a file of the repository that name a crate, lowest first."""
+    return [it for it in map(row_of, read(f"{ROOT}/{path}").split("\n")) if it[0]]
 
 
 def crates():
