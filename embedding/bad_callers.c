@@ -131,21 +131,25 @@ static void step_bounds(void) {
   let_go(&code);
 }
 
-/* The characters with which a match of (\w+)=(\d+) may begin, and a code of which that is not known. */
+/* Where a match of (\w+)=(\d+) may begin, one of ^a, and one of a code that matches nothing. */
 static void beginnings(void) {
-  bool flags[200] = {false};
+  bool flags[200] = {false}, lines = true;
   sre_code code = code_of(setting, COUNT(setting));
-  CHECK(sre_begins(&code, flags, COUNT(flags)) == SRE_YES);
+  CHECK(sre_begins(&code, flags, COUNT(flags), &lines) == SRE_YES && !lines);
   CHECK(flags['a'] && flags['_'] && flags['0'] && !flags['='] && !flags['\n'] && flags[128] && flags[199]);
   flags[1] = true;
-  CHECK(sre_begins(&code, flags, 1) == SRE_YES && !flags[0] && flags[1]);
-  CHECK(sre_begins(&code, flags, 0) == SRE_YES);
+  CHECK(sre_begins(&code, flags, 1, &lines) == SRE_YES && !flags[0] && flags[1]);
+  CHECK(sre_begins(&code, flags, 0, &lines) == SRE_YES);
   code.words_count--;
-  CHECK(sre_begins(&code, flags, COUNT(flags)) == SRE_NO_CODE);
+  lines = true;
+  CHECK(sre_begins(&code, flags, COUNT(flags), &lines) == SRE_NO_CODE && !lines);
   let_go(&code);
-  static const uint32_t nothing[] = {1};
+  static const uint32_t line[] = {6, 1, 16, 97, 1}, nothing[] = {1};
+  code = code_of(line, COUNT(line));
+  CHECK(sre_begins(&code, flags, COUNT(flags), &lines) == SRE_YES && lines && flags['a'] && !flags['b']);
+  let_go(&code);
   code = code_of(nothing, COUNT(nothing));
-  CHECK(sre_begins(&code, flags, COUNT(flags)) == SRE_NO);
+  CHECK(sre_begins(&code, flags, COUNT(flags), &lines) == SRE_NO && !lines);
   let_go(&code);
 }
 

@@ -34,7 +34,7 @@ fn main(rt: HostRuntime) -> Result<(), std::alloc::AllocError> {
     sre_check_code(alloc, &mut code);
     let mut steps = 0;
     sre_step_bound(alloc, &code, 0, &mut steps);
-    sre_begins(alloc, &code, &mut [false; 1]);
+    sre_begins(alloc, &code, &mut [false; 1], &mut false);
     let asked = SreAsked {
         start: 0,
         end: 0,

@@ -142,7 +142,35 @@ static uint32_t answer_beside_others(const Pattern *pattern, const Text *text, c
   return status;
 }
 
+static uint32_t character_at(const Text *text, size_t position) {
+  switch (text->size) {
+  case 1:
+    return ((const uint8_t *)text->data)[position];
+  case 2:
+    return ((const uint16_t *)text->data)[position];
+  default:
+    return ((const uint32_t *)text->data)[position];
+  }
+}
+
+/* Whether no match begins at the start of the range, by the characters around it. A call with a step limit does not
+ * ask, so that both engines of the package charge it alike. */
+static bool begins_nothing(const Pattern *pattern, const Text *text, const sre_asked *asked) {
+  if (asked->search || asked->steps != UINT64_MAX)
+    return false;
+  if (pattern->at_line_start && asked->start && character_at(text, asked->start - 1) != '\n')
+    return true;
+  if (!pattern->knows_begins)
+    return false;
+  if (asked->start >= asked->end)
+    return true;
+  uint32_t character = character_at(text, asked->start);
+  return character < 128 && !pattern->begins[character];
+}
+
 int engine_match(const Pattern *pattern, const Text *text, const sre_asked *asked, size_t *row) {
+  if (begins_nothing(pattern, text, asked))
+    return 0;
   sre_found found;
   uint32_t status = answer_beside_others(pattern, text, asked, &found, row + 3);
   if (status == SRE_NO)

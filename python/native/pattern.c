@@ -25,7 +25,7 @@ static PyObject *source_of(PyObject *pattern) {
                                                                                   : PyBytes_FromObject(pattern);
 }
 
-/* Lets the engine check the bytecode. */
+/* Lets the engine check the bytecode, and say where a match may begin. */
 static bool check(Pattern *self) {
   self->code = (sre_code){
       .words = (const uint32_t *)PyBytes_AS_STRING(self->words),
@@ -35,9 +35,13 @@ static bool check(Pattern *self) {
   if (!self->code.table)
     return false;
   uint32_t status = sre_check_code(&self->code);
-  if (status != SRE_YES)
-    engine_fail(status);
-  return status == SRE_YES;
+  if (status == SRE_YES)
+    status = sre_begins(&self->code, self->begins, sizeof self->begins / sizeof *self->begins, &self->at_line_start);
+  self->knows_begins = status == SRE_YES;
+  if (status == SRE_YES || status == SRE_NO)
+    return true;
+  engine_fail(status);
+  return false;
 }
 
 /* A new pattern of a module, without its attributes. The collector does not see it yet. */
@@ -121,6 +125,9 @@ static PyObject *within(Pattern *self, PyObject *given) {
   made->flags = self->flags;
   made->max_steps = steps;
   made->code = self->code;
+  made->at_line_start = self->at_line_start;
+  made->knows_begins = self->knows_begins;
+  memcpy(made->begins, self->begins, sizeof made->begins);
   PyObject_GC_Track(made);
   return (PyObject *)made;
 }

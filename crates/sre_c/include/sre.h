@@ -43,7 +43,7 @@ extern "C" {
 
 /* The number of the declarations below, and the result of sre_abi. It changes with each status, struct and function. So
  * a program that was compiled with the header of another library can find that out. */
-#define SRE_ABI 2055166334
+#define SRE_ABI 2094452863
 
 /* What a function returns. */
 #define SRE_NO 0           /* there is no match, or no further one */
@@ -165,10 +165,11 @@ uint32_t sre_check_code(sre_code *code);
  * SRE_NO_CODE; SRE_FAULTY_TABLE; SRE_MEMORY. `steps` is 0 except after SRE_YES. It is computed from the bytecode. */
 uint32_t sre_step_bound(const sre_code *code, size_t characters, uint64_t *steps);
 
-/* The characters with which a match may begin. SRE_YES: for each character below `flags_count` and 128, its flag says
- * whether one may begin with it; with a later character one may begin, and at the end of a range none does. SRE_NO, that
- * is not known; SRE_NO_CODE; SRE_FAULTY_TABLE; SRE_MEMORY. */
-uint32_t sre_begins(const sre_code *code, bool *flags, size_t flags_count);
+/* Where a match may begin. SRE_YES: for each character below `flags_count` and 128, its flag says whether one may begin
+ * with it; with a later character one may begin, and at the end of a range none does. SRE_NO, that is not known. With
+ * both, `at_line_start` says whether each begins at the start of the text or after a newline. SRE_NO_CODE;
+ * SRE_FAULTY_TABLE; SRE_MEMORY; these three write false. */
+uint32_t sre_begins(const sre_code *code, bool *flags, size_t flags_count, bool *at_line_start);
 
 /* The match: SRE_YES, with `found` and its captures in `marks`; SRE_NO; SRE_NO_ROOM, with `found`, if the match has
  * more capture slots than `marks_count`; SRE_STEP_LIMIT; SRE_MEMORY; SRE_NO_CODE; SRE_NOT_UTF8; SRE_FAULTY_TABLE. */

@@ -1,6 +1,6 @@
--- What an export says of the characters with which a match may begin.
+-- What an export says of where a match may begin.
 -- Public clauses rest on it.
-use Rattle.std.specs.Prelude.{ℕ, ◌≡◌, ◌||◌, nat_le, Bool, false, List, [], length, slice_index_or}
+use Rattle.std.specs.Prelude.{ℕ, ◌≡◌, ◌||◌, nat_le, Bool, true, false, List, [], length, slice_index_or}
 use Rattle.std.specs.Global.{Global}
 use Rattle.sre_model.specs.Tree.{Tree}
 use Rattle.sre_model.specs.Grammar.{Whole, IsCode}
@@ -8,6 +8,7 @@ use Rattle.sre_model.specs.Marks.{Marks}
 use Rattle.sre_model.specs.Subject.{Subject, after}
 use Rattle.sre_model.specs.Ways.{ways}
 use Rattle.sre_growth.specs.Refusal.{Refused}
+use Rattle.sre_engine.specs.Beginnings.{BeginsAtLines}
 use Rattle.sre_c.specs.declared.status.Status.{Status}
 use Rattle.sre_c.specs.declared.status.Status.TheVariants.{No, Yes, StepLimit, Memory, NoCode, NoRoom}
 use Rattle.sre_c.specs.declared.status.Status.TheVariants.{NotUtf8, FaultyTable}
@@ -21,13 +22,14 @@ pub record BeginsAmong (ws : List ℕ) (flags : List Bool) : Type 0 where
       → after s (λ c. nat_le (length flags) c || slice_index_or flags c false) p ≡ false → (m : Marks)
       → ways s t p m ≡ []
 
--- so it is, or that is not known
-abbrev pub Begins : Status → SreCode → List Bool → Type 0
-Begins Yes c flags = IsCode c.words.now × BeginsAmong c.words.now flags
-Begins No c flags = IsCode c.words.now
-Begins Memory c flags = Refused Global
-Begins NoCode c flags = (t : Tree) → (Whole c.words.now t → ⊥)
-Begins FaultyTable c flags = IsFaulty c.table.now
-Begins StepLimit c flags = ⊥
-Begins NoRoom c flags = ⊥
-Begins NotUtf8 c flags = ⊥
+-- so it is, or that is not known; and whether it begins at the start of a line
+abbrev pub Begins : Status → SreCode → List Bool → Bool → Type 0
+Begins Yes c flags lines =
+    IsCode c.words.now × (lines ≡ true → BeginsAtLines c.words.now) × BeginsAmong c.words.now flags
+Begins No c flags lines = IsCode c.words.now × (lines ≡ true → BeginsAtLines c.words.now)
+Begins Memory c flags lines = Refused Global × (lines ≡ false)
+Begins NoCode c flags lines = ((t : Tree) → (Whole c.words.now t → ⊥)) × (lines ≡ false)
+Begins FaultyTable c flags lines = IsFaulty c.table.now × (lines ≡ false)
+Begins StepLimit c flags lines = ⊥
+Begins NoRoom c flags lines = ⊥
+Begins NotUtf8 c flags lines = ⊥

@@ -1,4 +1,4 @@
-//! The characters with which a match of a caller's bytecode may begin.
+//! Where a match of a caller's bytecode may begin.
 
 ghost use Rattle.std.specs.Prelude.{◌≡◌, ◌<◌, ◌||◌, ℕ, nat_le, false, length, slice_index_or};
 ghost use Rattle.sre_code.specs.AsciiSet.{contains};
@@ -10,7 +10,7 @@ use crate::code::SreCode;
 use crate::status::Status;
 use crate::table::table;
 use sre_code::ascii_set::AsciiSet;
-use sre_engine::engine::first_ascii;
+use sre_engine::engine::Beginnings;
 use sre_engine::{CodeError, LentTable};
 use std::alloc::Global;
 
@@ -23,22 +23,26 @@ fn write_flags(set: AsciiSet, flags: &mut [bool])
     }
 }
 
-// Those of a code whose table is at hand.
+// The same of a code whose table is at hand, and whether a match begins only at the start of a line.
 fn begins_by<'a>(
     alloc: Global,
     code: &'a SreCode<'a>,
     uni: &'a LentTable<'a>,
     flags: &mut [bool],
+    at_line_start: &mut bool,
 ) -> Status
     requires table { uni.now ≡ table_in code.now.table.now }
-    ensures begins { Begins result code.now flags.new }
+    requires none { at_line_start.old ≡ false }
+    ensures begins { Begins result code.now flags.new at_line_start.new }
 {
     let code = match check::code(alloc, code, uni) {
         Ok(code) => code,
         Err(CodeError::Memory) => return Status::Memory,
         Err(_) => return Status::NoCode,
     };
-    match first_ascii(&code) {
+    let beginnings = Beginnings::of_code(&code);
+    *at_line_start = beginnings.at_line_start;
+    match beginnings.ascii {
         Some(characters) => {
             write_flags(characters, flags);
             Status::Yes
@@ -47,12 +51,19 @@ fn begins_by<'a>(
     }
 }
 
-/// Writes for each character with a flag whether a match may begin with it, if that is known.
-pub fn begins<'c>(alloc: Global, code: &'c SreCode<'c>, flags: &mut [bool]) -> Status
-    ensures begins { Begins result code.now flags.new }
+/// Writes for each character with a flag whether a match may begin with it, if that is known, and whether it begins only
+/// at the start of a line.
+pub fn begins<'c>(
+    alloc: Global,
+    code: &'c SreCode<'c>,
+    flags: &mut [bool],
+    at_line_start: &mut bool,
+) -> Status
+    ensures begins { Begins result code.now flags.new at_line_start.new }
 {
+    *at_line_start = false;
     match table(alloc, code.table) {
-        Some(uni) => begins_by(alloc, code, &uni, flags),
+        Some(uni) => begins_by(alloc, code, &uni, flags, at_line_start),
         None => Status::FaultyTable,
     }
 }

@@ -48,9 +48,9 @@ use walk::{begun, walk};
 /// (`tools/header.py`).
 #[unsafe(no_mangle)]
 pub extern "C" fn sre_abi() -> u32
-    ensures { result ≡ 2055166334 }
+    ensures { result ≡ 2094452863 }
 {
-    2_055_166_334
+    2_094_452_863
 }
 
 /// Checks the lists of a table, and sets `checked` and `error`.
@@ -87,12 +87,18 @@ pub extern "C" fn sre_step_bound(
 }
 
 /// Writes for each character below the number of flags whether a match may begin with it, if that is known. Then no
-/// match begins at the end of a range. With a character without a flag one may begin.
+/// match begins at the end of a range. With a character without a flag one may begin. Also writes whether a match begins
+/// only at the start of the text or after a newline.
 #[unsafe(no_mangle)]
-pub extern "C" fn sre_begins(alloc: Global, code: &SreCode<'_>, flags: &mut [bool]) -> u32
-    ensures begins { Tells result (λ status. Begins status code.now flags.new) }
+pub extern "C" fn sre_begins(
+    alloc: Global,
+    code: &SreCode<'_>,
+    flags: &mut [bool],
+    at_line_start: &mut bool,
+) -> u32
+    ensures begins { Tells result (λ status. Begins status code.now flags.new at_line_start.new) }
 {
-    begins(alloc, code, flags).number()
+    begins(alloc, code, flags, at_line_start).number()
 }
 
 /// The match in bytes, each of which is a character. Positions are byte offsets.

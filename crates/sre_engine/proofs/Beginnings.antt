@@ -1,38 +1,41 @@
--- With which characters a match may begin, by what its first code words want.
-use Rattle.std.proofs.Common.{ℕ, ◌≡◌, ◌-◌, inr, List, Option, Some, None, IfSome, sym, subst, arith}
+-- Where a match may begin, by what its first code words want.
+use Rattle.std.proofs.Common.{ℕ, ◌≡◌, ◌-◌, false, inl, inr, List, Option, Some, None, IfSome, sym, subst, arith}
+use Rattle.sre_chars.specs.declared.constants.SreAtCode.TheVariants.{BEGINNING_LINE}
 use Rattle.sre_code.specs.declared.ascii_set.AsciiSet.{AsciiSet}
 use Rattle.sre_model.specs.Grammar.{WholeItems, behind_block}
-use Rattle.sre_model.specs.Subject.{Subject}
+use Rattle.sre_model.specs.Subject.{Subject, holds_at}
 use Rattle.sre_reading.specs.AsciiSets.{TakesAscii}
-use Rattle.sre_engine.specs.Beginnings.{BeginsIn}
-use Rattle.sre_engine.specs.Starts.{Bars, NotAmong, IsLacking}
+use Rattle.sre_engine.specs.Beginnings.{BeginsIn, BeginsAtLines}
+use Rattle.sre_engine.specs.Starts.{Bars, NotAmong, IsLacking, IsElsewhere}
 use Rattle.sre_engine.specs.declared.engine.first_characters.First.{First}
-use Rattle.sre_engine.specs.declared.engine.first_characters.Wanted.TheVariants.{Test, Set, Characters}
+use Rattle.sre_engine.specs.declared.engine.first_characters.Wanted.TheVariants.{Test}
 use Rattle.sre_engine.proofs.FirstSets.{taken_bars}
 
--- where what is wanted stands at the start itself
-module _ (ws items : List ℕ) (same : items ≡ behind_block ws) (first : First) (bars : Bars items first)
-    (near : first.back ≡ 0) where
-  begins : (set : AsciiSet) → ((s : Subject) (p : ℕ) → NotAmong s set p → IsLacking items s first.wanted p)
-      → BeginsIn ws set
-  begins set lacks = record {
+-- where a test is wanted at the start, and none of the characters that it takes is there, it does not pass
+pub test_lacks : (ws : List ℕ) (first : First) (place : ℕ) (r : Option AsciiSet) → first.back ≡ 0
+    → first.wanted ≡ Test place → IfSome r (λ set. TakesAscii ws place set)
+    → IfSome r (λ set. (s : Subject) (p : ℕ) → NotAmong s set p → IsLacking ws s first.wanted (p - first.back))
+test_lacks ws first place None near is taken = taken
+test_lacks ws first place (Some set) near is taken = λ s p none.
+    let here : p - first.back ≡ p = omega (arith, near) in
+    subst (λ q. IsLacking ws s first.wanted q) (sym here)
+    (subst (λ w. IsLacking ws s w p) (sym is) (taken_bars ws place set taken s p none))
+
+module _ (ws items : List ℕ) (same : items ≡ behind_block ws) (first : First) (bars : Bars items first) where
+  pub begins_in : (r : Option AsciiSet)
+      → IfSome r (λ set. (s : Subject) (p : ℕ) → NotAmong s set p → IsLacking items s first.wanted (p - first.back))
+      → IfSome r (λ set. BeginsIn ws set)
+  begins_in None lacks = lacks
+  begins_in (Some set) lacks = record {
     none = λ t w s p none m.
-        let here : p - first.back ≡ p = omega (arith, near) in
-        let items_are = subst (λ (is : List ℕ). WholeItems is t) (sym same) w.1 in
-        let lacking = subst (λ q. IsLacking items s first.wanted q) (sym here) (lacks s p (record { none = none })) in
-        (bars.none t items_are s p (inr (inr lacking))).none m;
+        (bars.none t (subst (λ (is : List ℕ). WholeItems is t) (sym same) w.1) s p
+        (inr (inr (lacks s p (record { none = none }))))).none m;
   }
 
-  pub begins_by_test : (place : ℕ) (r : Option AsciiSet) → first.wanted ≡ Test place
-      → IfSome r (λ set. TakesAscii items place set) → IfSome r (λ set. BeginsIn ws set)
-  begins_by_test place None is taken = taken
-  begins_by_test place (Some set) is taken =
-      begins set (λ s p none. subst (λ w. IsLacking items s w p) (sym is) (taken_bars items place set taken s p none))
-
-  pub begins_by_set : (place : ℕ) (set : AsciiSet) → first.wanted ≡ Set place set → TakesAscii items place set
-      → BeginsIn ws set
-  begins_by_set place set is taken =
-      begins set (λ s p none. subst (λ w. IsLacking items s w p) (sym is) (taken_bars items place set taken s p none))
-
-  pub begins_by_characters : (set : AsciiSet) → first.wanted ≡ Characters set → BeginsIn ws set
-  begins_by_characters set is = begins set (λ s p none. subst (λ w. IsLacking items s w p) (sym is) none)
+  pub begins_at_lines : ((s : Subject) (p : ℕ) → holds_at s BEGINNING_LINE p ≡ false → IsElsewhere s first.at p)
+      → BeginsAtLines ws
+  begins_at_lines elsewhere = record {
+    none = λ t w s p none m.
+        (bars.none t (subst (λ (is : List ℕ). WholeItems is t) (sym same) w.1) s p
+        (inr (inl (elsewhere s p none)))).none m;
+  }

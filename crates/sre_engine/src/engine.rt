@@ -16,7 +16,7 @@ mod whole_walk;
 mod widths;
 
 pub use admitted_places::AdmittedPlaces;
-pub use first_characters::first_ascii;
+pub use first_characters::Beginnings;
 pub use search_iter::SearchIter;
 pub use sre_board::Marks;
 pub use sre_request::Request;

@@ -1,9 +1,9 @@
 //! What must come first in each match, read from the first code words.
 
-ghost use Rattle.std.specs.Prelude.{◌≡◌, ◌⊎◌, ◌+◌, ◌^◌, ◌<◌, ◌≤◌, ℕ, length, true, IfSome};
+ghost use Rattle.std.specs.Prelude.{◌≡◌, ◌⊎◌, ◌+◌, ◌-◌, ◌^◌, ◌<◌, ◌≤◌, ℕ, length, true, false, IfSome};
 ghost use Rattle.sre_chars.specs.Numbers.{at_number};
 ghost use Rattle.sre_model.specs.Tree.{Tree, Trees};
-ghost use Rattle.sre_model.specs.Subject.{Subject};
+ghost use Rattle.sre_model.specs.Subject.{Subject, holds_at};
 ghost use Rattle.sre_model.specs.Grammar.{Word, AreItems, ReadsBranch};
 ghost use Rattle.sre_model.specs.Standing.{HasTest};
 ghost use Rattle.sre_model.specs.FirstCharacters.{NoWay, NoneOf, NotPassed, Leads};
@@ -11,7 +11,8 @@ ghost use Rattle.sre_model.specs.FirstCharacters.{TreeStands, HasTree, HasAltern
 ghost use Rattle.sre_model.specs.Roles.{begins_test};
 ghost use Rattle.sre_reading.specs.AsciiSets.{TakesAscii};
 ghost use Rattle.sre_code.specs.Codes.{words_of};
-ghost use Rattle.sre_engine.specs.Beginnings.{BeginsIn};
+ghost use Rattle.sre_engine.specs.Beginnings.{BeginsIn, BeginsAtLines};
+ghost use Rattle.sre_chars.specs.declared.constants.SreAtCode.TheVariants.{BEGINNING_LINE};
 ghost use Rattle.sre_engine.specs.Starts.{IsElsewhere, NotAmong, IsLacking, Bars, TestsThere, PassesRun};
 
 use sre_chars::constants::{SreAtCode, SreOpcode};
@@ -62,13 +63,37 @@ impl First {
     }
 }
 
-/// The ASCII characters with which a match of a code may begin, if they are known. Then no match begins at the end of
-/// the range, nor with another ASCII character. With a character past ASCII one may begin.
-pub fn first_ascii(code: &Code<'_>) -> Option<AsciiSet>
-    ensures { IfSome result (λ set. BeginsIn (words_of code.now) set) }
+/// Where a match of a code may begin.
+#[derive(Clone, Copy)]
+pub struct Beginnings {
+    /// The ASCII characters with which one may begin, if they are known. Then none begins at the end of the range, nor
+    /// with another ASCII character. With a character past ASCII one may begin.
+    pub ascii: Option<AsciiSet>,
+    /// Whether each begins at the start of the text, or after a newline.
+    pub at_line_start: bool,
+}
+
+impl Beginnings {
+    /// Where a match of a code may begin, read from the first code words.
+    pub fn of_code(code: &Code<'_>) -> Beginnings
+        ensures ascii { IfSome result.ascii (λ set. BeginsIn (words_of code.now) set) }
+        ensures lines { result.at_line_start ≡ true → BeginsAtLines (words_of code.now) }
+    {
+        let words = code.items();
+        let first = First::of_items(words, true);
+        Beginnings {
+            ascii: first_ascii(words, first),
+            at_line_start: is_at_line_start(first.at),
+        }
+    }
+}
+
+// The ASCII characters with which a match may begin, if what is wanted is at its start.
+fn first_ascii(words: &[u32], first: First) -> Option<AsciiSet>
+    requires test { TestsThere words.now first.wanted }
+    ensures { IfSome result (λ set. (s : Subject) (p : ℕ) → NotAmong s set p
+        → IsLacking words.now s first.wanted (p - first.back)) }
 {
-    let words = code.items();
-    let first = First::of_items(words, true);
     if first.back > 0 {
         return None;
     }
@@ -77,6 +102,18 @@ pub fn first_ascii(code: &Code<'_>) -> Option<AsciiSet>
         Wanted::Test(place) => ascii_taken(words, place),
         Wanted::Set(_, characters) => Some(characters),
         Wanted::Characters(characters) => Some(characters),
+    }
+}
+
+// Whether a position code holds only at the start of a line.
+fn is_at_line_start(at: Option<SreAtCode>) -> bool
+    ensures { result ≡ true → (s : Subject) (p : ℕ) → holds_at s BEGINNING_LINE p ≡ false → IsElsewhere s at p }
+{
+    match at {
+        Some(SreAtCode::BEGINNING) => true,
+        Some(SreAtCode::BEGINNING_LINE) => true,
+        Some(SreAtCode::BEGINNING_STRING) => true,
+        _ => false,
     }
 }
 
