@@ -51,8 +51,8 @@ fn begins_by<'a>(
     }
 }
 
-/// Writes for each character with a flag whether a match may begin with it, if that is known, and whether it begins only
-/// at the start of a line.
+/// Writes for each character with a flag whether a match may begin with it, if that is known, and whether it begins
+/// only at the start of a line.
 pub fn begins<'c>(
     alloc: Global,
     code: &'c SreCode<'c>,

@@ -87,8 +87,8 @@ pub extern "C" fn sre_step_bound(
 }
 
 /// Writes for each character below the number of flags whether a match may begin with it, if that is known. Then no
-/// match begins at the end of a range. With a character without a flag one may begin. Also writes whether a match begins
-/// only at the start of the text or after a newline.
+/// match begins at the end of a range. With a character without a flag one may begin. Also writes whether a match
+/// begins only at the start of the text or after a newline.
 #[unsafe(no_mangle)]
 pub extern "C" fn sre_begins(
     alloc: Global,
