@@ -8,6 +8,9 @@
  * another one has run for a while, so a lexer must not do so for each token. */
 #define FEW_STEPS 1000
 
+/* The most characters that a search passes here, where no match begins. The engine passes more of them faster. */
+#define FEW_CHARACTERS 64
+
 /* ---- tables ---- */
 
 /* Fills in and checks the table of this Python's Unicode data, and returns the lists that it points to. */
@@ -153,23 +156,29 @@ static uint32_t character_at(const Text *text, size_t position) {
   }
 }
 
-/* Whether no match begins at the start of the range, by the characters around it. A call with a step limit does not
- * ask, so that both engines of the package charge it alike. */
-static bool begins_nothing(const Pattern *pattern, const Text *text, const sre_asked *asked) {
-  if (asked->search || asked->steps != UINT64_MAX)
-    return false;
-  if (pattern->at_line_start && asked->start && character_at(text, asked->start - 1) != '\n')
-    return true;
-  if (!pattern->knows_begins)
-    return false;
-  if (asked->start >= asked->end)
-    return true;
-  uint32_t character = character_at(text, asked->start);
-  return character < 128 && !pattern->begins[character];
+/* Whether a match may begin at a position before the end of the range, by the character there. */
+static bool may_begin(const Pattern *pattern, const Text *text, size_t position) {
+  uint32_t character = character_at(text, position);
+  return character >= 128 || pattern->begins[character];
 }
 
-int engine_match(const Pattern *pattern, const Text *text, const sre_asked *asked, size_t *row) {
-  if (begins_nothing(pattern, text, asked))
+/* Moves the start of a search past the first few characters with which no match begins. Whether one may begin at the
+ * start then, or behind it. */
+static bool may_match(const Pattern *pattern, const Text *text, sre_asked *asked) {
+  if (!asked->search && pattern->at_line_start && asked->start && character_at(text, asked->start - 1) != '\n')
+    return false;
+  if (!pattern->knows_begins)
+    return true;
+  size_t last = asked->search ? Py_MIN(asked->end, asked->start + FEW_CHARACTERS) : asked->start;
+  while (asked->start < last && !may_begin(pattern, text, asked->start))
+    asked->start++;
+  return asked->start < asked->end && (asked->search || may_begin(pattern, text, asked->start));
+}
+
+int engine_match(const Pattern *pattern, const Text *text, const sre_asked *given, size_t *row) {
+  sre_asked narrowed = *given, *asked = &narrowed;
+  /* a call with a step limit goes to the engine as it is, so that both engines of the package charge it alike */
+  if (asked->steps == UINT64_MAX && !may_match(pattern, text, asked))
     return 0;
   sre_found found;
   uint32_t status = answer_beside_others(pattern, text, asked, &found, row + 3);
