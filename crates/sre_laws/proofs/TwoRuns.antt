@@ -1,5 +1,5 @@
 -- How many steps suffice for (?:a+a+)+b, over any text of up to 1,000 characters.
-use Rattle.std.proofs.Common.{◌≡◌, ℕ, zero, suc, ◌+◌, ◌*◌, ◌/◌, ◌<◌, ◌≤◌, ◌⊎◌, inl, inr, min, refl, arith}
+use Rattle.std.proofs.Common.{◌≡◌, ℕ, ◌+◌, ◌*◌, ◌/◌, ◌<◌, ◌≤◌, min, refl, arith}
 use Rattle.sre_engine.specs.Tree.{Tree, Empty, Then, Item, One, Loop, Run, Literal, Plain, Greedy, GreedyRun}
 use Rattle.sre_engine.specs.Ways.{unlimited}
 use Rattle.sre_engine.specs.Grammar.{Whole, ReadsItem}
@@ -25,19 +25,15 @@ its_words =
     (refl, (refl, refl, some, (11, first, (18, second, refl)), refl, refl)) in
     (refl, ((19, loop, (21, (refl, (refl, refl)), refl)), refl))
 
--- the number over n positions, where a run's characters make a difference up to c
-few : (n e c : ℕ) → n ≤ e + 1 → e ≤ 1000 → (c ≡ 0) ⊎ (c ≡ 1)
-    → n * (32 + 54 * (1 + c / 8)) < 86087
-few n e c m short (inl none) = rw none (omega (arith, m, short))
-few n e c m short (inr one) = rw one (omega (arith, m, short))
+-- the number over n positions, where a scan and a lookbehind cost nothing
+few : (n e scan back : ℕ) → n ≤ e + 1 → e ≤ 1000 → scan ≡ 0 → back ≡ 0
+    → n * (32 + (4 + (26 + (4 * (3 + scan) + (4 * (3 + scan) + 0)) + 0) * 1) * (1 + back)) < 86087
+few n e scan back m short none far = rw (none, far) (omega (arith, m, short))
 
 pub steps_suffice : (a : Asked) → a.start ≤ a.end → a.end ≤ 1000 → step_bound two_runs a < 86087
 steps_suffice a order short =
-    few (kept_positions two_runs a) a.end (min 1 a.end) (omega arith) short (least a.end)
-  where
-    least : (e : ℕ) → (min 1 e ≡ 0) ⊎ (min 1 e ≡ 1)
-    least zero = inl refl
-    least (suc e) = inr (omega arith)
+    few (kept_positions two_runs a) a.end (min 1 a.end / 8) (min 0 a.end / 8) (omega arith) short (omega arith)
+    (omega arith)
 
 pub two_runs_remembered : (a : Asked) → a.start ≤ a.end → a.end ≤ 1000 → IsRemembered 22 two_runs a
 two_runs_remembered a order short = record {
