@@ -162,8 +162,8 @@ static bool may_begin(const Pattern *pattern, const Text *text, size_t position)
   return character >= 128 || pattern->begins[character];
 }
 
-/* Moves the start of a search past the first few characters with which no match begins. Whether one may begin at the
- * start then, or behind it. */
+/* Moves the start of a search or an iteration past the first few characters with which no match begins. Whether one may
+ * begin at the start then, or behind it. */
 static bool may_match(const Pattern *pattern, const Text *text, sre_asked *asked) {
   if (!asked->search && pattern->at_line_start && asked->start && character_at(text, asked->start - 1) != '\n')
     return false;
@@ -196,8 +196,14 @@ int engine_match(const Pattern *pattern, const Text *text, const sre_asked *give
   return 1;
 }
 
-uint32_t engine_walk(const Pattern *pattern, const Text *text, const sre_asked *asked, size_t *rows, size_t room,
+uint32_t engine_walk(const Pattern *pattern, const Text *text, const sre_asked *given, size_t *rows, size_t room,
                      sre_walked *walked) {
+  sre_asked narrowed = *given, *asked = &narrowed;
+  asked->search = true;
+  if (asked->steps == UINT64_MAX && !may_match(pattern, text, asked)) {
+    *walked = (sre_walked){.start = asked->start, .steps = asked->steps};
+    return SRE_NO;
+  }
   const sre_code *code = &pattern->code;
   size_t length = (size_t)text->length, width = WALK_WIDTH(pattern), numbers = width * room;
   PyThreadState *saved = may_others_run(text) ? PyEval_SaveThread() : NULL;
