@@ -90,7 +90,7 @@ typedef struct sre_hints {
   uint32_t width;       /* the least width of a match in characters; 0 unless has_width */
   uint32_t prefix;      /* the length of the literal prefix of each match in characters; 0 unless has_prefix */
   uint32_t prefix_skip; /* how many of these a match need not test again */
-  uint32_t longest_lookbehind; /* how many characters a lookbehind goes back at most */
+  uint32_t longest_lookbehind; /* the length of the longest lookbehind in characters; 0 if there is none */
   uint32_t asked_from;  /* the least group that the code refers to, counted from 0; 4294967295 if it refers to none */
   bool has_width;
   bool has_prefix;

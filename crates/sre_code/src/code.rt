@@ -249,7 +249,7 @@ impl<'a> Code<'a> {
         asked::asked(self.items()).to
     }
 
-    /// The greatest distance, in characters, that a lookbehind of the code goes back. It means nothing if the code
+    /// The length, in characters, of the longest lookbehind of the code; 0 if it has none. It means nothing if the code
     /// refers to groups.
     ///
     /// ```

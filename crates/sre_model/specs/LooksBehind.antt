@@ -24,6 +24,6 @@ by_longest = record { nothing = 0; both = max; item = longest_here }
     longest_here (Look sign back body) inside = max back inside
     longest_here x inside = inside
 
--- the greatest number of characters that a look of a tree goes back
+-- the length of the longest lookbehind of a tree, in characters
 abbrev pub longest_lookbehind : Tree → ℕ
 longest_lookbehind = of_tree by_longest

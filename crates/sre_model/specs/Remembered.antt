@@ -33,7 +33,7 @@ pub record IsRemembered (places : ℕ) (t : Tree) (a : Asked) : Type 0 where
   pub room : places * words_at_place t a ≤ 2 ^ 30
   pub order : a.start ≤ a.end
 
--- how many characters a lookbehind goes back at most, in a text of this length
+-- the length of the longest lookbehind, but at most that of the text
 abbrev pub looks_at_most : Tree → Asked → ℕ
 looks_at_most t a = min (longest_lookbehind t) a.end
 

@@ -1,7 +1,7 @@
 //! The step bound of a code for texts of so many characters, if it is known.
 //!
-//! A first scan longest the counter states of codes whose atomic scopes do not branch. If it fails, and no atomic scope
-//! sets a capture, a second scan longest those of codes whose scopes may branch.
+//! A first scan counts the counter states of codes whose atomic scopes do not branch. If it fails, and no atomic scope
+//! sets a capture, a second scan counts those of codes whose scopes may branch.
 
 ghost use Rattle.std.specs.Prelude.{◌≡◌, ◌+◌, ℕ, ◌-◌, ◌*◌, ◌^◌, length, min, nat_le, true, false, IfSome, ◌≤◌};
 ghost use Rattle.sre_model.specs.Tree.{Tree};
