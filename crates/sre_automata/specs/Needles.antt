@@ -26,8 +26,3 @@ ContainsAny re (Some bytes) = Contains re bytes
 -- automata have the matches of a pattern, and the first of them
 abbrev pub Seeks : Re → Nfa → Type 0
 Seeks re nfa = HasPaths nfa re × Implements nfa re
-
--- the same of automata that there may be
-abbrev pub SeeksAny : Re → Option Nfa → Type 0
-SeeksAny re None = ⊤
-SeeksAny re (Some nfa) = Seeks re nfa

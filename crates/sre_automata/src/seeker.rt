@@ -17,7 +17,8 @@ pub struct Seeker {
     size_limit: usize,
     needle: Option<Needle>,
     is_made: bool,
-    automata: Option<Automata>,
+    // boxed, since they are large, and mostly not there
+    automata: Option<Box<Automata>>,
 }
 
 // Custom `Drop`, so that callers contain one call. A derived one would drop each table in each caller.
@@ -40,7 +41,8 @@ impl Model for Seeker {
     ghost use Rattle.regex_hir.specs.contracts.hir.Hir as pattern;
     ghost use Rattle.regex_hir.specs.declared.hir.Hir.{Hir};
     ghost use Rattle.regex_hir.specs.Meaning.{meaning};
-    ghost use Rattle.sre_automata.specs.Needles.{ContainsAny, SeeksAny};
+    ghost use Rattle.std.specs.Prelude.{IfSome};
+    ghost use Rattle.sre_automata.specs.Needles.{ContainsAny, Seeks};
 
     ghost Value = { Hir };
 
@@ -48,7 +50,8 @@ impl Model for Seeker {
 
     ghost view = { λ s. s.hir };
 
-    ghost invariant = { λ s. ContainsAny (meaning s.hir) s.needle × SeeksAny (meaning s.hir) s.automata };
+    ghost invariant = { λ s. ContainsAny (meaning s.hir) s.needle
+        × IfSome s.automata (λ automata. Seeks (meaning s.hir) automata.value) };
 }
 
 impl Seeker {
@@ -85,7 +88,12 @@ impl Seeker {
         ensures { self.new ≡ self.old }
     {
         self.is_made = true;
-        self.automata = Automata::new(self.alloc, &self.hir, self.size_limit);
+        let Some(automata) = Automata::new(self.alloc, &self.hir, self.size_limit) else {
+            return;
+        };
+        if let Ok(automata) = Box::new(self.alloc, automata) {
+            self.automata = Some(automata);
+        }
     }
 
     /// Returns whether the DFAs are built.
