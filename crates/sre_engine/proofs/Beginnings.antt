@@ -1,19 +1,23 @@
 -- Where a match may begin, by what its first code words want.
-use Rattle.std.proofs.Common.{ℕ, ◌≡◌, ◌-◌, false, inl, inr, List, Option, Some, None, IfSome, sym, subst, arith}
+use Rattle.std.proofs.Common.{ℕ, ◌≡◌, ◌-◌, Bool, true, false, inl, inr, List, Option, Some, None, IfSome, IsSomeAnd}
+use Rattle.std.proofs.Common.{sym, ◌∙◌, subst, arith}
 use Rattle.sre_chars.specs.declared.constants.SreAtCode.TheVariants.{BEGINNING_LINE}
 use Rattle.sre_code.specs.declared.ascii_set.AsciiSet.{AsciiSet}
 use Rattle.sre_model.specs.Grammar.{WholeItems, behind_block}
 use Rattle.sre_model.specs.Subject.{Subject, holds_at}
+use Rattle.sre_model.specs.Tree.{Test}
 use Rattle.sre_reading.specs.AsciiSets.{TakesAscii}
-use Rattle.sre_engine.specs.Beginnings.{BeginsIn, BeginsAtLines}
+use Rattle.sre_engine.specs.Beginnings.{BeginsIn, BeginsAtLines, KnowsTest, KnowsLines, has_ascii, IsAsciiOf}
+use Rattle.sre_engine.specs.Beginnings.{is_line_start}
+use Rattle.sre_engine.specs.Leading.{Wants, WantsFirst}
 use Rattle.sre_engine.specs.Starts.{Bars, NotAmong, IsLacking, IsElsewhere}
 use Rattle.sre_engine.specs.declared.engine.first_characters.First.{First}
-use Rattle.sre_engine.specs.declared.engine.first_characters.Wanted.TheVariants.{Test}
+use Rattle.sre_engine.specs.declared.engine.first_characters.Wanted.TheVariants as wanted
 use Rattle.sre_engine.proofs.FirstSets.{taken_bars}
 
 -- where a test is wanted at the start, and none of the characters that it takes is there, it does not pass
 pub test_lacks : (ws : List ℕ) (first : First) (place : ℕ) (r : Option AsciiSet) → first.back ≡ 0
-    → first.wanted ≡ Test place → IfSome r (λ set. TakesAscii ws place set)
+    → first.wanted ≡ wanted.Test place → IfSome r (λ set. TakesAscii ws place set)
     → IfSome r (λ set. (s : Subject) (p : ℕ) → NotAmong s set p → IsLacking ws s first.wanted (p - first.back))
 test_lacks ws first place None near is taken = taken
 test_lacks ws first place (Some set) near is taken = λ s p none.
@@ -38,4 +42,23 @@ module _ (ws items : List ℕ) (same : items ≡ behind_block ws) (first : First
     none = λ t w s p none m.
         (bars.none t (subst (λ (is : List ℕ). WholeItems is t) (sym same) w.1) s p
         (inr (inl (elsewhere s p none)))).none m;
+  }
+
+-- what is known
+module _ (ws items : List ℕ) (same : items ≡ behind_block ws) (first : First) (wants : WantsFirst items first) where
+  pub knows_test : (r : Option AsciiSet)
+      → ((test : Test) → Wants items first.wanted test → first.back ≡ 0 → has_ascii test ≡ true
+      → IsSomeAnd r (λ set. IsAsciiOf test set))
+      → KnowsTest ws r
+  knows_test r known = record {
+    known = λ t w test e has.
+        let here = wants.test t (subst (λ (is : List ℕ). WholeItems is t) (sym same) w.1) test e in
+        known test here.1 here.0 has;
+  }
+
+  pub knows_lines : (r : Bool) → IfSome first.at (λ code. r ≡ is_line_start code) → KnowsLines ws r
+  knows_lines r known = record {
+    known = λ t w code e is.
+        let at = wants.code t (subst (λ (is : List ℕ). WholeItems is t) (sym same) w.1) code e in
+        subst (λ a. IfSome a (λ c. r ≡ is_line_start c)) at known ∙ is;
   }

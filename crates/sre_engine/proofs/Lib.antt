@@ -3,6 +3,7 @@ pub mod LeadingStarts
 pub mod Walking
 pub mod Starting
 pub mod FirstSets
+pub mod Leading
 pub mod Beginnings
 pub mod Anchored
 pub mod Steps

@@ -37,6 +37,7 @@ pub mod Walks
 pub mod Iterators
 pub mod Listed
 pub mod Starts
+pub mod Leading
 pub mod Scans
 pub mod Members
 pub mod Counts

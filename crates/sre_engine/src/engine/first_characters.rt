@@ -1,8 +1,9 @@
 //! What must come first in each match, read from the first code words.
 
 ghost use Rattle.std.specs.Prelude.{◌≡◌, ◌⊎◌, ◌+◌, ◌-◌, ◌^◌, ◌<◌, ◌≤◌, ℕ, length, true, false, IfSome};
+ghost use Rattle.std.specs.Prelude.{None, Some, IsSomeAnd};
 ghost use Rattle.sre_chars.specs.Numbers.{at_number};
-ghost use Rattle.sre_model.specs.Tree.{Tree, Trees};
+ghost use Rattle.sre_model.specs.Tree.{Tree, Trees, Test};
 ghost use Rattle.sre_model.specs.Subject.{Subject, holds_at};
 ghost use Rattle.sre_model.specs.Grammar.{Word, AreItems, ReadsBranch};
 ghost use Rattle.sre_model.specs.Standing.{HasTest};
@@ -11,7 +12,9 @@ ghost use Rattle.sre_model.specs.FirstCharacters.{TreeStands, HasTree, HasAltern
 ghost use Rattle.sre_model.specs.Roles.{begins_test};
 ghost use Rattle.sre_reading.specs.AsciiSets.{TakesAscii};
 ghost use Rattle.sre_code.specs.Codes.{words_of};
-ghost use Rattle.sre_engine.specs.Beginnings.{BeginsIn, BeginsAtLines};
+ghost use Rattle.sre_engine.specs.Beginnings.{BeginsIn, BeginsAtLines, KnowsTest, KnowsLines};
+ghost use Rattle.sre_engine.specs.Beginnings.{first_test, has_ascii, IsAsciiOf, is_line_start};
+ghost use Rattle.sre_engine.specs.Leading.{IsPast, LeadsToTest, LeadsToCode, IsTestAt, Wants, WantsFirst};
 ghost use Rattle.sre_chars.specs.declared.constants.SreAtCode.TheVariants.{BEGINNING_LINE};
 ghost use Rattle.sre_engine.specs.Starts.{IsElsewhere, NotAmong, IsLacking, Bars, TestsThere, PassesRun};
 
@@ -53,6 +56,7 @@ impl First {
         requires { AreItems words.now }
         ensures bars { Bars words.now result }
         ensures test { TestsThere words.now result.wanted }
+        ensures first { WantsFirst words.now result }
     {
         let reached = follow(words, 0);
         First {
@@ -64,12 +68,28 @@ impl First {
 }
 
 /// Where a match of a code may begin.
+///
+/// Both fields come from the code alone, and hold for each text and range. A character is its code point, or a byte of
+/// a text in bytes; ASCII are those below 128.
+///
+/// ```
+/// // The bytecode of `(?m)^a`: at the start of a line, the letter a, success.
+/// let code = Code::check(alloc, &[6, 1, 16, 97, 1], &uni)?;
+/// let beginnings = Beginnings::of_code(&code);
+/// assert!(beginnings.ascii == Some(AsciiSet::of_character(97)));
+/// assert!(beginnings.at_line_start);
+/// ```
 #[derive(Clone, Copy)]
 pub struct Beginnings {
     /// The ASCII characters with which one may begin, if they are known. Then none begins at the end of the range, nor
     /// with another ASCII character. With a character past ASCII one may begin.
+    ///
+    /// They are known at least if the first item, behind capture slots and position codes, is ANY, a category, a
+    /// literal that the locale does not fold, or a negated literal that nothing folds, or is a repeat of one of these
+    /// with a least count of at least 1.
     pub ascii: Option<AsciiSet>,
-    /// Whether each begins at the start of the text, or after a newline.
+    /// Whether each begins at the start of the text, or after a newline. It is true at least if the first item, behind
+    /// capture slots, is BEGINNING, BEGINNING_LINE or BEGINNING_STRING.
     pub at_line_start: bool,
 }
 
@@ -78,6 +98,8 @@ impl Beginnings {
     pub fn of_code(code: &Code<'_>) -> Beginnings
         ensures ascii { IfSome result.ascii (λ set. BeginsIn (words_of code.now) set) }
         ensures lines { result.at_line_start ≡ true → BeginsAtLines (words_of code.now) }
+        ensures known { KnowsTest (words_of code.now) result.ascii }
+        ensures known_lines { KnowsLines (words_of code.now) result.at_line_start }
     {
         let words = code.items();
         let first = First::of_items(words, true);
@@ -91,8 +113,10 @@ impl Beginnings {
 // The ASCII characters with which a match may begin, if what is wanted is at its start.
 fn first_ascii(words: &[u32], first: First) -> Option<AsciiSet>
     requires test { TestsThere words.now first.wanted }
-    ensures { IfSome result (λ set. (s : Subject) (p : ℕ) → NotAmong s set p
+    ensures lacks { IfSome result (λ set. (s : Subject) (p : ℕ) → NotAmong s set p
         → IsLacking words.now s first.wanted (p - first.back)) }
+    ensures known { (test : Test) → Wants words.now first.wanted test → first.back ≡ 0 → has_ascii test ≡ true
+        → IsSomeAnd result (λ set. IsAsciiOf test set) }
 {
     if first.back > 0 {
         return None;
@@ -107,7 +131,9 @@ fn first_ascii(words: &[u32], first: First) -> Option<AsciiSet>
 
 // Whether a position code holds only at the start of a line.
 fn is_at_line_start(at: Option<SreAtCode>) -> bool
-    ensures { result ≡ true → (s : Subject) (p : ℕ) → holds_at s BEGINNING_LINE p ≡ false → IsElsewhere s at p }
+    ensures elsewhere { result ≡ true → (s : Subject) (p : ℕ) → holds_at s BEGINNING_LINE p ≡ false
+        → IsElsewhere s at p }
+    ensures known { IfSome at (λ code. result ≡ is_line_start code) }
 {
     match at {
         Some(SreAtCode::BEGINNING) => true,
@@ -135,6 +161,9 @@ fn follow(words: &[u32], start: usize) -> Reached
     ensures on { start ≤ result.place }
     ensures at { (t : Tree) → TreeStands words.now start t → (s : Subject) (p : ℕ) → IsElsewhere s result.at p
         → NoWay s t p }
+    ensures test { LeadsToTest words.now start result.place result.back }
+    ensures code { LeadsToCode words.now start result.place result.back result.at }
+    ensures past { IsPast words.now result.place }
 {
     let mut reached = Reached {
         place: start,
@@ -175,8 +204,11 @@ fn follow(words: &[u32], start: usize) -> Reached
 // The first position code after an AT: the one known before, else its own, unless it applies further back.
 fn first_position(words: &[u32], reached: Reached) -> Option<SreAtCode>
     requires { reached.place + 1 < length words.now }
-    ensures { (result ≡ reached.at) ⊎ ((reached.back ≡ 0)
+    ensures bars { (result ≡ reached.at) ⊎ ((reached.back ≡ 0)
         × IfSome result (λ code. Word words.now (reached.place + 1) (at_number code))) }
+    ensures kept { IfSome reached.at (λ code. result ≡ Some code) }
+    ensures own { reached.at ≡ None → reached.back ≡ 0 → (code : SreAtCode)
+        → Word words.now (reached.place + 1) (at_number code) → result ≡ Some code }
 {
     if reached.back > 0 || reached.at.is_some() {
         return reached.at;
@@ -194,6 +226,8 @@ fn wanted_test(words: &[u32], place: usize) -> Option<usize>
     ensures bars { (t : Tree) → TreeStands words.now place t
         → IfSome result (λ test. (s : Subject) (p : ℕ) → NotPassed words.now s test p → NoWay s t p) }
     ensures test { IfSome result (λ test. HasTest words.now test) }
+    ensures own { (t : Tree) (test : Test) → TreeStands words.now place t → first_test t ≡ Some test
+        → IsPast words.now place → IsSomeAnd result (λ i. IsTestAt words.now i test) }
 {
     let opcode = SreOpcode::try_from(word(words, place)).ok()?;
     match opcode {
@@ -217,6 +251,7 @@ fn wanted_by(words: &[u32], test: usize, reads_sets: bool) -> Wanted
     requires { HasTest words.now test }
     ensures bars { (s : Subject) (p : ℕ) → IsLacking words.now s result p → NotPassed words.now s test p }
     ensures test { TestsThere words.now result }
+    ensures wants { (t : Test) → IsTestAt words.now test t → Wants words.now result t }
 {
     if !reads_sets || word(words, test) != SreOpcode::IN as u32 {
         return Wanted::Test(test);
@@ -247,6 +282,8 @@ fn wanted_at(words: &[u32], place: usize, reads_sets: bool) -> Wanted
     ensures bars { (t : Tree) → TreeStands words.now place t → (s : Subject) (p : ℕ) → IsLacking words.now s result p
         → NoWay s t p }
     ensures test { TestsThere words.now result }
+    ensures wants { (t : Tree) (test : Test) → TreeStands words.now place t → first_test t ≡ Some test
+        → IsPast words.now place → Wants words.now result test }
 {
     if let Some(test) = wanted_test(words, place) {
         return wanted_by(words, test, reads_sets);
@@ -308,7 +345,7 @@ fn beyond_runs(words: &[u32], start: usize) -> Option<AsciiSet>
 
 /// Whether an opcode is a test of one character.
 pub(crate) fn is_test(opcode: SreOpcode) -> bool
-    ensures { result ≡ true → begins_test opcode ≡ true }
+    ensures { result ≡ begins_test opcode }
 {
     match opcode {
         SreOpcode::ANY

@@ -14,6 +14,8 @@ use Rattle.sre_model.proofs.FirstCharacters.{leads_start, leads_tree, leads_furt
 use Rattle.sre_model.proofs.FirstCharacters.{mark_leads, atomic_leads, look_operand, look_leads, at_operand, at_leads}
 use Rattle.sre_model.proofs.FirstCharacters.{at_bars_there, body_operand, body_leads}
 use Rattle.sre_engine.specs.Starts.{IsElsewhere}
+use Rattle.sre_engine.proofs.Leading.{test_start, code_start, test_stuck, code_stuck, test_past, code_past, code_read}
+use Rattle.sre_engine.proofs.Leading.{loop_role}
 use Rattle.sre_engine.proofs.engine.first_characters.follow.Goals as goal
 
 pub item-init : goal.item-init
@@ -22,6 +24,8 @@ item-init c = record {
   on = omega arith;
   leads = λ t stands. leads_start c.args.words.now t c.args.start stands;
   at = λ t stands s p e. absurd e;
+  test = test_start c.args.words.now c.args.start;
+  code = code_start c.args.words.now c.args.start;
 }
 
 pub item-preserved-in-MARK : goal.item-preserved-in-MARK
@@ -35,6 +39,8 @@ item-preserved-in-MARK c =
       on = omega (arith, c.item.invariant.on);
       leads = further;
       at = c.item.invariant.at;
+      test = test_past ws _ _ _ opcode.MARK code c.item.invariant.test refl;
+      code = code_past ws _ _ _ _ c.item.invariant.code code;
     }
 
 pub item-preserved-in-ATOMIC_GROUP : goal.item-preserved-in-ATOMIC_GROUP
@@ -49,6 +55,8 @@ item-preserved-in-ATOMIC_GROUP c =
       on = omega (arith, c.item.invariant.on);
       leads = further;
       at = c.item.invariant.at;
+      test = test_stuck ws _ _ _ opcode.ATOMIC_GROUP code _ _ c.item.invariant.test refl;
+      code = code_stuck ws _ _ _ opcode.ATOMIC_GROUP code _ _ _ c.item.invariant.code refl;
     }
 
 pub operand-far-requires : goal.operand-far-requires
@@ -69,6 +77,8 @@ item-preserved-in-ASSERT c =
       on = omega (arith, c.item.invariant.on);
       leads = further;
       at = c.item.invariant.at;
+      test = test_stuck ws _ _ _ opcode.ASSERT code _ _ c.item.invariant.test refl;
+      code = code_stuck ws _ _ _ opcode.ASSERT code _ _ _ c.item.invariant.code refl;
     }
 
 pub first_position-reached-requires : goal.first_position-reached-requires
@@ -103,7 +113,11 @@ item-preserved-in-AT c =
       leads = further;
       at =
           position_bars ws _ _ _ c.item.reached.at _ c.item.invariant.leads here c.item.invariant.at
-          c.first_position-reached.ensures;
+          c.first_position-reached.ensures.bars;
+      test = test_past ws _ _ _ opcode.AT code c.item.invariant.test refl;
+      code =
+          code_read ws _ _ _ _ c.item.invariant.code _ _ code c.first_position-reached.ensures.kept
+          c.first_position-reached.ensures.own;
     }
 
 loop_here : (ws : List ℕ) (i : ℕ) (o : SreOpcode) → Opcode ws i o
@@ -130,4 +144,6 @@ item-preserved c =
       on = omega (arith, c.item.invariant.on);
       leads = further;
       at = c.item.invariant.at;
+      test = test_stuck ws _ _ _ c.in-Ok.opcode code _ _ c.item.invariant.test (loop_role _ c.in-REPEAT.is).0;
+      code = code_stuck ws _ _ _ c.in-Ok.opcode code _ _ _ c.item.invariant.code (loop_role _ c.in-REPEAT.is).1;
     }

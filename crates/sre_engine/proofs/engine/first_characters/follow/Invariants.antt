@@ -3,6 +3,7 @@ use Rattle.sre_model.specs.Tree.{Tree}
 use Rattle.sre_model.specs.Subject.{Subject}
 use Rattle.sre_model.specs.FirstCharacters.{NoWay, TreeStands, Leads}
 use Rattle.sre_engine.specs.Starts.{IsElsewhere}
+use Rattle.sre_engine.specs.Leading.{LeadsToTest, LeadsToCode}
 use Rattle.sre_engine.proofs.engine.first_characters.follow.Given as goal
 
 abbrev pub invariant-item : goal.invariant-item
@@ -12,6 +13,8 @@ invariant-item l = record {
   leads : (t : Tree) → TreeStands l.words l.fn.start t → Leads l.words t l.reached.place l.reached.back;
   at : (t : Tree) → TreeStands l.words l.fn.start t → (s : Subject) (p : ℕ) → IsElsewhere s l.reached.at p
       → NoWay s t p;
+  test : LeadsToTest l.words l.fn.start l.reached.place l.reached.back;
+  code : LeadsToCode l.words l.fn.start l.reached.place l.reached.back l.reached.at;
 }
 
 abbrev pub decreases-item : goal.decreases-item

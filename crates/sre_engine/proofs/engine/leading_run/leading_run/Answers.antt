@@ -75,7 +75,7 @@ test_end-place-requires g c =
       code = c.in_ok-opcode.ensures.opcode;
       stands =
           test_ahead words (tree_of words) c.item.place c.in_ok-opcode.opcode
-          (ahead g c (tree_of words) (whole_of c.args.req.now.pattern_codes)) (c.is_test.ensures c.if-not-is_test.false)
+          (ahead g c (tree_of words) (whole_of c.args.req.now.pattern_codes)) (sym c.is_test.ensures ∙ c.if-not-is_test.false)
           c.in_ok-opcode.ensures.opcode;
     }
 
@@ -85,7 +85,7 @@ item-smaller g c =
     let further =
     test_further words (tree_of words) c.item.place c.in_ok-opcode.opcode
     (ahead g c.before (tree_of words) (whole_of c.args.req.now.pattern_codes))
-    (c.is_test.ensures c.if-not-is_test.false) c.in_ok-opcode.ensures.opcode c.test_end-place.result
+    (sym c.is_test.ensures ∙ c.if-not-is_test.false) c.in_ok-opcode.ensures.opcode c.test_end-place.result
     c.test_end-place.ensures in
     let within : c.item.place < length words = c.item.invariant.within in
     let smaller : length words - c.test_end-place.result < length words - c.item.place = omega arith in
@@ -96,7 +96,7 @@ item-preserved g c =
     let words = (run_of c.args.req.now).words in
     let behind = λ (t : Tree) (whole : WholeItems words t).
     behind_test words t c.item.place c.in_ok-opcode.opcode (ahead g c.before t whole)
-    (c.is_test.ensures c.if-not-is_test.false) c.in_ok-opcode.ensures.opcode c.test_end-place.result
+    (sym c.is_test.ensures ∙ c.if-not-is_test.false) c.in_ok-opcode.ensures.opcode c.test_end-place.result
     c.test_end-place.ensures in
     record {
       within =
