@@ -7,5 +7,6 @@ pub mod Walks
 pub mod Finding
 pub mod Matches
 pub mod Knowing
+pub mod Begun
 pub mod SpanRows
 pub mod OtherLimits

@@ -1,14 +1,17 @@
 -- What an export says of where a match may begin.
 -- Public clauses rest on it.
-use Rattle.std.specs.Prelude.{ℕ, ◌≡◌, ◌||◌, nat_le, Bool, true, false, List, [], length, slice_index_or}
+use Rattle.std.specs.Prelude.{ℕ, ◌≡◌, ◌<◌, ◌||◌, nat_le, Bool, true, false, List, [], length, slice_index_or}
+use Rattle.std.specs.Prelude.{Some, None}
 use Rattle.std.specs.Global.{Global}
-use Rattle.sre_model.specs.Tree.{Tree}
+use Rattle.sre_chars.specs.Tables.{Table}
+use Rattle.sre_model.specs.Characters.{holds}
+use Rattle.sre_model.specs.Tree.{Tree, Test}
 use Rattle.sre_model.specs.Grammar.{Whole, IsCode}
 use Rattle.sre_model.specs.Marks.{Marks}
 use Rattle.sre_model.specs.Subject.{Subject, after}
 use Rattle.sre_model.specs.Ways.{ways}
 use Rattle.sre_growth.specs.Refusal.{Refused}
-use Rattle.sre_engine.specs.Beginnings.{BeginsAtLines}
+use Rattle.sre_engine.specs.Beginnings.{BeginsAtLines, KnowsTest, KnowsLines, first_test, has_ascii}
 use Rattle.sre_c.specs.declared.status.Status.{Status}
 use Rattle.sre_c.specs.declared.status.Status.TheVariants.{No, Yes, StepLimit, Memory, NoCode, NoRoom}
 use Rattle.sre_c.specs.declared.status.Status.TheVariants.{NotUtf8, FaultyTable}
@@ -22,11 +25,21 @@ pub record BeginsAmong (ws : List ℕ) (flags : List Bool) : Type 0 where
       → after s (λ c. nat_le (length flags) c || slice_index_or flags c false) p ≡ false → (m : Marks)
       → ways s t p m ≡ []
 
--- so it is, or that is not known; and whether it begins at the start of a line
+-- the flags of ASCII characters are what the first test takes, if that is known
+pub record KnowsFlags (ws : List ℕ) (flags : List Bool) : Type 0 where
+  pub known :
+      (t : Tree) → Whole ws t → (test : Test) → first_test t ≡ Some test → has_ascii test ≡ true → (table : Table)
+      (c : ℕ) → c < 128 → c < length flags → slice_index_or flags c false ≡ holds table test c
+
+-- whether each match path begins at the start of a line, if the first position code says so
+abbrev pub ReportsLines : List ℕ → Bool → Type 0
+ReportsLines ws lines = (lines ≡ true → BeginsAtLines ws) × KnowsLines ws lines
+
+-- what a status implies: the flags, or that they are not known; and whether each begins at the start of a line
 abbrev pub Begins : Status → SreCode → List Bool → Bool → Type 0
 Begins Yes c flags lines =
-    IsCode c.words.now × (lines ≡ true → BeginsAtLines c.words.now) × BeginsAmong c.words.now flags
-Begins No c flags lines = IsCode c.words.now × (lines ≡ true → BeginsAtLines c.words.now)
+    IsCode c.words.now × ReportsLines c.words.now lines × BeginsAmong c.words.now flags × KnowsFlags c.words.now flags
+Begins No c flags lines = IsCode c.words.now × ReportsLines c.words.now lines × KnowsTest c.words.now None
 Begins Memory c flags lines = Refused Global × (lines ≡ false)
 Begins NoCode c flags lines = ((t : Tree) → (Whole c.words.now t → ⊥)) × (lines ≡ false)
 Begins FaultyTable c flags lines = IsFaulty c.table.now × (lines ≡ false)
