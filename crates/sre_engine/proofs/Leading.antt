@@ -66,9 +66,14 @@ module _ (ws : List ℕ) (i : ℕ) (t : Tree) (x : TreeStands ws i t) where
           true≢false (sym (code_item item rest code e) ∙ ap is_passed (sym (role_at ws i r.0 item o r.1 w)) ∙ other)
 
   -- what is behind an item of two words
-  behind_two : (rest : Tree) (j : ℕ) → Reads ws j x.end rest → j ≡ i + 2 → TreeStands ws (i + 2) rest
-  behind_two rest j r e =
-      subst (λ k. TreeStands ws k rest) e (stands_up_to ws j x.end rest x.code r x.there x.ends)
+  ahead_two : (Holds : Tree → Type 0) (rest : Tree) (j : ℕ) → Reads ws j x.end rest → j ≡ i + 2 → Holds rest
+      → Ahead ws (i + 2) 0 Holds
+  ahead_two Holds rest j r e holds = record {
+    tree = rest;
+    stands = subst (λ k. TreeStands ws k rest) e (stands_up_to ws j x.end rest x.code r x.there x.ends);
+    holds = holds;
+    near = refl;
+  }
 
   test_behind : (test : Test) → first_test t ≡ Some test → (o : SreOpcode) → Opcode ws i o → is_passed (role o) ≡ true
       → Ahead ws (i + 2) 0 (λ u. first_test u ≡ Some test)
@@ -77,18 +82,8 @@ module _ (ws : List ℕ) (i : ℕ) (t : Tree) (x : TreeStands ws i t) where
       by_tree : (u : Tree) → Reads ws i x.end u → first_test u ≡ Some test
           → Ahead ws (i + 2) 0 (λ v. first_test v ≡ Some test)
       by_tree Empty r e = absurd (cc e)
-      by_tree (Then (Mark n) rest) r e = record {
-        tree = rest;
-        stands = behind_two rest r.0 r.2 r.1.1.1;
-        holds = e;
-        near = refl;
-      }
-      by_tree (Then (At a) rest) r e = record {
-        tree = rest;
-        stands = behind_two rest r.0 r.2 r.1.1.1;
-        holds = e;
-        near = refl;
-      }
+      by_tree (Then (Mark n) rest) r e = ahead_two (λ v. first_test v ≡ Some test) rest r.0 r.2 r.1.1.1 e
+      by_tree (Then (At a) rest) r e = ahead_two (λ v. first_test v ≡ Some test) rest r.0 r.2 r.1.1.1 e
       by_tree (Then item rest) r e =
           absurd (true≢false (sym passed ∙ ap is_passed (role_at ws i r.0 item o r.1 w)))
 
@@ -99,12 +94,7 @@ module _ (ws : List ℕ) (i : ℕ) (t : Tree) (x : TreeStands ws i t) where
       by_tree : (u : Tree) → Reads ws i x.end u → first_code u ≡ Some code
           → Ahead ws (i + 2) 0 (λ v. first_code v ≡ Some code)
       by_tree Empty r e = absurd (cc e)
-      by_tree (Then (Mark n) rest) r e = record {
-        tree = rest;
-        stands = behind_two rest r.0 r.2 r.1.1.1;
-        holds = e;
-        near = refl;
-      }
+      by_tree (Then (Mark n) rest) r e = ahead_two (λ v. first_code v ≡ Some code) rest r.0 r.2 r.1.1.1 e
       by_tree (Then (At a) rest) r e = absurd (cc (r.1.0, w))
       by_tree (Then item rest) r e = absurd (cc e)
 
