@@ -43,27 +43,6 @@ pub unspent : (code : Code) (a : Asked) (last : ℕ) (told : Result (Option Bool
 unspent code a last told n known =
     record { code = code; own = refl; runs = 0; few = omega arith; kept = keeps_all a code told n known }
 
--- what a search that has an answer takes of one budget may be taken of another
-pub moved : (words : List ℕ) (a : Asked) (last : ℕ) (found : Bool) (given left before after : ℕ)
-    → KeepsBudget words a last (Ok (Some found)) given left → after ≤ before → before ≤ after + (given - left)
-    → KeepsBudget words a last (Ok (Some found)) before after
-moved words a last found given left before after x fewer taken = record {
-  code = x.code;
-  own = x.own;
-  runs = x.runs;
-  few = x.few;
-  kept = record {
-    used = λ none. absurd (cc);
-    spent = record { each = λ t whole most within. omega (arith, x.kept.spent.each t whole most within, taken) };
-    fewer = fewer;
-    bounded = λ t whole memoized. elim (x.kept.bounded t whole memoized) [
-      | inl refused ↦ inl refused
-      | inr few ↦ inr (omega (arith, few, taken))
-    ];
-    enough = λ enough none. absurd (cc);
-  };
-}
-
 -- a match at the start of the range
 pub match_kept : (code : Code) (a : Asked) (search : Bool) (told : Result (Option Bool) SreError) (given left : ℕ)
     → search ≡ false → KeepsToSteps Global a code told 2 given left

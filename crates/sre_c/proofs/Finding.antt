@@ -18,7 +18,7 @@ use Rattle.sre_engine.specs.Searches.{FindsFirst, CountsAll}
 use Rattle.sre_c.specs.Budgets.{no_limit}
 use Rattle.sre_c.specs.Answered.{last_start}
 use Rattle.sre_c.specs.Replies.{told_of, Finds}
-use Rattle.sre_c.proofs.Budgets.{unspent, moved, match_kept, search_kept}
+use Rattle.sre_c.proofs.Budgets.{unspent, match_kept, search_kept}
 
 -- what was searched is searched
 pub searched : (words : List ℕ) (a : Asked) (search : Bool) (told : Result (Option Bool) SreError) (s : Shown)
@@ -46,22 +46,6 @@ finds_any code a search (Err e) told s n is answer refused =
       unlimited = λ none. refl;
       memory = refused;
     })
-
--- an allocation failed
-pub finds_none : (code : Code) (a : Asked) (e : SreError) (s : Shown) (n : ℕ) → Refused Global
-    → Finds (words_of code) a true (Err e) s n n
-finds_none code a e s n refused = finds_any code a true (Err e) (Err e) s n refl (λ t whole. tt) refused
-
--- what a search that has an answer takes of one budget may be taken of another
-pub finds_moved : (words : List ℕ) (a : Asked) (b : Bool) (s : Shown) (given left before after : ℕ)
-    → Finds words a true (Ok (Some b)) s given left → after ≤ before → before ≤ after + (given - left)
-    → (before ≡ no_limit → after ≡ before) → Finds words a true (Ok (Some b)) s before after
-finds_moved words a b s given left before after x fewer taken unlimited = record {
-  answer = x.answer;
-  steps = moved words a a.end b given left before after x.steps fewer taken;
-  unlimited = unlimited;
-  memory = x.memory;
-}
 
 -- the first match of the least start that has one, at each tree
 pub first_at : {S : Type 0} {text : Ghosts S} (r : Request S text) (said : Result Bool SreError) (s : Shown)

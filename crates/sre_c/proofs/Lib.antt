@@ -9,4 +9,3 @@ pub mod Matches
 pub mod Knowing
 pub mod Begun
 pub mod SpanRows
-pub mod OtherLimits

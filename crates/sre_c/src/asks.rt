@@ -1,4 +1,4 @@
-//! How a text is searched: by the machine, and with DFAs where they may save time.
+//! How a text is searched: by the machine, and with DFAs where the text's type allows it.
 
 ghost use Rattle.std.specs.Prelude.{◌≡◌, ◌≤◌, ◌+◌, true};
 ghost use Rattle.sre_engine.specs.Codes.{words_of};
@@ -7,14 +7,13 @@ ghost use Rattle.sre_c.specs.Budgets.{no_limit};
 ghost use Rattle.sre_c.specs.Replies.{told_of, Finds};
 ghost use Rattle.sre_c.specs.Rows.{Writes};
 
-use crate::reading::{Sought, is_long, reading_bytes, reading_text};
 use crate::spans::write_spans;
 use crate::status::Status;
 use crate::types::SreWalked;
 use crate::walk::write_rows;
 use sre_engine::engine::{Nobody, Starts};
 use sre_engine::{Request, SearchIter, SreError, State, StrDrive};
-use sre_finder::{Encoding, Finder, Haystack, SpanFinder};
+use sre_finder::{Finder, Haystack, SpanFinder};
 use std::alloc::Global;
 
 /// The budget of a call without a step limit.
@@ -62,13 +61,9 @@ pub trait Asks<S: StrDrive> {
 #[derive(Clone, Copy)]
 pub struct Machine;
 
-/// DFAs if they may save time in bytes, else the machine.
+/// The machine and DFAs, for bytes and UTF-8. DFAs are built once the machine has spent as much as that costs.
 #[derive(Clone, Copy)]
-pub struct InBytes;
-
-/// DFAs if they may save time in UTF-8, else the machine.
-#[derive(Clone, Copy)]
-pub struct InText;
+pub struct WithAutomata;
 
 impl<S: StrDrive> Asks<S> for Machine {
     fn search(
@@ -99,190 +94,46 @@ impl<S: StrDrive> Asks<S> for Machine {
     }
 }
 
-impl<'t> Asks<&'t [u8]> for InBytes {
+impl<S: Haystack> Asks<S> for WithAutomata {
     fn search(
         &self,
         alloc: Global,
         state: &mut State<Global>,
-        request: &Request<'_, &'t [u8]>,
+        request: &Request<'_, S>,
         steps: &mut u64,
     ) -> Result<Option<bool>, SreError> {
-        match reading_bytes(Sought::First, *steps, request) {
-            Some(encoding) => search_told(alloc, state, request, encoding, steps),
-            None => Machine.search(alloc, state, request, steps),
+        let encoding = request.string().encoding(request.end());
+        let mut finder = Finder::on_demand(alloc, request.pattern_codes(), encoding);
+        let Ok(request) = request.clone() else {
+            unreachable!(); // it takes no memory
+        };
+        if *steps == NO_LIMIT {
+            return answered(finder.search(request, state));
         }
+        finder.search_within(request, state, steps)
     }
 
+    // Captures of a span, and what the DFAs leave open, cost steps that nothing counts. So within a limit the machine
+    // finds each match, with a prefilter.
     fn write(
         &self,
         alloc: Global,
-        request: &Request<'_, &'t [u8]>,
+        request: &Request<'_, S>,
         width: usize,
         rows: &mut [usize],
         walked: &mut SreWalked,
     ) -> Status {
-        match reading_bytes(Sought::All, walked.steps, request) {
-            Some(encoding) => write_told(alloc, request, encoding, width, rows, walked),
-            None => Machine.write(alloc, request, width, rows, walked),
-        }
-    }
-}
-
-impl<'t> Asks<&'t str> for InText {
-    fn search(
-        &self,
-        alloc: Global,
-        state: &mut State<Global>,
-        request: &Request<'_, &'t str>,
-        steps: &mut u64,
-    ) -> Result<Option<bool>, SreError> {
-        match reading_text(Sought::First, *steps, request) {
-            Some(encoding) => search_told(alloc, state, request, encoding, steps),
-            None => Machine.search(alloc, state, request, steps),
-        }
-    }
-
-    fn write(
-        &self,
-        alloc: Global,
-        request: &Request<'_, &'t str>,
-        width: usize,
-        rows: &mut [usize],
-        walked: &mut SreWalked,
-    ) -> Status {
-        match reading_text(Sought::All, walked.steps, request) {
-            Some(encoding) => write_told(alloc, request, encoding, width, rows, walked),
-            None => Machine.write(alloc, request, width, rows, walked),
-        }
-    }
-}
-
-/// How many steps the machine takes before DFAs are built, which costs about as much: some hundred thousand
-/// instructions, at about 190 a step, as was measured.
-pub const FIRST_STEPS: u64 = 1 << 11;
-
-// What is left of a budget of which so many steps are taken.
-fn less(steps: u64, taken: u64) -> u64
-    ensures fewer { result ≤ steps }
-    ensures spent { steps ≤ result + taken }
-    ensures unlimited { steps ≡ no_limit → result ≡ steps }
-{
-    if steps == NO_LIMIT {
-        return steps;
-    }
-    steps.saturating_sub(taken)
-}
-
-// Searches by the machine for its first steps, then by a finder. If the finder is asked, the first steps are not
-// charged.
-fn search_told<S: Haystack>(
-    alloc: Global,
-    state: &mut State<Global>,
-    request: &Request<'_, S>,
-    encoding: Encoding,
-    steps: &mut u64,
-) -> Result<Option<bool>, SreError>
-    ensures { Finds (words_of (code_of request.now)) (asked_of request.now) true result state.new steps.old steps.new }
-{
-    let mut left = FIRST_STEPS;
-    match Machine.search(alloc, state, request, &mut left) {
-        Ok(Some(found)) => {
-            *steps = less(*steps, FIRST_STEPS.saturating_sub(left));
-            Ok(Some(found))
-        }
-        Ok(None) => search_by_finder(alloc, state, request, encoding, steps),
-        Err(error) => Err(error),
-    }
-}
-
-// Searches by a finder, whose DFAs find where a match can begin. If they find nothing, or their allocation failed, the
-// machine tries all starts.
-fn search_by_finder<S: Haystack>(
-    alloc: Global,
-    state: &mut State<Global>,
-    request: &Request<'_, S>,
-    encoding: Encoding,
-    steps: &mut u64,
-) -> Result<Option<bool>, SreError>
-    ensures { Finds (words_of (code_of request.now)) (asked_of request.now) true result state.new steps.old steps.new }
-{
-    let mut finder = Finder::on_demand(alloc, request.pattern_codes(), encoding);
-    let Ok(request) = request.clone() else {
-        unreachable!(); // it takes no memory
-    };
-    if *steps == NO_LIMIT {
-        return answered(finder.search(request, state));
-    }
-    finder.search_within(request, state, steps)
-}
-
-// For how many rows DFAs are built at once: that costs as much as some hundreds of steps of the machine.
-const MANY_ROWS: usize = 1 << 8;
-
-// Writes the matches of a range. With room for many rows and a long range it builds DFAs at once. Otherwise the machine
-// takes its first steps before DFAs are built. If these are built, the first steps are not charged.
-fn write_told<S: Haystack>(
-    alloc: Global,
-    request: &Request<'_, S>,
-    encoding: Encoding,
-    width: usize,
-    rows: &mut [usize],
-    walked: &mut SreWalked,
-) -> Status
-    requires none { walked.old.count ≡ 0 }
-    ensures rows { Writes result request.now walked.old.steps width walked.new rows.new }
-    ensures steps { walked.new.steps ≤ walked.old.steps }
-    ensures unlimited { walked.old.steps ≡ no_limit → walked.new.steps ≡ walked.old.steps }
-{
-    if width > 0 && rows.len() / width >= MANY_ROWS && is_long(request) {
-        return write_by_automata(alloc, request, encoding, width, rows, walked);
-    }
-    let steps = walked.steps;
-    walked.steps = FIRST_STEPS.min(steps);
-    let more = steps - walked.steps;
-    let status = Machine.write(alloc, request, width, rows, walked);
-    if let Status::StepLimit = status {
-        walked.count = 0;
-        walked.steps = steps;
-        walked.steps_before = steps;
-        return write_by_automata(alloc, request, encoding, width, rows, walked);
-    }
-    if steps == NO_LIMIT {
-        walked.steps = steps;
-        walked.steps_before = steps;
-        return status;
-    }
-    walked.steps = walked.steps.saturating_add(more);
-    walked.steps_before = walked.steps_before.saturating_add(more);
-    status
-}
-
-// Writes the matches by DFAs that find spans, if there are any, else by the machine and a finder. Captures of a span,
-// and what the DFAs leave open, cost steps that nothing counts. So within a limit it is the machine and a finder.
-fn write_by_automata<S: Haystack>(
-    alloc: Global,
-    request: &Request<'_, S>,
-    encoding: Encoding,
-    width: usize,
-    rows: &mut [usize],
-    walked: &mut SreWalked,
-) -> Status
-    requires none { walked.old.count ≡ 0 }
-    ensures rows { Writes result request.now walked.old.steps width walked.new rows.new }
-    ensures steps { walked.new.steps ≤ walked.old.steps }
-    ensures unlimited { walked.old.steps ≡ no_limit → walked.new.steps ≡ walked.old.steps }
-{
-    if walked.steps == NO_LIMIT {
-        let finder = SpanFinder::new(alloc, request.pattern_codes(), encoding);
-        if finder.tells_spans() {
+        let (code, encoding) = (request.pattern_codes(), request.string().encoding(request.end()));
+        if walked.steps == NO_LIMIT {
+            let finder = SpanFinder::on_demand(alloc, code, encoding);
             return write_by_spans(alloc, request, finder, width, rows, walked);
         }
+        let mut finder = Finder::on_demand(alloc, code, encoding);
+        write_by(alloc, request, &mut finder, width, rows, walked)
     }
-    let mut finder = Finder::on_demand(alloc, request.pattern_codes(), encoding);
-    write_by(alloc, request, &mut finder, width, rows, walked)
 }
 
-// Writes the matches by DFAs that find spans.
+// Writes the matches by the machine, or by DFAs that find spans once they are built.
 fn write_by_spans<S: Haystack>(
     alloc: Global,
     request: &Request<'_, S>,

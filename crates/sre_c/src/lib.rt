@@ -23,7 +23,6 @@ mod beginnings;
 mod check;
 mod code;
 mod numbers;
-mod reading;
 mod spans;
 mod status;
 mod step_bound;
@@ -32,7 +31,7 @@ mod types;
 mod walk;
 
 use answer::answer;
-use asks::{InBytes, InText, Machine};
+use asks::{Machine, WithAutomata};
 use beginnings::begins;
 use check::check_code;
 use code::SreCode;
@@ -116,7 +115,7 @@ pub extern "C" fn sre_answer_bytes(
     ensures steps { found.new.steps ≤ asked.now.steps }
     ensures unlimited { asked.now.steps ≡ no_limit → found.new.steps ≡ asked.now.steps }
 {
-    answer(alloc, &InBytes, code, text, asked, found, marks).number()
+    answer(alloc, &WithAutomata, code, text, asked, found, marks).number()
 }
 
 /// The match in UTF-8, whose code points are the characters.
@@ -137,7 +136,7 @@ pub extern "C" fn sre_answer_utf8(
     ensures unlimited { asked.now.steps ≡ no_limit → found.new.steps ≡ asked.now.steps }
 {
     let status = match str::from_utf8(text) {
-        Ok(text) => answer(alloc, &InText, code, text, asked, found, marks),
+        Ok(text) => answer(alloc, &WithAutomata, code, text, asked, found, marks),
         Err(_) => {
             found.steps = asked.steps;
             Status::NotUtf8
@@ -216,7 +215,7 @@ pub extern "C" fn sre_walk_bytes(
     ensures steps { walked.new.steps ≤ asked.now.steps }
     ensures unlimited { asked.now.steps ≡ no_limit → walked.new.steps ≡ asked.now.steps }
 {
-    walk(alloc, &InBytes, code, text, asked, width, rows, walked).number()
+    walk(alloc, &WithAutomata, code, text, asked, width, rows, walked).number()
 }
 
 /// All matches in UTF-8, whose code points are the characters, in rows.
@@ -237,7 +236,7 @@ pub extern "C" fn sre_walk_utf8(
     ensures unlimited { asked.now.steps ≡ no_limit → walked.new.steps ≡ asked.now.steps }
 {
     let status = match str::from_utf8(text) {
-        Ok(text) => walk(alloc, &InText, code, text, asked, width, rows, walked),
+        Ok(text) => walk(alloc, &WithAutomata, code, text, asked, width, rows, walked),
         Err(_) => {
             *walked = begun(asked);
             Status::NotUtf8

@@ -6,19 +6,21 @@ use Rattle.regex_hir.specs.Meaning.{meaning}
 use Rattle.regex_hir.specs.declared.hir.Hir.{Hir}
 use Rattle.sre_chars.specs.declared.string.StringCursor.{StringCursor}
 use Rattle.sre_model.specs.Tree.{Tree}
-use Rattle.sre_model.specs.Grammar.{WholeItems}
+use Rattle.sre_model.specs.Grammar.{WholeItems, behind_block}
 use Rattle.sre_model.specs.Marks.{no_marks}
 use Rattle.sre_model.specs.Ways.{ways}
 use Rattle.sre_model.specs.Found.{Asked, subject_of, at_start, first_accepted}
-use Rattle.sre_code.specs.Codes.{items_of, uni_of}
+use Rattle.sre_code.specs.Codes.{words_of, items_of, uni_of}
 use Rattle.sre_code.specs.declared.code.Code.{Code}
 use Rattle.sre_shape.specs.Covers.{CoversStart}
+use Rattle.sre_shape.specs.Exact.{ExactTree}
 use Rattle.sre_patterns.specs.Patterns.{view_of}
 use Rattle.sre_patterns.specs.declared.encoding.Encoding.{Encoding}
 use Rattle.sre_automata.specs.Told.{NoneLeft, NoneUpTo}
 use Rattle.sre_engine.specs.Starts.{NoneBetween}
 use Rattle.sre_finder.specs.Views.{SeenAs}
 use Rattle.sre_finder.specs.Finders.{Covering, CoveringAny, EndStands, NoneLeftOfAny}
+use Rattle.sre_finder.specs.Spans.{Exactly, ExactlyAny}
 
 module _ (encoding : Encoding) (a : Asked) (t : Tree) (re : Re) (place : ℕ → ℕ) (hay : List ℕ)
     (covers : CoversStart (view_of encoding) a.table re t) (seen : SeenAs encoding a.text place a.end hay) where
@@ -51,6 +53,30 @@ pub covering : (encoding : Encoding) (code : Code) (hir pattern : Hir) → hir �
     → Covering encoding code (meaning hir)
 covering encoding code hir pattern same covers =
     subst (λ h. Covering encoding code (meaning h)) (sym same) (record { covers = covers })
+
+-- what covers a code covers each code of its words and its table
+same_items : (code other : Code) → words_of other ≡ words_of code → items_of other ≡ items_of code
+unfolding items_of
+same_items code other e = ap behind_block e
+
+pub covering_moved : (encoding : Encoding) (code other : Code) (o : Option Hir) → words_of other ≡ words_of code
+    → uni_of other ≡ uni_of code → CoveringAny encoding code o → CoveringAny encoding other o
+covering_moved encoding code other None e f c = tt
+covering_moved encoding code other (Some hir) e f c = record {
+  covers = λ t whole.
+      subst (λ u. CoversStart (view_of encoding) u (meaning hir) t) (sym f)
+      (c.covers t (subst (λ ws. WholeItems ws t) (same_items code other e) whole));
+}
+
+pub exactly_moved : (encoding : Encoding) (code other : Code) (o : Option Hir) → words_of other ≡ words_of code
+    → uni_of other ≡ uni_of code → ExactlyAny encoding code o → ExactlyAny encoding other o
+exactly_moved encoding code other None e f x = tt
+exactly_moved encoding code other (Some hir) e f x = record {
+  reads = x.reads;
+  exact = λ t whole.
+      subst (λ u. ExactTree (view_of encoding) u (meaning hir) t) (sym f)
+      (x.exact t (subst (λ ws. WholeItems ws t) (same_items code other e) whole));
+}
 
 -- what covers a code covers it under another name
 pub covers_same : (encoding other : Encoding) (code own : Code) (pattern : Re) → Covering encoding code pattern

@@ -284,6 +284,17 @@ gives_first r start end u advances goes finds is t whole =
           ∙ found_again (asked_of r) t (match_with start end some.0) some.1 advances is,
     )
 
+-- what is found from its start on is what was found
+pub found_behind : {S : Type 0} {text : Ghosts S} (r : Request S text) (start end : ℕ) (u : Request S text)
+    (advances : Bool) → GoesOnBehind r start end u → FindsSpan r start end
+    → advances ≡ (must_advance_of r && nat_eq start (start_of r)) → (t : Tree) → Whole (words_of (code_of r)) t
+    → found (record (asked_of u) { start = start; must_advance = advances }) t ≡ found (asked_of r) t
+found_behind r start end u advances goes finds is t whole =
+    let some = finds.some t whole in
+    ap (λ a. found a t) (last_same r start end u advances goes)
+    ∙ found_again (asked_of r) t (match_with start end some.0) some.1 advances is
+    ∙ sym some.1
+
 pub span_falls : {S : Type 0} {text : Ghosts S} (r : Request S text) (start end : ℕ) (u : Request S text)
     → GoesOnBehind r start end u → FindsSpan r start end → IsCode (words_of (code_of r))
     → most_matches (asked_of u) < most_matches (asked_of r)

@@ -15,6 +15,7 @@ use Rattle.sre_code.specs.Codes.{words_of, items_of, uni_of}
 use Rattle.sre_code.specs.declared.code.Code.{Code}
 use Rattle.sre_request.specs.declared.request.Request.{Request}
 use Rattle.sre_request.specs.Requests.{string_of, start_of, end_of, code_of, asked_of, stands_in}
+use Rattle.sre_engine.specs.Answers.{Shown, match_shown}
 use Rattle.sre_shape.specs.Exact.{ExactTree}
 use Rattle.sre_patterns.specs.Patterns.{view_of}
 use Rattle.sre_patterns.specs.declared.encoding.Encoding.{Encoding}
@@ -74,3 +75,10 @@ pub record StepsFrom {S : Type 0} {text : Ghosts S} (r : Request S text) (start 
   pub begins : stands_in r start start.position
   pub goes_on : GoesOnBehind r start.position (start_of u) u
   pub finds : FindsSpan r start.position (start_of u)
+
+-- a state shows the match of a step, which begins at a position
+pub record ShowsStep {S : Type 0} {text : Ghosts S} (r : Request S text) (start : StringCursor) (s : Shown)
+    (u : Request S text) : Type 0 where
+  pub begins : s.start ≡ start.position
+  pub is : (t : Tree) → Whole (words_of (code_of r)) t → found (asked_of r) t ≡ Some (match_shown s)
+  pub stands : stands_in u s.cursor s.cursor.position

@@ -53,7 +53,59 @@ pub struct Finder<'c> {
     pace: Pace,
 }
 
+// What a finder has built, without its code.
+pub(crate) struct Parts {
+    pub(crate) encoding: Encoding,
+    pub(crate) is_read: bool,
+    pub(crate) seeker: Option<Seeker>,
+    pub(crate) whole: Option<Seeker>,
+    pub(crate) pace: Pace,
+}
+
 // Custom `Drop`, so that callers contain one call instead of the drop of each field.
+impl Drop for Parts {
+    fn drop(self) {
+        let Parts {
+            encoding: _,
+            is_read: _,
+            seeker,
+            whole,
+            pace: _,
+        } = self;
+        drop((seeker, whole));
+    }
+}
+
+impl Parts {
+    // The finder of a code with these.
+    pub(crate) fn into_finder(self, alloc: Global, code: Code<'_>) -> Finder<'_>
+        requires starts { CoveringAny self.encoding code self.seeker }
+        requires whole { CoveringAny self.encoding code self.whole }
+        ensures code { result.code ≡ code.entry }
+        ensures end { result.end ≡ None }
+    {
+        let Parts {
+            encoding,
+            is_read,
+            seeker,
+            whole,
+            pace,
+        } = self;
+        Finder {
+            alloc,
+            code,
+            encoding,
+            is_read,
+            seeker,
+            whole,
+            is_silent: false,
+            end: None,
+            pace,
+        }
+    }
+}
+
+// As that of `Parts`.
 impl<'c> Drop for Finder<'c> {
     fn drop(self) {
         let Finder {
@@ -111,8 +163,8 @@ impl<'c> Finder<'c> {
         }
     }
 
-    /// As `new`, but builds the DFAs on first use, after 8 failed starts. A search that matches near the start of the
-    /// range builds nothing.
+    /// As `new`, but builds the DFAs only once the machine has spent about as much time as that takes. A search that
+    /// matches near the start of the range builds nothing.
     pub fn on_demand(alloc: Global, code: Code<'c>, encoding: Encoding) -> Finder<'c>
         ensures code { result.code ≡ code.entry }
         ensures encoding { result.encoding ≡ encoding }
@@ -133,23 +185,36 @@ impl<'c> Finder<'c> {
         }
     }
 
-    // A finder without DFAs, which excludes no start.
-    pub(crate) fn without_automata(alloc: Global, code: Code<'c>, encoding: Encoding) -> Finder<'c>
-        ensures code { result.code ≡ code.entry }
-        ensures encoding { result.encoding ≡ encoding }
-        ensures end { result.end ≡ None }
+    // Drops the finder, and returns what it has built.
+    pub(crate) fn into_parts(self) -> Parts
+        ensures starts { CoveringAny result.encoding self.entry.code result.seeker }
+        ensures whole { CoveringAny result.encoding self.entry.code result.whole }
     {
-        Finder {
-            alloc,
-            code,
+        let Finder {
+            alloc: _,
+            code: _,
             encoding,
-            is_read: true,
-            seeker: None,
-            whole: None,
-            is_silent: true,
-            end: None,
-            pace: Pace::new(),
+            is_read,
+            seeker,
+            whole,
+            is_silent: _,
+            end: _,
+            pace,
+        } = self;
+        Parts {
+            encoding,
+            is_read,
+            seeker,
+            whole,
+            pace,
         }
+    }
+
+    // Builds the DFAs on first use from now on.
+    pub(crate) fn hurry(&mut self)
+        ensures { self.new ≡ self.old }
+    {
+        self.pace.hurry();
     }
 
     /// Returns whether the DFAs exist. With `on_demand` that is whether they were built.
@@ -329,7 +394,7 @@ impl<'c, S: Haystack> Starts<S> for Finder<'c> {
 
     #[inline(always)]
     fn beyond(&mut self, req: &Request<'_, S>, from: StringCursor) -> Option<StringCursor> {
-        if self.is_silent || !self.pace.asks() {
+        if self.is_silent || !self.pace.asks(from.position()) {
             return Some(from);
         }
         self.ask(req, from)

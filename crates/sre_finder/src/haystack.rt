@@ -14,6 +14,10 @@ pub trait Haystack: StrDrive {
     // The byte offset of a position.
     ghost place: { Self → ℕ → ℕ };
 
+    /// Returns the encoding in which DFAs read the text up to a position. In another encoding they exclude no start.
+    /// A `str` with as many bytes as characters up to `end` is ASCII; otherwise its bytes are read once to tell.
+    fn encoding(&self, end: usize) -> Encoding;
+
     /// Returns the bytes up to a cursor if they have this encoding, else `None`. A text of bytes has `Encoding::Bytes`,
     /// and a `str` has `Encoding::Utf8`. A `str` also has `Encoding::Ascii` if all characters up to the cursor are
     /// ASCII.
@@ -103,6 +107,11 @@ impl<'a> Haystack for &'a [u8] {
     ghost place = { λ _ p. p };
 
     #[inline(always)]
+    fn encoding(&self, _end: usize) -> Encoding {
+        Encoding::Bytes
+    }
+
+    #[inline(always)]
     fn hay(&self, encoding: Encoding, end: StringCursor) -> Option<&[u8]> {
         match encoding {
             Encoding::Bytes => Some(bytes_up_to(self, end.offset())),
@@ -124,6 +133,14 @@ impl<'a> Haystack for &'a [u8] {
 
 impl<'a> Haystack for &'a str {
     ghost place = { λ s p. offset_of s.now p };
+
+    fn encoding(&self, end: usize) -> Encoding {
+        if end == self.len() || self.is_ascii() {
+            Encoding::Ascii
+        } else {
+            Encoding::Utf8
+        }
+    }
 
     #[inline(always)]
     fn hay(&self, encoding: Encoding, end: StringCursor) -> Option<&[u8]> {

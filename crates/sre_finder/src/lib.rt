@@ -4,13 +4,16 @@
 mod finder;
 mod finder_iter;
 mod haystack;
+mod kept;
 mod pace;
+mod searched;
 mod span_finder;
 mod span_iter;
 
 pub use finder::Finder;
 pub use finder_iter::FinderIter;
 pub use haystack::Haystack;
+pub use kept::Kept;
 pub use span_finder::SpanFinder;
 pub use span_iter::{Span, SpanIter};
 pub use sre_patterns::Encoding;

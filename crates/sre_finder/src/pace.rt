@@ -6,8 +6,9 @@
 //! each text the DFAs also pause while they have read much more than the search has passed. The time of a search then
 //! stays linear in the text's length if the machine's is.
 //!
-//! A finder on demand builds its DFAs only after some failed runs. Before that, after fewer failed runs, it checks once
-//! whether a required literal still occurs.
+//! On demand, DFAs are built once the machine has spent as much as building them costs. So a search takes at most about
+//! twice the time of the better choice, whatever the text. Before that, a finder checks once whether a required literal
+//! still occurs.
 
 ghost use Rattle.std.specs.Prelude.{◌<◌};
 
@@ -29,13 +30,46 @@ const READ_OF_MATCHES: usize = 8;
 /// Number of questions that the first pause skips, and a pause after too many bytes read.
 const PAUSE: u32 = 64;
 
-/// Number of failed runs before DFAs are built on demand, and (`LOOKS`) before the check for a required literal.
-const WAITS: u32 = 8;
+/// What building DFAs costs, counted in characters that a search passes: some hundred thousand instructions, at about
+/// 12 a character (both measured). `RUN` is the cost of a run of the machine, beside the characters that it passes.
+const BUILDING: usize = 1 << 15;
 
-const LOOKS: u32 = 2;
+const RUN: usize = 16;
+
+/// What is left of `BUILDING` when a finder checks for a required literal. To read the literal costs less than DFAs.
+const LOOKING: usize = 7 << 12;
 
 /// Limit on a balance of steps: a step whose first start failed adds 2, any other step subtracts 1.
 const FAILING: u32 = 4;
+
+/// What the machine has still to spend before DFAs are built.
+#[derive(Clone, Copy, Debug)]
+pub(crate) struct Debt(usize);
+
+impl Debt {
+    /// The cost of building DFAs.
+    pub(crate) fn of_building() -> Debt {
+        Debt(BUILDING)
+    }
+
+    /// Nothing is left.
+    pub(crate) fn none() -> Debt {
+        Debt(0)
+    }
+
+    /// Returns whether something is left.
+    #[inline(always)]
+    pub(crate) fn is_due(&self) -> bool {
+        self.0 > 0
+    }
+
+    /// Pays for so many runs of the machine, and for the characters that the search has passed.
+    #[inline(always)]
+    pub(crate) fn pay(&mut self, runs: u64, characters: usize) {
+        let runs = runs.min(BUILDING as u64) as usize;
+        self.0 = self.0.saturating_sub(runs * RUN).saturating_sub(characters);
+    }
+}
 
 /// When a prefilter runs its DFAs.
 #[derive(Clone, Copy, Debug)]
@@ -47,8 +81,9 @@ pub(crate) struct Pace {
     // number of questions to skip now, and in the next pause
     rest: u32,
     pause: u32,
-    // number of failed runs still required before the DFAs are built
-    waits: u32,
+    // what is still to be spent before the DFAs are built, and up to which position this text's characters are counted
+    debt: Debt,
+    at: usize,
     // the last question: whether it was a step's first, whether the DFAs were run, and whether the start then failed
     is_first: bool,
     is_told: bool,
@@ -65,7 +100,8 @@ impl Pace {
             vain: 0,
             rest: 0,
             pause: PAUSE,
-            waits: 0,
+            debt: Debt::none(),
+            at: usize::MAX,
             is_first: false,
             is_told: false,
             has_failed: false,
@@ -73,14 +109,20 @@ impl Pace {
         }
     }
 
-    /// The DFAs are built only after `WAITS` failed runs.
+    /// The DFAs are built only once the machine has spent as much as that costs.
     pub(crate) fn wait(&mut self) {
-        self.waits = WAITS;
+        self.debt = Debt::of_building();
     }
 
-    /// Restarts the count of bytes for another text.
+    /// The DFAs are built when they are first run.
+    pub(crate) fn hurry(&mut self) {
+        self.debt = Debt::none();
+    }
+
+    /// Restarts the counts of bytes and characters for another text.
     pub(crate) fn begin_text(&mut self) {
         self.begun = None;
+        self.at = usize::MAX;
     }
 
     /// The DFAs run before the first start in the next `STEPS` steps.
@@ -102,15 +144,26 @@ impl Pace {
         }
     }
 
-    /// Returns whether to run the DFAs for the next start.
+    // Counts what was spent up to a start, before the DFAs are built. Returns whether to check for a required literal.
     #[inline(always)]
-    pub(crate) fn asks(&mut self) -> bool {
+    fn looks(&mut self, position: usize) -> bool {
+        let before = self.debt.0;
+        let runs = if self.has_failed { 1 } else { 0 };
+        self.has_failed = false;
+        self.debt.pay(runs, position.saturating_sub(self.at));
+        self.at = position;
+        before > LOOKING && self.debt.0 <= LOOKING
+    }
+
+    /// Returns whether to run the DFAs for the next start, at a position or after it.
+    #[inline(always)]
+    pub(crate) fn asks(&mut self, position: usize) -> bool {
         if self.rest > 0 {
             self.rest -= 1;
             return false;
         }
-        if self.waits > 0 {
-            return self.waits == WAITS - LOOKS;
+        if self.debt.is_due() {
+            return self.looks(position);
         }
         self.note_last();
         let is_first = !self.has_failed;
@@ -130,7 +183,7 @@ impl Pace {
     /// Returns whether the DFAs may search for a start from the offset `place` on, if they have read `read` bytes in
     /// all. If not, they pause.
     pub(crate) fn may_read(&mut self, place: usize, read: usize) -> bool {
-        if self.waits > 0 {
+        if self.debt.is_due() {
             return false;
         }
         let is_worth = self.is_worth(place, read, READ);
@@ -165,10 +218,6 @@ impl Pace {
     #[inline(always)]
     pub(crate) fn note_failed(&mut self) {
         if self.rest > 0 {
-            return;
-        }
-        if self.waits > 0 {
-            self.waits -= 1;
             return;
         }
         self.has_failed = true;

@@ -1,18 +1,20 @@
 //! The finder of spans: its DFAs find where the next match begins and ends, if they try match paths in the code's
 //! order.
 
-ghost use Rattle.std.specs.Prelude.{◌≡◌, IfOk, IfSome, OnErr, None};
+ghost use Rattle.std.specs.Prelude.{◌≡◌, true, IfOk, IfSome, OnErr, None};
 ghost use Rattle.sre_growth.specs.Refusal.{Refused};
-ghost use Rattle.sre_code.specs.Codes.{items_of};
+ghost use Rattle.sre_code.specs.Codes.{items_of, words_of, uni_of};
 ghost use Rattle.sre_request.specs.Admitting.{AllAdmitted};
 ghost use Rattle.sre_request.specs.Requests.{string_of, start_of, code_of, stands_in};
 ghost use Rattle.sre_engine.specs.Answers.{MayTakeMemory};
 ghost use Rattle.sre_finder.specs.Finders.{EndStands};
-ghost use Rattle.sre_finder.specs.Spans.{ExactlyAny, Knows, Between, StepsFrom, FindsNone};
+ghost use Rattle.sre_finder.specs.Kepts.{Suits};
+ghost use Rattle.sre_finder.specs.Spans.{ExactlyAny, Knows, Between, StepsFrom, ShowsStep, FindsNone};
 
 use crate::finder::{Finder, SIZE_LIMIT};
 use crate::haystack::Haystack;
-use crate::pace::Pace;
+use crate::kept::Kept;
+use crate::pace::{Debt, Pace};
 use sre_automata::{FirstMatch, Seeker};
 use sre_chars::string::{StrDrive, StringCursor};
 use sre_code::Code;
@@ -21,6 +23,13 @@ use sre_patterns::{Encoding, ways_of};
 use sre_request::Request;
 use std::alloc::{Allocator, Global};
 use std::marker::Model;
+
+// The match of a step: its start, and whether the state shows it.
+#[derive(Clone, Copy)]
+pub(crate) struct Step {
+    pub(crate) start: StringCursor,
+    pub(crate) is_shown: bool,
+}
 
 // What the DFAs know of the next match.
 enum Known {
@@ -33,22 +42,30 @@ enum Known {
 
 /// DFAs that find the spans of a code's matches. If the code has no such DFAs, a [`Finder`], which only skips starts.
 pub struct SpanFinder<'c> {
-    code: Code<'c>,
-    encoding: Encoding,
-    finder: Finder<'c>,
-    exact: Option<Seeker>,
-    pace: Pace,
+    pub(crate) alloc: Global,
+    pub(crate) code: Code<'c>,
+    pub(crate) encoding: Encoding,
+    pub(crate) finder: Finder<'c>,
+    pub(crate) exact: Option<Seeker>,
+    pub(crate) pace: Pace,
+    // what the machine has still to spend before the DFAs are built
+    pub(crate) debt: Debt,
+    // whether it was tried to build them
+    pub(crate) is_made: bool,
 }
 
 // Custom `Drop`, as that of `Finder`.
 impl<'c> Drop for SpanFinder<'c> {
     fn drop(self) {
         let SpanFinder {
+            alloc: _,
             code: _,
             encoding: _,
             finder,
             exact,
             pace: _,
+            debt: _,
+            is_made: _,
         } = self;
         drop((finder, exact));
     }
@@ -77,25 +94,63 @@ impl<'c> SpanFinder<'c> {
         ensures encoding { result.encoding ≡ encoding }
         ensures end { result.end ≡ None }
     {
-        match exact_of(alloc, code, encoding) {
-            Some(exact) => SpanFinder {
-                code,
-                encoding,
-                finder: Finder::without_automata(alloc, code, encoding),
-                exact: Some(exact),
-                pace: Pace::new(),
-            },
-            None => SpanFinder {
-                code,
-                encoding,
-                finder: Finder::on_demand(alloc, code, encoding),
-                exact: None,
-                pace: Pace::new(),
-            },
+        let mut finder = SpanFinder::on_demand(alloc, code, encoding);
+        finder.debt = Debt::none();
+        finder.make();
+        finder
+    }
+
+    /// As `new`, but builds the DFAs only once the machine has spent about as much time as that takes. Until then the
+    /// machine finds each span. So the iteration over a short text builds nothing.
+    pub fn on_demand(alloc: Global, code: Code<'c>, encoding: Encoding) -> SpanFinder<'c>
+        ensures code { result.code ≡ code.entry }
+        ensures encoding { result.encoding ≡ encoding }
+        ensures end { result.end ≡ None }
+    {
+        Kept::new(encoding).into_finder(alloc, code)
+    }
+
+    // Builds the DFAs that find spans, if there are any. Without them, the prefilter builds its own.
+    #[inline(never)]
+    fn make(&mut self)
+        ensures code { self.new.code ≡ self.old.code }
+        ensures encoding { self.new.encoding ≡ self.old.encoding }
+        ensures end { self.new.end ≡ self.old.end }
+    {
+        self.is_made = true;
+        self.exact = exact_of(self.alloc, self.code, self.encoding);
+        if self.exact.is_none() {
+            self.finder.hurry();
         }
     }
 
-    /// Returns whether it has DFAs that find spans.
+    /// Drops the finder, and returns what it has built for its code.
+    pub fn into_kept(self) -> Kept
+        ensures encoding { result.encoding ≡ self.entry.encoding }
+        ensures suits { Suits (words_of self.entry.code) (uni_of self.entry.code) result }
+    {
+        let SpanFinder {
+            alloc: _,
+            code: _,
+            encoding,
+            finder,
+            exact,
+            pace,
+            debt,
+            is_made,
+        } = self;
+        let starts = finder.into_parts();
+        Kept {
+            encoding,
+            starts,
+            exact,
+            pace,
+            debt,
+            is_made,
+        }
+    }
+
+    /// Returns whether it has DFAs that find spans. With `on_demand` that is whether they were built.
     pub fn tells_spans(&self) -> bool {
         self.exact.is_some()
     }
@@ -173,14 +228,14 @@ impl<'c> SpanFinder<'c> {
         }
     }
 
-    // `step` by the machine, with the prefilter.
+    // `step` by the machine, with the prefilter. After a match the state shows it.
     fn run<S: Haystack, A: Allocator + Copy>(
         &mut self,
         req: &mut Request<'_, S>,
         state: &mut State<A>,
         cursor: &mut StringCursor,
         places: &mut AdmittedPlaces<A>,
-    ) -> Result<Option<StringCursor>, SreError>
+    ) -> Result<Option<Step>, SreError>
         requires own { self.old.code ≡ code_of req.old }
         requires admitted { AllAdmitted (items_of (code_of req.old)) places.old }
         requires known { EndStands (S.stands (string_of req.old)) self.old.end }
@@ -189,7 +244,9 @@ impl<'c> SpanFinder<'c> {
         ensures encoding { self.new.encoding ≡ self.old.encoding }
         ensures admitted { AllAdmitted (items_of (code_of req.new)) places.new }
         ensures known { EndStands (S.stands (string_of req.new)) self.new.end }
-        ensures some { IfOk result (λ o. IfSome o (λ start. StepsFrom req.old start req.new)) }
+        ensures some { IfOk result (λ o. IfSome o (λ step. StepsFrom req.old step.start req.new)) }
+        ensures shows { IfOk result (λ o. IfSome o (λ step.
+            step.is_shown ≡ true → ShowsStep req.old step.start state.new req.new)) }
         ensures none { IfOk result (λ o. o ≡ None → (req.new ≡ req.old) × FindsNone req.old) }
         ensures here { stands_in req.new cursor.new (start_of req.new) }
         ensures err { OnErr result (req.new ≡ req.old) }
@@ -198,24 +255,34 @@ impl<'c> SpanFinder<'c> {
     {
         let from = *cursor;
         places.note_step(req);
-        if !step_admitted(req, state, cursor, &mut self.finder, places.list())? {
+        let is_found = step_admitted(req, state, cursor, &mut self.finder, places.list())?;
+        let reached = if is_found {
+            cursor.position()
+        } else {
+            req.end()
+        };
+        self.debt
+            .pay(state.started(), reached.saturating_sub(from.position()));
+        if !is_found {
             return Ok(None);
         }
         let mut start = from;
         req.string()
             .skip(&mut start, state.start() - from.position());
-        Ok(Some(start))
+        Ok(Some(Step {
+            start,
+            is_shown: true,
+        }))
     }
 
-    // Returns the cursor at the start of the next match, or `None` if there is none. Moves `cursor` and the request's
-    // start to the match's end.
+    // Returns the next match, or `None` if there is none. Moves `cursor` and the request's start to the match's end.
     pub(crate) fn step<S: Haystack, A: Allocator + Copy>(
         &mut self,
         req: &mut Request<'_, S>,
         state: &mut State<A>,
         cursor: &mut StringCursor,
         places: &mut AdmittedPlaces<A>,
-    ) -> Result<Option<StringCursor>, SreError>
+    ) -> Result<Option<Step>, SreError>
         requires own { self.old.code ≡ code_of req.old }
         requires admitted { AllAdmitted (items_of (code_of req.old)) places.old }
         requires known { EndStands (S.stands (string_of req.old)) self.old.end }
@@ -224,13 +291,21 @@ impl<'c> SpanFinder<'c> {
         ensures encoding { self.new.encoding ≡ self.old.encoding }
         ensures admitted { AllAdmitted (items_of (code_of req.new)) places.new }
         ensures known { EndStands (S.stands (string_of req.new)) self.new.end }
-        ensures some { IfOk result (λ o. IfSome o (λ start. StepsFrom req.old start req.new)) }
+        ensures some { IfOk result (λ o. IfSome o (λ step. StepsFrom req.old step.start req.new)) }
+        ensures shows { IfOk result (λ o. IfSome o (λ step.
+            step.is_shown ≡ true → ShowsStep req.old step.start state.new req.new)) }
         ensures none { IfOk result (λ o. o ≡ None → (req.new ≡ req.old) × FindsNone req.old) }
         ensures here { stands_in req.new cursor.new (start_of req.new) }
         ensures err { OnErr result (req.new ≡ req.old) }
         ensures refused { OnErr result (Refused A) }
         ensures literal { OnErr result (MayTakeMemory (code_of req.old)) }
     {
+        if self.debt.is_due() {
+            return self.run(req, state, cursor, places);
+        }
+        if !self.is_made {
+            self.make();
+        }
         if self.exact.is_none() {
             return self.run(req, state, cursor, places);
         }
@@ -240,7 +315,10 @@ impl<'c> SpanFinder<'c> {
                 *cursor = end;
                 req.set_must_advance(end.position() == start.position());
                 req.set_start(end.position());
-                Ok(Some(start))
+                Ok(Some(Step {
+                    start,
+                    is_shown: false,
+                }))
             }
             Known::Unknown => self.run(req, state, cursor, places),
         }

@@ -1,6 +1,6 @@
 //! The iterator over the spans of all matches.
 
-ghost use Rattle.std.specs.Prelude.{◌≡◌, ◌≤◌, ◌<◌, ◌&&◌, nat_eq, true, false, IfOk, IfSome, OnErr};
+ghost use Rattle.std.specs.Prelude.{◌≡◌, ◌≤◌, ◌<◌, ◌&&◌, nat_eq, true, false, Some, IfOk, IfSome, OnErr};
 ghost use Rattle.sre_growth.specs.Refusal.{Refused};
 ghost use Rattle.sre_model.specs.Tree.{Tree};
 ghost use Rattle.sre_model.specs.Grammar.{Whole};
@@ -8,14 +8,15 @@ ghost use Rattle.sre_model.specs.Marks.{no_marks};
 ghost use Rattle.sre_model.specs.Found.{found};
 ghost use Rattle.sre_code.specs.Codes.{items_of, words_of};
 ghost use Rattle.sre_request.specs.Admitting.{AllAdmitted, one_all_admitted};
-ghost use Rattle.sre_request.specs.Requests.{string_of, start_of, end_of, code_of, stands_in};
-ghost use Rattle.sre_engine.specs.Answers.{answer_of};
+ghost use Rattle.sre_request.specs.Requests.{string_of, start_of, end_of, code_of, asked_of, stands_in};
+ghost use Rattle.sre_engine.specs.Answers.{answer_of, match_shown};
 ghost use Rattle.sre_finder.specs.Finders.{EndStands};
 
 use crate::haystack::Haystack;
+use crate::searched::show_at;
 use crate::span_finder::SpanFinder;
 use sre_chars::string::{StrDrive, StringCursor};
-use sre_engine::engine::{AdmittedPlaces, Nobody, SreError, State, step_admitted};
+use sre_engine::engine::{AdmittedPlaces, SreError, State};
 use sre_request::Request;
 use std::alloc::Allocator;
 
@@ -41,6 +42,8 @@ pub struct SpanIter<'c, 'a, S: StrDrive, A: Allocator + Copy> {
     // the last match: its start, and whether an empty match was excluded there
     at: StringCursor,
     advances: bool,
+    // whether the state shows it
+    is_shown: bool,
     ended: bool,
     places: AdmittedPlaces<A>,
     ghost own: { finder.code ≡ code_of req },
@@ -48,6 +51,10 @@ pub struct SpanIter<'c, 'a, S: StrDrive, A: Allocator + Copy> {
     ghost here: { ∥ (stands_in req cursor (start_of req)) ∥₁ },
     ghost last: { ∥ (stands_in req at at.position) ∥₁ },
     ghost inside: { at.position ≤ end_of req },
+    ghost shown: { is_shown ≡ true → (t : Tree) → Whole (words_of (code_of req)) t
+        → found (record (asked_of req) { start = at.position; must_advance = advances }) t
+        ≡ Some (match_shown state) },
+    ghost ends: { is_shown ≡ true → ∥ (stands_in req state.cursor state.cursor.position) ∥₁ },
     ghost admitted: { AllAdmitted (items_of (code_of req)) places } by { one_all_admitted },
 }
 
@@ -61,6 +68,7 @@ impl<'c, 'a, S: StrDrive, A: Allocator + Copy> Drop for SpanIter<'c, 'a, S, A> {
             cursor: _,
             at: _,
             advances: _,
+            is_shown: _,
             ended: _,
             places,
         } = self;
@@ -99,6 +107,7 @@ impl<'c> SpanFinder<'c> {
             cursor,
             at: cursor,
             advances,
+            is_shown: false,
             ended: false,
             places,
         }
@@ -122,8 +131,8 @@ impl<'c, 'a, S: StrDrive, A: Allocator + Copy> SpanIter<'c, 'a, S, A> {
         &self.state
     }
 
-    /// Makes the state show the last item's match with its captures, by a run of the machine from its start. Returns
-    /// whether there is such a match: always `true` after an item, and after the end of an iteration that had one.
+    /// Makes the state show the last item's match with its captures. If DFAs found the match, the machine runs from its
+    /// start. Returns whether there is such a match: always `true` after an item, and after the end of an iteration that had one.
     /// Before the first item, it searches for the first match instead.
     ///
     /// # Errors
@@ -142,16 +151,12 @@ impl<'c, 'a, S: StrDrive, A: Allocator + Copy> SpanIter<'c, 'a, S, A> {
         ensures ended { has_ended self.new ≡ has_ended self.old }
         ensures encoding { encoding_of self.new ≡ encoding_of self.old }
     {
-        let Ok(mut req) = self.req.clone() else {
-            unreachable!(); // it does not allocate
-        };
-        req.set_must_advance(self.advances);
-        req.set_start(self.at.position());
-        let mut cursor = self.at;
+        if self.is_shown {
+            return Ok(true);
+        }
         self.places.note_step(&self.req);
         let (state, admitted) = (&mut self.state, self.places.list());
-        let shown = step_admitted(&mut req, state, &mut cursor, &mut Nobody, admitted)?;
-        Ok(shown)
+        show_at(&self.req, state, self.at, self.advances, admitted)
     }
 
     /// Drops the iteration and returns the finder, for use with another text.
@@ -166,6 +171,7 @@ impl<'c, 'a, S: StrDrive, A: Allocator + Copy> SpanIter<'c, 'a, S, A> {
             cursor: _,
             at: _,
             advances: _,
+            is_shown: _,
             ended: _,
             places,
         } = self;
@@ -175,7 +181,8 @@ impl<'c, 'a, S: StrDrive, A: Allocator + Copy> SpanIter<'c, 'a, S, A> {
 }
 
 // Whether an empty match is excluded at `start`: only at the range's start `from`, if the request must advance.
-fn bars(must_advance: bool, start: usize, from: usize) -> bool
+#[inline(always)]
+pub(crate) fn bars(must_advance: bool, start: usize, from: usize) -> bool
     ensures { result ≡ (must_advance && nat_eq start from) }
 {
     must_advance && start == from
@@ -200,19 +207,20 @@ impl<'c, 'a, S: Haystack, A: Allocator + Copy> SpanIter<'c, 'a, S, A> {
             &mut self.cursor,
             &mut self.places,
         ) {
-            Ok(Some(at)) => {
-                self.at = at;
-                let start = at.position();
+            Ok(Some(step)) => {
+                self.at = step.start;
+                self.is_shown = step.is_shown;
+                let start = step.start.position();
                 self.advances = bars(must_advance, start, from);
                 let end = self.req.start();
                 Some(Ok(Span { start, end }))
             }
             Ok(None) => {
-                self.ended = true;
+                (self.is_shown, self.ended) = (false, true);
                 None
             }
             Err(error) => {
-                self.ended = true;
+                (self.is_shown, self.ended) = (false, true);
                 Some(Err(error))
             }
         }

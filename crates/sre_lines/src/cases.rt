@@ -30,7 +30,7 @@ use itoa::Buffer;
 use sre_engine::code::CodeError;
 use sre_engine::engine::{SreError, State};
 use sre_engine::{Code, Request, StrDrive, UniTable};
-use sre_finder::{Encoding, Haystack};
+use sre_finder::Haystack;
 use std::alloc::{AllocError, Allocator, Global};
 use std::io::{self, Write};
 
@@ -312,56 +312,16 @@ fn push_code_answer<A: Allocator + Copy>(
         Case::Find(finding, subject) => match subject.text {
             TextForm::Bytes => {
                 let request = request(text, subject, code);
-                let reading = reading_bytes(finding, &request);
-                push_found(alloc, heap, finding, request, reading, state, answer)
+                push_found(alloc, heap, finding, request, state, answer)
             }
             TextForm::Utf8 => {
                 let Ok(text) = str::from_utf8(text) else {
                     unreachable!()
                 };
                 let request = request(text, subject, code);
-                let reading = reading_text(finding, &request, text);
-                push_found(alloc, heap, finding, request, reading, state, answer)
+                push_found(alloc, heap, finding, request, state, answer)
             }
         },
-    }
-}
-
-// Least length in characters of a range that is long enough for DFAs. Building them takes some hundred thousand
-// instructions (measured), and more over UTF-8.
-const LONG: usize = 1 << 15;
-
-// Whether DFAs may save time: for all matches, or the first one, in a long range without a confirmed prefix. The search
-// by a prefix is as fast, except the search for a single match by a prefix of one character.
-fn may_gain<S: StrDrive>(finding: Finding, request: &Request<'_, S>) -> bool {
-    let hints = request.pattern_codes().hints();
-    let is_sought = match (finding, hints.prefix) {
-        (Finding::Match, _) => false,
-        (_, None) => true,
-        (Finding::Search, Some((length, _))) => length == 1 && !hints.literal,
-        (Finding::Walk, Some(_)) => false,
-    };
-    is_sought && request.end() - request.start() >= LONG
-}
-
-// The encoding for DFAs of a text of bytes, if they may save time.
-fn reading_bytes(finding: Finding, request: &Request<'_, &[u8]>) -> Option<Encoding> {
-    if may_gain(finding, request) {
-        Some(Encoding::Bytes)
-    } else {
-        None
-    }
-}
-
-// The encoding for DFAs of a `str`, if they may save time. A range that ends at the number of bytes covers a text that
-// has as many characters as bytes, so it is ASCII.
-fn reading_text(finding: Finding, request: &Request<'_, &str>, text: &str) -> Option<Encoding> {
-    if !may_gain(finding, request) {
-        None
-    } else if request.end() == text.len() || text.is_ascii() {
-        Some(Encoding::Ascii)
-    } else {
-        Some(Encoding::Utf8)
     }
 }
 
@@ -380,14 +340,12 @@ fn request<'a, S: StrDrive>(text: S, subject: Subject, code: Code<'a>) -> Reques
     request
 }
 
-// Appends the match or `no`; for `walk`, all matches, with a state of their own on `heap`. If `reading` is an encoding,
-// DFAs on `alloc` read the text.
+// Appends the match or `no`; for `walk`, all matches, with a state of their own on `heap`. DFAs use `alloc`.
 fn push_found<S: Haystack, A: Allocator + Copy>(
     alloc: Global,
     heap: A,
     finding: Finding,
     request: Request<'_, S>,
-    reading: Option<Encoding>,
     state: &mut State<A>,
     answer: &mut String<A>,
 ) -> Result<(), AllocError>
@@ -397,8 +355,8 @@ fn push_found<S: Haystack, A: Allocator + Copy>(
 {
     let found = match finding {
         Finding::Match => state.pymatch(&request),
-        Finding::Search => search(alloc, request, reading, state),
-        Finding::Walk => return push_matches(alloc, heap, request, reading, answer),
+        Finding::Search => search(alloc, request, state),
+        Finding::Walk => return push_matches(alloc, heap, request, answer),
     };
     match found {
         Ok(true) => {

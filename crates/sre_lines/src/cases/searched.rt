@@ -1,4 +1,4 @@
-//! The search of a case, in a long range with a prefilter.
+//! The search of a case, with a prefilter.
 
 ghost use Rattle.std.specs.Prelude.{◌≡◌, true, IfOk};
 ghost use Rattle.sre_engine.specs.Tree.{Tree};
@@ -10,14 +10,14 @@ ghost use Rattle.sre_engine.specs.Requests.{asked_of, code_of, stands_in};
 
 use sre_engine::engine::SreError;
 use sre_engine::{Request, State};
-use sre_finder::{Encoding, Finder, Haystack};
+use sre_finder::{Finder, Haystack};
 use std::alloc::{Allocator, Global};
 
-/// Searches the range, with the result of `State::search`. If `reading` is an encoding, DFAs on `alloc` read the text.
+/// Searches the range, with the result of `State::search`. DFAs use `alloc`. If they have no memory, the machine tries
+/// all starts.
 pub fn search<S: Haystack, A: Allocator + Copy>(
     alloc: Global,
     request: Request<'_, S>,
-    reading: Option<Encoding>,
     state: &mut State<A>,
 ) -> Result<bool, SreError>
     ensures answer { (t : Tree) → Whole (words_of (code_of request.entry)) t
@@ -25,24 +25,7 @@ pub fn search<S: Haystack, A: Allocator + Copy>(
     ensures cursor { IfOk result
         (λ b. b ≡ true → stands_in request.entry state.new.cursor state.new.cursor.position) }
 {
-    match reading {
-        None => state.search(request),
-        Some(encoding) => search_told(alloc, request, encoding, state),
-    }
-}
-
-// Searches with a prefilter. If it has no DFAs, because an allocation failed for example, the machine tries all starts.
-fn search_told<S: Haystack, A: Allocator + Copy>(
-    alloc: Global,
-    request: Request<'_, S>,
-    encoding: Encoding,
-    state: &mut State<A>,
-) -> Result<bool, SreError>
-    ensures answer { (t : Tree) → Whole (words_of (code_of request.entry)) t
-        → IfOk result (λ b. answer_of b state.new ≡ found (asked_of request.entry) t) }
-    ensures cursor { IfOk result
-        (λ b. b ≡ true → stands_in request.entry state.new.cursor state.new.cursor.position) }
-{
+    let encoding = request.string().encoding(request.end());
     let mut finder = Finder::on_demand(alloc, request.pattern_codes(), encoding);
     finder.search(request, state)
 }

@@ -17,6 +17,8 @@ invariant_of-result g c =
       last = ∣ subst (stands cursor) (sym at) here ∣₁;
       admitted = c.new-places.ensures.admitted _;
       inside = omega (arith, at, c.start.ensures.value, c.start.ensures.in_window);
+      shown = λ yes. absurd (cc);
+      ends = λ yes. absurd (cc);
     }
 
 -- the first match is asked for from the range's start on

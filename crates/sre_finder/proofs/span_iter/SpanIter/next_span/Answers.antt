@@ -1,12 +1,13 @@
-use Rattle.std.proofs.Common.{◌≡◌, ◌&&◌, nat_eq, Some, ap₂, subst, ◌∙◌, arith}
+use Rattle.std.proofs.Common.{◌≡◌, ◌&&◌, nat_eq, Some, ap₂, sym, subst, ◌∙◌, arith}
 use Rattle.std.proofs.Math.Logic.{∥∥₁_elim}
+use Rattle.sre_model.specs.Grammar.{Whole}
 use Rattle.sre_model.specs.Found.{found}
 use Rattle.sre_code.specs.Codes.{words_of, hints_of}
 use Rattle.sre_code.proofs.Checked.{code_tree}
 use Rattle.sre_request.specs.Requests.{string_of, start_of, code_of, must_advance_of, asked_of}
 use Rattle.sre_finder.specs.Spans.{match_with, StepsFrom, GoesOnBehind, FindsSpan}
 use Rattle.sre_finder.proofs.Covered.{end_once}
-use Rattle.sre_finder.proofs.Spans.{gives_first, span_falls}
+use Rattle.sre_finder.proofs.Spans.{gives_first, found_behind, span_falls}
 use Rattle.sre_finder.proofs.span_iter.SpanIter.next_span.Goals as goal
 
 pub step-requires-clause-known : goal.step-requires-clause-known
@@ -21,12 +22,38 @@ step-requires-clause-stands g c =
     let it = c.args.self.now in
     ∥∥₁_elim it.here (g.met.S.StrDrive.stands_once (string_of it.req) it.cursor (start_of it.req)) (λ here. here)
 
+-- the state shows the match that comes, if the machine found it
+pub invariant_of-self : goal.invariant_of-self
+invariant_of-self g c =
+    let r = c.args.self.now.req in
+    let u = c.step.new.req in
+    let from = c.in-Ok-Some.step.start in
+    let steps : StepsFrom {S = g.row.S.Denot} {text = g.S.StrDrive} r from u =
+    rw c.in-Ok-Some.field-0-is at c.in-Ok-Some.ensures.some in
+    let bars : c.bars-self.result ≡ (must_advance_of r && nat_eq from.position (start_of r)) =
+    rw (c.must_advance-must_advance.ensures, c.position-start.ensures, c.start-from.ensures.value)
+    at c.bars-self.ensures in
+    let shows = rw c.in-Ok-Some.field-0-is at c.in-Ok-Some.ensures.shows in
+    record {
+      own = c.in-Ok-Some.ensures.own;
+      known = ∣ c.in-Ok-Some.ensures.known ∣₁;
+      here = ∣ c.in-Ok-Some.ensures.here ∣₁;
+      last = ∣ subst (λ x. g.S.StrDrive.stands x from from.position) (sym steps.goes_on.string) steps.begins ∣₁;
+      inside = omega (arith, steps.goes_on.forward, u.in_window.0.0);
+      admitted = c.in-Ok-Some.ensures.admitted;
+      shown = λ yes t whole.
+          let own = subst (λ d. Whole (words_of d) t) steps.goes_on.pattern_codes whole in
+          found_behind r from.position (start_of u) u c.bars-self.result steps.goes_on steps.finds bars t own
+          ∙ (shows yes).is t own;
+      ends = λ yes. ∣ (shows yes).stands ∣₁;
+    }
+
 pub returns-in-Ok-Some-clause-gives : goal.returns-in-Ok-Some-clause-gives
 returns-in-Ok-Some-clause-gives g c =
     let it = c.args.self.now in
     let r = it.req in
     let u = c.step.new.req in
-    let from = c.in-Ok-Some.at in
+    let from = c.in-Ok-Some.step.start in
     let start = c.position-start.result in
     let end = c.start-end.result in
     let steps : StepsFrom {S = g.row.S.Denot} {text = g.S.StrDrive} r from u =
@@ -57,7 +84,7 @@ returns-in-Ok-Some-clause-falls g c =
     let it = c.args.self.now in
     let r = it.req in
     let u = c.step.new.req in
-    let from = c.in-Ok-Some.at in
+    let from = c.in-Ok-Some.step.start in
     let start = c.position-start.result in
     let end = c.start-end.result in
     let steps : StepsFrom {S = g.row.S.Denot} {text = g.S.StrDrive} r from u =

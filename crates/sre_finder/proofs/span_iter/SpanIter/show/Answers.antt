@@ -1,45 +1,14 @@
-use Rattle.std.proofs.Common.{◌≡◌, ap, ap₂, sym, subst, ◌∙◌, rules}
 use Rattle.std.proofs.Math.Logic.{∥∥₁_elim}
-use Rattle.sre_model.specs.Grammar.{Whole}
-use Rattle.sre_model.specs.Found.{Asked, found}
-use Rattle.sre_code.specs.Codes.{words_of}
-use Rattle.sre_request.specs.Requests.{string_of, start_of, code_of, asked_of}
-use Rattle.sre_finder.specs.SpanIters.{last_asked}
-use Rattle.sre_finder.proofs.Spans.{step_answers}
+use Rattle.sre_request.specs.Requests.{string_of}
 use Rattle.sre_finder.proofs.span_iter.SpanIter.show.Goals as goal
 
-pub step_admitted-requires-clause-stands : goal.step_admitted-requires-clause-stands
-step_admitted-requires-clause-stands g c =
+pub show_at-requires-clause-stands : goal.show_at-requires-clause-stands
+show_at-requires-clause-stands g c =
     let it = c.args.self.now in
-    let own : c.in-Ok.req ≡ it.req = search rules in
-    let last = c.set_start.ensures in
-    let string = last.string ∙ c.set_must_advance.ensures.string ∙ ap string_of own in
-    let start = ap (λ a. a.start) last.asked ∙ c.position.ensures in
-    let there = ∥∥₁_elim it.last (g.met.S.StrDrive.stands_once (string_of it.req) it.at it.at.position) (λ x. x) in
-    subst (λ x. g.S.StrDrive.stands x it.at (start_of c.set_start.new.self)) (sym string)
-    (subst (g.S.StrDrive.stands (string_of it.req) it.at) (sym start) there)
+    ∥∥₁_elim it.last (g.met.S.StrDrive.stands_once (string_of it.req) it.at it.at.position) (λ here. here)
 
-pub returns-clause-answer : goal.returns-clause-answer
-returns-clause-answer g c = λ t whole.
+pub returns-then-self-clause-cursor : goal.returns-then-self-clause-cursor
+returns-then-self-clause-cursor g c = λ _.
     let it = c.args.self.now in
-    let r = c.set_start.new.self in
-    let own : c.in-Ok.req ≡ it.req = search rules in
-    let last = c.set_start.ensures in
-    let first = c.set_must_advance.ensures in
-    let asked : asked_of r ≡ last_asked it =
-    last.asked
-    ∙ ap₂ (λ (a : Asked) p. record a { start = p }) (first.asked
-    ∙ ap (λ q. record (asked_of q) { must_advance = it.advances }) own) c.position.ensures in
-    let code = last.pattern_codes ∙ first.pattern_codes ∙ ap code_of own in
-    step_answers r c.in_ok-shown.shown c.step_admitted.new.state c.step_admitted.new.req
-    c.in_ok-shown.ensures.stepped.ok t (subst (λ d. Whole (words_of d) t) (sym code) whole)
-    ∙ ap (λ a. found a t) asked
-
-pub returns-clause-cursor : goal.returns-clause-cursor
-returns-clause-cursor g c = λ yes.
-    let it = c.args.self.now in
-    let own : c.in-Ok.req ≡ it.req = search rules in
-    let string = c.set_start.ensures.string ∙ c.set_must_advance.ensures.string ∙ ap string_of own in
-    let end = c.step_admitted.new.state.cursor in
-    subst (λ x. g.S.StrDrive.stands x end end.position) string
-    (c.in_ok-shown.ensures.stepped.yes yes).stands
+    let end = it.state.cursor in
+    ∥∥₁_elim (it.ends c.if-self.true) (g.met.S.StrDrive.stands_once (string_of it.req) end end.position) (λ here. here)

@@ -5,7 +5,7 @@ use Rattle.sre_engine.specs.Found.{found}
 use Rattle.sre_engine.specs.Codes.{words_of}
 use Rattle.sre_engine.specs.Requests.{asked_of, code_of}
 use Rattle.sre_engine.specs.Answers.{answer_of}
-use Rattle.sre_lines.proofs.cases.searched.search_told.Goals as goal
+use Rattle.sre_lines.proofs.cases.searched.search.Goals as goal
 
 -- what an answer tells of each tree is told of one, if there is an answer
 of_one : {E : Type 0} (IsTree : Tree → Type 0) (Tells : Bool → Tree → Type 0) (told : Result Bool E)

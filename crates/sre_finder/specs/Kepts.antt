@@ -1,0 +1,15 @@
+-- What is kept of a finder suits a code.
+-- Definitions for the contracts of this crate.
+use Rattle.std.specs.Prelude.{◌≡◌, ℕ, List}
+use Rattle.sre_chars.specs.Tables.{Table}
+use Rattle.sre_code.specs.Codes.{words_of, uni_of}
+use Rattle.sre_code.specs.declared.code.Code.{Code}
+use Rattle.sre_finder.specs.Finders.{CoveringAny}
+use Rattle.sre_finder.specs.Spans.{ExactlyAny}
+use Rattle.sre_finder.specs.declared.kept.Kept.{Kept}
+
+-- the patterns of its DFAs are those of each code of these words and this table
+pub record Suits (ws : List ℕ) (uni : Table) (kept : Kept) : Type 0 where
+  pub starts : (code : Code) → words_of code ≡ ws → uni_of code ≡ uni → CoveringAny kept.starts.encoding code kept.starts.seeker
+  pub whole : (code : Code) → words_of code ≡ ws → uni_of code ≡ uni → CoveringAny kept.starts.encoding code kept.starts.whole
+  pub exact : (code : Code) → words_of code ≡ ws → uni_of code ≡ uni → ExactlyAny kept.encoding code kept.exact

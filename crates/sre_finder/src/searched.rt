@@ -1,0 +1,87 @@
+//! The search by a finder of spans, and the run of the machine that shows a span's match.
+
+ghost use Rattle.std.specs.Prelude.{◌≡◌, ◌≤◌, true, false, IfOk, OnErr, None};
+ghost use Rattle.sre_growth.specs.Refusal.{Refused};
+ghost use Rattle.sre_model.specs.Tree.{Tree};
+ghost use Rattle.sre_model.specs.Grammar.{Whole};
+ghost use Rattle.sre_model.specs.Marks.{no_marks};
+ghost use Rattle.sre_model.specs.Found.{found};
+ghost use Rattle.sre_code.specs.Codes.{items_of, words_of};
+ghost use Rattle.sre_request.specs.Admitting.{AllAdmitted};
+ghost use Rattle.sre_request.specs.Requests.{end_of, code_of, asked_of, stands_in};
+ghost use Rattle.sre_engine.specs.Answers.{answer_of};
+
+use crate::haystack::Haystack;
+use crate::span_finder::SpanFinder;
+use crate::span_iter::bars;
+use sre_chars::string::{StrDrive, StringCursor};
+use sre_engine::engine::{AdmittedPlaces, Nobody, SreError, State, step_admitted};
+use sre_request::{Admitted, Request};
+use std::alloc::Allocator;
+
+// Makes the state show the first match of a request that starts at a cursor, by the machine.
+pub(crate) fn show_at<S: StrDrive, A: Allocator + Copy>(
+    req: &Request<'_, S>,
+    state: &mut State<A>,
+    at: StringCursor,
+    must_advance: bool,
+    admitted: &[Admitted],
+) -> Result<bool, SreError>
+    requires stands { stands_in req.now at at.position }
+    requires inside { at.position ≤ end_of req.now }
+    requires admitted { AllAdmitted (items_of (code_of req.now)) admitted.now }
+    ensures answer { (t : Tree) → Whole (words_of (code_of req.now)) t → IfOk result (λ b.
+        answer_of b state.new
+        ≡ found (record (asked_of req.now) { start = at.position; must_advance = must_advance }) t) }
+    ensures cursor { IfOk result (λ b. b ≡ true → stands_in req.now state.new.cursor state.new.cursor.position) }
+    ensures no { IfOk result (λ b. b ≡ false → state.new.marks ≡ no_marks) }
+    ensures err { OnErr result (state.new.marks ≡ no_marks) }
+    ensures refused { OnErr result (Refused A) }
+{
+    let Ok(mut req) = req.clone() else {
+        unreachable!(); // it does not allocate
+    };
+    req.set_must_advance(must_advance);
+    req.set_start(at.position());
+    let mut cursor = at;
+    let shown = step_admitted(&mut req, state, &mut cursor, &mut Nobody, admitted)?;
+    Ok(shown)
+}
+
+impl<'c> SpanFinder<'c> {
+    /// Searches the range, and returns whether there is a match, which the state then shows. If DFAs find its span, the
+    /// machine runs from its start alone.
+    ///
+    /// # Errors
+    ///
+    /// [`SreError::Memory`] if an allocation failed.
+    pub fn search<S: Haystack, A: Allocator + Copy>(
+        &mut self,
+        req: Request<'_, S>,
+        state: &mut State<A>,
+    ) -> Result<bool, SreError>
+        requires { self.old.code ≡ code_of req }
+        ensures answer { (t : Tree) → Whole (words_of (code_of req.entry)) t
+            → IfOk result (λ b. answer_of b state.new ≡ found (asked_of req.entry) t) }
+        ensures cursor { IfOk result
+            (λ b. b ≡ true → stands_in req.entry state.new.cursor state.new.cursor.position) }
+        ensures refused { OnErr result (Refused A) }
+        ensures code { self.new.code ≡ self.old.code }
+        ensures encoding { self.new.encoding ≡ self.old.encoding }
+    {
+        self.reset();
+        let mut req = req;
+        let (from, must_advance) = (req.start(), req.must_advance());
+        let mut cursor = req.string().create_cursor(from);
+        let mut places = AdmittedPlaces::new(state);
+        let Some(step) = self.step(&mut req, state, &mut cursor, &mut places)? else {
+            return Ok(false);
+        };
+        if step.is_shown {
+            return Ok(true);
+        }
+        let advances = bars(must_advance, step.start.position(), from);
+        let shown = show_at(&req, state, step.start, advances, places.list())?;
+        Ok(shown)
+    }
+}
