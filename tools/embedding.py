@@ -128,22 +128,25 @@ class Embedding:
             if self.ran(f"{what} is compiled", *words, writes=""):
                 # Rust's own runtime leaves memory that is still reachable
                 leaks = "all" if language == "c" else "definite,indirect,possible"
-                self.watched(what, f"{self.room}/settings", written, leaks)
+                self.watched(what, written, f"{self.room}/settings", leaks=leaks)
 
-    def watched(self, what, program, written, leaks="all"):
+    def watched(self, what, written, *words, leaks="all"):
         """Runs a program, also under valgrind: it may touch its own memory alone, and has to free it."""
-        self.ran(what, program, writes=written)
+        self.ran(what, *words, writes=written)
         if not self.lacks("valgrind", f"{what} under valgrind"):
             watch = ["valgrind", "-q", "--error-exitcode=9", "--leak-check=full", f"--errors-for-leak-kinds={leaks}"]
-            self.ran(f"{what} under valgrind", *watch, program, writes=written)
+            self.ran(f"{what} under valgrind", *watch, *words, writes=written)
 
-    def try_bad_callers(self, library):
-        if self.lacks("cc", "bad callers"):
+    def try_callers(self, library):
+        """Bad callers in C, and one that answers a file of cases as the program does."""
+        if self.lacks("cc", "callers in C"):
             return
-        source, made = f"{ROOT}/embedding/bad_callers.c", f"{self.room}/bad_callers"
-        words = ["cc", "-std=c11", "-g", "-Wall", f"-I{library}", source, f"{library}/libsre_c.a"]
-        if self.ran("bad callers are compiled", *words, "-Wl,--wrap=malloc,--wrap=realloc", "-o", made):
-            self.watched("bad callers", made, "bad callers: 0 failures\n")
+        cases, answers = f"{ROOT}/examples/cases.txt", read(f"{ROOT}/examples/cases.expected")
+        for name, given, written in (("bad_callers", [], "bad callers: 0 failures\n"), ("cases", [cases], answers)):
+            words = ["cc", "-std=c11", "-g", "-Wall", f"-I{library}", f"{ROOT}/embedding/{name}.c"]
+            words += [f"{library}/libsre_c.a", "-o", f"{self.room}/{name}"]
+            if self.ran(f"{name}.c is compiled", *words, *["-Wl,--wrap=malloc,--wrap=realloc"] * (not given)):
+                self.watched(f"{name}.c", written, f"{self.room}/{name}", *given)
 
     def try_python(self, library, version, python, is_first):
         """Builds the package for a Python, and runs its tests and CPython's."""
@@ -175,7 +178,7 @@ class Embedding:
             self.tell(f"embedding: not tried: there is no Python {version}")
         with tempfile.TemporaryDirectory(prefix="embedding-") as self.room:
             self.try_programs(library)
-            self.try_bad_callers(library)
+            self.try_callers(library)
             for version, python in pythons.items():
                 self.try_python(library, version, python, version == [*pythons][-1])
         return self.passed, self.failed

@@ -25,9 +25,9 @@
  * Positions count characters. A character is a byte, a code point of UTF-8, or a number of 32 or of 16 bits.
  *
  * `steps` limits the steps of a call. UINT64_MAX means no limit, and is returned as it was given. A call over bytes or
- * UTF-8 without a limit builds lazy DFAs, if the range has some thousands of characters and the first steps of the
- * backtracking machine did not suffice. They find where a match can begin, or its start and end. The matches are the
- * same. Each such call builds its DFAs and frees them, so one call with many rows costs less than a call for each row.
+ * UTF-8 builds lazy DFAs once the backtracking machine has spent about as much time as that takes. They find where a
+ * match can begin or, without a limit, its start and end. The matches are the same. Each such call builds its DFAs and
+ * frees them, so one call with many rows costs less than a call for each row.
  */
 #ifndef SRE_H
 #define SRE_H
