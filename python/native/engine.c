@@ -8,6 +8,12 @@
  * another one has run for a while, so a lexer must not do so for each token. */
 #define FEW_STEPS 1000
 
+/* A call over UTF-8 validates the whole text and counts its characters. So its range has at least so many characters,
+ * and this part of the text; and a call that may end early takes a step for so many characters before. */
+#define LEAST_RANGE 4096
+#define LEAST_PART 8
+#define CHARACTERS_A_STEP 64
+
 /* The most characters that a search passes here, where no match begins. The engine passes more of them faster. */
 #define FEW_CHARACTERS 64
 
@@ -114,10 +120,22 @@ static bool may_others_run(const Text *text) {
   return text->is_fixed && text->length >= LONG_TEXT && !is_alone();
 }
 
-static uint32_t answer(const Pattern *pattern, const Text *text, const sre_asked *asked, sre_found *found,
-                       size_t *marks) {
+/* With a confirmed prefix the engine builds no DFAs. With back-references or at starts of lines they gain little. */
+bool engine_may_gain(const Pattern *pattern, const Text *text, const sre_asked *asked) {
+  size_t range = asked->end - asked->start;
+  if (text->size == 1 || !asked->search || range < LEAST_RANGE || range < (size_t)text->length / LEAST_PART)
+    return false;
+  return !pattern->code.hints.has_prefix && !pattern->code.hints.refers && !pattern->at_line_start;
+}
+
+uint64_t engine_first_steps(const Text *text) { return FEW_STEPS + (uint64_t)text->length / CHARACTERS_A_STEP; }
+
+static uint32_t answer(const Pattern *pattern, const Text *text, bool is_utf8, const sre_asked *asked,
+                       sre_found *found, size_t *marks) {
   const sre_code *code = &pattern->code;
   size_t length = (size_t)text->length, room = 2 * (size_t)pattern->groups;
+  if (is_utf8)
+    return sre_answer_utf8(code, (const uint8_t *)text->utf8, (size_t)text->utf8_length, asked, found, marks, room);
   switch (text->size) {
   case 1:
     return sre_answer_bytes(code, text->data, length, asked, found, marks, room);
@@ -128,20 +146,24 @@ static uint32_t answer(const Pattern *pattern, const Text *text, const sre_asked
   }
 }
 
-/* The same, and other threads run after the first steps. If these do not suffice, the engine starts again with the
- * request as it is, so they are not charged, and the answer is that of the request. */
-static uint32_t answer_beside_others(const Pattern *pattern, const Text *text, const sre_asked *asked,
-                                     sre_found *found, size_t *marks) {
-  if (!may_others_run(text))
-    return answer(pattern, text, asked, found, marks);
+/* The answer by the first steps, while other threads wait. If these do not suffice, the engine starts again with the
+ * request as it is, so they are not charged, and the answer is that of the request. Then other threads run, and the
+ * text is read as UTF-8 if that may gain. */
+static uint32_t answer_in_two(const Pattern *pattern, Text *text, const sre_asked *asked, sre_found *found,
+                              size_t *marks) {
+  bool others_run = may_others_run(text), may_gain = engine_may_gain(pattern, text, asked);
+  if (!others_run && !may_gain)
+    return answer(pattern, text, false, asked, found, marks);
   sre_asked first = *asked;
-  first.steps = Py_MIN(asked->steps, FEW_STEPS);
-  uint32_t status = answer(pattern, text, &first, found, marks);
-  if (status != SRE_STEP_LIMIT || asked->steps <= FEW_STEPS)
+  first.steps = Py_MIN(asked->steps, may_gain ? engine_first_steps(text) : FEW_STEPS);
+  uint32_t status = answer(pattern, text, false, &first, found, marks);
+  if (status != SRE_STEP_LIMIT || first.steps == asked->steps)
     return status;
-  PyThreadState *saved = PyEval_SaveThread();
-  status = answer(pattern, text, asked, found, marks);
-  PyEval_RestoreThread(saved);
+  bool is_utf8 = may_gain && text_utf8(text);
+  PyThreadState *saved = others_run ? PyEval_SaveThread() : NULL;
+  status = answer(pattern, text, is_utf8, asked, found, marks);
+  if (saved)
+    PyEval_RestoreThread(saved);
   return status;
 }
 
@@ -175,13 +197,13 @@ static bool may_match(const Pattern *pattern, const Text *text, sre_asked *asked
   return asked->start < asked->end && (asked->search || may_begin(pattern, text, asked->start));
 }
 
-int engine_match(const Pattern *pattern, const Text *text, const sre_asked *given, size_t *row) {
+int engine_match(const Pattern *pattern, Text *text, const sre_asked *given, size_t *row) {
   sre_asked narrowed = *given, *asked = &narrowed;
   /* a call with a step limit goes to the engine as it is, so that both engines of the package charge it alike */
   if (asked->steps == UINT64_MAX && !may_match(pattern, text, asked))
     return 0;
   sre_found found;
-  uint32_t status = answer_beside_others(pattern, text, asked, &found, row + 3);
+  uint32_t status = answer_in_two(pattern, text, asked, &found, row + 3);
   if (status == SRE_NO)
     return 0;
   if (status != SRE_YES) {
@@ -196,6 +218,21 @@ int engine_match(const Pattern *pattern, const Text *text, const sre_asked *give
   return 1;
 }
 
+static uint32_t walk(const sre_code *code, const Text *text, const sre_asked *asked, size_t width, size_t *rows,
+                     size_t numbers, sre_walked *walked) {
+  size_t length = (size_t)text->length, bytes = (size_t)text->utf8_length;
+  if (text->utf8)
+    return sre_walk_utf8(code, (const uint8_t *)text->utf8, bytes, asked, width, rows, numbers, walked);
+  switch (text->size) {
+  case 1:
+    return sre_walk_bytes(code, text->data, length, asked, width, rows, numbers, walked);
+  case 2:
+    return sre_walk_units(code, text->data, length, asked, width, rows, numbers, walked);
+  default:
+    return sre_walk_points(code, text->data, length, asked, width, rows, numbers, walked);
+  }
+}
+
 uint32_t engine_walk(const Pattern *pattern, const Text *text, const sre_asked *given, size_t *rows, size_t room,
                      sre_walked *walked) {
   sre_asked narrowed = *given, *asked = &narrowed;
@@ -204,20 +241,9 @@ uint32_t engine_walk(const Pattern *pattern, const Text *text, const sre_asked *
     *walked = (sre_walked){.start = asked->start, .steps = asked->steps};
     return SRE_NO;
   }
-  const sre_code *code = &pattern->code;
-  size_t length = (size_t)text->length, width = WALK_WIDTH(pattern), numbers = width * room;
+  size_t width = WALK_WIDTH(pattern);
   PyThreadState *saved = may_others_run(text) ? PyEval_SaveThread() : NULL;
-  uint32_t status;
-  switch (text->size) {
-  case 1:
-    status = sre_walk_bytes(code, text->data, length, asked, width, rows, numbers, walked);
-    break;
-  case 2:
-    status = sre_walk_units(code, text->data, length, asked, width, rows, numbers, walked);
-    break;
-  default:
-    status = sre_walk_points(code, text->data, length, asked, width, rows, numbers, walked);
-  }
+  uint32_t status = walk(&pattern->code, text, asked, width, rows, width * room, walked);
   if (saved)
     PyEval_RestoreThread(saved);
   return status;

@@ -77,12 +77,17 @@ typedef struct {
   int size;          /* of a character, in bytes: 1, 2 or 4 */
   bool is_bytes;
   bool is_fixed; /* a str or bytes, which nothing can change */
+  const char *utf8; /* the same in UTF-8 once text_utf8 found it, else null */
+  Py_ssize_t utf8_length; /* in bytes */
   Py_buffer view;
 } Text;
 
 /* Opens a text for a pattern, or for any pattern if that is null. False with TypeError if the types do not match. */
 bool text_open(Text *text, const Pattern *pattern, PyObject *string);
 void text_close(Text *text);
+
+/* Whether a str past Latin-1 has UTF-8, which CPython stores with it. A lone surrogate has none. */
+bool text_utf8(Text *text);
 
 /* The characters from start to end as a new str or bytes. */
 PyObject *text_slice(const Text *text, Py_ssize_t start, Py_ssize_t end);
@@ -138,9 +143,15 @@ const sre_table *engine_table(State *state, bool is_unicode);
 sre_asked engine_asked(const Text *text, Py_ssize_t pos, Py_ssize_t endpos, uint64_t steps);
 
 /* Whether there is a match, which is written as a row: 1 or 0, or -1 with an exception. */
-int engine_match(const Pattern *pattern, const Text *text, const sre_asked *asked, size_t *row);
+int engine_match(const Pattern *pattern, Text *text, const sre_asked *asked, size_t *row);
 
-/* Writes rows of an iteration, as many as there is room for, and returns the status. */
+/* Whether a call over a str past Latin-1 may gain by UTF-8, for which the engine has DFAs; and how many steps it takes
+ * before it reads that, if it may end early. */
+bool engine_may_gain(const Pattern *pattern, const Text *text, const sre_asked *asked);
+uint64_t engine_first_steps(const Text *text);
+
+/* Writes rows of an iteration, as many as there is room for, and returns the status. The text is read as UTF-8 if that
+ * was found. */
 uint32_t engine_walk(const Pattern *pattern, const Text *text, const sre_asked *asked, size_t *rows, size_t room,
                      sre_walked *walked);
 
@@ -155,7 +166,7 @@ void engine_fail_in(uint32_t status, const Pattern *pattern, size_t start, uint6
 /* The matches of a range in order, read in batches. */
 typedef struct {
   const Pattern *pattern;
-  const Text *text;
+  Text *text;
   sre_asked asked; /* the request for the next batch */
   uint64_t max_steps; /* the limit of all batches */
   size_t width;
@@ -167,8 +178,9 @@ typedef struct {
   size_t first[48]; /* so a short iteration allocates nothing */
 } Walk;
 
-/* Begins an iteration. If `most` is above 0, the caller wants at most that many matches. */
-void walk_begin(Walk *walk, const Pattern *pattern, const Text *text, const sre_asked *asked, Py_ssize_t most);
+/* Begins an iteration. The caller wants at most so many matches if `most` is above 0, all if it is 0, and else it may
+ * stop at any. */
+void walk_begin(Walk *walk, const Pattern *pattern, Text *text, const sre_asked *asked, Py_ssize_t most);
 void walk_end(Walk *walk);
 
 /* The row of the next match; null at the end, or with an exception. */

@@ -164,7 +164,7 @@ static const Signature of_fullmatch = {"fullmatch", 1, 3, {"string", "pos", "end
 static const Signature of_search = {"search", 1, 3, {"string", "pos", "endpos", "max_steps"}};
 
 /* The match for a request, or None. */
-static PyObject *answer(const Pattern *self, const Text *text, const sre_asked *asked) {
+static PyObject *answer(const Pattern *self, Text *text, const sre_asked *asked) {
   size_t few[3 + 2 * 12], *row = few, width = ROW_WIDTH(self);
   if (asked->start > asked->end)
     Py_RETURN_NONE;

@@ -82,7 +82,7 @@ PyObject *pattern_finditer(Pattern *pattern, PyObject *const *args, Py_ssize_t c
   Matches *self = (Matches *)reader_new(pattern->state->matches, pattern, &of_finditer, args, count, names, &asked);
   if (!self)
     return NULL;
-  walk_begin(&self->walk, pattern, &self->reader.text, &asked, 0);
+  walk_begin(&self->walk, pattern, &self->reader.text, &asked, -1);
   PyObject_GC_Track(self);
   return (PyObject *)self;
 }

@@ -34,6 +34,7 @@ static bool open_buffer(Text *text) {
 
 bool text_open(Text *text, const Pattern *pattern, PyObject *string) {
   text->string = string;
+  text->utf8 = NULL;
   text->view.obj = NULL;
   if (PyUnicode_Check(string))
     return open_str(text, pattern);
@@ -56,6 +57,15 @@ bool text_open(Text *text, const Pattern *pattern, PyObject *string) {
 void text_close(Text *text) {
   if (text->view.obj)
     PyBuffer_Release(&text->view);
+}
+
+bool text_utf8(Text *text) {
+  if (text->size == 1 || text->utf8)
+    return text->utf8;
+  text->utf8 = PyUnicode_AsUTF8AndSize(text->string, &text->utf8_length);
+  if (!text->utf8)
+    PyErr_Clear();
+  return text->utf8;
 }
 
 PyObject *text_slice(const Text *text, Py_ssize_t start, Py_ssize_t end) {

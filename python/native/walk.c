@@ -2,7 +2,13 @@
 #include "native.h"
 
 /* The most numbers of a batch. A signal is handled between two batches. */
-#define MOST_NUMBERS 32768
+#define MOST_NUMBERS 262144
+
+/* A batch of UTF-8 may have a number for so many characters, since each batch validates the whole text. */
+#define CHARACTERS_A_NUMBER 8
+
+/* How many times as many rows a batch may have as the one before. Each batch builds DFAs anew. */
+#define GROWTH 16
 
 /* The rows of the first batch: as many as are wanted, or as fit into `first`. */
 static size_t first_room(const Walk *walk, Py_ssize_t most) {
@@ -13,7 +19,19 @@ static size_t first_room(const Walk *walk, Py_ssize_t most) {
   return most > 0 && (size_t)most < room ? (size_t)most : room;
 }
 
-void walk_begin(Walk *walk, const Pattern *pattern, const Text *text, const sre_asked *asked, Py_ssize_t most) {
+/* The most rows of a batch, at least those that it has room for. */
+static size_t most_room(const Walk *walk) {
+  size_t numbers = walk->text->utf8 ? (size_t)walk->text->length / CHARACTERS_A_NUMBER : 0;
+  return Py_MAX(walk->room, Py_MAX(MOST_NUMBERS, numbers) / walk->width);
+}
+
+/* Lets the next batches be read as UTF-8, if the text has any. */
+static void read_as_utf8(Walk *walk) {
+  if (text_utf8(walk->text))
+    walk->room = most_room(walk);
+}
+
+void walk_begin(Walk *walk, const Pattern *pattern, Text *text, const sre_asked *asked, Py_ssize_t most) {
   walk->pattern = pattern;
   walk->text = text;
   walk->asked = *asked;
@@ -23,6 +41,8 @@ void walk_begin(Walk *walk, const Pattern *pattern, const Text *text, const sre_
   walk->count = walk->at = 0;
   walk->status = asked->start > asked->end ? SRE_NO : SRE_NO_ROOM;
   walk->rows = NULL;
+  if (most == 0 && walk->status == SRE_NO_ROOM && engine_may_gain(pattern, text, asked))
+    read_as_utf8(walk);
 }
 
 void walk_end(Walk *walk) { PyMem_Free(walk->rows); }
@@ -40,26 +60,44 @@ static size_t *place_of_rows(Walk *walk) {
   return walk->rows = rows;
 }
 
-static bool read_batch(Walk *walk) {
-  sre_walked walked;
+/* Reads rows within so many steps. */
+static bool read_rows(Walk *walk, uint64_t steps, sre_walked *walked) {
+  sre_asked asked = walk->asked;
   size_t *rows = place_of_rows(walk);
   if (!rows)
     return false;
-  walk->status = engine_walk(walk->pattern, walk->text, &walk->asked, rows, walk->room, &walked);
+  asked.steps = steps;
+  walk->status = engine_walk(walk->pattern, walk->text, &asked, rows, walk->room, walked);
   walk->batch = rows;
+  return true;
+}
+
+/* Reads a batch. If the first steps do not suffice, it is read again as UTF-8, and they are not charged. */
+static bool read_batch(Walk *walk) {
+  sre_walked walked;
+  uint64_t steps = walk->asked.steps, first = steps;
+  if (!walk->text->utf8 && engine_may_gain(walk->pattern, walk->text, &walk->asked))
+    first = Py_MIN(steps, engine_first_steps(walk->text));
+  if (!read_rows(walk, first, &walked))
+    return false;
+  if (walk->status == SRE_STEP_LIMIT && first < steps) {
+    first = steps;
+    read_as_utf8(walk);
+    if (!read_rows(walk, steps, &walked))
+      return false;
+  }
   walk->count = walked.count;
   walk->at = 0;
   walk->asked.start = walked.start;
   walk->asked.must_advance = walked.must_advance;
-  walk->asked.steps = walked.steps;
+  walk->asked.steps = steps == UINT64_MAX ? steps : walked.steps + (steps - first);
   return true;
 }
 
 /* Lets the next batch have more rows, unless the text may change. */
 static void grow(Walk *walk) {
-  size_t most = MOST_NUMBERS / walk->width;
-  if (walk->text->is_fixed && walk->room * 4 <= most)
-    walk->room *= 4;
+  if (walk->text->is_fixed)
+    walk->room = Py_MIN(walk->room * GROWTH, most_room(walk));
 }
 
 const size_t *walk_next(Walk *walk) {
