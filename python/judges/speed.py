@@ -1,9 +1,13 @@
 #!/usr/bin/env python3
 """Processor times of calls, as ratios to those of `re`: below 1 the engine is faster.
 
-    speed.py     15 patterns by 7 calls, on 18 characters and on 400,000; matches; captures in atomic scopes
+    speed.py            all tables
+    speed.py TABLE ..   some of them
 
-A ratio is the least time of several rounds by the engine over that by `re`. The rounds of both take turns.
+The tables: `short` and `long` have 15 patterns by 7 calls, on 18 characters and on 400,000; `ascii`, `latin-1`,
+`cyrillic` and `emoji` have the 4 calls that iterate over matches, on 400,000 characters of that kind; `matches` has
+methods of a match; `captures` has captures in atomic scopes. A ratio is the least time of several rounds by the engine
+over that by `re`. The rounds of both take turns.
 """
 import math
 import re
@@ -17,13 +21,21 @@ LINES = (
     'The quick size=12 brown fox "jumped over" on the lazy-dog; see https://example.org/a/{0}?b=c at 2024-05-1{1}.\n'
     "mail user{0}@example.com or  call  555-01{1}, key{0}=value{1}; on and on it goes: book{0} was good.\n"
 )
-LONG = "".join(LINES.format(number, number % 10) for number in range(2200))[:400_000]
+# What stands in these lines instead, so that a text has characters of that kind.
+KINDS = {
+    "ascii": {},
+    "latin-1": {"quick": "größte", "brown fox": "façade à São", "jumped over": "señor é", "good": "très français"},
+    "cyrillic": {"quick": "быстрая", "brown fox": "бурая лиса", "jumped over": "перепрыгнула через", "lazy": "ленивую",
+                 "mail": "почта", "call": "звони по", "on and on it goes": "и так on далее", "good": "очень хорошая"},
+    "emoji": {"brown": "🦊🐕", "jumped over": "🚀 над 🌍", "good": "👍🏽 😀"},
+}
 PATTERNS = (
     r"\w+", r"\s+", r"(\w+)=(\w+)", r"depth", r"\bon\b", r"\w+(?==)", r"[\w.]+@[\w.]+\.\w+", r"<.*?>|t.*?=",
     r"(\d{4})-(\d\d)-(\d\d)", r"https?://[^\s/]+/\S*", r"let|size|quick|book", r"(?m)^(\w+).*$", r'"[^"\n]*"',
     r"(?i)QUICK|SIZE", r"(\w)\1",
 )
-CALLS = ("match", "search", "fullmatch", "findall", "finditer", "sub", "split")
+WALKS = ("findall", "finditer", "sub", "split")
+CALLS = ("match", "search", "fullmatch", *WALKS)
 ROUNDS = 7
 
 # Captures inside atomic groups, lookarounds and possessive loops, over 8,000 letters.
@@ -61,18 +73,26 @@ def told(name, ratios):
     print(f"{name:22} {mean(ratios):5.2f}   {min(ratios):5.2f} .. {max(ratios):5.2f}", flush=True)
 
 
-def table(name, text):
-    """The ratios of each call over a text, by pattern."""
+def long_text(kind):
+    """400,000 characters of a kind."""
+    lines = LINES
+    for old, new in KINDS[kind].items():
+        lines = lines.replace(old, new)
+    return "".join(lines.format(number, number % 10) for number in range(2200))[:400_000]
+
+
+def table(name, text, calls, most):
+    """The ratios of each call over a text, by pattern, and the cells above a ratio."""
     cells, compiled = {}, [(re.compile(it), gaffsilver.compile(it)) for it in PATTERNS]
-    for call in CALLS:
+    for call in calls:
         for pattern, both in zip(PATTERNS, compiled):
             cells[call, pattern] = ratio(*(call_of(it, call, text) for it in both))
         told(f"{name}, {call}", [cells[call, it] for it in PATTERNS])
     told(f"{name}, all", list(cells.values()))
-    high = sorted(((it, *cell) for cell, it in cells.items() if it > 1.5), reverse=True)
-    print(f"{name}: {sum(it > 1.2 for it in cells.values())} of {len(cells)} above 1.2, {len(high)} above 1.5")
+    high = sorted(((it, *cell) for cell, it in cells.items() if it > most), reverse=True)
+    print(f"{name}: {sum(it > 1.2 for it in cells.values())} of {len(cells)} above 1.2, {len(high)} above {most}")
     for it, call, pattern in high:
-        print(f"    {it:5.2f} {call} {pattern}")
+        print(f"    {it:5.2f} {call} {pattern}", flush=True)
 
 
 def matches():
@@ -91,10 +111,24 @@ def captures():
         told(f"search {pattern}", [ratio(*both, rounds=2)])
 
 
-if __name__ == "__main__":
+TABLES = {
+    "short": lambda: table("short", SHORT, CALLS, 1.2),
+    "long": lambda: table("long", long_text("ascii"), CALLS, 1.2),
+    **{it: lambda kind=it: table(kind, long_text(kind), WALKS, 1) for it in KINDS},
+    "matches": matches,
+    "captures": captures,
+}
+
+
+def main(words):
+    if not TABLES.keys() >= set(words):
+        print(__doc__.strip())
+        return 2
     print("                        mean   least .. most, of gaffsilver / re")
-    table("short", SHORT)
-    table("long", LONG)
-    matches()
-    captures()
-    sys.exit(0)
+    for name in words or TABLES:
+        TABLES[name]()
+    return 0
+
+
+if __name__ == "__main__":
+    sys.exit(main(sys.argv[1:]))
