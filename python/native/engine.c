@@ -178,23 +178,36 @@ static uint32_t character_at(const Text *text, size_t position) {
   }
 }
 
-/* Whether a match may begin at a position before the end of the range, by the character there. */
-static bool may_begin(const Pattern *pattern, const Text *text, size_t position) {
-  uint32_t character = character_at(text, position);
-  return character >= 128 || pattern->begins[character];
+/* The first position from start on, and before last, at which a match may begin by the character there; or last. */
+static size_t first_begin(const Pattern *pattern, const Text *text, size_t start, size_t last) {
+  const bool *begins = pattern->begins;
+  const uint8_t *bytes = text->data;
+  if (text->size == 1) {
+    while (start < last && !begins[bytes[start]])
+      start++;
+    return start;
+  }
+  for (; start < last; start++) {
+    uint32_t character = character_at(text, start);
+    if (character >= 256 || begins[character])
+      break;
+  }
+  return start;
 }
 
 /* Moves the start of a search or an iteration past the first few characters with which no match begins. Whether one may
- * begin at the start then, or behind it. */
+ * begin at the start then, or behind it: the range has room for the shortest match, and a character to begin with. */
 static bool may_match(const Pattern *pattern, const Text *text, sre_asked *asked) {
   if (!asked->search && pattern->at_line_start && asked->start && character_at(text, asked->start - 1) != '\n')
     return false;
-  if (!pattern->knows_begins)
-    return true;
-  size_t last = asked->search ? Py_MIN(asked->end, asked->start + FEW_CHARACTERS) : asked->start;
-  while (asked->start < last && !may_begin(pattern, text, asked->start))
-    asked->start++;
-  return asked->start < asked->end && (asked->search || may_begin(pattern, text, asked->start));
+  if (pattern->knows_begins) {
+    size_t few = asked->search ? FEW_CHARACTERS : 1, last = Py_MIN(asked->end, asked->start + few);
+    size_t begin = first_begin(pattern, text, asked->start, last);
+    if (begin == asked->end || (!asked->search && begin == last))
+      return false;
+    asked->start = begin;
+  }
+  return asked->end - asked->start >= pattern->code.hints.width;
 }
 
 int engine_match(const Pattern *pattern, Text *text, const sre_asked *given, size_t *row) {

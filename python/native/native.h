@@ -53,8 +53,8 @@ typedef struct {
   uint64_t max_steps; /* the step limit of a call without one; UINT64_MAX for the default */
   sre_code code;
   bool at_line_start; /* whether each match begins at the start of the text or after a newline */
-  bool knows_begins;  /* whether `begins` says with which characters below 128 one may begin */
-  bool begins[128];
+  bool knows_begins;  /* whether `begins` says with which characters below 256 one may begin */
+  bool begins[256];
 } Pattern;
 
 /* A new pattern, with the arguments of `_sre.compile`. */

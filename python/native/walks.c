@@ -1,9 +1,8 @@
 /* The calls of a pattern that iterate over matches: findall, split, sub and subn. */
 #include "native.h"
 
-/* A call that iterates: its arguments, the text, and the iteration. */
+/* A call that iterates: the text, and the iteration. */
 typedef struct {
-  PyObject *given[5];
   Text text;
   Walk walk;
 } Call;
@@ -55,11 +54,12 @@ static PyObject *item_of(const Text *text, const size_t *row, Py_ssize_t groups,
 }
 
 PyObject *pattern_findall(Pattern *self, PyObject *const *args, Py_ssize_t count, PyObject *names) {
-  Call call = {{NULL}};
+  PyObject *given[5] = {NULL};
+  Call call;
   Py_ssize_t pos, endpos;
-  if (!arguments_read(&of_findall, args, count, names, call.given) || !arguments_size(call.given[1], 0, &pos) ||
-      !arguments_size(call.given[2], PY_SSIZE_T_MAX, &endpos) ||
-      !begin(&call, self, call.given[0], pos, endpos, call.given[3], 0))
+  if (!arguments_read(&of_findall, args, count, names, given) || !arguments_size(given[1], 0, &pos) ||
+      !arguments_size(given[2], PY_SSIZE_T_MAX, &endpos) ||
+      !begin(&call, self, given[0], pos, endpos, given[3], 0))
     return NULL;
   PyObject *all = PyList_New(0), *empty = text_slice(&call.text, 0, 0);
   const size_t *row;
@@ -83,10 +83,11 @@ static bool split_at(PyObject *pieces, const Text *text, Py_ssize_t from, const 
 }
 
 PyObject *pattern_split(Pattern *self, PyObject *const *args, Py_ssize_t count, PyObject *names) {
-  Call call = {{NULL}};
+  PyObject *given[5] = {NULL};
+  Call call;
   Py_ssize_t most, last = 0;
-  if (!arguments_read(&of_split, args, count, names, call.given) || !arguments_size(call.given[1], 0, &most) ||
-      !begin(&call, self, call.given[0], 0, PY_SSIZE_T_MAX, call.given[2], most))
+  if (!arguments_read(&of_split, args, count, names, given) || !arguments_size(given[1], 0, &most) ||
+      !begin(&call, self, given[0], 0, PY_SSIZE_T_MAX, given[2], most))
     return NULL;
   PyObject *pieces = PyList_New(0);
   const size_t *row;
@@ -153,16 +154,17 @@ static bool replace(Call *call, PyObject *pieces, PyObject *replacement, Py_ssiz
 /* The new text, and how many matches were replaced. */
 static PyObject *substituted(Pattern *self, const Signature *signature, PyObject *const *args, Py_ssize_t count,
                              PyObject *names, Py_ssize_t *made) {
-  Call call = {{NULL}};
+  PyObject *given[5] = {NULL};
+  Call call;
   Py_ssize_t most;
   *made = 0;
-  if (!arguments_read(signature, args, count, names, call.given) || !arguments_size(call.given[2], 0, &most))
+  if (!arguments_read(signature, args, count, names, given) || !arguments_size(given[2], 0, &most))
     return NULL;
-  PyObject *replacement = replacement_of(self, call.given[0]);
+  PyObject *replacement = replacement_of(self, given[0]);
   if (!replacement)
     return NULL;
   PyObject *joined = NULL;
-  if (begin(&call, self, call.given[1], 0, PY_SSIZE_T_MAX, call.given[3], most)) {
+  if (begin(&call, self, given[1], 0, PY_SSIZE_T_MAX, given[3], most)) {
     PyObject *pieces = PyList_New(0);
     bool is_well = pieces && replace(&call, pieces, replacement, most, made);
     if (is_well)
