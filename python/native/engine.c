@@ -1,16 +1,12 @@
 /* The calls of the engine: its tables, a match, and the rows of an iteration. */
 #include "native.h"
 
-/* The least number of characters of a text over which other threads may run. */
-#define LONG_TEXT 4096
-
-/* The steps that a single match or search takes before they do. A thread that lets the lock go may wait for it until
- * another one has run for a while, so a lexer must not do so for each token. */
+/* The steps that a single match or search takes before other threads run. A thread that lets the lock go may wait for
+ * it until another one has run for a while, so a lexer must not do so for each token. */
 #define FEW_STEPS 1000
 
-/* A call over UTF-8 validates the whole text and counts its characters. So its range has at least so many characters,
- * and this part of the text; and a call that may end early takes a step for so many characters before. */
-#define LEAST_RANGE 4096
+/* A call over UTF-8 validates the whole text and counts its characters. So its range has at least this part of the
+ * text, and a call that may end early takes a step for so many characters before. */
 #define LEAST_PART 8
 #define CHARACTERS_A_STEP 64
 
@@ -123,7 +119,7 @@ static bool may_others_run(const Text *text) {
 /* With a confirmed prefix the engine builds no DFAs. With back-references or at starts of lines they gain little. */
 bool engine_may_gain(const Pattern *pattern, const Text *text, const sre_asked *asked) {
   size_t range = asked->end - asked->start;
-  if (text->size == 1 || !asked->search || range < LEAST_RANGE || range < (size_t)text->length / LEAST_PART)
+  if (text->size == 1 || !asked->search || range < LONG_TEXT || range < (size_t)text->length / LEAST_PART)
     return false;
   return !pattern->code.hints.has_prefix && !pattern->code.hints.refers && !pattern->at_line_start;
 }

@@ -69,6 +69,10 @@ bool pattern_steps(const Pattern *self, PyObject *given, uint64_t *into);
 
 /* ---- texts (text.c) ---- */
 
+/* The least number of characters of a long text. Over one other threads may run, and a str past Latin-1 may be read as
+ * UTF-8: the engine has DFAs for such ranges. */
+#define LONG_TEXT 4096
+
 /* A str or bytes-like object, read in place. */
 typedef struct {
   PyObject *string; /* borrowed: the caller of text_open holds it */

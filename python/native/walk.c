@@ -10,11 +10,12 @@
 /* How many times as many rows a batch may have as the one before. Each batch builds DFAs anew. */
 #define GROWTH 16
 
-/* The rows of the first batch: as many as are wanted, or as fit into `first`. */
+/* The rows of the first batch: as many as are wanted, or as fit into `first`. If the caller may stop at any match of a
+ * long text, it has one, so that to take the first match costs no more than to search it. */
 static size_t first_room(const Walk *walk, Py_ssize_t most) {
   size_t room = sizeof walk->first / sizeof *walk->first / walk->width;
   /* a change of the text between two matches has to be seen */
-  if (!walk->text->is_fixed || room == 0)
+  if (!walk->text->is_fixed || room == 0 || (most < 0 && walk->text->length >= LONG_TEXT))
     return 1;
   return most > 0 && (size_t)most < room ? (size_t)most : room;
 }
