@@ -1,7 +1,9 @@
 -- What is kept of a finder suits a code.
 -- Definitions for the contracts of this crate.
-use Rattle.std.specs.Prelude.{◌≡◌, ℕ, List}
+use Rattle.std.specs.Prelude.{◌≡◌, ℕ, List, length, min, false}
 use Rattle.sre_chars.specs.Tables.{Table}
+use Rattle.sre_chars.specs.declared.constants.EmptyRule.TheVariants.{Never}
+use Rattle.sre_model.specs.Found.{Asked}
 use Rattle.sre_code.specs.Codes.{words_of, uni_of}
 use Rattle.sre_code.specs.declared.code.Code.{Code}
 use Rattle.sre_finder.specs.Finders.{CoveringAny}
@@ -13,3 +15,15 @@ pub record Suits (ws : List ℕ) (uni : Table) (kept : Kept) : Type 0 where
   pub starts : (code : Code) → words_of code ≡ ws → uni_of code ≡ uni → CoveringAny kept.starts.encoding code kept.starts.seeker
   pub whole : (code : Code) → words_of code ≡ ws → uni_of code ≡ uni → CoveringAny kept.starts.encoding code kept.starts.whole
   pub exact : (code : Code) → words_of code ≡ ws → uni_of code ≡ uni → ExactlyAny kept.encoding code kept.exact
+
+-- what a search of a text asks, between two positions
+abbrev pub search_of : List ℕ → Table → ℕ → ℕ → Asked
+search_of text uni start end = record {
+  text = text;
+  table = uni;
+  start = min start (min end (length text));
+  end = min end (length text);
+  match_all = false;
+  must_advance = false;
+  empty_rule = Never;
+}
