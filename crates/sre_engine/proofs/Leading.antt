@@ -1,5 +1,6 @@
 -- What the first code words lead to: a tree's first test, and its first position code.
-use Rattle.std.proofs.Common.{◌≡◌, ◌⊎◌, ◌+◌, ◌-◌, ◌<◌, ◌≤◌, ℕ, Bool, true, false, nat_lt, cond, List, Option, Some, None}
+use Rattle.std.proofs.Common.{◌≡◌, ◌⊎◌, ◌+◌, ◌-◌, ◌<◌, ◌≤◌, ℕ, Bool, true, false, nat_lt, cond, List}
+use Rattle.std.proofs.Common.{Option, Some, None}
 use Rattle.std.proofs.Common.{IfSome, IsSome, IsSomeAnd, refl, sym, ap, ◌∙◌, subst, inl, inr, arith, true≢false}
 use Rattle.std.proofs.lemmas.Bool.Decides.{nat_tests}
 use Rattle.sre_chars.specs.Numbers.{at_number}
@@ -7,7 +8,8 @@ use Rattle.sre_chars.specs.declared.constants.SreAtCode.{SreAtCode}
 use Rattle.sre_chars.specs.declared.constants.SreOpcode.{SreOpcode}
 use Rattle.sre_chars.specs.declared.constants.SreOpcode.TheVariants as opcode
 use Rattle.sre_code.specs.declared.ascii_set.AsciiSet.{AsciiSet}
-use Rattle.sre_model.specs.Tree.{Tree, Empty, Then, Item, One, At, Mark, Run, Test, Any, InCategory, Literal, NotLiteral}
+use Rattle.sre_model.specs.Tree.{Tree, Empty, Then, Item, One, At, Mark, Run, Test, Any, InCategory, Literal}
+use Rattle.sre_model.specs.Tree.{NotLiteral}
 use Rattle.sre_model.specs.Tree.{RunKind, GreedyRun, LazyRun, PossessiveRun, Plain, Ascii, Unicode}
 use Rattle.sre_model.specs.Grammar.{Word, Opcode, Reads, ReadsItem, item_opcode, run_opcode, test_opcode}
 use Rattle.sre_model.specs.Roles.{Role, ToTest, ToRun, role, is_test_role, begins_test}
@@ -47,7 +49,8 @@ code_item (At a) rest code e = refl
 code_item item rest code e = absurd (cc e)
 
 module _ (ws : List ℕ) (i : ℕ) (t : Tree) (x : TreeStands ws i t) where
-  no_test : (test : Test) → first_test t ≡ Some test → (o : SreOpcode) → Opcode ws i o → before_test (role o) ≡ false → ⊥
+  no_test : (test : Test) → first_test t ≡ Some test → (o : SreOpcode) → Opcode ws i o
+      → before_test (role o) ≡ false → ⊥
   no_test test first o w other = by_tree t x.reads first
     where
       by_tree : (u : Tree) → Reads ws i x.end u → first_test u ≡ Some test → ⊥
@@ -276,7 +279,8 @@ told_of test e = absurd (cc e)
 
 pub ascii_of : (ws : List ℕ) (place : ℕ) (test : Test) (set : AsciiSet) → IsTestAt ws place test
     → TakesAscii ws place set → IsAsciiOf test set
-ascii_of ws place test set there takes = record { agrees = λ table c low. takes table there.end test there.stands c low }
+ascii_of ws place test set there takes =
+    record { agrees = λ table c low. takes table there.end test there.stands c low }
 
 pub ascii_known : (ws : List ℕ) (place : ℕ) (test : Test) (r : Option AsciiSet) → IsTestAt ws place test
     → IfSome r (λ set. TakesAscii ws place set)

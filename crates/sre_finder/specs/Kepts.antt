@@ -12,8 +12,10 @@ use Rattle.sre_finder.specs.declared.kept.Kept.{Kept}
 
 -- the patterns of its DFAs are those of each code of these words and this table
 pub record Suits (ws : List ℕ) (uni : Table) (kept : Kept) : Type 0 where
-  pub starts : (code : Code) → words_of code ≡ ws → uni_of code ≡ uni → CoveringAny kept.starts.encoding code kept.starts.seeker
-  pub whole : (code : Code) → words_of code ≡ ws → uni_of code ≡ uni → CoveringAny kept.starts.encoding code kept.starts.whole
+  pub starts : (code : Code) → words_of code ≡ ws → uni_of code ≡ uni
+      → CoveringAny kept.starts.encoding code kept.starts.seeker
+  pub whole : (code : Code) → words_of code ≡ ws → uni_of code ≡ uni
+      → CoveringAny kept.starts.encoding code kept.starts.whole
   pub exact : (code : Code) → words_of code ≡ ws → uni_of code ≡ uni → ExactlyAny kept.encoding code kept.exact
 
 -- what a search of a text asks, between two positions

@@ -132,8 +132,8 @@ impl<'c, 'a, S: StrDrive, A: Allocator + Copy> SpanIter<'c, 'a, S, A> {
     }
 
     /// Makes the state show the last item's match with its captures. If DFAs found the match, the machine runs from its
-    /// start. Returns whether there is such a match: always `true` after an item, and after the end of an iteration that had one.
-    /// Before the first item, it searches for the first match instead.
+    /// start. Returns whether there is such a match: always `true` after an item, and after the end of an iteration
+    /// that had one. Before the first item, it searches for the first match instead.
     ///
     /// # Errors
     ///

@@ -75,7 +75,8 @@ test_end-place-requires g c =
       code = c.in_ok-opcode.ensures.opcode;
       stands =
           test_ahead words (tree_of words) c.item.place c.in_ok-opcode.opcode
-          (ahead g c (tree_of words) (whole_of c.args.req.now.pattern_codes)) (sym c.is_test.ensures ∙ c.if-not-is_test.false)
+          (ahead g c (tree_of words) (whole_of c.args.req.now.pattern_codes))
+          (sym c.is_test.ensures ∙ c.if-not-is_test.false)
           c.in_ok-opcode.ensures.opcode;
     }
 

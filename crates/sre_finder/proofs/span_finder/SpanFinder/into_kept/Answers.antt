@@ -16,5 +16,7 @@ returns-clause-suits c =
       whole = λ code words uni.
           covering_moved parts.encoding f.finder.code code parts.whole (words ∙ ap words_of own)
           (uni ∙ ap uni_of own) c.into_parts-starts.ensures.whole;
-      exact = λ code words uni. exactly_moved f.encoding f.code code f.exact (words ∙ ap words_of seen) (uni ∙ ap uni_of seen) c.self.invariant.1;
+      exact = λ code words uni.
+          exactly_moved f.encoding f.code code f.exact (words ∙ ap words_of seen) (uni ∙ ap uni_of seen)
+          c.self.invariant.1;
     }
