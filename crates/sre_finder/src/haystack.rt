@@ -14,8 +14,8 @@ pub trait Haystack: StrDrive {
     // The byte offset of a position.
     ghost place: { Self → ℕ → ℕ };
 
-    /// Returns the encoding in which DFAs read the text up to a position. In another encoding they exclude no start.
-    /// A `str` with as many bytes as characters up to `end` is ASCII; otherwise its bytes are read once to tell.
+    /// Returns the encoding in which DFAs read the text up to a position, at most its number of characters. In another
+    /// encoding they exclude no start. A `str` that has as many bytes is ASCII; otherwise all its bytes are read to tell.
     fn encoding(&self, end: usize) -> Encoding;
 
     /// Returns the bytes up to a cursor if they have this encoding, else `None`. A text of bytes has `Encoding::Bytes`,

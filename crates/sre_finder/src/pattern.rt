@@ -120,16 +120,16 @@ impl Pattern {
         ensures words { self.new.words ≡ self.old.words }
         ensures uni { self.new.table ≡ self.old.table }
     {
-        let encoding = text.encoding(end);
+        let code = self.code.code();
+        let request = Request::new(text, start, end, code, false);
+        let encoding = request.string().encoding(request.end());
         let before = replace(&mut self.kept, Kept::new(encoding));
         let kept = if before.encoding() == encoding {
             before
         } else {
             Kept::new(encoding)
         };
-        let code = self.code.code();
         let mut finder = kept.into_finder(self.alloc, code);
-        let request = Request::new(text, start, end, code, false);
         let found = finder.search(request, &mut self.state);
         self.kept = finder.into_kept();
         found
