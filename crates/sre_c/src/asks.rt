@@ -123,7 +123,10 @@ impl<S: Haystack> Asks<S> for WithAutomata {
         rows: &mut [usize],
         walked: &mut SreWalked,
     ) -> Status {
-        let (code, encoding) = (request.pattern_codes(), request.string().encoding(request.end()));
+        let (code, encoding) = (
+            request.pattern_codes(),
+            request.string().encoding(request.end()),
+        );
         if walked.steps == NO_LIMIT {
             let finder = SpanFinder::on_demand(alloc, code, encoding);
             return write_by_spans(alloc, request, finder, width, rows, walked);
