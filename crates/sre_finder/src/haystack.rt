@@ -15,7 +15,8 @@ pub trait Haystack: StrDrive {
     ghost place: { Self → ℕ → ℕ };
 
     /// Returns the encoding in which DFAs read the text up to a position, at most its number of characters. In another
-    /// encoding they exclude no start. A `str` that has as many bytes is ASCII; otherwise all its bytes are read to tell.
+    /// encoding they exclude no start. A `str` that has as many bytes is ASCII. Of any other `str` bytes are read to
+    /// tell, up to the first that is not ASCII.
     fn encoding(&self, end: usize) -> Encoding;
 
     /// Returns the bytes up to a cursor if they have this encoding, else `None`. A text of bytes has `Encoding::Bytes`,

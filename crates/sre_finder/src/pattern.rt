@@ -1,9 +1,10 @@
 //! A compiled pattern that owns all that it needs, for many texts.
 
-ghost use Rattle.std.specs.Prelude.{◌≡◌, ◌≢◌, ◌≤◌, length, IfOk, IfErr, OnOk, OnErr};
+ghost use Rattle.std.specs.Prelude.{◌≡◌, ◌≢◌, ◌≤◌, length, true, false, IfOk, IfErr, OnOk, OnErr};
 ghost use Rattle.sre_growth.specs.Refusal.{Refused};
 ghost use Rattle.sre_model.specs.Tree.{Tree};
 ghost use Rattle.sre_model.specs.Grammar.{Whole, IsCode};
+ghost use Rattle.sre_model.specs.Marks.{no_marks};
 ghost use Rattle.sre_model.specs.Found.{found};
 ghost use Rattle.sre_code.specs.Codes.{words_of, uni_of};
 ghost use Rattle.sre_code.specs.Refusals.{place_of};
@@ -103,7 +104,7 @@ impl Pattern {
     }
 
     /// Searches a text from one position to another, and returns whether there is a match, which the state then shows.
-    /// Both positions count characters, and are clamped to the text.
+    /// Without a match it has no captures. Both positions count characters, and are clamped to the text.
     ///
     /// # Errors
     ///
@@ -116,6 +117,10 @@ impl Pattern {
     ) -> Result<bool, SreError>
         ensures answer { (t : Tree) → Whole self.old.words t → IfOk result (λ b.
             answer_of b self.new.shown ≡ found (search_of (S.text text) self.old.table start end) t) }
+        ensures cursor { IfOk result (λ b. b ≡ true
+            → S.stands text self.new.shown.cursor self.new.shown.cursor.position) }
+        ensures no { IfOk result (λ b. b ≡ false → self.new.shown.marks ≡ no_marks) }
+        ensures err { OnErr result (self.new.shown.marks ≡ no_marks) }
         ensures refused { OnErr result (Refused Global) }
         ensures words { self.new.words ≡ self.old.words }
         ensures uni { self.new.table ≡ self.old.table }

@@ -50,7 +50,7 @@ pub(crate) fn show_at<S: StrDrive, A: Allocator + Copy>(
 
 impl<'c> SpanFinder<'c> {
     /// Searches the range, and returns whether there is a match, which the state then shows. If DFAs find its span, the
-    /// machine runs from its start alone.
+    /// machine runs from its start alone. Without a match the state has no captures. What it counts is unspecified.
     ///
     /// # Errors
     ///
@@ -65,6 +65,8 @@ impl<'c> SpanFinder<'c> {
             → IfOk result (λ b. answer_of b state.new ≡ found (asked_of req.entry) t) }
         ensures cursor { IfOk result
             (λ b. b ≡ true → stands_in req.entry state.new.cursor state.new.cursor.position) }
+        ensures no { IfOk result (λ b. b ≡ false → state.new.marks ≡ no_marks) }
+        ensures err { OnErr result (state.new.marks ≡ no_marks) }
         ensures refused { OnErr result (Refused A) }
         ensures code { self.new.code ≡ self.old.code }
         ensures encoding { self.new.encoding ≡ self.old.encoding }
@@ -74,8 +76,16 @@ impl<'c> SpanFinder<'c> {
         let (from, must_advance) = (req.start(), req.must_advance());
         let mut cursor = req.string().create_cursor(from);
         let mut places = AdmittedPlaces::new(state);
-        let Some(step) = self.step(&mut req, state, &mut cursor, &mut places)? else {
-            return Ok(false);
+        let step = match self.step(&mut req, state, &mut cursor, &mut places) {
+            Ok(Some(step)) => step,
+            Ok(None) => {
+                state.reset(&req, 0); // captures of an earlier search
+                return Ok(false);
+            }
+            Err(error) => {
+                state.reset(&req, 0);
+                return Err(error);
+            }
         };
         if step.is_shown {
             return Ok(true);

@@ -10,9 +10,9 @@ pub returns-clause-answer : goal.returns-clause-answer
 returns-clause-answer g c = λ t whole.
     let r = c.args.req in
     let u = c.step.new.req in
-    let from = c.in-Some.step.start in
+    let from = c.in-Ok-Some.step.start in
     let steps : StepsFrom {S = g.row.S.Denot} {text = g.S.StrDrive} r from u =
-    rw c.in-Some.is at c.in_ok-step.ensures.some in
+    rw c.in-Ok-Some.field-0-is at c.in-Ok-Some.ensures.some in
     let bars : c.bars-advances.result ≡ (must_advance_of r && nat_eq from.position (start_of r)) =
     rw (c.must_advance-must_advance.ensures, c.position.ensures, c.start-from.ensures.value)
     at c.bars-advances.ensures in
