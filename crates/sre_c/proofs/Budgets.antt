@@ -1,6 +1,6 @@
 -- What is left of a call's steps, and of those of the searches for some matches.
-use Rattle.std.proofs.Common.{◌≡◌, ◌≢◌, ◌≤◌, ◌+◌, ◌-◌, ℕ, List, [], ◌∷◌, ◌++◌, Bool, true, false, Option, None}
-use Rattle.std.proofs.Common.{Some, Result, Ok, Err, IfOk, inl, inr, refl, sym, subst, arith}
+use Rattle.std.proofs.Common.{◌≡◌, ◌≢◌, ◌+◌, ℕ, List, [], ◌∷◌, ◌++◌, Bool, true, false, Option, None}
+use Rattle.std.proofs.Common.{Some, Result, Ok, Err, IfOk, inr, refl, sym, subst, arith}
 use Rattle.std.specs.Global.{Global}
 use Rattle.sre_chars.specs.declared.string.StrDrive.{Ghosts}
 use Rattle.sre_growth.specs.Refusal.{Refused}

@@ -1,5 +1,5 @@
 -- What a search or a match answers, with the steps that it leaves.
-use Rattle.std.proofs.Common.{◌≡◌, ◌≤◌, ◌+◌, ◌-◌, ℕ, List, Bool, true, false, cond, Option, Some, Result, Ok, Err, IfOk}
+use Rattle.std.proofs.Common.{◌≡◌, ℕ, List, Bool, true, false, cond, Option, Some, Result, Ok, Err, IfOk}
 use Rattle.std.proofs.Common.{IfSome, OnErr, refl, sym, subst}
 use Rattle.std.specs.Global.{Global}
 use Rattle.sre_chars.specs.declared.string.StrDrive.{Ghosts}

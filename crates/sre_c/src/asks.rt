@@ -1,6 +1,6 @@
 //! How a text is searched: by the machine, and with DFAs where the text's type allows it.
 
-ghost use Rattle.std.specs.Prelude.{◌≡◌, ◌≤◌, ◌+◌, true};
+ghost use Rattle.std.specs.Prelude.{◌≡◌, ◌≤◌, true};
 ghost use Rattle.sre_engine.specs.Codes.{words_of};
 ghost use Rattle.sre_engine.specs.Requests.{string_of, asked_of, code_of};
 ghost use Rattle.sre_c.specs.Budgets.{no_limit};

@@ -20,7 +20,7 @@ use Rattle.sre_automata.specs.Told.{NoneLeft, NoneUpTo}
 use Rattle.sre_engine.specs.Starts.{NoneBetween}
 use Rattle.sre_finder.specs.Views.{SeenAs}
 use Rattle.sre_finder.specs.Finders.{Covering, CoveringAny, EndStands, NoneLeftOfAny}
-use Rattle.sre_finder.specs.Spans.{Exactly, ExactlyAny}
+use Rattle.sre_finder.specs.Spans.{ExactlyAny}
 
 module _ (encoding : Encoding) (a : Asked) (t : Tree) (re : Re) (place : ℕ → ℕ) (hay : List ℕ)
     (covers : CoversStart (view_of encoding) a.table re t) (seen : SeenAs encoding a.text place a.end hay) where

@@ -1,7 +1,7 @@
 use Rattle.std.proofs.Common.{◌≡◌, ◌&&◌, ◌∙◌, nat_eq, sym, subst}
 use Rattle.sre_model.specs.Grammar.{Whole}
 use Rattle.sre_code.specs.Codes.{words_of}
-use Rattle.sre_request.specs.Requests.{start_of, code_of, must_advance_of}
+use Rattle.sre_request.specs.Requests.{start_of, must_advance_of}
 use Rattle.sre_finder.specs.Spans.{StepsFrom}
 use Rattle.sre_finder.proofs.Spans.{found_behind}
 use Rattle.sre_finder.proofs.span_finder.SpanFinder.search.Goals as goal
