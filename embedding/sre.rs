@@ -69,7 +69,7 @@ pub struct Found {
 }
 
 /// `SRE_ABI` of the `sre.h` whose structs are above.
-pub const ABI: u32 = 2094452863;
+pub const ABI: u32 = 459789760;
 
 // The layout of `sre.h`: the engine would write past the end of a struct that is shorter.
 const _: () = {

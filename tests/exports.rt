@@ -67,5 +67,21 @@ fn main(rt: HostRuntime) -> Result<(), std::alloc::AllocError> {
     sre_walk_utf8(alloc, &code, &[], &asked, 1, &mut rows, &mut walked);
     sre_walk_points(alloc, &code, &[], &asked, 1, &mut rows, &mut walked);
     sre_walk_units(alloc, &code, &[], &asked, 1, &mut rows, &mut walked);
+    let mut pattern = SrePattern {
+        code,
+        kept: sre_handle::KeptSlot::empty(),
+        is_kept: false,
+    };
+    sre_pattern_answer_bytes(alloc, &mut pattern, &[], &asked, &mut found, &mut rows);
+    sre_pattern_answer_utf8(alloc, &mut pattern, &[], &asked, &mut found, &mut rows);
+    sre_pattern_walk_bytes(alloc, &mut pattern, &[], &asked, 1, &mut rows, &mut walked);
+    sre_pattern_walk_utf8(alloc, &mut pattern, &[], &asked, 1, &mut rows, &mut walked);
+    sre_pattern_free(alloc, &mut pattern);
+    let SrePattern {
+        code: _,
+        kept,
+        is_kept: _,
+    } = pattern;
+    kept.discard();
     Ok(())
 }

@@ -15,6 +15,7 @@ from repository import ROOT, read
 
 CRATE = f"{ROOT}/crates/sre_c"
 HEADER = "crates/sre_c/include/sre.h"
+SOURCES = ("status", "types", "code", "pattern", "lib")
 # What returns the number of the ABI, and the modules that declare the structs anew: how each writes the number.
 NUMBERED = {
     "crates/sre_c/src/lib.rt": r"fn sre_abi\(\) -> u32\n    ensures \{ result ≡ (\d+) \}",
@@ -26,12 +27,14 @@ PAIRS, CALLED = "crates/sre_chars/src/table/entries.rt", {"UniPair": "sre_pair"}
 
 NUMBERS = {"u8": "uint8_t", "u16": "uint16_t", "u32": "uint32_t", "u64": "uint64_t", "usize": "size_t",
            "isize": "ptrdiff_t", "bool": "bool"}
+# A capability is nothing in C, and what a pattern keeps is the library's.
+OTHERS = {"Global": [], "KeptSlot": ["void *{}"]}
 POINTER = re.compile(r"&(?:'a )?(mut )?(\[?)(\w+)(?:<'\w+>|\])?")
 
 STATUS = re.compile(r"Status::(\w+) => (\d+),")
 STRUCT = re.compile(r"#\[repr\(C\)\]\n(?:#\[[^\n]*\]\n)*pub struct (\w+)(?:<'a>)? \{\n(.*?)\n\}", re.S)
 FIELD = re.compile(r"    (?:pub )?(\w+): (.*),")
-EXPORT = re.compile(r'#\[unsafe\(no_mangle\)\]\npub extern "C" fn (\w+)\((.*?)\) -> (\w+)\n', re.S)
+EXPORT = re.compile(r'#\[unsafe\(no_mangle\)\]\npub extern "C" fn (\w+)\(([^)]*)\)(?: -> (\w+))?\n')
 PARAMETER = re.compile(r"(\w+): ([^,]+)")
 SIZE = re.compile(r"size_of::<(\w+)>\(\) == (\d+)")
 
@@ -54,8 +57,8 @@ def type_of(written):
 
 def declared(name, written):
     """How C declares a field or a parameter of a type: in one part, a slice in two, and a `Global` in none."""
-    if written == "Global":
-        return []
+    if written in OTHERS:
+        return [it.format(name) for it in OTHERS[written]]
     found = POINTER.fullmatch(written)
     if not found:
         return [f"{type_of(written.partition('<')[0])} {name}"]
@@ -69,12 +72,12 @@ def joined(pairs):
 
 def exported():
     """What the crate exports, as C declares it, by the name, and the number of all that."""
-    status, types, code, root = (read(f"{CRATE}/src/{it}.rt") for it in ("status", "types", "code", "lib"))
+    status, types, code, pattern, root = (read(f"{CRATE}/src/{it}.rt") for it in SOURCES)
     found = {f"SRE_{in_words(name).upper()}": number for name, number in STATUS.findall(status)}
-    structs = STRUCT.findall(types + code + read(f"{ROOT}/{PAIRS}"))
+    structs = STRUCT.findall(types + code + pattern + read(f"{ROOT}/{PAIRS}"))
     found.update({type_of(name): joined(FIELD.findall(body)) for name, body in structs})
     for name, parameters, result in EXPORT.findall(root):
-        found[name] = f"{type_of(result)} ({joined(PARAMETER.findall(parameters)) or 'void'})"
+        found[name] = f"{type_of(result) if result else 'void'} ({joined(PARAMETER.findall(parameters)) or 'void'})"
     lines = "".join(f"{name}: {it}\n" for name, it in sorted(found.items()))
     # an `int` in C
     return {**found, "SRE_ABI": str(int(hashlib.sha256(lines.encode()).hexdigest()[:8], 16) >> 1)}
@@ -115,5 +118,5 @@ def unlike():
             yield f"{HEADER} has {name} as {in_c}, and sre_c as {in_crate}"
     yield from other_numbers(own["SRE_ABI"])
     marked = read(f"{CRATE}/src/lib.rt").count("no_mangle")
-    if marked != sum(it.startswith("uint32_t (") for it in own.values()):
+    if marked != sum(it.startswith(("uint32_t (", "void (")) for it in own.values()):
         yield f"crates/sre_c/src/lib.rt marks {marked} functions, and not all of them are read"

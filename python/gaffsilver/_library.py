@@ -11,7 +11,7 @@ TYPE_CHECKING = False
 if TYPE_CHECKING:
     from typing import Any
 
-ABI = 2094452863  # SRE_ABI of the `sre.h` whose structs are below
+ABI = 459789760  # SRE_ABI of the `sre.h` whose structs are below
 NO, YES, STEP_LIMIT, MEMORY, NO_CODE, NO_ROOM = range(6)
 UNSET = FOREVER = 2**64 - 1
 

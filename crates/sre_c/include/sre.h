@@ -1,7 +1,7 @@
 /* Gaffsilver, Python's regex engine SRE, for C: bytecode and a text in, a match out.
  *
- * The caller owns its bytecode, lists and texts, and passes plain structs that point to them. No function allocates
- * memory for the caller, so there is nothing to free. Each function has a contract in crates/sre_c/src/lib.rt, which is
+ * The caller owns its bytecode, lists and texts, and passes plain structs that point to them. Only a sre_pattern keeps
+ * memory of the library, until sre_pattern_free. Each function has a contract in crates/sre_c/src/lib.rt, which is
  * proved.
  *
  *     static const uint32_t words[] = {17, 0, 16, 97, 17, 1, 16, 98, 1};            // (a)b
@@ -26,8 +26,13 @@
  *
  * `steps` limits the steps of a call. UINT64_MAX means no limit, and is returned as it was given. A call over bytes or
  * UTF-8 builds lazy DFAs once the backtracking machine has spent about as much time as that takes. They find where a
- * match can begin or, without a limit, its start and end. The matches are the same. Each such call builds its DFAs and
- * frees them, so one call with many rows costs less than a call for each row.
+ * match can begin or, without a limit, its start and end. The matches are the same. A call by a code builds its DFAs
+ * and frees them. A call by a sre_pattern goes on with what earlier calls by it have spent and built, so a program that
+ * searches many short texts has DFAs, too:
+ *
+ *     sre_pattern pattern = {.code = code};
+ *     status = sre_pattern_answer_bytes(&pattern, (const uint8_t *)"xab", 3, &asked, &found, marks, 2);
+ *     sre_pattern_free(&pattern);
  */
 #ifndef SRE_H
 #define SRE_H
@@ -43,7 +48,7 @@ extern "C" {
 
 /* The number of the declarations below, and the result of sre_abi. It changes with each status, struct and function. So
  * a program that was compiled with the header of another library can find that out. */
-#define SRE_ABI 2094452863
+#define SRE_ABI 459789760
 
 /* What a function returns. */
 #define SRE_NO 0           /* there is no match, or no further one */
@@ -110,6 +115,15 @@ typedef struct sre_code {
   bool checked;    /* only sre_check_code sets it */
 } sre_code;
 
+/* A code, and the DFAs that calls by this struct have built. A caller fills in the code, zeros the rest and calls
+ * sre_pattern_free at the end. While something is kept, the struct is not copied, and neither its words nor its table
+ * change. Only one thread at a time uses it. */
+typedef struct sre_pattern {
+  sre_code code;
+  void *kept;   /* the library's own */
+  bool is_kept; /* whether something is kept */
+} sre_pattern;
+
 /* A request: a range of characters, a step limit, and flags. */
 typedef struct sre_asked {
   size_t start; /* clamped to the end */
@@ -145,6 +159,7 @@ static_assert(sizeof(sre_pair) == 8, "sre_pair");
 static_assert(sizeof(sre_table) == 72, "sre_table");
 static_assert(sizeof(sre_hints) == 28, "sre_hints");
 static_assert(sizeof(sre_code) == 72, "sre_code");
+static_assert(sizeof(sre_pattern) == 88, "sre_pattern");
 static_assert(sizeof(sre_asked) == 32, "sre_asked");
 static_assert(sizeof(sre_found) == 40, "sre_found");
 static_assert(sizeof(sre_walked) == 40, "sre_walked");
@@ -194,6 +209,20 @@ uint32_t sre_walk_points(const sre_code *code, const uint32_t *text, size_t text
                          size_t width, size_t *rows, size_t rows_count, sre_walked *walked);
 uint32_t sre_walk_units(const sre_code *code, const uint16_t *text, size_t text_count, const sre_asked *asked,
                         size_t width, size_t *rows, size_t rows_count, sre_walked *walked);
+
+/* The same for the code of a pattern, which keeps the DFAs that these calls build. If it has no room for them, a call
+ * does not fail for that, and the next one builds anew. */
+uint32_t sre_pattern_answer_bytes(sre_pattern *pattern, const uint8_t *text, size_t text_count, const sre_asked *asked,
+                                  sre_found *found, size_t *marks, size_t marks_count);
+uint32_t sre_pattern_answer_utf8(sre_pattern *pattern, const uint8_t *text, size_t text_count, const sre_asked *asked,
+                                 sre_found *found, size_t *marks, size_t marks_count);
+uint32_t sre_pattern_walk_bytes(sre_pattern *pattern, const uint8_t *text, size_t text_count, const sre_asked *asked,
+                                size_t width, size_t *rows, size_t rows_count, sre_walked *walked);
+uint32_t sre_pattern_walk_utf8(sre_pattern *pattern, const uint8_t *text, size_t text_count, const sre_asked *asked,
+                               size_t width, size_t *rows, size_t rows_count, sre_walked *walked);
+
+/* Frees what a pattern keeps, if there is something. It can be used again, and then builds anew. */
+void sre_pattern_free(sre_pattern *pattern);
 
 #ifdef __cplusplus
 }

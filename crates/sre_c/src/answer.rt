@@ -63,14 +63,16 @@ fn copy_marks(from: &[Option<usize>], marks: &mut [usize]) -> bool
 #[tactic(auto, using(crate::proofs::Finding::searched))]
 fn ask<S: StrDrive, H: Asks<S>>(
     alloc: Global,
-    how: &H,
+    how: &mut H,
     state: &mut State<Global>,
     request: Request<'_, S>,
     search: bool,
     steps: &mut u64,
 ) -> Result<Option<bool>, SreError>
-    ensures { Finds (words_of (code_of request.entry)) (asked_of request.entry) search result state.new steps.old
+    requires suits { H.suits how.old (words_of (code_of request)) (uni_of (code_of request)) }
+    ensures finds { Finds (words_of (code_of request.entry)) (asked_of request.entry) search result state.new steps.old
         steps.new }
+    ensures suits { H.suits how.new (words_of (code_of request.entry)) (uni_of (code_of request.entry)) }
 {
     if search {
         how.search(alloc, state, &request, steps)
@@ -125,16 +127,18 @@ fn tell(
 #[inline(always)]
 fn reply<S: StrDrive, H: Asks<S>>(
     alloc: Global,
-    how: &H,
+    how: &mut H,
     request: Request<'_, S>,
     asked: &SreAsked,
     found: &mut SreFound,
     marks: &mut [usize],
 ) -> Status
+    requires suits { H.suits how.old (words_of (code_of request)) (uni_of (code_of request)) }
     ensures replies { Replies (words_of (code_of request.entry)) (asked_of request.entry) asked.now.search result
         asked.now.steps (length marks.old) found.new marks.new }
     ensures steps { found.new.steps ≤ asked.now.steps }
     ensures unlimited { asked.now.steps ≡ no_limit → found.new.steps ≡ asked.now.steps }
+    ensures suits { H.suits how.new (words_of (code_of request.entry)) (uni_of (code_of request.entry)) }
 {
     let mut state = State::new(alloc);
     let mut steps = asked.steps;
@@ -146,7 +150,7 @@ fn reply<S: StrDrive, H: Asks<S>>(
 // The match of a code whose table is at hand, as `answer` returns it.
 fn answer_by<'a, S: StrDrive, H: Asks<S>>(
     alloc: Global,
-    how: &H,
+    how: &mut H,
     code: &'a SreCode<'a>,
     uni: &'a LentTable<'a>,
     text: S,
@@ -156,9 +160,11 @@ fn answer_by<'a, S: StrDrive, H: Asks<S>>(
 ) -> Status
     requires table { uni.now ≡ table_in code.now.table.now }
     requires steps { found.old.steps ≡ asked.now.steps }
+    requires suits { H.suits how.old code.now.words.now (table_in code.now.table.now) }
     ensures answers { Answers result code.now (S.text text) asked.now (length marks.old) found.new marks.new }
     ensures steps { found.new.steps ≤ asked.now.steps }
     ensures unlimited { asked.now.steps ≡ no_limit → found.new.steps ≡ asked.now.steps }
+    ensures suits { H.suits how.new code.now.words.now (table_in code.now.table.now) }
 {
     let code = match check::code(alloc, code, uni) {
         Ok(code) => code,
@@ -172,16 +178,18 @@ fn answer_by<'a, S: StrDrive, H: Asks<S>>(
 /// Writes the match, its captures if there is room for them, and the steps that are left.
 pub fn answer<'c, S: StrDrive, H: Asks<S>>(
     alloc: Global,
-    how: &H,
+    how: &mut H,
     code: &'c SreCode<'c>,
     text: S,
     asked: &SreAsked,
     found: &mut SreFound,
     marks: &mut [usize],
 ) -> Status
+    requires suits { H.suits how.old code.now.words.now (table_in code.now.table.now) }
     ensures answers { Answers result code.now (S.text text) asked.now (length marks.old) found.new marks.new }
     ensures steps { found.new.steps ≤ asked.now.steps }
     ensures unlimited { asked.now.steps ≡ no_limit → found.new.steps ≡ asked.now.steps }
+    ensures suits { H.suits how.new code.now.words.now (table_in code.now.table.now) }
 {
     found.steps = asked.steps;
     match table(alloc, code.table) {

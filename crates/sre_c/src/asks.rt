@@ -1,8 +1,10 @@
 //! How a text is searched: by the machine, and with DFAs where the text's type allows it.
 
-ghost use Rattle.std.specs.Prelude.{◌≡◌, ◌≤◌, true};
-ghost use Rattle.sre_engine.specs.Codes.{words_of};
+ghost use Rattle.std.specs.Prelude.{◌≡◌, ◌≤◌, ⊤, ℕ, List, true, None};
+ghost use Rattle.sre_chars.specs.Tables.{Table};
+ghost use Rattle.sre_engine.specs.Codes.{words_of, uni_of};
 ghost use Rattle.sre_engine.specs.Requests.{string_of, asked_of, code_of};
+ghost use Rattle.sre_finder.specs.Kepts.{Suits};
 ghost use Rattle.sre_c.specs.Budgets.{no_limit};
 ghost use Rattle.sre_c.specs.Replies.{told_of, Finds};
 ghost use Rattle.sre_c.specs.Rows.{Writes};
@@ -13,7 +15,7 @@ use crate::types::SreWalked;
 use crate::walk::write_rows;
 use sre_engine::engine::{Nobody, Starts};
 use sre_engine::{Request, SearchIter, SreError, State, StrDrive};
-use sre_finder::{Finder, Haystack, SpanFinder};
+use sre_finder::{Haystack, Kept, SpanFinder};
 use std::alloc::Global;
 
 /// The budget of a call without a step limit.
@@ -31,43 +33,48 @@ pub fn answered(found: Result<bool, SreError>) -> Result<Option<bool>, SreError>
 
 /// What searches texts of one type.
 pub trait Asks<S: StrDrive> {
+    // What it has built is of a code with these words and this table.
+    ghost suits: { Self → List ℕ → Table → Type 0 };
+
     /// Searches a range, and returns whether there is a match, within a budget of steps.
     fn search(
-        &self,
+        &mut self,
         alloc: Global,
         state: &mut State<Global>,
         request: &Request<'_, S>,
         steps: &mut u64,
     ) -> Result<Option<bool>, SreError>
-        ensures { Finds (words_of (code_of request.now)) (asked_of request.now) true result state.new steps.old
-            steps.new };
+        requires suits { suits self.old (words_of (code_of request.now)) (uni_of (code_of request.now)) }
+        ensures finds { Finds (words_of (code_of request.now)) (asked_of request.now) true result state.new steps.old
+            steps.new }
+        ensures suits { suits self.new (words_of (code_of request.now)) (uni_of (code_of request.now)) };
 
     /// Writes the matches of a range, row by row, until there is no room for one more row, or no match.
     fn write(
-        &self,
+        &mut self,
         alloc: Global,
         request: &Request<'_, S>,
         width: usize,
         rows: &mut [usize],
         walked: &mut SreWalked,
     ) -> Status
+        requires suits { suits self.old (words_of (code_of request.now)) (uni_of (code_of request.now)) }
         requires none { walked.old.count ≡ 0 }
         ensures rows { Writes result request.now walked.old.steps width walked.new rows.new }
         ensures steps { walked.new.steps ≤ walked.old.steps }
-        ensures unlimited { walked.old.steps ≡ no_limit → walked.new.steps ≡ walked.old.steps };
+        ensures unlimited { walked.old.steps ≡ no_limit → walked.new.steps ≡ walked.old.steps }
+        ensures suits { suits self.new (words_of (code_of request.now)) (uni_of (code_of request.now)) };
 }
 
 /// The machine alone, for texts of any type.
 #[derive(Clone, Copy)]
 pub struct Machine;
 
-/// The machine and DFAs, for bytes and UTF-8. DFAs are built once the machine has spent as much as that costs.
-#[derive(Clone, Copy)]
-pub struct WithAutomata;
-
 impl<S: StrDrive> Asks<S> for Machine {
+    ghost suits = { λ _ words table. ⊤ };
+
     fn search(
-        &self,
+        &mut self,
         _alloc: Global,
         state: &mut State<Global>,
         request: &Request<'_, S>,
@@ -83,7 +90,7 @@ impl<S: StrDrive> Asks<S> for Machine {
     }
 
     fn write(
-        &self,
+        &mut self,
         alloc: Global,
         request: &Request<'_, S>,
         width: usize,
@@ -94,49 +101,69 @@ impl<S: StrDrive> Asks<S> for Machine {
     }
 }
 
-impl<S: Haystack> Asks<S> for WithAutomata {
+/// The machine and DFAs, for bytes and UTF-8. DFAs are built once the machine has spent as much as that costs.
+impl<S: Haystack> Asks<S> for Kept {
+    ghost suits = { λ kept words table. Suits words table kept };
+
     fn search(
-        &self,
+        &mut self,
         alloc: Global,
         state: &mut State<Global>,
         request: &Request<'_, S>,
         steps: &mut u64,
     ) -> Result<Option<bool>, SreError> {
-        let encoding = request.string().encoding(request.end());
-        let mut finder = Finder::on_demand(alloc, request.pattern_codes(), encoding);
+        let mut finder = finder_in(alloc, self, request);
         let Ok(request) = request.clone() else {
             unreachable!(); // it takes no memory
         };
-        if *steps == NO_LIMIT {
-            return answered(finder.search(request, state));
-        }
-        finder.search_within(request, state, steps)
+        let told = if *steps == NO_LIMIT {
+            answered(finder.search(request, state))
+        } else {
+            finder.search_within(request, state, steps)
+        };
+        *self = finder.into_kept();
+        told
     }
 
     // Captures of a span, and what the DFAs leave open, cost steps that nothing counts. So within a limit the machine
     // finds each match, with a prefilter.
     fn write(
-        &self,
+        &mut self,
         alloc: Global,
         request: &Request<'_, S>,
         width: usize,
         rows: &mut [usize],
         walked: &mut SreWalked,
     ) -> Status {
-        let (code, encoding) = (
-            request.pattern_codes(),
-            request.string().encoding(request.end()),
-        );
+        let mut finder = finder_in(alloc, self, request);
         if walked.steps == NO_LIMIT {
-            let finder = SpanFinder::on_demand(alloc, code, encoding);
-            return write_by_spans(alloc, request, finder, width, rows, walked);
+            let (status, kept) = write_by_spans(alloc, request, finder, width, rows, walked);
+            *self = kept;
+            return status;
         }
-        let mut finder = Finder::on_demand(alloc, code, encoding);
-        write_by(alloc, request, &mut finder, width, rows, walked)
+        finder.reset();
+        let status = write_by(alloc, request, &mut finder, width, rows, walked);
+        *self = finder.into_kept();
+        status
     }
 }
 
-// Writes the matches by the machine, or by DFAs that find spans once they are built.
+// The finder of a request's code with what is kept, which is taken out.
+fn finder_in<'a, S: Haystack>(
+    alloc: Global,
+    kept: &mut Kept,
+    request: &Request<'a, S>,
+) -> SpanFinder<'a>
+    requires suits { Suits (words_of (code_of request.now)) (uni_of (code_of request.now)) kept.old }
+    ensures own { result.code ≡ code_of request.now }
+    ensures end { result.end ≡ None }
+    ensures suits { Suits (words_of (code_of request.now)) (uni_of (code_of request.now)) kept.new }
+{
+    let encoding = request.string().encoding(request.end());
+    kept.take(alloc, request.pattern_codes(), encoding)
+}
+
+// Writes the matches by the machine, or by DFAs that find spans once they are built. Also returns what is kept.
 fn write_by_spans<S: Haystack>(
     alloc: Global,
     request: &Request<'_, S>,
@@ -144,18 +171,20 @@ fn write_by_spans<S: Haystack>(
     width: usize,
     rows: &mut [usize],
     walked: &mut SreWalked,
-) -> Status
+) -> (Status, Kept)
     requires own { finder.code ≡ code_of request.now }
     requires none { walked.old.count ≡ 0 }
-    ensures rows { Writes result request.now walked.old.steps width walked.new rows.new }
+    ensures rows { Writes result.0 request.now walked.old.steps width walked.new rows.new }
     ensures steps { walked.new.steps ≤ walked.old.steps }
     ensures unlimited { walked.old.steps ≡ no_limit → walked.new.steps ≡ walked.old.steps }
+    ensures suits { Suits (words_of (code_of request.now)) (uni_of (code_of request.now)) result.1 }
 {
     let Ok(request) = request.clone() else {
         unreachable!(); // it takes no memory
     };
     let mut walk = finder.walk(request, State::new(alloc));
-    write_spans(&mut walk, width, rows, walked)
+    let status = write_spans(&mut walk, width, rows, walked);
+    (status, walk.into_finder().into_kept())
 }
 
 // Writes the matches of a range. The searches skip the starts that the prefilter excludes.

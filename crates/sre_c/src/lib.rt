@@ -6,7 +6,7 @@
 //! carries the result as a fact.
 #![tactic(auto)]
 
-ghost use Rattle.std.specs.Prelude.{◌≡◌, ◌≤◌, length};
+ghost use Rattle.std.specs.Prelude.{◌≡◌, ◌≤◌, length, None};
 ghost use Rattle.sre_c.specs.Statuses.{Tells};
 ghost use Rattle.sre_c.specs.Known.{table_in};
 ghost use Rattle.sre_c.specs.Given.{InUtf8};
@@ -22,7 +22,9 @@ mod asks;
 mod beginnings;
 mod check;
 mod code;
+mod keep;
 mod numbers;
+mod pattern;
 mod spans;
 mod status;
 mod step_bound;
@@ -31,11 +33,13 @@ mod types;
 mod walk;
 
 use answer::answer;
-use asks::{Machine, WithAutomata};
+use asks::Machine;
 use beginnings::begins;
 use check::check_code;
 use code::SreCode;
+use keep::{answer_by_pattern, fresh, take, walk_by_pattern};
 use numbers::{Points, Units};
+use pattern::SrePattern;
 use status::Status;
 use std::alloc::Global;
 use step_bound::step_bound;
@@ -47,9 +51,9 @@ use walk::{begun, walk};
 /// (`tools/header.py`).
 #[unsafe(no_mangle)]
 pub extern "C" fn sre_abi() -> u32
-    ensures { result ≡ 2094452863 }
+    ensures { result ≡ 459789760 }
 {
-    2_094_452_863
+    459_789_760
 }
 
 /// Checks the lists of a table, and sets `checked` and `error`.
@@ -115,7 +119,7 @@ pub extern "C" fn sre_answer_bytes(
     ensures steps { found.new.steps ≤ asked.now.steps }
     ensures unlimited { asked.now.steps ≡ no_limit → found.new.steps ≡ asked.now.steps }
 {
-    answer(alloc, &WithAutomata, code, text, asked, found, marks).number()
+    answer(alloc, &mut fresh(), code, text, asked, found, marks).number()
 }
 
 /// The match in UTF-8, whose code points are the characters.
@@ -136,7 +140,7 @@ pub extern "C" fn sre_answer_utf8(
     ensures unlimited { asked.now.steps ≡ no_limit → found.new.steps ≡ asked.now.steps }
 {
     let status = match str::from_utf8(text) {
-        Ok(text) => answer(alloc, &WithAutomata, code, text, asked, found, marks),
+        Ok(text) => answer(alloc, &mut fresh(), code, text, asked, found, marks),
         Err(_) => {
             found.steps = asked.steps;
             Status::NotUtf8
@@ -162,7 +166,7 @@ pub extern "C" fn sre_answer_points(
 {
     answer(
         alloc,
-        &Machine,
+        &mut Machine,
         code,
         Points { points: text },
         asked,
@@ -189,7 +193,7 @@ pub extern "C" fn sre_answer_units(
 {
     answer(
         alloc,
-        &Machine,
+        &mut Machine,
         code,
         Units { units: text },
         asked,
@@ -215,7 +219,7 @@ pub extern "C" fn sre_walk_bytes(
     ensures steps { walked.new.steps ≤ asked.now.steps }
     ensures unlimited { asked.now.steps ≡ no_limit → walked.new.steps ≡ asked.now.steps }
 {
-    walk(alloc, &WithAutomata, code, text, asked, width, rows, walked).number()
+    walk(alloc, &mut fresh(), code, text, asked, width, rows, walked).number()
 }
 
 /// All matches in UTF-8, whose code points are the characters, in rows.
@@ -236,7 +240,7 @@ pub extern "C" fn sre_walk_utf8(
     ensures unlimited { asked.now.steps ≡ no_limit → walked.new.steps ≡ asked.now.steps }
 {
     let status = match str::from_utf8(text) {
-        Ok(text) => walk(alloc, &WithAutomata, code, text, asked, width, rows, walked),
+        Ok(text) => walk(alloc, &mut fresh(), code, text, asked, width, rows, walked),
         Err(_) => {
             *walked = begun(asked);
             Status::NotUtf8
@@ -263,7 +267,7 @@ pub extern "C" fn sre_walk_points(
 {
     walk(
         alloc,
-        &Machine,
+        &mut Machine,
         code,
         Points { points: text },
         asked,
@@ -292,7 +296,7 @@ pub extern "C" fn sre_walk_units(
 {
     walk(
         alloc,
-        &Machine,
+        &mut Machine,
         code,
         Units { units: text },
         asked,
@@ -301,4 +305,108 @@ pub extern "C" fn sre_walk_units(
         walked,
     )
     .number()
+}
+
+/// `sre_answer_bytes` for the code of a pattern, which keeps the DFAs that its calls build.
+#[unsafe(no_mangle)]
+pub extern "C" fn sre_pattern_answer_bytes(
+    alloc: Global,
+    pattern: &mut SrePattern<'_>,
+    text: &[u8],
+    asked: &SreAsked,
+    found: &mut SreFound,
+    marks: &mut [usize],
+) -> u32
+    ensures answers { Tells result (λ status.
+        Answers status pattern.old.code text.now asked.now (length marks.old) found.new marks.new) }
+    ensures steps { found.new.steps ≤ asked.now.steps }
+    ensures unlimited { asked.now.steps ≡ no_limit → found.new.steps ≡ asked.now.steps }
+    ensures code { pattern.new.code ≡ pattern.old.code }
+{
+    answer_by_pattern(alloc, pattern, text, asked, found, marks).number()
+}
+
+/// `sre_answer_utf8` for the code of a pattern, which keeps the DFAs that its calls build.
+#[unsafe(no_mangle)]
+pub extern "C" fn sre_pattern_answer_utf8(
+    alloc: Global,
+    pattern: &mut SrePattern<'_>,
+    text: &[u8],
+    asked: &SreAsked,
+    found: &mut SreFound,
+    marks: &mut [usize],
+) -> u32
+    ensures answers { Tells result (λ status.
+        InUtf8 status text.now (λ chars.
+        Answers status pattern.old.code chars asked.now (length marks.old) found.new marks.new)
+        (found.new.steps ≡ asked.now.steps)) }
+    ensures steps { found.new.steps ≤ asked.now.steps }
+    ensures unlimited { asked.now.steps ≡ no_limit → found.new.steps ≡ asked.now.steps }
+    ensures code { pattern.new.code ≡ pattern.old.code }
+{
+    let status = match str::from_utf8(text) {
+        Ok(text) => answer_by_pattern(alloc, pattern, text, asked, found, marks),
+        Err(_) => {
+            found.steps = asked.steps;
+            Status::NotUtf8
+        }
+    };
+    status.number()
+}
+
+/// `sre_walk_bytes` for the code of a pattern, which keeps the DFAs that its calls build.
+#[unsafe(no_mangle)]
+pub extern "C" fn sre_pattern_walk_bytes(
+    alloc: Global,
+    pattern: &mut SrePattern<'_>,
+    text: &[u8],
+    asked: &SreAsked,
+    width: usize,
+    rows: &mut [usize],
+    walked: &mut SreWalked,
+) -> u32
+    ensures walks { Tells result (λ status.
+        Walks status pattern.old.code text.now asked.now width walked.new rows.new) }
+    ensures steps { walked.new.steps ≤ asked.now.steps }
+    ensures unlimited { asked.now.steps ≡ no_limit → walked.new.steps ≡ asked.now.steps }
+    ensures code { pattern.new.code ≡ pattern.old.code }
+{
+    walk_by_pattern(alloc, pattern, text, asked, width, rows, walked).number()
+}
+
+/// `sre_walk_utf8` for the code of a pattern, which keeps the DFAs that its calls build.
+#[unsafe(no_mangle)]
+pub extern "C" fn sre_pattern_walk_utf8(
+    alloc: Global,
+    pattern: &mut SrePattern<'_>,
+    text: &[u8],
+    asked: &SreAsked,
+    width: usize,
+    rows: &mut [usize],
+    walked: &mut SreWalked,
+) -> u32
+    ensures walks { Tells result (λ status.
+        InUtf8 status text.now (λ chars. Walks status pattern.old.code chars asked.now width walked.new rows.new)
+        (walked.new ≡ begun_of asked.now)) }
+    ensures steps { walked.new.steps ≤ asked.now.steps }
+    ensures unlimited { asked.now.steps ≡ no_limit → walked.new.steps ≡ asked.now.steps }
+    ensures code { pattern.new.code ≡ pattern.old.code }
+{
+    let status = match str::from_utf8(text) {
+        Ok(text) => walk_by_pattern(alloc, pattern, text, asked, width, rows, walked),
+        Err(_) => {
+            *walked = begun(asked);
+            Status::NotUtf8
+        }
+    };
+    status.number()
+}
+
+/// Frees what a pattern keeps. It can be used again, and then builds anew.
+#[unsafe(no_mangle)]
+pub extern "C" fn sre_pattern_free(alloc: Global, pattern: &mut SrePattern<'_>)
+    ensures code { pattern.new.code ≡ pattern.old.code }
+    ensures empty { pattern.new.kept.code ≡ None }
+{
+    drop(take(alloc, pattern));
 }

@@ -152,7 +152,7 @@ pub fn write_rows<S: StrDrive, F: Starts<S>>(
 // Writes the matches of a code whose table is at hand.
 fn walk_by<'a, S: StrDrive, H: Asks<S>>(
     alloc: Global,
-    how: &H,
+    how: &mut H,
     code: &'a SreCode<'a>,
     uni: &'a LentTable<'a>,
     text: S,
@@ -163,9 +163,11 @@ fn walk_by<'a, S: StrDrive, H: Asks<S>>(
 ) -> Status
     requires table { uni.now ≡ table_in code.now.table.now }
     requires begun { walked.old ≡ begun_of asked.now }
+    requires suits { H.suits how.old code.now.words.now (table_in code.now.table.now) }
     ensures walks { Walks result code.now (S.text text) asked.now width walked.new rows.new }
     ensures steps { walked.new.steps ≤ asked.now.steps }
     ensures unlimited { asked.now.steps ≡ no_limit → walked.new.steps ≡ asked.now.steps }
+    ensures suits { H.suits how.new code.now.words.now (table_in code.now.table.now) }
 {
     let code = match check::code(alloc, code, uni) {
         Ok(code) => code,
@@ -179,7 +181,7 @@ fn walk_by<'a, S: StrDrive, H: Asks<S>>(
 /// Writes the matches, each in `width` numbers, and how to continue.
 pub fn walk<'c, S: StrDrive, H: Asks<S>>(
     alloc: Global,
-    how: &H,
+    how: &mut H,
     code: &'c SreCode<'c>,
     text: S,
     asked: &SreAsked,
@@ -187,9 +189,11 @@ pub fn walk<'c, S: StrDrive, H: Asks<S>>(
     rows: &mut [usize],
     walked: &mut SreWalked,
 ) -> Status
+    requires suits { H.suits how.old code.now.words.now (table_in code.now.table.now) }
     ensures walks { Walks result code.now (S.text text) asked.now width walked.new rows.new }
     ensures steps { walked.new.steps ≤ asked.now.steps }
     ensures unlimited { asked.now.steps ≡ no_limit → walked.new.steps ≡ asked.now.steps }
+    ensures suits { H.suits how.new code.now.words.now (table_in code.now.table.now) }
 {
     *walked = begun(asked);
     match table(alloc, code.table) {

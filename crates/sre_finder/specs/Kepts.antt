@@ -6,6 +6,8 @@ use Rattle.sre_chars.specs.declared.constants.EmptyRule.TheVariants.{Never}
 use Rattle.sre_model.specs.Found.{Asked}
 use Rattle.sre_code.specs.Codes.{words_of, uni_of}
 use Rattle.sre_code.specs.declared.code.Code.{Code}
+use Rattle.sre_patterns.specs.declared.encoding.Encoding.{Encoding}
+use Rattle.sre_patterns.specs.declared.encoding.Encoding.TheVariants.{Bytes, Ascii, Utf8}
 use Rattle.sre_finder.specs.Finders.{CoveringAny}
 use Rattle.sre_finder.specs.Spans.{ExactlyAny}
 use Rattle.sre_finder.specs.declared.kept.Kept.{Kept}
@@ -17,6 +19,14 @@ pub record Suits (ws : List ℕ) (uni : Table) (kept : Kept) : Type 0 where
   pub whole : (code : Code) → words_of code ≡ ws → uni_of code ≡ uni
       → CoveringAny kept.starts.encoding code kept.starts.whole
   pub exact : (code : Code) → words_of code ≡ ws → uni_of code ≡ uni → ExactlyAny kept.encoding code kept.exact
+
+-- how a text is read beside others that were read: once one was not ASCII, all as UTF-8
+abbrev pub encoding_beside : Encoding → Encoding → Encoding
+encoding_beside Bytes encoding = encoding
+encoding_beside Ascii encoding = encoding
+encoding_beside Utf8 Bytes = Bytes
+encoding_beside Utf8 Ascii = Utf8
+encoding_beside Utf8 Utf8 = Utf8
 
 -- what a search of a text asks, between two positions
 abbrev pub search_of : List ℕ → Table → ℕ → ℕ → Asked

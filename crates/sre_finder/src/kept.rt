@@ -3,7 +3,7 @@
 ghost use Rattle.std.specs.Prelude.{◌≡◌, ℕ, List, None};
 ghost use Rattle.sre_chars.specs.Tables.{Table};
 ghost use Rattle.sre_code.specs.Codes.{words_of, uni_of};
-ghost use Rattle.sre_finder.specs.Kepts.{Suits};
+ghost use Rattle.sre_finder.specs.Kepts.{Suits, encoding_beside};
 
 use crate::finder::Parts;
 use crate::pace::{Debt, Pace};
@@ -12,6 +12,7 @@ use sre_automata::Seeker;
 use sre_code::Code;
 use sre_patterns::Encoding;
 use std::alloc::Global;
+use std::mem::replace;
 
 /// The DFAs of a code, and what the machine has still to spend before they are built. A pattern that is kept for many
 /// texts owns its code and this, and makes a [`SpanFinder`] of both for each text.
@@ -39,6 +40,16 @@ impl Drop for Kept {
     }
 }
 
+// In which encoding a text is read, beside others that were read in one.
+fn encoding_beside(before: Encoding, encoding: Encoding) -> Encoding
+    ensures { result ≡ encoding_beside before encoding }
+{
+    match (before, encoding) {
+        (Encoding::Utf8, Encoding::Ascii) => Encoding::Utf8,
+        _ => encoding,
+    }
+}
+
 impl Kept {
     /// Nothing is built yet. It suits any code.
     pub fn new(encoding: Encoding) -> Kept
@@ -63,15 +74,28 @@ impl Kept {
         }
     }
 
-    /// The encoding of the texts that the DFAs read.
-    pub fn encoding(&self) -> Encoding
-        ensures { result ≡ self.now.encoding }
+    /// Takes out what is kept, and returns the finder of a code with it, for a text that is read in an encoding. DFAs
+    /// that read another encoding are dropped, and the finder builds its own later. But once a `str` was not ASCII, all
+    /// are read as UTF-8. [`SpanFinder::into_kept`] returns what to put back.
+    pub fn take<'c>(&mut self, alloc: Global, code: Code<'c>, encoding: Encoding) -> SpanFinder<'c>
+        requires { Suits (words_of code) (uni_of code) self.old }
+        ensures code { result.code ≡ code.entry }
+        ensures encoding { result.encoding ≡ encoding_beside self.old.encoding encoding }
+        ensures end { result.end ≡ None }
+        ensures suits { (ws : List ℕ) (uni : Table) → Suits ws uni self.new }
     {
-        self.encoding
+        let encoding = encoding_beside(self.encoding, encoding);
+        let before = replace(self, Kept::new(encoding));
+        let kept = if before.encoding == encoding {
+            before
+        } else {
+            Kept::new(encoding)
+        };
+        kept.into_finder(alloc, code)
     }
 
-    /// The finder of a code with these DFAs, or with those that it builds later.
-    pub fn into_finder(self, alloc: Global, code: Code<'_>) -> SpanFinder<'_>
+    // The finder of a code with these DFAs, or with those that it builds later.
+    pub(crate) fn into_finder(self, alloc: Global, code: Code<'_>) -> SpanFinder<'_>
         requires { Suits (words_of code) (uni_of code) self }
         ensures code { result.code ≡ code.entry }
         ensures encoding { result.encoding ≡ self.encoding }

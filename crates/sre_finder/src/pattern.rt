@@ -21,7 +21,6 @@ use sre_patterns::Encoding;
 use sre_request::Request;
 use std::alloc::Global;
 use std::marker::Model;
-use std::mem::replace;
 
 /// A compiled pattern that owns its bytecode, its Unicode tables, its DFAs and the memory of a search. DFAs are built
 /// once all its searches together have spent as much as that costs, so a service that searches many short texts has
@@ -128,13 +127,7 @@ impl Pattern {
         let code = self.code.code();
         let request = Request::new(text, start, end, code, false);
         let encoding = request.string().encoding(request.end());
-        let before = replace(&mut self.kept, Kept::new(encoding));
-        let kept = if before.encoding() == encoding {
-            before
-        } else {
-            Kept::new(encoding)
-        };
-        let mut finder = kept.into_finder(self.alloc, code);
+        let mut finder = self.kept.take(self.alloc, code, encoding);
         let found = finder.search(request, &mut self.state);
         self.kept = finder.into_kept();
         found

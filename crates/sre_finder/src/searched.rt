@@ -10,12 +10,15 @@ ghost use Rattle.sre_code.specs.Codes.{items_of, words_of};
 ghost use Rattle.sre_request.specs.Admitting.{AllAdmitted};
 ghost use Rattle.sre_request.specs.Requests.{end_of, code_of, asked_of, stands_in};
 ghost use Rattle.sre_engine.specs.Answers.{answer_of};
+ghost use Rattle.sre_engine.specs.Counts.{KeepsToSteps, runs_of};
+ghost use Rattle.sre_engine.specs.Within.{AnsweredWithin};
+ghost use Rattle.sre_finder.specs.Finders.{EndStands};
 
 use crate::haystack::Haystack;
 use crate::span_finder::SpanFinder;
 use crate::span_iter::bars;
 use sre_chars::string::{StrDrive, StringCursor};
-use sre_engine::engine::{AdmittedPlaces, Nobody, SreError, State, step_admitted};
+use sre_engine::engine::{AdmittedPlaces, Nobody, SreError, Starts, State, step_admitted};
 use sre_request::{Admitted, Request};
 use std::alloc::Allocator;
 
@@ -93,5 +96,46 @@ impl<'c> SpanFinder<'c> {
         let advances = bars(must_advance, step.start.position(), from);
         let shown = show_at(&req, state, step.start, advances, places.list())?;
         Ok(shown)
+    }
+    /// Searches the range within a budget of steps, as `State::search_within` does. The prefilter excludes starts.
+    ///
+    /// # Errors
+    ///
+    /// Those of [`Finder::search_within`](crate::Finder::search_within).
+    pub fn search_within<S: Haystack, A: Allocator + Copy>(
+        &mut self,
+        req: Request<'_, S>,
+        state: &mut State<A>,
+        steps: &mut u64,
+    ) -> Result<Option<bool>, SreError>
+        requires { self.old.code ≡ code_of req }
+        ensures answers { AnsweredWithin req.entry result state.new }
+        ensures steps { KeepsToSteps A (asked_of req.entry) (code_of req.entry) result (runs_of state.new) steps.old
+            steps.new }
+        ensures refused { OnErr result (Refused A) }
+        ensures code { self.new.code ≡ self.old.code }
+        ensures encoding { self.new.encoding ≡ self.old.encoding }
+    {
+        self.finder.search_within(req, state, steps)
+    }
+}
+
+/// Its prefilter excludes starts, before and after its DFAs find spans.
+impl<'c, S: Haystack> Starts<S> for SpanFinder<'c> {
+    ghost suits = { λ f string code. (f.code ≡ code) × EndStands (S.stands string) f.end };
+
+    #[inline(always)]
+    fn beyond(&mut self, req: &Request<'_, S>, from: StringCursor) -> Option<StringCursor> {
+        self.finder.beyond(req, from)
+    }
+
+    #[inline(always)]
+    fn tells(&self) -> bool {
+        Starts::<S>::tells(&self.finder)
+    }
+
+    #[inline(always)]
+    fn note_failed(&mut self) {
+        Starts::<S>::note_failed(&mut self.finder);
     }
 }

@@ -1,0 +1,18 @@
+//! The struct of a pattern, which keeps what its searches build.
+
+ghost use Rattle.std.specs.Prelude.{◌≡◌, true, false, Some, None};
+ghost use Rattle.sre_c.specs.Known.{table_in};
+
+use crate::code::SreCode;
+use sre_handle::KeptSlot;
+
+/// A code, and the DFAs that searches by this pattern have built. They are of the code's words and table.
+#[repr(C)]
+pub struct SrePattern<'a> {
+    pub code: SreCode<'a>,
+    pub kept: KeptSlot,
+    /// Whether something is kept.
+    pub is_kept: bool,
+    ghost full: { is_kept ≡ true → kept.code ≡ Some (code.words.now, table_in code.table.now) },
+    ghost empty: { is_kept ≡ false → kept.code ≡ None },
+}

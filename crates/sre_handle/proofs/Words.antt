@@ -1,0 +1,34 @@
+-- The machine values of a pointer and of a struct whose one data field is a pointer. Assumes `Logic`.
+use Rattle.std.proofs.Common.{◌≡◌, ◌&&◌, true, refl, subst, lit<, T, List, [], ◌∷◌, ◌++◌}
+use seplogic.Ra.Ura.{Ura}
+use mir.Syntax.{ty_ptr}
+use mir.Val.{Val, vstruct, vcons, vnil, of_list, has_ty, WT}
+use base.Logic.{ent, emp}
+use types.Logic.{Logic, sem}
+use denote.RattleType.{RattleType}
+use denote.Laws.{Is}
+use denote.RawPtr.{Ptr, RawPtr, block_ptr, null_ptr, ptr_val}
+use denote.Shadow.{makes_shadow}
+use denote.Struct.Struct.{Struct}
+use Rattle.std.proofs.cell.Inside.{Good}
+
+pub ptr_good : (p : Ptr) → Good ty_ptr (ptr_val p)
+ptr_good (block_ptr b o) = (tt, tt)
+ptr_good null_ptr = (tt, record { fits = lit< tt })
+
+abbrev pub word : Ptr → Val
+word p = vstruct (vcons (ptr_val p) vnil)
+
+pub word_good : (p : Ptr) → T (has_ty ty_ptr (ptr_val p) && true) × WT (word p)
+word_good (block_ptr b o) = (tt, (tt, tt))
+word_good null_ptr = (tt, (record { fits = lit< tt }, tt))
+
+-- the field of such a struct. No name is part of what is owned
+abbrev pub Pointed : RattleType
+Pointed = Struct (record { name = []; args = []; types = []; fields = RawPtr ∷ [] })
+
+pub made : {M : Type 1} {𝓤 : Ura M} (𝓛 : Logic 𝓤) (p : Ptr) → ent 𝓤 (emp 𝓤) (sem 𝓛 (Pointed.own_val (p, tt) (word p ∷ [])))
+made 𝓛 p = makes_shadow 𝓛 (Pointed.own_val (p, tt) (word p ∷ [])) (λ vss. (tt, (tt, tt))) ((ptr_val p ∷ [], tt), (refl, (refl, tt)))
+
+pub told : (p : Ptr) (vs : List Val) → Is Pointed (p, tt) vs → vs ≡ word p ∷ []
+told p vs is = subst (λ (us : List Val). vs ≡ vstruct (of_list (us ++ [])) ∷ []) is.1.1.0 is.1.0

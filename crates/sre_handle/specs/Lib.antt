@@ -1,0 +1,2 @@
+pub mod Heap
+pub mod Slots
