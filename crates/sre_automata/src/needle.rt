@@ -4,7 +4,7 @@ ghost use Rattle.std.specs.Prelude.{◌≡◌, ◌≤◌, IfSome, length, map, t
 ghost use Rattle.regex_hir.specs.Re.{Re};
 ghost use Rattle.regex_hir.specs.Meaning.{meaning, cat_all};
 ghost use Rattle.sre_automata.specs.Told.{NoneLeft};
-ghost use Rattle.sre_automata.specs.Needles.{Contains};
+ghost use Rattle.sre_automata.specs.Needles.{Contains, ContainsAny};
 
 use memchr::memmem;
 use regex_hir::Hir;
@@ -110,5 +110,18 @@ impl Needle {
         self.is_common = ahead < NEAR;
         self.found = Some(start + ahead);
         false
+    }
+}
+
+/// Returns whether a literal does not occur at `start` or after it. `false` without a literal.
+#[inline(always)]
+pub fn lacks(needle: &mut Option<Needle>, hay: &[u8], start: usize) -> bool
+    requires { start ≤ length hay.now }
+    ensures lacking { result ≡ true → (re : Re) → ContainsAny re needle.old → NoneLeft hay.now re start }
+    ensures same { needle.new ≡ needle.old }
+{
+    match needle {
+        Some(needle) => needle.is_lacking(hay, start),
+        None => false,
     }
 }

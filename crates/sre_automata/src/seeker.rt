@@ -1,30 +1,33 @@
 //! The search for a pattern: first for a required literal, then by DFAs, which are built on first use.
 
-ghost use Rattle.std.specs.Prelude.{◌≡◌, ◌≤◌, length, true};
+ghost use Rattle.std.specs.Prelude.{◌≡◌, ◌≤◌, length, true, IfSome};
 ghost use Rattle.regex_hir.specs.Meaning.{meaning};
 ghost use Rattle.sre_automata.specs.Told.{Tells, FindsFirst, NoneLeft};
 
-use crate::needle::Needle;
+use crate::needle::{Needle, lacks};
 use crate::{Automata, FirstMatch, Told};
 use regex_hir::Hir;
 use std::alloc::Global;
 use std::marker::Model;
 
-/// A pattern to search for, with its required literal and its DFAs.
+/// A pattern to search for, with its required literal and its DFAs. It is small, and what it has is in a box.
 pub struct Seeker {
+    parts: Box<Parts>,
+}
+
+struct Parts {
     alloc: Global,
     hir: Hir,
     size_limit: usize,
     needle: Option<Needle>,
     is_made: bool,
-    // boxed, since they are large, and mostly not there
-    automata: Option<Box<Automata>>,
+    automata: Option<Automata>,
 }
 
 // Custom `Drop`, so that callers contain one call. A derived one would drop each table in each caller.
-impl Drop for Seeker {
+impl Drop for Parts {
     fn drop(self) {
-        let Seeker {
+        let Parts {
             alloc: _,
             hir,
             size_limit: _,
@@ -36,38 +39,50 @@ impl Drop for Seeker {
     }
 }
 
+// As that of `Parts`.
+impl Drop for Seeker {
+    fn drop(self) {
+        let Seeker { parts } = self;
+        drop(parts);
+    }
+}
+
 impl Model for Seeker {
     ghost use Rattle.std.specs.Coded.{codes};
     ghost use Rattle.regex_hir.specs.contracts.hir.Hir as pattern;
     ghost use Rattle.regex_hir.specs.declared.hir.Hir.{Hir};
-    ghost use Rattle.regex_hir.specs.Meaning.{meaning};
     ghost use Rattle.std.specs.Prelude.{IfSome};
+    ghost use Rattle.regex_hir.specs.Meaning.{meaning};
     ghost use Rattle.sre_automata.specs.Needles.{ContainsAny, Seeks};
 
     ghost Value = { Hir };
 
     ghost coded = { Prim.hlevel (codes, pattern.the_row.coded) };
 
-    ghost view = { λ s. s.hir };
+    ghost view = { λ s. s.parts.value.hir };
 
-    ghost invariant = { λ s. ContainsAny (meaning s.hir) s.needle
-        × IfSome s.automata (λ automata. Seeks (meaning s.hir) automata.value) };
+    ghost invariant = { λ s. let parts = s.parts.value in ContainsAny (meaning parts.hir) parts.needle
+        × IfSome parts.automata (Seeks (meaning parts.hir)) };
 }
 
 impl Seeker {
     /// Prepares the search for a pattern. No DFA is built yet. The NFA from which they are built later takes at most
-    /// `size_limit` bytes.
-    pub fn new(alloc: Global, hir: Hir, size_limit: usize) -> Seeker
-        ensures { result ≡ hir }
+    /// `size_limit` bytes. `None` if an allocation failed.
+    pub fn new(alloc: Global, hir: Hir, size_limit: usize) -> Option<Seeker>
+        ensures { IfSome result (λ seeker. seeker ≡ hir) }
     {
         let needle = Needle::of(alloc, &hir);
-        Seeker {
+        let parts = Parts {
             alloc,
             hir,
             size_limit,
             needle,
             is_made: false,
             automata: None,
+        };
+        match Box::new(alloc, parts) {
+            Ok(parts) => Some(Seeker { parts }),
+            Err(_) => None,
         }
     }
 
@@ -77,7 +92,7 @@ impl Seeker {
     pub fn make(&mut self)
         ensures { self.new ≡ self.old }
     {
-        if !self.is_made {
+        if !self.parts.is_made {
             self.make_now();
         }
     }
@@ -87,31 +102,27 @@ impl Seeker {
     fn make_now(&mut self)
         ensures { self.new ≡ self.old }
     {
-        self.is_made = true;
-        let Some(automata) = Automata::new(self.alloc, &self.hir, self.size_limit) else {
-            return;
-        };
-        if let Ok(automata) = Box::new(self.alloc, automata) {
-            self.automata = Some(automata);
-        }
+        let parts = &mut *self.parts;
+        parts.is_made = true;
+        parts.automata = Automata::new(parts.alloc, &parts.hir, parts.size_limit);
     }
 
     /// Returns whether the DFAs are built.
     #[inline(always)]
     pub fn has_automata(&self) -> bool {
-        self.automata.is_some()
+        self.parts.automata.is_some()
     }
 
     /// Returns whether building the DFAs was tried and failed.
     #[inline(always)]
     pub fn lacks_automata(&self) -> bool {
-        self.is_made && self.automata.is_none()
+        self.parts.is_made && self.parts.automata.is_none()
     }
 
     /// Returns the number of bytes that the DFAs have read, in all searches together.
     #[inline(always)]
     pub fn read(&self) -> usize {
-        match &self.automata {
+        match &self.parts.automata {
             Some(automata) => automata.read(),
             None => 0,
         }
@@ -121,7 +132,7 @@ impl Seeker {
     pub fn reset(&mut self)
         ensures { self.new ≡ self.old }
     {
-        if let Some(needle) = &mut self.needle {
+        if let Some(needle) = &mut self.parts.needle {
             needle.reset();
         }
     }
@@ -134,10 +145,7 @@ impl Seeker {
         ensures none { result ≡ true → NoneLeft hay.now (meaning self.old) start }
         ensures same { self.new ≡ self.old }
     {
-        match &mut self.needle {
-            Some(needle) => needle.is_lacking(hay, start),
-            None => false,
-        }
+        lacks(&mut self.parts.needle, hay, start)
     }
 
     /// Returns where the next match can begin, at the offset `start` or after it. Without DFAs that is `start`.
@@ -147,7 +155,7 @@ impl Seeker {
         ensures told { Tells hay.now (meaning self.old) start result }
         ensures same { self.new ≡ self.old }
     {
-        match &mut self.automata {
+        match &mut self.parts.automata {
             Some(automata) => automata.next_from(hay, start),
             None => Told::From(start),
         }
@@ -164,7 +172,7 @@ impl Seeker {
         if self.has_none_left(hay, start) {
             return FirstMatch::Nothing;
         }
-        match &mut self.automata {
+        match &mut self.parts.automata {
             Some(automata) => automata.first_match(hay, start),
             None => FirstMatch::Unknown,
         }

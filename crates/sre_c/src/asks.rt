@@ -149,6 +149,7 @@ impl<S: Haystack> Asks<S> for Kept {
 }
 
 // The finder of a request's code with what is kept, which is taken out.
+#[inline(always)]
 fn finder_in<'a, S: Haystack>(
     alloc: Global,
     kept: &mut Kept,

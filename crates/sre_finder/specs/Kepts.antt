@@ -18,7 +18,8 @@ pub record Suits (ws : List ℕ) (uni : Table) (kept : Kept) : Type 0 where
       → CoveringAny kept.starts.encoding code kept.starts.seeker
   pub whole : (code : Code) → words_of code ≡ ws → uni_of code ≡ uni
       → CoveringAny kept.starts.encoding code kept.starts.whole
-  pub exact : (code : Code) → words_of code ≡ ws → uni_of code ≡ uni → ExactlyAny kept.encoding code kept.exact
+  pub exact : (code : Code) → words_of code ≡ ws → uni_of code ≡ uni
+      → ExactlyAny kept.starts.encoding code kept.spans.exact
 
 -- how a text is read beside others that were read: once one was not ASCII, all as UTF-8
 abbrev pub encoding_beside : Encoding → Encoding → Encoding

@@ -24,7 +24,7 @@ ghost use Rattle.sre_engine.specs.Starts.{NoneUntil, StartFrom};
 ghost use Rattle.sre_finder.specs.Finders.{EndStands, CoveringAny, NoneLeftOfAny};
 
 use crate::haystack::Haystack;
-use crate::pace::Pace;
+use crate::pace::{Debt, Pace};
 use sre_automata::{Seeker, Told};
 use sre_chars::string::{StrDrive, StringCursor};
 use sre_code::Code;
@@ -38,28 +38,27 @@ use std::marker::Model;
 pub(crate) const SIZE_LIMIT: usize = 1 << 16;
 
 /// Prefilter for searches of a code. It has DFAs only where they probably save time.
+#[derive(Drop)]
 pub struct Finder<'c> {
     alloc: Global,
     code: Code<'c>,
-    encoding: Encoding,
-    // whether the code was translated to a pattern
-    is_read: bool,
-    seeker: Option<Seeker>,
-    // for a code with back-references: finds a required literal of the whole pattern
-    whole: Option<Seeker>,
+    parts: Parts,
+    pace: Pace,
     // whether it excludes no further start in this text
     is_silent: bool,
     end: Option<StringCursor>,
-    pace: Pace,
 }
 
 // What a finder has built, without its code.
 pub(crate) struct Parts {
     pub(crate) encoding: Encoding,
-    pub(crate) is_read: bool,
-    pub(crate) seeker: Option<Seeker>,
-    pub(crate) whole: Option<Seeker>,
-    pub(crate) pace: Pace,
+    // whether the code was translated to a pattern
+    is_read: bool,
+    seeker: Option<Seeker>,
+    // for a code with back-references: finds a required literal of the whole pattern
+    whole: Option<Seeker>,
+    // what the machine has still to spend before the DFAs are built
+    debt: Debt,
 }
 
 // Custom `Drop`, so that callers contain one call instead of the drop of each field.
@@ -70,56 +69,47 @@ impl Drop for Parts {
             is_read: _,
             seeker,
             whole,
-            pace: _,
+            debt: _,
         } = self;
         drop((seeker, whole));
     }
 }
 
 impl Parts {
+    // Nothing is built yet.
+    #[inline(always)]
+    pub(crate) fn new(encoding: Encoding) -> Parts
+        ensures encoding { result.encoding ≡ encoding }
+        ensures seeker { result.seeker ≡ None }
+        ensures whole { result.whole ≡ None }
+    {
+        Parts {
+            encoding,
+            is_read: false,
+            seeker: None,
+            whole: None,
+            debt: Debt::of_building(),
+        }
+    }
+
     // The finder of a code with these.
+    #[inline(always)]
     pub(crate) fn into_finder(self, alloc: Global, code: Code<'_>) -> Finder<'_>
         requires starts { CoveringAny self.encoding code self.seeker }
         requires whole { CoveringAny self.encoding code self.whole }
         ensures code { result.code ≡ code.entry }
+        ensures encoding { result.encoding ≡ self.encoding }
         ensures end { result.end ≡ None }
     {
-        let Parts {
-            encoding,
-            is_read,
-            seeker,
-            whole,
-            pace,
-        } = self;
+        let pace = Pace::new(self.debt);
         Finder {
             alloc,
             code,
-            encoding,
-            is_read,
-            seeker,
-            whole,
+            parts: self,
+            pace,
             is_silent: false,
             end: None,
-            pace,
         }
-    }
-}
-
-// As that of `Parts`.
-impl<'c> Drop for Finder<'c> {
-    fn drop(self) {
-        let Finder {
-            alloc: _,
-            code: _,
-            encoding: _,
-            is_read: _,
-            seeker,
-            whole,
-            is_silent: _,
-            end: _,
-            pace: _,
-        } = self;
-        drop((seeker, whole));
     }
 }
 
@@ -128,9 +118,10 @@ impl<'c> Model for Finder<'c> {
 
     ghost Value = { FinderValue };
 
-    ghost view = { λ f. record { code = f.code; encoding = f.encoding; end = f.end } };
+    ghost view = { λ f. record { code = f.code; encoding = f.parts.encoding; end = f.end } };
 
-    ghost invariant = { λ f. CoveringAny f.encoding f.code f.seeker × CoveringAny f.encoding f.code f.whole };
+    ghost invariant = { λ f. CoveringAny f.parts.encoding f.code f.parts.seeker
+        × CoveringAny f.parts.encoding f.code f.parts.whole };
 }
 
 impl<'c> Finder<'c> {
@@ -146,21 +137,13 @@ impl<'c> Finder<'c> {
         ensures encoding { result.encoding ≡ encoding }
         ensures end { result.end ≡ None }
     {
-        let mut seeker = seeker_of(alloc, code, encoding);
-        if let Some(seeker) = &mut seeker {
+        let mut finder = Finder::on_demand(alloc, code, encoding);
+        finder.read();
+        finder.hurry();
+        if let Some(seeker) = &mut finder.parts.seeker {
             seeker.make();
         }
-        Finder {
-            alloc,
-            code,
-            encoding,
-            is_read: true,
-            seeker,
-            whole: whole_of(alloc, code, encoding),
-            is_silent: false,
-            end: None,
-            pace: Pace::new(),
-        }
+        finder
     }
 
     /// As `new`, but builds the DFAs only once the machine has spent about as much time as that takes. A search that
@@ -170,44 +153,43 @@ impl<'c> Finder<'c> {
         ensures encoding { result.encoding ≡ encoding }
         ensures end { result.end ≡ None }
     {
-        let mut pace = Pace::new();
-        pace.wait();
-        Finder {
-            alloc,
-            code,
-            encoding,
-            is_read: false,
-            seeker: None,
-            whole: None,
-            is_silent: false,
-            end: None,
-            pace,
-        }
+        Parts::new(encoding).into_finder(alloc, code)
     }
 
     // Drops the finder, and returns what it has built.
+    #[inline(always)]
     pub(crate) fn into_parts(self) -> Parts
+        ensures encoding { result.encoding ≡ self.entry.encoding }
         ensures starts { CoveringAny result.encoding self.entry.code result.seeker }
         ensures whole { CoveringAny result.encoding self.entry.code result.whole }
     {
         let Finder {
             alloc: _,
             code: _,
-            encoding,
-            is_read,
-            seeker,
-            whole,
+            mut parts,
+            pace,
             is_silent: _,
             end: _,
-            pace,
         } = self;
-        Parts {
-            encoding,
-            is_read,
-            seeker,
-            whole,
-            pace,
-        }
+        parts.debt = pace.debt();
+        parts
+    }
+
+    // Its code, and how it reads texts.
+    pub(crate) fn code(&self) -> Code<'c>
+        ensures { result ≡ self.now.code }
+    {
+        self.code
+    }
+
+    pub(crate) fn encoding(&self) -> Encoding
+        ensures { result ≡ self.now.encoding }
+    {
+        self.parts.encoding
+    }
+
+    pub(crate) fn alloc(&self) -> Global {
+        self.alloc
     }
 
     // Builds the DFAs on first use from now on.
@@ -219,7 +201,7 @@ impl<'c> Finder<'c> {
 
     /// Returns whether the DFAs exist. With `on_demand` that is whether they were built.
     pub fn has_automata(&self) -> bool {
-        match &self.seeker {
+        match &self.parts.seeker {
             Some(seeker) => seeker.has_automata(),
             None => false,
         }
@@ -233,11 +215,12 @@ impl<'c> Finder<'c> {
     {
         self.end = None;
         self.pace.begin_text();
-        self.is_silent = self.is_read && self.seeker.is_none() && self.whole.is_none();
-        if let Some(seeker) = &mut self.seeker {
+        let parts = &mut self.parts;
+        self.is_silent = parts.is_read && parts.seeker.is_none() && parts.whole.is_none();
+        if let Some(seeker) = &mut parts.seeker {
             seeker.reset();
         }
-        if let Some(whole) = &mut self.whole {
+        if let Some(whole) = &mut parts.whole {
             whole.reset();
         }
     }
@@ -266,7 +249,7 @@ fn seeker_of(alloc: Global, code: Code<'_>, encoding: Encoding) -> Option<Seeker
     if hir.min_len() == 0 {
         return None; // it can match anywhere
     }
-    Some(Seeker::new(alloc, hir, SIZE_LIMIT))
+    Seeker::new(alloc, hir, SIZE_LIMIT)
 }
 
 // The search for a required literal of a code with back-references. The pattern of its starts ends at the first
@@ -280,7 +263,7 @@ fn whole_of(alloc: Global, code: Code<'_>, encoding: Encoding) -> Option<Seeker>
     let Ok(Some(hir)) = hir_of(alloc, &code, encoding) else {
         return None;
     };
-    Some(Seeker::new(alloc, hir, SIZE_LIMIT))
+    Seeker::new(alloc, hir, SIZE_LIMIT)
 }
 
 // Whether no match is left from `start` on, because a required literal is missing. `false` without a pattern.
@@ -346,9 +329,10 @@ impl<'c> Finder<'c> {
         ensures encoding { self.new.encoding ≡ self.old.encoding }
         ensures end { self.new.end ≡ self.old.end }
     {
-        self.is_read = true;
-        self.seeker = seeker_of(self.alloc, self.code, self.encoding);
-        self.whole = whole_of(self.alloc, self.code, self.encoding);
+        let encoding = self.parts.encoding;
+        self.parts.is_read = true;
+        self.parts.seeker = seeker_of(self.alloc, self.code, encoding);
+        self.parts.whole = whole_of(self.alloc, self.code, encoding);
     }
 
     // The first start at or after a cursor that may have a match. `None` if there is none.
@@ -364,19 +348,19 @@ impl<'c> Finder<'c> {
         ensures none { (t : Tree) → Whole (words_of (code_of req.now)) t
             → NoneUntil (asked_of req.now) t from.position result }
     {
-        if !self.is_read {
+        if !self.parts.is_read {
             self.read();
         }
         let end = self.end_in(req, from);
         let text = req.string();
-        let Some(hay) = text.hay(self.encoding, end) else {
+        let Some(hay) = text.hay(self.parts.encoding, end) else {
             return Some(from);
         };
         let start = text.place_of(from);
-        if is_over(&mut self.whole, hay, start) {
+        if is_over(&mut self.parts.whole, hay, start) {
             return None;
         }
-        let Some(seeker) = &mut self.seeker else {
+        let Some(seeker) = &mut self.parts.seeker else {
             self.is_silent = true;
             return Some(from);
         };

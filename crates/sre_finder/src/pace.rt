@@ -93,14 +93,15 @@ pub(crate) struct Pace {
 }
 
 impl Pace {
-    pub(crate) fn new() -> Pace {
+    /// The DFAs are built only once the machine has spent what is still to be spent.
+    pub(crate) fn new(debt: Debt) -> Pace {
         Pace {
             first: 0,
             failing: 0,
             vain: 0,
             rest: 0,
             pause: PAUSE,
-            debt: Debt::none(),
+            debt,
             at: usize::MAX,
             is_first: false,
             is_told: false,
@@ -109,9 +110,9 @@ impl Pace {
         }
     }
 
-    /// The DFAs are built only once the machine has spent as much as that costs.
-    pub(crate) fn wait(&mut self) {
-        self.debt = Debt::of_building();
+    /// What is still to be spent.
+    pub(crate) fn debt(&self) -> Debt {
+        self.debt
     }
 
     /// The DFAs are built when they are first run.

@@ -13,7 +13,7 @@ ghost use Rattle.sre_finder.specs.Spans.{ExactlyAny, Knows, Between, StepsFrom, 
 
 use crate::finder::{Finder, SIZE_LIMIT};
 use crate::haystack::Haystack;
-use crate::kept::Kept;
+use crate::kept::{Kept, Spans};
 use crate::pace::{Debt, Pace};
 use sre_automata::{FirstMatch, Seeker};
 use sre_chars::string::{StrDrive, StringCursor};
@@ -41,46 +41,22 @@ enum Known {
 }
 
 /// DFAs that find the spans of a code's matches. If the code has no such DFAs, a [`Finder`], which only skips starts.
+#[derive(Drop)]
 pub struct SpanFinder<'c> {
-    pub(crate) alloc: Global,
-    pub(crate) code: Code<'c>,
-    pub(crate) encoding: Encoding,
     pub(crate) finder: Finder<'c>,
-    pub(crate) exact: Option<Seeker>,
+    pub(crate) spans: Spans,
     pub(crate) pace: Pace,
-    // what the machine has still to spend before the DFAs are built
-    pub(crate) debt: Debt,
-    // whether it was tried to build them
-    pub(crate) is_made: bool,
-}
-
-// Custom `Drop`, as that of `Finder`.
-impl<'c> Drop for SpanFinder<'c> {
-    fn drop(self) {
-        let SpanFinder {
-            alloc: _,
-            code: _,
-            encoding: _,
-            finder,
-            exact,
-            pace: _,
-            debt: _,
-            is_made: _,
-        } = self;
-        drop((finder, exact));
-    }
 }
 
 impl<'c> Model for SpanFinder<'c> {
-    ghost use Rattle.std.specs.Prelude.{◌≡◌};
     ghost use Rattle.sre_finder.specs.Finders.{FinderValue};
     ghost use Rattle.sre_finder.specs.Spans.{ExactlyAny};
 
     ghost Value = { FinderValue };
 
-    ghost view = { λ f. record { code = f.code; encoding = f.encoding; end = f.finder.end } };
+    ghost view = { λ f. f.finder };
 
-    ghost invariant = { λ f. (f.finder.code ≡ f.code) × ExactlyAny f.encoding f.code f.exact };
+    ghost invariant = { λ f. ExactlyAny f.finder.encoding f.finder.code f.spans.exact };
 }
 
 impl<'c> SpanFinder<'c> {
@@ -95,7 +71,7 @@ impl<'c> SpanFinder<'c> {
         ensures end { result.end ≡ None }
     {
         let mut finder = SpanFinder::on_demand(alloc, code, encoding);
-        finder.debt = Debt::none();
+        finder.spans.debt = Debt::none();
         finder.make();
         finder
     }
@@ -117,42 +93,34 @@ impl<'c> SpanFinder<'c> {
         ensures encoding { self.new.encoding ≡ self.old.encoding }
         ensures end { self.new.end ≡ self.old.end }
     {
-        self.is_made = true;
-        self.exact = exact_of(self.alloc, self.code, self.encoding);
-        if self.exact.is_none() {
+        let (alloc, code) = (self.finder.alloc(), self.finder.code());
+        self.spans.is_made = true;
+        self.spans.exact = exact_of(alloc, code, self.finder.encoding());
+        if self.spans.exact.is_none() {
             self.finder.hurry();
         }
     }
 
     /// Drops the finder, and returns what it has built for its code.
+    #[inline(always)]
     pub fn into_kept(self) -> Kept
-        ensures encoding { result.encoding ≡ self.entry.encoding }
+        ensures encoding { result.starts.encoding ≡ self.entry.encoding }
         ensures suits { Suits (words_of self.entry.code) (uni_of self.entry.code) result }
     {
         let SpanFinder {
-            alloc: _,
-            code: _,
-            encoding,
             finder,
-            exact,
-            pace,
-            debt,
-            is_made,
+            spans,
+            pace: _,
         } = self;
-        let starts = finder.into_parts();
         Kept {
-            encoding,
-            starts,
-            exact,
-            pace,
-            debt,
-            is_made,
+            starts: finder.into_parts(),
+            spans,
         }
     }
 
     /// Returns whether it has DFAs that find spans. With `on_demand` that is whether they were built.
     pub fn tells_spans(&self) -> bool {
-        self.exact.is_some()
+        self.spans.exact.is_some()
     }
 
     /// Forgets the last text. `walk` does this itself.
@@ -163,7 +131,7 @@ impl<'c> SpanFinder<'c> {
     {
         self.finder.reset();
         self.pace.begin_text();
-        if let Some(exact) = &mut self.exact {
+        if let Some(exact) = &mut self.spans.exact {
             exact.reset();
         }
     }
@@ -183,7 +151,7 @@ fn exact_of(alloc: Global, code: Code<'_>, encoding: Encoding) -> Option<Seeker>
     if hir.min_len() == 0 {
         return None; // an empty match can be excluded, which DFAs cannot express
     }
-    let mut exact = Seeker::new(alloc, hir, SIZE_LIMIT);
+    let mut exact = Seeker::new(alloc, hir, SIZE_LIMIT)?;
     exact.make();
     if !exact.has_automata() {
         return None;
@@ -203,15 +171,15 @@ impl<'c> SpanFinder<'c> {
         ensures knows { Knows req.now result }
     {
         let _start = req.start(); // it is in the range
-        if self.exact.is_none() || req.match_all() {
+        if self.spans.exact.is_none() || req.match_all() {
             return Known::Unknown;
         }
         let end = self.finder.end_in(req, from);
         let text = req.string();
-        let Some(hay) = text.hay(self.encoding, end) else {
+        let Some(hay) = text.hay(self.finder.encoding(), end) else {
             return Known::Unknown;
         };
-        let Some(exact) = &mut self.exact else {
+        let Some(exact) = &mut self.spans.exact else {
             return Known::Unknown;
         };
         let place = text.place_of(from);
@@ -261,7 +229,8 @@ impl<'c> SpanFinder<'c> {
         } else {
             req.end()
         };
-        self.debt
+        self.spans
+            .debt
             .pay(state.started(), reached.saturating_sub(from.position()));
         if !is_found {
             return Ok(None);
@@ -300,13 +269,13 @@ impl<'c> SpanFinder<'c> {
         ensures refused { OnErr result (Refused A) }
         ensures literal { OnErr result (MayTakeMemory (code_of req.old)) }
     {
-        if self.debt.is_due() {
+        if self.spans.debt.is_due() {
             return self.run(req, state, cursor, places);
         }
-        if !self.is_made {
+        if !self.spans.is_made {
             self.make();
         }
-        if self.exact.is_none() {
+        if self.spans.exact.is_none() {
             return self.run(req, state, cursor, places);
         }
         match self.known(req, *cursor) {
