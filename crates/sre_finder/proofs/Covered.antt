@@ -1,5 +1,6 @@
 -- What a pattern that covers a code implies for its matches.
-use Rattle.std.proofs.Common.{◌≡◌, ◌≤◌, ◌<◌, ◌+◌, ℕ, List, [], length, Option, Some, None, refl, ap, sym, subst, arith}
+use Rattle.std.proofs.Common.{◌≡◌, ◌≤◌, ◌<◌, ◌+◌, ℕ, List, [], length, Option, Some, None, IfSome, refl, ap, sym}
+use Rattle.std.proofs.Common.{subst, arith}
 use Rattle.regex_hir.specs.Re.{Re}
 use Rattle.regex_hir.specs.Matches.{Matches}
 use Rattle.regex_hir.specs.Meaning.{meaning}
@@ -47,11 +48,12 @@ module _ (encoding : Encoding) (a : Asked) (t : Tree) (re : Re) (place : ℕ →
       let here : s ≤ a.end = omega (arith, to, inside) in
       none_at s here (λ j match. none.none (place s) j (seen.order p s from here) (passed s from to) match)
 
--- what seeks a pattern that covers a code covers it
-pub covering : (encoding : Encoding) (code : Code) (hir pattern : Hir) → hir ≡ pattern
+-- what seeks a pattern that covers a code covers it, if there is such a thing
+pub covering : (encoding : Encoding) (code : Code) (o : Option Hir) (pattern : Hir) → IfSome o (λ hir. hir ≡ pattern)
     → ((t : Tree) → WholeItems (items_of code) t → CoversStart (view_of encoding) (uni_of code) (meaning pattern) t)
-    → Covering encoding code (meaning hir)
-covering encoding code hir pattern same covers =
+    → CoveringAny encoding code o
+covering encoding code None pattern same covers = tt
+covering encoding code (Some hir) pattern same covers =
     subst (λ h. Covering encoding code (meaning h)) (sym same) (record { covers = covers })
 
 -- what covers a code covers each code of its words and its table

@@ -19,7 +19,7 @@ pub record Suits (ws : List ℕ) (uni : Table) (kept : Kept) : Type 0 where
   pub whole : (code : Code) → words_of code ≡ ws → uni_of code ≡ uni
       → CoveringAny kept.starts.encoding code kept.starts.whole
   pub exact : (code : Code) → words_of code ≡ ws → uni_of code ≡ uni
-      → ExactlyAny kept.starts.encoding code kept.spans.exact
+      → ExactlyAny kept.spans.encoding code kept.spans.exact
 
 -- how a text is read beside others that were read: once one was not ASCII, all as UTF-8
 abbrev pub encoding_beside : Encoding → Encoding → Encoding

@@ -159,7 +159,6 @@ impl<'c> Finder<'c> {
     // Drops the finder, and returns what it has built.
     #[inline(always)]
     pub(crate) fn into_parts(self) -> Parts
-        ensures encoding { result.encoding ≡ self.entry.encoding }
         ensures starts { CoveringAny result.encoding self.entry.code result.seeker }
         ensures whole { CoveringAny result.encoding self.entry.code result.whole }
     {
@@ -175,21 +174,23 @@ impl<'c> Finder<'c> {
         parts
     }
 
-    // Its code, and how it reads texts.
+    // Its code.
     pub(crate) fn code(&self) -> Code<'c>
         ensures { result ≡ self.now.code }
     {
         self.code
     }
 
-    pub(crate) fn encoding(&self) -> Encoding
-        ensures { result ≡ self.now.encoding }
-    {
-        self.parts.encoding
-    }
-
     pub(crate) fn alloc(&self) -> Global {
         self.alloc
+    }
+
+    // Records a failed run of the machine.
+    #[inline(always)]
+    pub(crate) fn fail(&mut self)
+        ensures { self.new ≡ self.old }
+    {
+        self.pace.note_failed();
     }
 
     // Builds the DFAs on first use from now on.
@@ -391,7 +392,7 @@ impl<'c, S: Haystack> Starts<S> for Finder<'c> {
 
     #[inline(always)]
     fn note_failed(&mut self) {
-        self.pace.note_failed();
+        self.fail();
     }
 }
 

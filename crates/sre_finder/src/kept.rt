@@ -25,6 +25,7 @@ pub struct Kept {
 // DFAs that find spans, if they are built.
 #[derive(Drop)]
 pub(crate) struct Spans {
+    pub(crate) encoding: Encoding,
     pub(crate) exact: Option<Seeker>,
     // what the machine has still to spend before the DFAs are built
     pub(crate) debt: Debt,
@@ -47,12 +48,13 @@ impl Kept {
     /// Nothing is built yet. It suits any code.
     #[inline(always)]
     pub fn new(encoding: Encoding) -> Kept
-        ensures encoding { result.starts.encoding ≡ encoding }
+        ensures encoding { result.spans.encoding ≡ encoding }
         ensures suits { (ws : List ℕ) (uni : Table) → Suits ws uni result }
     {
         Kept {
             starts: Parts::new(encoding),
             spans: Spans {
+                encoding,
                 exact: None,
                 debt: Debt::of_building(),
                 is_made: false,
@@ -67,13 +69,13 @@ impl Kept {
     pub fn take<'c>(&mut self, alloc: Global, code: Code<'c>, encoding: Encoding) -> SpanFinder<'c>
         requires { Suits (words_of code) (uni_of code) self.old }
         ensures code { result.code ≡ code.entry }
-        ensures encoding { result.encoding ≡ encoding_beside self.old.starts.encoding encoding }
+        ensures encoding { result.encoding ≡ encoding_beside self.old.spans.encoding encoding }
         ensures end { result.end ≡ None }
         ensures suits { (ws : List ℕ) (uni : Table) → Suits ws uni self.new }
     {
-        let encoding = encoding_beside(self.starts.encoding, encoding);
+        let encoding = encoding_beside(self.spans.encoding, encoding);
         let before = replace(self, Kept::new(encoding));
-        let kept = if before.starts.encoding == encoding {
+        let kept = if before.spans.encoding == encoding {
             before
         } else {
             Kept::new(encoding)
@@ -86,7 +88,7 @@ impl Kept {
     pub(crate) fn into_finder(self, alloc: Global, code: Code<'_>) -> SpanFinder<'_>
         requires { Suits (words_of code) (uni_of code) self }
         ensures code { result.code ≡ code.entry }
-        ensures encoding { result.encoding ≡ self.starts.encoding }
+        ensures encoding { result.encoding ≡ self.spans.encoding }
         ensures end { result.end ≡ None }
     {
         let Kept { starts, spans } = self;

@@ -11,6 +11,7 @@ ghost use Rattle.sre_request.specs.Admitting.{AllAdmitted};
 ghost use Rattle.sre_request.specs.Requests.{end_of, code_of, asked_of, stands_in};
 ghost use Rattle.sre_engine.specs.Answers.{answer_of};
 ghost use Rattle.sre_engine.specs.Counts.{KeepsToSteps, runs_of};
+ghost use Rattle.sre_engine.specs.Searches.{Answered};
 ghost use Rattle.sre_engine.specs.Within.{AnsweredWithin};
 ghost use Rattle.sre_finder.specs.Finders.{EndStands};
 
@@ -74,6 +75,9 @@ impl<'c> SpanFinder<'c> {
         ensures code { self.new.code ≡ self.old.code }
         ensures encoding { self.new.encoding ≡ self.old.encoding }
     {
+        if self.spans.debt.is_due() {
+            return self.search_by_machine(req, state);
+        }
         self.reset();
         let mut req = req;
         let (from, must_advance) = (req.start(), req.must_advance());
@@ -97,6 +101,30 @@ impl<'c> SpanFinder<'c> {
         let shown = show_at(&req, state, step.start, advances, places.list())?;
         Ok(shown)
     }
+    // `search` by the machine, with the prefilter.
+    fn search_by_machine<S: Haystack, A: Allocator + Copy>(
+        &mut self,
+        req: Request<'_, S>,
+        state: &mut State<A>,
+    ) -> Result<bool, SreError>
+        requires { self.old.code ≡ code_of req }
+        ensures answers { Answered req.entry result state.new }
+        ensures refused { OnErr result (Refused A) }
+        ensures code { self.new.code ≡ self.old.code }
+        ensures encoding { self.new.encoding ≡ self.old.encoding }
+    {
+        let (start, end) = (req.start(), req.end());
+        let found = self.finder.search(req, state);
+        let reached = match found {
+            Ok(true) => state.cursor().position(),
+            _ => end,
+        };
+        self.spans
+            .debt
+            .pay(state.started(), reached.saturating_sub(start));
+        found
+    }
+
     /// Searches the range within a budget of steps, as `State::search_within` does. The prefilter excludes starts.
     ///
     /// # Errors
@@ -136,6 +164,6 @@ impl<'c, S: Haystack> Starts<S> for SpanFinder<'c> {
 
     #[inline(always)]
     fn note_failed(&mut self) {
-        Starts::<S>::note_failed(&mut self.finder);
+        self.finder.fail();
     }
 }

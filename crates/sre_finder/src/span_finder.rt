@@ -54,9 +54,9 @@ impl<'c> Model for SpanFinder<'c> {
 
     ghost Value = { FinderValue };
 
-    ghost view = { λ f. f.finder };
+    ghost view = { λ f. record { code = f.finder.code; encoding = f.spans.encoding; end = f.finder.end } };
 
-    ghost invariant = { λ f. ExactlyAny f.finder.encoding f.finder.code f.spans.exact };
+    ghost invariant = { λ f. ExactlyAny f.spans.encoding f.finder.code f.spans.exact };
 }
 
 impl<'c> SpanFinder<'c> {
@@ -71,7 +71,6 @@ impl<'c> SpanFinder<'c> {
         ensures end { result.end ≡ None }
     {
         let mut finder = SpanFinder::on_demand(alloc, code, encoding);
-        finder.spans.debt = Debt::none();
         finder.make();
         finder
     }
@@ -94,8 +93,9 @@ impl<'c> SpanFinder<'c> {
         ensures end { self.new.end ≡ self.old.end }
     {
         let (alloc, code) = (self.finder.alloc(), self.finder.code());
+        self.spans.debt = Debt::none();
         self.spans.is_made = true;
-        self.spans.exact = exact_of(alloc, code, self.finder.encoding());
+        self.spans.exact = exact_of(alloc, code, self.spans.encoding);
         if self.spans.exact.is_none() {
             self.finder.hurry();
         }
@@ -104,7 +104,7 @@ impl<'c> SpanFinder<'c> {
     /// Drops the finder, and returns what it has built for its code.
     #[inline(always)]
     pub fn into_kept(self) -> Kept
-        ensures encoding { result.starts.encoding ≡ self.entry.encoding }
+        ensures encoding { result.spans.encoding ≡ self.entry.encoding }
         ensures suits { Suits (words_of self.entry.code) (uni_of self.entry.code) result }
     {
         let SpanFinder {
@@ -176,7 +176,7 @@ impl<'c> SpanFinder<'c> {
         }
         let end = self.finder.end_in(req, from);
         let text = req.string();
-        let Some(hay) = text.hay(self.finder.encoding(), end) else {
+        let Some(hay) = text.hay(self.spans.encoding, end) else {
             return Known::Unknown;
         };
         let Some(exact) = &mut self.spans.exact else {

@@ -1,0 +1,14 @@
+use Rattle.std.proofs.Common.{◌∙◌, sym, subst}
+use Rattle.sre_code.specs.Codes.{words_of, uni_of}
+use Rattle.sre_finder.specs.Kepts.{Suits}
+use Rattle.sre_finder.proofs.kept.Kept.take.Goals.{then-eq, else-eq}
+use Rattle.sre_finder.proofs.kept.Kept.take.Goals as goal
+
+pub into_finder-requires : goal.into_finder-requires
+into_finder-requires c =
+    let words = words_of c.args.code in
+    let uni = uni_of c.args.code in
+    elim c.if-eq.branch [
+      | then-eq w ↦ subst (Suits words uni) (sym (w.kept-is ∙ c.replace-before.ensures.value)) c.requires
+      | else-eq w ↦ subst (Suits words uni) (sym w.kept-is) (w.new-kept.ensures.suits words uni)
+    ]
