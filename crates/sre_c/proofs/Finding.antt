@@ -14,7 +14,7 @@ use Rattle.sre_engine.specs.Requests.{code_of, asked_of}
 use Rattle.sre_engine.specs.declared.engine.state.SreError.{SreError}
 use Rattle.sre_engine.specs.Answers.{Shown, answer_of}
 use Rattle.sre_engine.specs.Counts.{KeepsToSteps, BeginsAgain, runs_of}
-use Rattle.sre_engine.specs.Searches.{FindsFirst, CountsAll}
+use Rattle.sre_engine.specs.Searches.{CountsAll}
 use Rattle.sre_c.specs.Budgets.{no_limit}
 use Rattle.sre_c.specs.Answered.{last_start}
 use Rattle.sre_c.specs.Replies.{told_of, Finds}
@@ -46,13 +46,6 @@ finds_any code a search (Err e) told s n is answer refused =
       unlimited = λ none. refl;
       memory = refused;
     })
-
--- the first match of the least start that has one, at each tree
-pub first_at : {S : Type 0} {text : Ghosts S} (r : Request S text) (said : Result Bool SreError) (s : Shown)
-    → IfOk said (λ b. FindsFirst r b s) → (t : Tree) → Whole (words_of (code_of r)) t
-    → IfOk said (λ b. answer_of b s ≡ found (asked_of r) t)
-first_at r (Ok b) s first t whole = first t whole
-first_at r (Err e) s first t whole = tt
 
 -- a search within a limit
 pub finds_within : {S : Type 0} {text : Ghosts S} (r : Request S text) (b : Bool)

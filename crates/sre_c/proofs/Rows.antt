@@ -12,9 +12,12 @@ use Rattle.sre_engine.specs.Requests.{start_of, code_of, asked_of, must_advance_
 use Rattle.sre_engine.specs.Answers.{match_shown}
 use Rattle.sre_engine.specs.declared.engine.search_iter.SearchIter.{SearchIter}
 use Rattle.sre_engine.specs.Iterators.{request_of, shown_of, Gives}
+use Rattle.sre_c.specs.declared.status.Status.{Status}
+use Rattle.sre_c.specs.declared.status.Status.TheVariants.{No, Yes, StepLimit, Memory, NoCode, NoRoom}
+use Rattle.sre_c.specs.declared.status.Status.TheVariants.{NotUtf8, FaultyTable}
 use Rattle.sre_c.specs.declared.types.SreWalked.{SreWalked}
 use Rattle.sre_c.specs.Walked.{IsRow, AreRows, IsWritten}
-use Rattle.sre_c.specs.Rows.{IsSoFar}
+use Rattle.sre_c.specs.Rows.{IsSoFar, WritesRows}
 
 -- rows stay where their numbers do
 rows_kept : (ms : List Match) (at width : ℕ) (old new : List ℕ)
@@ -107,3 +110,15 @@ module _ {S A : Type 0} {text : Ghosts S} (first : Request S text) (it next : Se
         let at = ap (λ (a : Asked). a.start) gives.request.asked in
         omega (arith, start, at, gives.request.span.inside, last);
   }
+
+-- the next request has the code of the first
+pub same_code : {S : Type 0} {text : Ghosts S} (status : Status) (first next : Request S text) (steps width : ℕ)
+    (w : SreWalked) (rows : List ℕ) → WritesRows status first next steps width w rows → code_of next ≡ code_of first
+same_code No first next steps width w rows x = x.1.code
+same_code NoRoom first next steps width w rows x = x.0.code
+same_code StepLimit first next steps width w rows x = x.0.code
+same_code Memory first next steps width w rows x = x.1.code
+same_code Yes first next steps width w rows x = absurd x
+same_code NoCode first next steps width w rows x = absurd x
+same_code NotUtf8 first next steps width w rows x = absurd x
+same_code FaultyTable first next steps width w rows x = absurd x

@@ -9,7 +9,8 @@ use Rattle.sre_model.specs.Grammar.{Whole}
 use Rattle.sre_model.specs.Found.{Asked, Match, walk, asked_after}
 use Rattle.sre_growth.specs.Refusal.{Refused}
 use Rattle.sre_code.specs.Codes.{words_of}
-use Rattle.sre_engine.specs.Requests.{end_of, code_of, asked_of}
+use Rattle.sre_code.specs.declared.code.Code.{Code}
+use Rattle.sre_engine.specs.Requests.{string_of, end_of, code_of, asked_of}
 use Rattle.sre_engine.specs.Counts.{AreEnough, KeepsToSteps, runs_of}
 use Rattle.sre_request.specs.declared.request.Request.{Request}
 use Rattle.sre_engine.specs.declared.engine.search_iter.SearchIter.{SearchIter}
@@ -111,3 +112,9 @@ pub record WritesNext {S A : Type 0} {text : Ghosts S} (status : Option Status) 
 abbrev pub Writes : {S : Type 0} {text : Ghosts S} → Status → Request S text → ℕ → ℕ → SreWalked → List ℕ → Type 0
 Writes {S = S} {text = text} status first steps width w rows =
     (next : Request S text) × WritesRows status first next steps width w rows
+
+-- what is built is of some request with the same code
+pub record SuitsNext {S : Type 0} {text : Ghosts S} (suits : S → Code → Type 0) (first : Request S text) : Type 0 where
+  pub next : Request S text
+  pub fits : suits (string_of next) (code_of next)
+  pub code : code_of next ≡ code_of first

@@ -7,7 +7,7 @@ ghost use Rattle.sre_engine.specs.Requests.{string_of, asked_of, code_of};
 ghost use Rattle.sre_finder.specs.Kepts.{Suits};
 ghost use Rattle.sre_c.specs.Budgets.{no_limit};
 ghost use Rattle.sre_c.specs.Replies.{told_of, Finds};
-ghost use Rattle.sre_c.specs.Rows.{Writes};
+ghost use Rattle.sre_c.specs.Rows.{Writes, SuitsNext};
 
 use crate::spans::write_spans;
 use crate::status::Status;
@@ -116,11 +116,12 @@ impl<S: Haystack> Asks<S> for Kept {
         let Ok(request) = request.clone() else {
             unreachable!(); // it takes no memory
         };
-        let told = if *steps == NO_LIMIT {
-            answered(finder.search(request, state))
-        } else {
-            finder.search_within(request, state, steps)
-        };
+        if *steps == NO_LIMIT {
+            let found = finder.search(request, state);
+            *self = finder.into_kept();
+            return answered(found);
+        }
+        let told = finder.search_within(request, state, steps);
         *self = finder.into_kept();
         told
     }
@@ -202,6 +203,7 @@ fn write_by<S: StrDrive, F: Starts<S>>(
     ensures rows { Writes result request.now walked.old.steps width walked.new rows.new }
     ensures steps { walked.new.steps ≤ walked.old.steps }
     ensures unlimited { walked.old.steps ≡ no_limit → walked.new.steps ≡ walked.old.steps }
+    ensures suits { SuitsNext (F.suits starts.new) request.now }
 {
     let Ok(request) = request.clone() else {
         unreachable!(); // it takes no memory

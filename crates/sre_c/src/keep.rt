@@ -83,7 +83,15 @@ pub fn answer_by_pattern<S: Haystack>(
     ensures code { pattern.new.code ≡ pattern.old.code }
 {
     let Some(mut kept) = take_or_new(alloc, pattern) else {
-        return answer(alloc, &mut fresh(), &pattern.code, text, asked, found, marks);
+        return answer(
+            alloc,
+            &mut fresh(),
+            &pattern.code,
+            text,
+            asked,
+            found,
+            marks,
+        );
     };
     let status = answer(alloc, &mut *kept, &pattern.code, text, asked, found, marks);
     put(pattern, kept);
@@ -106,9 +114,27 @@ pub fn walk_by_pattern<S: Haystack>(
     ensures code { pattern.new.code ≡ pattern.old.code }
 {
     let Some(mut kept) = take_or_new(alloc, pattern) else {
-        return walk(alloc, &mut fresh(), &pattern.code, text, asked, width, rows, walked);
+        return walk(
+            alloc,
+            &mut fresh(),
+            &pattern.code,
+            text,
+            asked,
+            width,
+            rows,
+            walked,
+        );
     };
-    let status = walk(alloc, &mut *kept, &pattern.code, text, asked, width, rows, walked);
+    let status = walk(
+        alloc,
+        &mut *kept,
+        &pattern.code,
+        text,
+        asked,
+        width,
+        rows,
+        walked,
+    );
     put(pattern, kept);
     status
 }

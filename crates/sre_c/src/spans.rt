@@ -97,6 +97,7 @@ pub fn write_spans<S: Haystack>(
     requires none { walked.old.count ≡ 0 }
     ensures rows { Writes result (request_of walk.old) walked.old.steps width walked.new rows.new }
     ensures steps { walked.new.steps ≡ walked.old.steps }
+    ensures code { code_of (request_of walk.new) ≡ code_of (request_of walk.old) }
 {
     let mut at = 0;
     note_next(walk, walked);

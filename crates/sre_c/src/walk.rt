@@ -137,6 +137,7 @@ pub fn write_rows<S: StrDrive, F: Starts<S>>(
         rows.new }
     ensures steps { walked.new.steps ≤ walked.old.steps }
     ensures unlimited { walked.old.steps ≡ no_limit → walked.new.steps ≡ walked.old.steps }
+    ensures suits { F.suits starts.new (string_of (request_of walk.new)) (code_of (request_of walk.new)) }
 {
     let mut at = 0;
     note_next(walk, walked);

@@ -25,6 +25,7 @@ ghost use Rattle.sre_finder.specs.Finders.{EndStands, CoveringAny, NoneLeftOfAny
 
 use crate::haystack::Haystack;
 use crate::pace::{Debt, Pace};
+use regex_hir::{Hir, Look};
 use sre_automata::{Seeker, Told};
 use sre_chars::string::{StrDrive, StringCursor};
 use sre_code::Code;
@@ -237,6 +238,18 @@ fn is_found_along(code: &Code<'_>) -> bool {
     }
 }
 
+// Whether a match begins only at the text's start. There the machine is run once, while DFAs would read all.
+pub(crate) fn is_anchored(hir: &Hir) -> bool {
+    match hir {
+        Hir::Look(Look::Start) => true,
+        Hir::Concat(parts) => match parts.first() {
+            Some(Hir::Look(Look::Start)) => true,
+            _ => false,
+        },
+        _ => false,
+    }
+}
+
 // The search for a pattern that covers the starts of a code. `None` if it would not save time.
 fn seeker_of(alloc: Global, code: Code<'_>, encoding: Encoding) -> Option<Seeker>
     ensures { CoveringAny encoding code.entry result }
@@ -247,8 +260,8 @@ fn seeker_of(alloc: Global, code: Code<'_>, encoding: Encoding) -> Option<Seeker
     let Ok(Some(hir)) = starts_of(alloc, &code, encoding) else {
         return None;
     };
-    if hir.min_len() == 0 {
-        return None; // it can match anywhere
+    if hir.min_len() == 0 || is_anchored(&hir) {
+        return None; // it can match anywhere, or only in one place
     }
     Seeker::new(alloc, hir, SIZE_LIMIT)
 }

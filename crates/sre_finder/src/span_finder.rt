@@ -11,7 +11,7 @@ ghost use Rattle.sre_finder.specs.Finders.{EndStands};
 ghost use Rattle.sre_finder.specs.Kepts.{Suits};
 ghost use Rattle.sre_finder.specs.Spans.{ExactlyAny, Knows, Between, StepsFrom, ShowsStep, FindsNone};
 
-use crate::finder::{Finder, SIZE_LIMIT};
+use crate::finder::{Finder, SIZE_LIMIT, is_anchored};
 use crate::haystack::Haystack;
 use crate::kept::{Kept, Spans};
 use crate::pace::{Debt, Pace};
@@ -148,7 +148,7 @@ fn exact_of(alloc: Global, code: Code<'_>, encoding: Encoding) -> Option<Seeker>
     let Ok(Some(hir)) = ways_of(alloc, &code, encoding) else {
         return None;
     };
-    if hir.min_len() == 0 {
+    if hir.min_len() == 0 || is_anchored(&hir) {
         return None; // an empty match can be excluded, which DFAs cannot express
     }
     let mut exact = Seeker::new(alloc, hir, SIZE_LIMIT)?;

@@ -7,7 +7,7 @@ ghost use Rattle.sre_handle.specs.Slots.{held, coded_code};
 
 use crate::raw_box::RawBox;
 use sre_finder::Kept;
-use std::marker::{Model, Send};
+use std::marker::Model;
 use std::ptr::null_mut;
 
 /// Owns a box, whose content suits the words and the table of a code; or nothing. It has no `Drop`, since C has none:
@@ -58,6 +58,3 @@ impl KeptSlot {
         let KeptSlot { at: _ } = self;
     }
 }
-
-// The box may be used and freed by any thread.
-unsafe impl Send for KeptSlot {}

@@ -16,4 +16,4 @@ matches-preserved g c =
 pub returns-in-Some : goal.returns-in-Some
 returns-in-Some g c =
     let ends = c.in-Some.ensures.rows.each (request_of c.args.walk.now) c.args.walked.now.steps c.matches.invariant.0 in
-    record { rows = ends.0; steps = ends.1; unlimited = ends.2 }
+    record { rows = ends.0; steps = ends.1; unlimited = ends.2; suits = c.in-Some.ensures.suits }

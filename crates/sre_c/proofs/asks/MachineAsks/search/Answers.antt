@@ -6,16 +6,16 @@ use Rattle.sre_c.specs.Replies.{Finds}
 use Rattle.sre_c.proofs.Finding.{finds_any, finds_within}
 use Rattle.sre_c.proofs.asks.MachineAsks.search.Goals as goal
 
-pub returns-then-steps-eq-NO_LIMIT : goal.returns-then-steps-eq-NO_LIMIT
-returns-then-steps-eq-NO_LIMIT g c =
+pub returns-then-steps-eq-NO_LIMIT-clause-finds : goal.returns-then-steps-eq-NO_LIMIT-clause-finds
+returns-then-steps-eq-NO_LIMIT-clause-finds g c =
     let own : c.in-Ok.request ≡ c.args.request.now = search rules in
     let n = c.args.steps.now in
     subst (λ r. Finds (words_of (code_of r)) (asked_of r) true c.answered.result c.search.new.self n n) own
     (finds_any (code_of c.in-Ok.request) (asked_of c.in-Ok.request) true c.search.result c.answered.result
     c.search.new.self n c.answered.ensures c.search.ensures.answer c.search.ensures.refused)
 
-pub returns : goal.returns
-returns g c =
+pub returns-clause-finds : goal.returns-clause-finds
+returns-clause-finds g c =
     let own : c.in-Ok.request ≡ c.args.request.now = search rules in
     let told = c.search_within.result in
     let s = c.search_within.new.self in
