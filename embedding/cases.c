@@ -1,9 +1,10 @@
 /* Answers a file of cases by the C interface as `sre_cases` does (docs/PROGRAM.md), with no options and no `check`:
  *
- *     cases FILE [ROWS]
+ *     cases FILE [ROWS [PASSES]]
  *
- * ROWS is the greatest number of matches that one call writes. Link with libsre_c.a. tools/speed.py measures it as any
- * program of that kind. */
+ * ROWS is the greatest number of matches that one call writes. The file is answered PASSES times: first by codes, and
+ * then by a sre_pattern for each bytecode, which is kept and has DFAs. The answers are the same. Link with libsre_c.a.
+ * tools/speed.py measures one pass as any program of that kind. */
 #include <stdio.h>
 #include <stdlib.h>
 #include <string.h>
@@ -11,6 +12,24 @@
 #include "sre.h"
 
 static const sre_table ascii = SRE_ASCII;
+static size_t most = 1 << 16;
+static unsigned long passes = 1;
+
+/* The bytecode of a line, and that of lines before it. */
+typedef struct node {
+  sre_pattern pattern;
+  struct node *before;
+} node;
+
+static node *nodes;
+
+typedef struct question {
+  sre_pattern *pattern;
+  const uint8_t *text;
+  size_t count;
+  sre_asked asked;
+  bool is_walk, is_text, is_ascii;
+} question;
 
 static void *room(size_t size) {
   void *block = malloc(size + !size);
@@ -45,6 +64,33 @@ static sre_code code_of(const char *field) {
   return (sre_code){.words = words, .words_count = count, .table = &ascii};
 }
 
+/* A pattern of this bytecode. If patterns are kept, that of an earlier line with the same bytecode. */
+static sre_pattern *pattern_of(sre_code code) {
+  size_t size = code.words_count * sizeof *code.words;
+  for (node *it = passes > 1 ? nodes : NULL; it; it = it->before) {
+    const sre_code *met = &it->pattern.code;
+    if (met->words_count == code.words_count && !memcmp(met->words, code.words, size)) {
+      free((void *)code.words);
+      return &it->pattern;
+    }
+  }
+  node *made = room(sizeof *made);
+  *made = (node){.pattern = {.code = code}, .before = nodes};
+  nodes = made;
+  sre_check_code(&made->pattern.code); /* if it fails, so does each call */
+  return &made->pattern;
+}
+
+static void free_patterns(void) {
+  while (nodes) {
+    node *it = nodes;
+    nodes = it->before;
+    sre_pattern_free(&it->pattern);
+    free((void *)it->pattern.code.words);
+    free(it);
+  }
+}
+
 /* The bytes of a field of hexadecimal digits, which takes their place. */
 static size_t read_bytes(char *digits) {
   static const char all[] = "0123456789abcdef";
@@ -52,6 +98,22 @@ static size_t read_bytes(char *digits) {
   for (size_t i = 0; i < count; i++)
     digits[i] = (char)((strchr(all, digits[2 * i]) - all) * 16 + (strchr(all, digits[2 * i + 1]) - all));
   return count;
+}
+
+static question question_of(char *line) {
+  char *verb = strtok(line, " "), *words = strtok(NULL, " "), *text = strtok(NULL, " "), *range = strtok(NULL, " "),
+       *flags = strtok(NULL, " ");
+  question it = {.pattern = pattern_of(code_of(words)), .is_walk = *verb == 'w', .is_text = *text == 's'};
+  it.count = read_bytes(text + 2);
+  it.text = (const uint8_t *)text + 2;
+  it.is_ascii = true;
+  for (size_t i = 0; i < it.count; i++) it.is_ascii &= it.text[i] < 128;
+  it.asked = (sre_asked){.end = SIZE_MAX, .search = *verb == 's'};
+  if (strcmp(range, "all")) sscanf(range, "%zu..%zu", &it.asked.start, &it.asked.end);
+  it.asked.match_all = strchr(flags, 'f') != NULL;
+  it.asked.must_advance = strchr(flags, 'a') != NULL;
+  it.asked.non_boundary = strchr(flags, 'n') != NULL;
+  return it;
 }
 
 static void put_match(const sre_found *found, const size_t *marks) {
@@ -67,26 +129,38 @@ static void put_match(const sre_found *found, const size_t *marks) {
   putchar('\n');
 }
 
-static uint32_t answer(const sre_code *code, bool is_text, const uint8_t *text, size_t count, const sre_asked *asked) {
+static uint32_t answer(const question *it, bool is_kept, bool is_text, const sre_asked *asked) {
+  sre_pattern *by = it->pattern;
   sre_found found = {.marks = 16};
   uint32_t status;
   do {
-    size_t marks_count = found.marks, *marks = room(marks_count * sizeof *marks);
-    status = (is_text ? sre_answer_utf8 : sre_answer_bytes)(code, text, count, asked, &found, marks, marks_count);
+    size_t count = found.marks, *marks = room(count * sizeof *marks);
+    if (is_kept)
+      status = (is_text ? sre_pattern_answer_utf8 : sre_pattern_answer_bytes)(by, it->text, it->count, asked, &found,
+                                                                              marks, count);
+    else
+      status = (is_text ? sre_answer_utf8 : sre_answer_bytes)(&by->code, it->text, it->count, asked, &found, marks,
+                                                              count);
     if (status == SRE_YES) put_match(&found, marks);
     free(marks);
   } while (status == SRE_NO_ROOM);
+  if (status == SRE_NO) puts("no");
   return status;
 }
 
-static uint32_t walk(const sre_code *code, bool is_text, const uint8_t *text, size_t count, sre_asked asked,
-                     size_t most) {
-  size_t *rows = room(2 * most * sizeof *rows);
+static uint32_t walk(const question *it, bool is_kept, bool is_text, sre_asked asked) {
+  sre_pattern *by = it->pattern;
+  size_t count = 2 * most, *rows = room(count * sizeof *rows);
   bool is_first = true;
   uint32_t status;
   sre_walked walked;
   do {
-    status = (is_text ? sre_walk_utf8 : sre_walk_bytes)(code, text, count, &asked, 2, rows, 2 * most, &walked);
+    if (is_kept)
+      status = (is_text ? sre_pattern_walk_utf8 : sre_pattern_walk_bytes)(by, it->text, it->count, &asked, 2, rows,
+                                                                          count, &walked);
+    else
+      status = (is_text ? sre_walk_utf8 : sre_walk_bytes)(&by->code, it->text, it->count, &asked, 2, rows, count,
+                                                          &walked);
     for (size_t i = 0; i < walked.count; i++, is_first = false)
       printf("%s%zu..%zu", is_first ? "" : " ", rows[2 * i], rows[2 * i + 1]);
     asked.start = walked.start, asked.must_advance = walked.must_advance;
@@ -96,39 +170,50 @@ static uint32_t walk(const sre_code *code, bool is_text, const uint8_t *text, si
   return status;
 }
 
-static void put_case(char *line, size_t most) {
-  char *verb = strtok(line, " "), *words = strtok(NULL, " "), *text = strtok(NULL, " "), *range = strtok(NULL, " "),
-       *flags = strtok(NULL, " ");
-  sre_code code = code_of(words);
-  size_t count = read_bytes(text + 2);
-  sre_asked asked = {.end = SIZE_MAX, .steps = UINT64_MAX, .search = *verb == 's'};
-  if (strcmp(range, "all")) sscanf(range, "%zu..%zu", &asked.start, &asked.end);
-  asked.match_all = strchr(flags, 'f') != NULL;
-  asked.must_advance = strchr(flags, 'a') != NULL;
-  asked.non_boundary = strchr(flags, 'n') != NULL;
-  uint32_t status = sre_check_code(&code);
-  if (status == SRE_YES) {
-    const uint8_t *bytes = (const uint8_t *)text + 2;
-    status = *verb == 'w' ? walk(&code, *text == 's', bytes, count, asked, most)
-                          : answer(&code, *text == 's', bytes, count, &asked);
-    if (status == SRE_NO && *verb != 'w') puts("no");
-  } else if (status == SRE_NO_CODE) {
-    puts("refused");
-  }
+/* Searches texts before that of a line, which are long enough together for DFAs to be built. */
+static void build(const question *it) {
+  const sre_asked asked = {.end = SIZE_MAX, .steps = UINT64_MAX, .search = true};
+  const size_t zeros = 1 << 9, count = zeros + it->count;
+  uint8_t *text = calloc(count, 1);
+  if (!text) exit(1);
+  memcpy(text + zeros, it->text, it->count);
+  sre_found found;
+  size_t marks[1];
+  for (int i = 0; i < 80; i++)
+    (it->is_text ? sre_pattern_answer_utf8 : sre_pattern_answer_bytes)(it->pattern, text, count, &asked, &found, marks,
+                                                                       0);
+  free(text);
+}
+
+/* The third pass has a step limit. In the fourth one a text that is ASCII has the other encoding. */
+static void put_answer(const question *it, unsigned long pass) {
+  bool is_kept = pass > 0, is_text = it->is_text ^ (it->is_ascii && pass == 3);
+  sre_asked asked = it->asked;
+  asked.steps = pass == 2 ? UINT64_MAX - 1 : UINT64_MAX;
+  if (is_kept && !it->pattern->is_kept && (it->is_walk || asked.search)) build(it);
+  uint32_t status = it->is_walk ? walk(it, is_kept, is_text, asked) : answer(it, is_kept, is_text, &asked);
+  if (status == SRE_NO_CODE) puts("refused");
   if (status == SRE_MEMORY) puts("memory");
-  free((void *)code.words);
 }
 
 int main(int count, char **arguments) {
   if (count < 2) return 2;
-  size_t most = count > 2 ? strtoul(arguments[2], NULL, 10) : 1 << 16;
+  if (count > 2) most = strtoul(arguments[2], NULL, 10);
+  if (count > 3) passes = strtoul(arguments[3], NULL, 10);
   char *text = contents(arguments[1]), *line = text;
+  size_t lines = 1, asked = 0;
+  for (char *at = text; *at; at++) lines += *at == '\n';
+  question *questions = room(lines * sizeof *questions);
   while (line && *line) {
     char *end = strchr(line, '\n');
     if (end) *end = 0;
-    if (*line && *line != '#') put_case(line, most);
+    if (*line && *line != '#') questions[asked++] = question_of(line);
     line = end ? end + 1 : NULL;
   }
+  for (unsigned long pass = 0; pass < passes; pass++)
+    for (size_t i = 0; i < asked; i++) put_answer(&questions[i], pass);
+  free_patterns();
+  free(questions);
   free(text);
   return 0;
 }
