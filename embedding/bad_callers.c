@@ -21,6 +21,7 @@ static int failures;
 /* ---- an allocator that fails ---- */
 
 static long until_refusal = -1; /* how many requests succeed before all fail; below 0 none fails */
+static bool is_one;             /* whether only the next one fails */
 static long requests;
 
 /* No test needs more at once: bytecode may name a group of a great number, whose captures take that much. */
@@ -28,7 +29,8 @@ static long requests;
 
 static bool is_refused(size_t size) {
   requests++;
-  return size > MOST_BYTES || (until_refusal >= 0 && requests > until_refusal);
+  bool is_due = until_refusal >= 0 && (is_one ? requests == until_refusal + 1 : requests > until_refusal);
+  return is_due || size > MOST_BYTES;
 }
 
 void *__real_malloc(size_t);
@@ -343,6 +345,139 @@ static void no_memory(void) {
   let_go(&code);
 }
 
+/* ---- patterns ---- */
+
+/* What an answer and an iteration return and write. */
+typedef struct outcome {
+  uint32_t answer, walk;
+  sre_found found;
+  sre_walked walked;
+  size_t marks[4], rows[21];
+} outcome;
+
+typedef struct text {
+  const char *bytes;
+  size_t count;
+  bool is_utf8;
+} text;
+
+/* By a pattern, or by its code alone. */
+static outcome outcome_of(sre_pattern *by, bool is_kept, text in, uint64_t steps) {
+  const uint8_t *bytes = (const uint8_t *)in.bytes;
+  sre_asked asked = anywhere;
+  asked.steps = steps;
+  outcome it = {0};
+  if (is_kept) {
+    it.answer = (in.is_utf8 ? sre_pattern_answer_utf8 : sre_pattern_answer_bytes)(by, bytes, in.count, &asked,
+                                                                                  &it.found, it.marks, 4);
+    it.walk = (in.is_utf8 ? sre_pattern_walk_utf8 : sre_pattern_walk_bytes)(by, bytes, in.count, &asked, 7, it.rows,
+                                                                            21, &it.walked);
+  } else {
+    it.answer = (in.is_utf8 ? sre_answer_utf8 : sre_answer_bytes)(&by->code, bytes, in.count, &asked, &it.found,
+                                                                  it.marks, 4);
+    it.walk = (in.is_utf8 ? sre_walk_utf8 : sre_walk_bytes)(&by->code, bytes, in.count, &asked, 7, it.rows, 21,
+                                                            &it.walked);
+  }
+  return it;
+}
+
+/* Whether they are the same but for steps, which DFAs save. */
+static bool is_same(const outcome *a, const outcome *b) {
+  return a->answer == b->answer && a->walk == b->walk && a->found.start == b->found.start &&
+         a->found.end == b->found.end && a->found.last_index == b->found.last_index &&
+         a->walked.count == b->walked.count && a->walked.start == b->walked.start &&
+         a->walked.must_advance == b->walked.must_advance && !memcmp(a->marks, b->marks, sizeof a->marks) &&
+         !memcmp(a->rows, b->rows, sizeof a->rows);
+}
+
+/* A pattern and its code agree on a text. Within a tight limit, DFAs can answer where the machine alone stops. */
+static void agree(sre_pattern *pattern, text in, uint64_t steps) {
+  outcome plain = outcome_of(pattern, false, in, steps), it = outcome_of(pattern, true, in, steps);
+  CHECK(is_same(&it, &plain) || (plain.answer == SRE_STEP_LIMIT && it.answer != SRE_YES));
+  CHECK(it.answer > SRE_YES || pattern->is_kept);
+}
+
+static char blank[1 << 15]; /* after a search in it, a pattern has DFAs */
+
+/* Texts in both encodings, by a pattern that is new, has DFAs, was checked, or was freed twice. */
+static void kept(const uint32_t *words, size_t count, const sre_table *table) {
+  static const char *texts[] = {"", "a=1", "  ab=12, b=3", "xxxy ababbb", "\xC3\xA9=1 \xC3\xA9z=2", "x=1\xFF"};
+  static const uint64_t limits[] = {UINT64_MAX, 100000, 0};
+  sre_pattern pattern = {.code = code_of(words, count)};
+  pattern.code.table = table;
+  for (int round = 0; round < 8; round++) {
+    if (round == 4) sre_check_code(&pattern.code);
+    if (round == 6) sre_pattern_free(&pattern), sre_pattern_free(&pattern);
+    if (round & 2) agree(&pattern, (text){blank, sizeof blank, round & 1}, UINT64_MAX);
+    for (size_t at = 0; at < 2 * COUNT(texts); at++)
+      for (size_t limit = 0; limit < COUNT(limits); limit++) {
+        const char *it = texts[at % COUNT(texts)];
+        agree(&pattern, (text){it, strlen(it), (at >= COUNT(texts)) ^ (round & 1)}, limits[limit]);
+      }
+  }
+  sre_pattern_free(&pattern);
+  CHECK(!pattern.is_kept);
+  let_go(&pattern.code);
+}
+
+/* How many calls return SRE_MEMORY if each request in turn fails. Any other returns the plain answer, and so does the
+ * next one. A call by a pattern is its first, or the first that builds DFAs. */
+static long told_memory(sre_pattern *pattern, bool is_kept, bool has_paid) {
+  const text in = {"  ab=12 xxxy abb", 16, false};
+  const outcome plain = outcome_of(pattern, false, in, UINT64_MAX);
+  sre_found found;
+  size_t marks[4];
+  long told = 0;
+  bool is_refused = true;
+  for (long before = 0; is_refused; before++) {
+    sre_pattern_free(pattern);
+    if (has_paid)
+      sre_pattern_answer_bytes(pattern, (const uint8_t *)blank, sizeof blank, &anywhere, &found, marks, 4);
+    requests = 0;
+    until_refusal = before;
+    outcome it = outcome_of(pattern, is_kept, in, UINT64_MAX);
+    until_refusal = -1;
+    is_refused = requests > before;
+    bool is_told = it.answer == SRE_MEMORY || it.walk == SRE_MEMORY;
+    told += is_told;
+    CHECK(is_told || is_same(&it, &plain));
+    it = outcome_of(pattern, is_kept, in, UINT64_MAX);
+    CHECK(is_same(&it, &plain));
+  }
+  return told;
+}
+
+static void no_memory_for_patterns(const uint32_t *words, size_t count) {
+  sre_pattern pattern = {.code = code_of(words, count)};
+  sre_found found;
+  size_t marks[4];
+  is_one = true;
+  until_refusal = requests = 0; /* nothing is kept if that is refused */
+  CHECK(sre_pattern_answer_bytes(&pattern, (const uint8_t *)"", 0, &anywhere, &found, marks, 4) == SRE_NO);
+  until_refusal = -1;
+  CHECK(!pattern.is_kept && requests > 0);
+  long plain = told_memory(&pattern, false, false);
+  CHECK(plain > 0 && told_memory(&pattern, true, false) == plain);
+  CHECK(told_memory(&pattern, true, true) <= plain);
+  is_one = false;
+  sre_pattern_free(&pattern);
+  let_go(&pattern.code);
+}
+
+static void patterns(void) {
+  static const sre_pair low[] = {{65, 97}};
+  sre_table faulty = SRE_ASCII;
+  faulty.lower = low;
+  faulty.lower_count = COUNT(low);
+  memset(blank, ' ', sizeof blank);
+  kept(setting, COUNT(setting), &ascii);
+  kept(running, COUNT(running), &ascii);
+  kept(setting, COUNT(setting) - 1, &ascii);
+  kept(setting, COUNT(setting), &faulty);
+  no_memory_for_patterns(setting, COUNT(setting));
+  no_memory_for_patterns(running, COUNT(running));
+}
+
 int main(void) {
   CHECK(sre_abi() == SRE_ABI);
   CHECK(sre_check_table(&ascii) == SRE_YES);
@@ -356,6 +491,7 @@ int main(void) {
   no_points();
   faulty_tables();
   no_memory();
+  patterns();
   printf("bad callers: %d failures\n", failures);
   return failures != 0;
 }
