@@ -3,7 +3,9 @@
 //! Copy this file, write `mod sre;`, and link `libsre_c.a` of the same release.
 #![allow(dead_code)] // fields that only the engine reads or writes
 
+use std::ffi::c_void;
 use std::mem::{offset_of, size_of};
+use std::ptr::null_mut;
 
 /// A list of a table. Its pointer is aligned and not null even if the list is empty.
 #[repr(C)]
@@ -34,9 +36,9 @@ struct Hints {
     flags: [bool; 5],
 }
 
-/// A checked code: a compiled pattern and its table.
+/// A checked code: bytecode and its table.
 #[repr(C)]
-pub struct Code<'a> {
+struct Code<'a> {
     words: *const u32,
     words_count: usize,
     table: &'a Table,
@@ -45,6 +47,17 @@ pub struct Code<'a> {
     hints: Hints,
     checked: bool,
 }
+
+/// A compiled pattern with its table, and the DFAs that its searches have built. One thread at a time searches by it.
+#[repr(C)]
+pub struct Pattern<'a> {
+    code: Code<'a>,
+    kept: *mut c_void,
+    is_kept: bool,
+}
+
+// SAFETY: the bytecode and the table are borrowed and do not change, and any thread may use and free what is kept.
+unsafe impl Send for Pattern<'_> {}
 
 #[repr(C)]
 struct Asked {
@@ -77,6 +90,7 @@ const _: () = {
     assert!(size_of::<Hints>() == 28 && offset_of!(Hints, flags) == 20);
     assert!(size_of::<Code>() == 72 && offset_of!(Code, place) == 24 && offset_of!(Code, error) == 32);
     assert!(offset_of!(Code, hints) == 36 && offset_of!(Code, checked) == 64);
+    assert!(size_of::<Pattern>() == 88 && offset_of!(Pattern, kept) == 72 && offset_of!(Pattern, is_kept) == 80);
     assert!(size_of::<Asked>() == 32 && offset_of!(Asked, steps) == 16 && offset_of!(Asked, search) == 24);
     assert!(size_of::<Found>() == 40 && offset_of!(Found, last_index) == 16 && offset_of!(Found, steps) == 32);
 };
@@ -85,8 +99,8 @@ unsafe extern "C" {
     safe fn sre_abi() -> u32;
     fn sre_check_code(code: &mut Code<'_>) -> u32;
     fn sre_step_bound(code: &Code<'_>, characters: usize, steps: &mut u64) -> u32;
-    fn sre_answer_utf8(
-        code: &Code<'_>,
+    fn sre_pattern_answer_utf8(
+        pattern: &mut Pattern<'_>,
         text: *const u8,
         text_count: usize,
         asked: &Asked,
@@ -94,22 +108,23 @@ unsafe extern "C" {
         marks: *mut usize,
         marks_count: usize,
     ) -> u32;
+    fn sre_pattern_free(pattern: &mut Pattern<'_>);
 }
 
-impl<'a> Code<'a> {
-    /// The code of a pattern's bytecode, or the status with which the engine rejects it.
+impl<'a> Pattern<'a> {
+    /// The pattern of checked bytecode, or the status with which the engine rejects it.
     ///
     /// # Panics
     ///
     /// If the library has another ABI than this file.
-    pub fn check(words: &'a [u32], table: &'a Table) -> Result<Box<Self>, u32> {
+    pub fn check(words: &'a [u32], table: &'a Table) -> Result<Self, u32> {
         assert!(sre_abi() == ABI, "libsre_c.a has the ABI {}, and sre.rs needs {ABI}", sre_abi());
         let (words, words_count) = (words.as_ptr(), words.len());
         let hints = Hints::default();
-        let mut code = Box::new(Code { words, words_count, table, place: 0, error: 0, hints, checked: false });
+        let mut code = Code { words, words_count, table, place: 0, error: 0, hints, checked: false };
         // SAFETY: the code borrows the bytecode and the table.
         let status = unsafe { sre_check_code(&mut code) };
-        if status == 1 { Ok(code) } else { Err(status) }
+        if status == 1 { Ok(Pattern { code, kept: null_mut(), is_kept: false }) } else { Err(status) }
     }
 
     /// A step limit that suffices for any search in a text of at most so many code points, unless an allocation fails;
@@ -117,13 +132,13 @@ impl<'a> Code<'a> {
     pub fn step_bound(&self, characters: usize) -> Result<u64, u32> {
         let mut steps = 0;
         // SAFETY: the structs have the layout of `sre.h`.
-        let status = unsafe { sre_step_bound(self, characters, &mut steps) };
+        let status = unsafe { sre_step_bound(&self.code, characters, &mut steps) };
         if status == 1 { Ok(steps) } else { Err(status) }
     }
 
     /// The first match in a text, with the start and end of each group in `marks`; or the status, which is 0 if there
     /// is no match. `marks` has room for two positions a group. Positions count code points.
-    pub fn search(&self, text: &str, steps: u64, marks: &mut [usize]) -> Result<Found, u32> {
+    pub fn search(&mut self, text: &str, steps: u64, marks: &mut [usize]) -> Result<Found, u32> {
         let asked = Asked {
             start: 0,
             end: usize::MAX,
@@ -134,10 +149,16 @@ impl<'a> Code<'a> {
             non_boundary: false,
         };
         let mut found = Found::default();
+        let (text, text_count, room, marks) = (text.as_ptr(), text.len(), marks.len(), marks.as_mut_ptr());
         // SAFETY: pointers and counts come from slices, and the structs have the layout of `sre.h`.
-        let status = unsafe {
-            sre_answer_utf8(self, text.as_ptr(), text.len(), &asked, &mut found, marks.as_mut_ptr(), marks.len())
-        };
+        let status = unsafe { sre_pattern_answer_utf8(self, text, text_count, &asked, &mut found, marks, room) };
         if status == 1 { Ok(found) } else { Err(status) }
+    }
+}
+
+impl Drop for Pattern<'_> {
+    fn drop(&mut self) {
+        // SAFETY: `kept` is null or what a search has kept.
+        unsafe { sre_pattern_free(self) }
     }
 }

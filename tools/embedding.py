@@ -23,7 +23,7 @@ EXAMPLES = ("docs/PYTHON.md", "README.md")
 # The lines of README.md, by the language that the page names, in whole programs.
 LINES = {
     "c": ("c", '#include <stdio.h>\n#include "sre.h"\nint main(void) {\n', "}\n"),
-    "rs": ("rust", "mod sre;\nuse sre::{ASCII, Code};\nfn main() -> Result<(), u32> {\n", "Ok(())\n}\n"),
+    "rs": ("rust", "mod sre;\nuse sre::{ASCII, Pattern};\nfn main() -> Result<(), u32> {\n", "Ok(())\n}\n"),
 }
 BLOCK = re.compile(r"(?ms)^```(\w*)\n(.*?)^```$")
 # How the page compiles its program in C, and the one in Rust.
@@ -142,7 +142,8 @@ class Embedding:
         if self.lacks("cc", "callers in C"):
             return
         cases, answers = f"{ROOT}/examples/cases.txt", read(f"{ROOT}/examples/cases.expected")
-        for name, given, written in (("bad_callers", [], "bad callers: 0 failures\n"), ("cases", [cases], answers)):
+        kept = [cases, "3", "4"]  # rows in a call, and passes: by codes, and by patterns that are kept
+        for name, given, written in (("bad_callers", [], "bad callers: 0 failures\n"), ("cases", kept, 4 * answers)):
             words = ["cc", "-std=c11", "-g", "-Wall", f"-I{library}", f"{ROOT}/embedding/{name}.c"]
             words += [f"{library}/libsre_c.a", "-o", f"{self.room}/{name}"]
             if self.ran(f"{name}.c is compiled", *words, *["-Wl,--wrap=malloc,--wrap=realloc"] * (not given)):
