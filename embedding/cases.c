@@ -170,16 +170,16 @@ static uint32_t walk(const question *it, bool is_kept, bool is_text, sre_asked a
   return status;
 }
 
-/* Searches texts before that of a line, which are long enough together for DFAs to be built. */
+/* Searches texts that are long enough together for DFAs to be built, in the encoding of a line's text. */
 static void build(const question *it) {
   const sre_asked asked = {.end = SIZE_MAX, .steps = UINT64_MAX, .search = true};
-  const size_t zeros = 1 << 9, count = zeros + it->count;
-  uint8_t *text = calloc(count, 1);
-  if (!text) exit(1);
+  const size_t zeros = 512, count = zeros + it->count;
+  uint8_t *text = room(count);
+  memset(text, 0, zeros);
   memcpy(text + zeros, it->text, it->count);
   sre_found found;
   size_t marks[1];
-  for (int i = 0; i < 80; i++)
+  for (size_t passed = 0; passed < 40000; passed += count)
     (it->is_text ? sre_pattern_answer_utf8 : sre_pattern_answer_bytes)(it->pattern, text, count, &asked, &found, marks,
                                                                        0);
   free(text);

@@ -2,13 +2,12 @@
 """Times the program `sre_cases` beside CPython's `_sre`, on the same words and the same texts, or counts instructions.
 
     speed.py [--runs N] [--repeat N] [--scale F]
-    speed.py --instructions [--before PATH] [--beside PATH] [--characters N]
+    speed.py --instructions [--before PATH] [--characters N]
 
 Both take --program PATH and --only NAME,... For each line of WORK, without and with the INFO block: nanoseconds of
 processor time a character, the best of N runs, of the program and of CPython, and the ratio (docs/SPEED.md). The status
-is 1 if an answer is not CPython's. Instructions are counted by cachegrind, likewise. A program of another engine gets
-two arguments, a file with a pattern and a file with a text, both UTF-8, and prints how many matches there are. It gets
-no single matches and no lines of APART. It runs under CPython 3.11 to 3.13.
+is 1 if an answer is not CPython's. Instructions are counted by cachegrind, likewise. It runs under CPython 3.11 to
+3.13. embedding/peers.py has the same lines for the library and other engines.
 """
 import argparse
 import collections
@@ -86,8 +85,6 @@ def greek(draw):
 
 
 TOKENS = r'(\#[^\n]*)|("(?:[^"\\\n]|\\.)*")|(\d+)|([A-Za-z_]\w*)|(==|[-+*/=<>()\[\]:,.?&;])|([ \t]+)|(\n)'
-# What another engine may not be able to say, and a pattern without a match that is tried at the text's start alone.
-APART, NOTHING = ('looks', 'reference', 'possessive', 'elements'), r'\A\x01'
 
 
 class Work(typing.NamedTuple):
@@ -187,27 +184,21 @@ def instructions(*command):
 
 
 def counts(work, options, room):
-    """The program's instructions a character, those of the other programs, and True, by the form of the words."""
+    """The program's instructions a character, those of an earlier build, and True, by the form of the words."""
     pattern, asked = case_of(work, work.size if work.verb == 'match' else options.characters)
 
-    def counted(program, asking, reading, *more):
-        """Those of a program for a file, less those for one that it takes as long to read."""
+    def counted(program, *lines):
+        """Those of a program for a line, less those for one that it takes as long to read."""
         found = []
-        for it in (asking, reading):
-            write(f'{room}/file', it)
-            found.append(instructions(program, f'{room}/file', *more))
+        for it in lines:
+            write(f'{room}/file', f'{it}\n')
+            found.append(instructions(program, f'{room}/file'))
         return (found[0] - found[1]) / len(asked.text)
 
-    beside = {}
-    if options.beside and work.verb != 'match' and work.name not in APART:
-        letters = ''.join(letter for letter, flag in words.FLAGS.items() if flag & work.flags)
-        write(f'{room}/text', asked.text.decode() if work.is_bytes else asked.text)
-        asking = f'(?{letters})' * bool(letters) + work.pattern
-        beside = {'beside': counted(options.beside, asking, NOTHING, f'{room}/text')}
     for form, code in forms(pattern):
-        lines = [f'{it}\n' for it in lines_of(code, asked)]
+        lines = lines_of(code, asked)
         before = {'before': counted(options.before, *lines)} if options.before else {}
-        yield form, counted(options.program, *lines), {**before, **beside}, True
+        yield form, counted(options.program, *lines), before, True
 
 
 def arguments():
@@ -220,17 +211,15 @@ def arguments():
     add('--scale', type=float, default=1, metavar='F', help='texts of so many times the characters')
     add('--instructions', action='store_true', help='counts instructions')
     add('--before', metavar='PATH', help='an earlier build of the program')
-    add('--beside', metavar='PATH', help="another engine's program")
     add('--characters', type=int, default=100000, metavar='N', help='the length of each text')
     return parser
 
 
-def measured(options, chosen, room):
-    """Writes a row for each line and form, gathers the ratios by what they are to and the form, and gives the
-    status."""
+def measured(rows_of, works):
+    """Writes the rows of each line, gathers the ratios by what they are to and the form, and gives the status."""
     ratios, wrong = collections.defaultdict(dict), 0
-    for work in chosen:
-        for form, ours, others, is_right in (counts if options.instructions else times)(work, options, room):
+    for work in works:
+        for form, ours, others, is_right in rows_of(work):
             shown = ''.join(f'{what:>11}{it:>11.2f}{ours / it:>8.3f}' for what, it in others.items())
             print(f'{work.name:<16}{form:<14}{ours:>11.2f}{shown}' + '  WRONG' * (not is_right), flush=True)
             wrong += not is_right
@@ -243,14 +232,19 @@ def measured(options, chosen, room):
     return int(wrong > 0)
 
 
+def chosen(only):
+    """The lines of these names, or all."""
+    return [work for work in WORK if not only or work.name in only.split(',')]
+
+
 def main(given):
     words.require_known_numbers()
     options = arguments().parse_args(given)
-    for program in filter(None, (options.program, options.before, options.beside)):
+    for program in filter(None, (options.program, options.before)):
         words.require_program(program)
-    chosen = [work for work in WORK if not options.only or work.name in options.only.split(',')]
+    how = counts if options.instructions else times
     with tempfile.TemporaryDirectory() as room:
-        return measured(options, chosen, room)
+        return measured(lambda work: how(work, options, room), chosen(options.only))
 
 
 if __name__ == '__main__':

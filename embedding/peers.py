@@ -1,0 +1,106 @@
+#!/usr/bin/env python3
+"""Counts the instructions of the library, by patterns that are kept and by codes, beside RE2 and PCRE2.
+
+    peers.py LIBRARY [--characters N,..] [--only NAME,..] [--program PATH]
+
+LIBRARY is a folder of `python/build.py library`. For each length and each line of WORK in tools/speed.py that all can
+ask, cachegrind counts the instructions a character that finding all spans takes: by a pattern that is kept, then by a
+code, by each engine with a compiled pattern, and by the program `sre_cases` at PATH, with the ratio of the first to
+these. An engine without headers (libre2-dev, libpcre2-dev) is left out. It runs under CPython 3.11 to 3.13. The status
+is 1 if the numbers of matches differ.
+"""
+import argparse
+import os
+import sys
+import tempfile
+
+HERE = os.path.dirname(os.path.realpath(__file__))
+sys.path.insert(0, f'{os.path.dirname(HERE)}/tools')
+
+import speed
+import words
+from ending import Fault, ended
+from repository import run, write
+
+# What other engines may not be able to say.
+APART = ('looks', 'reference', 'possessive', 'elements')
+# How peers.cc is compiled for an engine, and how it is called: with which file for the pattern, and which options.
+COMPILED = {'SRE': '-DBY_SRE -I{0} {0}/libsre_c.a', 'RE2': '-DBY_RE2 -lre2', 'PCRE2': '-DBY_PCRE2 -lpcre2-8'}
+CALLED = {'kept': ('SRE', 'words', ''), 'code': ('SRE', 'words', 'c'), 'RE2': ('RE2', 'pattern', ''),
+          'PCRE2': ('PCRE2', 'pattern', ''), 'JIT': ('PCRE2', 'pattern', 'j')}
+# After so many characters a pattern has DFAs.
+BUILT = 40000
+
+
+class Lines:
+    """The lines of the table, over texts of several lengths."""
+
+    def __init__(self, options, room):
+        self.options, self.room, self.has = options, room, []
+        for name, given in COMPILED.items():
+            last = given.format(options.library).split()
+            made = run('c++', '-std=c++17', '-O2', f'{HERE}/peers.cc', *last, '-o', f'{room}/{name}')
+            if not made.returncode:
+                self.has.append(name)
+            elif name == 'SRE':
+                raise Fault(f'{last[-1]} cannot be linked', *made.stdout.splitlines())
+            else:
+                print(f'{name} is left out: {last[-1]} or its headers are not there')
+
+    def counted(self, is_bytes, characters):
+        """The instructions of one more search of the whole text by each engine, and how many matches they find."""
+        counts, found, times = {}, set(), BUILT // characters + 2
+        for name, (engine, file, options) in CALLED.items():
+            if engine in self.has:
+                command = [f'{self.room}/{it}' for it in (engine, file, 'text')]
+                options += 'b' * is_bytes
+                found.add(run(*command, '1', options).stdout)
+                more, less = (speed.instructions(*command, str(it), options) for it in (times + 1, times))
+                counts[name] = more - less
+        return counts, found
+
+    def of_program(self, *lines):
+        """The instructions of the program for a line, less those for one that it takes as long to read."""
+        found = []
+        for it in lines:
+            write(f'{self.room}/case', f'{it}\n')
+            found.append(speed.instructions(self.options.program, f'{self.room}/case'))
+        return found[0] - found[1]
+
+    def rows(self, work):
+        """A row of a line for each length."""
+        for characters in self.options.characters:
+            pattern, asked = speed.case_of(work, characters)
+            letters = ''.join(letter for letter, flag in words.FLAGS.items() if flag & work.flags)
+            text = asked.text.decode() if work.is_bytes else asked.text
+            for name, it in (('pattern', f'(?{letters})' * bool(letters) + work.pattern), ('text', text),
+                             ('words', words.case_words(pattern.words))):
+                write(f'{self.room}/{name}', it)
+            counts, found = self.counted(work.is_bytes, characters)
+            if self.options.program:
+                # the library is given a text that nobody has checked to be UTF-8
+                reading = words.Asked('match', text.encode())
+                lines = words.case_line(pattern.words, asked), words.case_line([1], reading)
+                counts['program'] = self.of_program(*lines)
+            counts = {name: it / characters for name, it in counts.items()}
+            is_right = found == {f'{len([*words.matches(pattern, asked)])}\n'}
+            yield f'{characters:,}', counts.pop('kept'), counts, is_right
+
+
+def main(given):
+    parser = argparse.ArgumentParser(description=__doc__, formatter_class=argparse.RawDescriptionHelpFormatter)
+    add = parser.add_argument
+    add('library')
+    add('--characters', default='1000,10000,100000,1000000', metavar='N,..',
+        type=lambda it: [int(number) for number in it.split(',')])
+    add('--only', default='', metavar='NAME,..')
+    add('--program', metavar='PATH')
+    options = parser.parse_args(given)
+    words.require_known_numbers()
+    works = [it for it in speed.chosen(options.only) if it.verb != 'match' and it.name not in APART]
+    with tempfile.TemporaryDirectory(prefix='peers-') as room:
+        return speed.measured(Lines(options, room).rows, works)
+
+
+if __name__ == '__main__':
+    ended(main)
