@@ -394,7 +394,7 @@ static bool is_same(const outcome *a, const outcome *b) {
 static void agree(sre_pattern *pattern, text in, uint64_t steps) {
   outcome plain = outcome_of(pattern, false, in, steps), it = outcome_of(pattern, true, in, steps);
   CHECK(is_same(&it, &plain) || (plain.answer == SRE_STEP_LIMIT && it.answer != SRE_YES));
-  CHECK(it.answer > SRE_YES || pattern->is_kept);
+  CHECK(pattern->is_kept || it.answer > SRE_YES);
 }
 
 static char blank[1 << 15]; /* after a search in it, a pattern has DFAs */
@@ -422,8 +422,8 @@ static void kept(const uint32_t *words, size_t count, const sre_table *table) {
 
 /* How many calls return SRE_MEMORY if each request in turn fails. Any other returns the plain answer, and so does the
  * next one. A call by a pattern is its first, or the first that builds DFAs. */
-static long told_memory(sre_pattern *pattern, bool is_kept, bool has_paid) {
-  const text in = {"  ab=12 xxxy abb", 16, false};
+static long told_memory(sre_pattern *pattern, bool is_utf8, bool is_kept, bool has_paid) {
+  const text in = {"  ab=12 xxxy abb", 16, is_utf8};
   const outcome plain = outcome_of(pattern, false, in, UINT64_MAX);
   sre_found found;
   size_t marks[4];
@@ -432,7 +432,8 @@ static long told_memory(sre_pattern *pattern, bool is_kept, bool has_paid) {
   for (long before = 0; is_refused; before++) {
     sre_pattern_free(pattern);
     if (has_paid)
-      sre_pattern_answer_bytes(pattern, (const uint8_t *)blank, sizeof blank, &anywhere, &found, marks, 4);
+      (is_utf8 ? sre_pattern_answer_utf8 : sre_pattern_answer_bytes)(pattern, (const uint8_t *)blank, sizeof blank,
+                                                                     &anywhere, &found, marks, 4);
     requests = 0;
     until_refusal = before;
     outcome it = outcome_of(pattern, is_kept, in, UINT64_MAX);
@@ -456,9 +457,11 @@ static void no_memory_for_patterns(const uint32_t *words, size_t count) {
   CHECK(sre_pattern_answer_bytes(&pattern, (const uint8_t *)"", 0, &anywhere, &found, marks, 4) == SRE_NO);
   until_refusal = -1;
   CHECK(!pattern.is_kept && requests > 0);
-  long plain = told_memory(&pattern, false, false);
-  CHECK(plain > 0 && told_memory(&pattern, true, false) == plain);
-  CHECK(told_memory(&pattern, true, true) <= plain);
+  for (int is_utf8 = 0; is_utf8 < 2; is_utf8++) {
+    long plain = told_memory(&pattern, is_utf8, false, false);
+    CHECK(plain > 0 && told_memory(&pattern, is_utf8, true, false) == plain);
+    CHECK(told_memory(&pattern, is_utf8, true, true) <= plain);
+  }
   is_one = false;
   sre_pattern_free(&pattern);
   let_go(&pattern.code);
@@ -467,8 +470,7 @@ static void no_memory_for_patterns(const uint32_t *words, size_t count) {
 static void patterns(void) {
   static const sre_pair low[] = {{65, 97}};
   sre_table faulty = SRE_ASCII;
-  faulty.lower = low;
-  faulty.lower_count = COUNT(low);
+  faulty.lower = low, faulty.lower_count = COUNT(low);
   memset(blank, ' ', sizeof blank);
   kept(setting, COUNT(setting), &ascii);
   kept(running, COUNT(running), &ascii);
