@@ -48,6 +48,10 @@ class Code(Structure):
     ]
 
 
+class Pattern(Structure):
+    _fields_ = [("code", Code), ("kept", c_void_p), ("is_kept", c_bool)]
+
+
 class Asked(Structure):
     _fields_ = [
         ("start", c_size_t),

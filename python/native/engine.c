@@ -116,22 +116,46 @@ static bool may_others_run(const Text *text) {
   return text->is_fixed && text->length >= LONG_TEXT && !is_alone();
 }
 
-/* With a confirmed prefix the engine builds no DFAs. With back-references or at starts of lines they gain little. */
+/* Whether DFAs may serve a call: a search. With a confirmed prefix the engine builds none. At starts of lines they gain
+ * little, and if a match begins at the start of the text alone, they read all of it in vain. */
+static bool may_have_dfas(const Pattern *pattern, const sre_asked *asked) {
+  return asked->search && !pattern->code.hints.has_prefix && !pattern->at_line_start;
+}
+
+/* With back-references DFAs gain little in a long text. */
 bool engine_may_gain(const Pattern *pattern, const Text *text, const sre_asked *asked) {
   size_t range = asked->end - asked->start;
-  if (text->size == 1 || !asked->search || range < LONG_TEXT || range < (size_t)text->length / LEAST_PART)
+  if (text->size == 1 || range < LONG_TEXT || range < (size_t)text->length / LEAST_PART)
     return false;
-  return !pattern->code.hints.has_prefix && !pattern->code.hints.refers && !pattern->at_line_start;
+  return may_have_dfas(pattern, asked) && !pattern->code.hints.refers;
 }
 
 uint64_t engine_first_steps(const Text *text) { return FEW_STEPS + (uint64_t)text->length / CHARACTERS_A_STEP; }
 
-static uint32_t answer(const Pattern *pattern, const Text *text, bool is_utf8, const sre_asked *asked,
-                       sre_found *found, size_t *marks) {
+/* What keeps the DFAs of a search over bytes or UTF-8; null if a call of another thread has it. Each encoding has its
+ * own, since one for both drops them at each change, which made short texts among long ones up to 12 times as slow. */
+static sre_pattern *take(Pattern *pattern, const Text *text, bool is_utf8, const sre_asked *asked) {
+  if (pattern->is_taken || (text->size > 1 && !is_utf8) || !may_have_dfas(pattern, asked))
+    return NULL;
+  pattern->is_taken = true;
+  return is_utf8 ? &pattern->of_utf8 : &pattern->of_bytes;
+}
+
+static void give_back(Pattern *pattern, const sre_pattern *kept) {
+  if (kept)
+    pattern->is_taken = false;
+}
+
+static uint32_t answer(const Pattern *pattern, sre_pattern *kept, const Text *text, bool is_utf8,
+                       const sre_asked *asked, sre_found *found, size_t *marks) {
   const sre_code *code = &pattern->code;
-  size_t length = (size_t)text->length, room = 2 * (size_t)pattern->groups;
+  const uint8_t *utf8 = (const uint8_t *)text->utf8;
+  size_t length = (size_t)text->length, bytes = (size_t)text->utf8_length, room = 2 * (size_t)pattern->groups;
   if (is_utf8)
-    return sre_answer_utf8(code, (const uint8_t *)text->utf8, (size_t)text->utf8_length, asked, found, marks, room);
+    return kept ? sre_pattern_answer_utf8(kept, utf8, bytes, asked, found, marks, room)
+                : sre_answer_utf8(code, utf8, bytes, asked, found, marks, room);
+  if (kept)
+    return sre_pattern_answer_bytes(kept, text->data, length, asked, found, marks, room);
   switch (text->size) {
   case 1:
     return sre_answer_bytes(code, text->data, length, asked, found, marks, room);
@@ -142,25 +166,32 @@ static uint32_t answer(const Pattern *pattern, const Text *text, bool is_utf8, c
   }
 }
 
+/* The answer by the DFAs that are kept, if it may have them. */
+static uint32_t answer_kept(Pattern *pattern, const Text *text, bool is_utf8, bool others_run, const sre_asked *asked,
+                            sre_found *found, size_t *marks) {
+  sre_pattern *kept = take(pattern, text, is_utf8, asked);
+  PyThreadState *saved = others_run ? PyEval_SaveThread() : NULL;
+  uint32_t status = answer(pattern, kept, text, is_utf8, asked, found, marks);
+  if (saved)
+    PyEval_RestoreThread(saved);
+  give_back(pattern, kept);
+  return status;
+}
+
 /* The answer by the first steps, while other threads wait. If these do not suffice, the engine starts again with the
  * request as it is, so they are not charged, and the answer is that of the request. Then other threads run, and the
  * text is read as UTF-8 if that may gain. */
-static uint32_t answer_in_two(const Pattern *pattern, Text *text, const sre_asked *asked, sre_found *found,
-                              size_t *marks) {
+static uint32_t answer_in_two(Pattern *pattern, Text *text, const sre_asked *asked, sre_found *found, size_t *marks) {
   bool others_run = may_others_run(text), may_gain = engine_may_gain(pattern, text, asked);
   if (!others_run && !may_gain)
-    return answer(pattern, text, false, asked, found, marks);
+    return answer_kept(pattern, text, false, false, asked, found, marks);
   sre_asked first = *asked;
   first.steps = Py_MIN(asked->steps, may_gain ? engine_first_steps(text) : FEW_STEPS);
-  uint32_t status = answer(pattern, text, false, &first, found, marks);
+  uint32_t status = answer(pattern, NULL, text, false, &first, found, marks);
   if (status != SRE_STEP_LIMIT || first.steps == asked->steps)
     return status;
   bool is_utf8 = may_gain && text_utf8(text);
-  PyThreadState *saved = others_run ? PyEval_SaveThread() : NULL;
-  status = answer(pattern, text, is_utf8, asked, found, marks);
-  if (saved)
-    PyEval_RestoreThread(saved);
-  return status;
+  return answer_kept(pattern, text, is_utf8, others_run, asked, found, marks);
 }
 
 static uint32_t character_at(const Text *text, size_t position) {
@@ -206,9 +237,9 @@ static bool may_match(const Pattern *pattern, const Text *text, sre_asked *asked
   return asked->end - asked->start >= pattern->code.hints.width;
 }
 
-int engine_match(const Pattern *pattern, Text *text, const sre_asked *given, size_t *row) {
+int engine_match(Pattern *pattern, Text *text, const sre_asked *given, size_t *row) {
   sre_asked narrowed = *given, *asked = &narrowed;
-  /* a call with a step limit goes to the engine as it is, so that both engines of the package charge it alike */
+  /* a call with a step limit goes to the engine as it is: without DFAs both engines of the package charge it alike */
   if (asked->steps == UINT64_MAX && !may_match(pattern, text, asked))
     return 0;
   sre_found found;
@@ -227,11 +258,15 @@ int engine_match(const Pattern *pattern, Text *text, const sre_asked *given, siz
   return 1;
 }
 
-static uint32_t walk(const sre_code *code, const Text *text, const sre_asked *asked, size_t width, size_t *rows,
-                     size_t numbers, sre_walked *walked) {
+static uint32_t walk(const sre_code *code, sre_pattern *kept, const Text *text, const sre_asked *asked, size_t width,
+                     size_t *rows, size_t numbers, sre_walked *walked) {
+  const uint8_t *utf8 = (const uint8_t *)text->utf8;
   size_t length = (size_t)text->length, bytes = (size_t)text->utf8_length;
-  if (text->utf8)
-    return sre_walk_utf8(code, (const uint8_t *)text->utf8, bytes, asked, width, rows, numbers, walked);
+  if (utf8)
+    return kept ? sre_pattern_walk_utf8(kept, utf8, bytes, asked, width, rows, numbers, walked)
+                : sre_walk_utf8(code, utf8, bytes, asked, width, rows, numbers, walked);
+  if (kept)
+    return sre_pattern_walk_bytes(kept, text->data, length, asked, width, rows, numbers, walked);
   switch (text->size) {
   case 1:
     return sre_walk_bytes(code, text->data, length, asked, width, rows, numbers, walked);
@@ -242,7 +277,7 @@ static uint32_t walk(const sre_code *code, const Text *text, const sre_asked *as
   }
 }
 
-uint32_t engine_walk(const Pattern *pattern, const Text *text, const sre_asked *given, size_t *rows, size_t room,
+uint32_t engine_walk(Pattern *pattern, const Text *text, const sre_asked *given, size_t *rows, size_t room,
                      sre_walked *walked) {
   sre_asked narrowed = *given, *asked = &narrowed;
   asked->search = true;
@@ -251,9 +286,11 @@ uint32_t engine_walk(const Pattern *pattern, const Text *text, const sre_asked *
     return SRE_NO;
   }
   size_t width = WALK_WIDTH(pattern);
+  sre_pattern *kept = take(pattern, text, text->utf8, asked);
   PyThreadState *saved = may_others_run(text) ? PyEval_SaveThread() : NULL;
-  uint32_t status = walk(&pattern->code, text, asked, width, rows, width * room, walked);
+  uint32_t status = walk(&pattern->code, kept, text, asked, width, rows, width * room, walked);
   if (saved)
     PyEval_RestoreThread(saved);
+  give_back(pattern, kept);
   return status;
 }

@@ -52,6 +52,8 @@ typedef struct {
   int flags;
   uint64_t max_steps; /* the step limit of a call without one; UINT64_MAX for the default */
   sre_code code;
+  sre_pattern of_bytes, of_utf8; /* the code again, with the DFAs that calls over bytes or over UTF-8 have built */
+  bool is_taken; /* by a call that uses these DFAs, while another thread may run */
   bool at_line_start; /* whether each match begins at the start of the text or after a newline */
   bool knows_begins;  /* whether `begins` says with which characters below 256 one may begin */
   bool begins[256];
@@ -147,7 +149,7 @@ const sre_table *engine_table(State *state, bool is_unicode);
 sre_asked engine_asked(const Text *text, Py_ssize_t pos, Py_ssize_t endpos, uint64_t steps);
 
 /* Whether there is a match, which is written as a row: 1 or 0, or -1 with an exception. */
-int engine_match(const Pattern *pattern, Text *text, const sre_asked *asked, size_t *row);
+int engine_match(Pattern *pattern, Text *text, const sre_asked *asked, size_t *row);
 
 /* Whether a call over a str past Latin-1 may gain by UTF-8, for which the engine has DFAs; and how many steps it takes
  * before it reads that, if it may end early. */
@@ -156,7 +158,7 @@ uint64_t engine_first_steps(const Text *text);
 
 /* Writes rows of an iteration, as many as there is room for, and returns the status. The text is read as UTF-8 if that
  * was found. */
-uint32_t engine_walk(const Pattern *pattern, const Text *text, const sre_asked *asked, size_t *rows, size_t room,
+uint32_t engine_walk(Pattern *pattern, const Text *text, const sre_asked *asked, size_t *rows, size_t room,
                      sre_walked *walked);
 
 /* Sets the exception of a status other than SRE_YES and SRE_NO. */
@@ -169,7 +171,7 @@ void engine_fail_in(uint32_t status, const Pattern *pattern, size_t start, uint6
 
 /* The matches of a range in order, read in batches. */
 typedef struct {
-  const Pattern *pattern;
+  Pattern *pattern;
   Text *text;
   sre_asked asked; /* the request for the next batch */
   uint64_t max_steps; /* the limit of all batches */
@@ -184,7 +186,7 @@ typedef struct {
 
 /* Begins an iteration. The caller wants at most so many matches if `most` is above 0, all if it is 0, and else it may
  * stop at any. */
-void walk_begin(Walk *walk, const Pattern *pattern, Text *text, const sre_asked *asked, Py_ssize_t most);
+void walk_begin(Walk *walk, Pattern *pattern, Text *text, const sre_asked *asked, Py_ssize_t most);
 void walk_end(Walk *walk);
 
 /* The row of the next match; null at the end, or with an exception. */

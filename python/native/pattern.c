@@ -37,6 +37,7 @@ static bool check(Pattern *self) {
   uint32_t status = sre_check_code(&self->code);
   if (status == SRE_YES)
     status = sre_begins(&self->code, self->begins, sizeof self->begins / sizeof *self->begins, &self->at_line_start);
+  self->of_bytes.code = self->of_utf8.code = self->code;
   self->knows_begins = status == SRE_YES;
   if (status == SRE_YES || status == SRE_NO)
     return true;
@@ -52,6 +53,8 @@ static Pattern *pattern_new(State *state) {
   Py_INCREF(state->module);
   self->state = state;
   self->weak_references = NULL;
+  self->of_bytes = self->of_utf8 = (sre_pattern){.is_kept = false};
+  self->is_taken = false;
   return self;
 }
 
@@ -100,6 +103,8 @@ static void dealloc(Pattern *self) {
   PyObject_GC_UnTrack(self);
   if (self->weak_references)
     PyObject_ClearWeakRefs((PyObject *)self);
+  sre_pattern_free(&self->of_bytes);
+  sre_pattern_free(&self->of_utf8);
   Py_XDECREF(self->pattern);
   Py_XDECREF(self->words);
   Py_XDECREF(self->groupindex);
@@ -124,7 +129,7 @@ static PyObject *within(Pattern *self, PyObject *given) {
   made->groups = self->groups;
   made->flags = self->flags;
   made->max_steps = steps;
-  made->code = self->code;
+  made->code = made->of_bytes.code = made->of_utf8.code = self->code;
   made->at_line_start = self->at_line_start;
   made->knows_begins = self->knows_begins;
   memcpy(made->begins, self->begins, sizeof made->begins);
@@ -164,7 +169,7 @@ static const Signature of_fullmatch = {"fullmatch", 1, 3, {"string", "pos", "end
 static const Signature of_search = {"search", 1, 3, {"string", "pos", "endpos", "max_steps"}};
 
 /* The match for a request, or None. */
-static PyObject *answer(const Pattern *self, Text *text, const sre_asked *asked) {
+static PyObject *answer(Pattern *self, Text *text, const sre_asked *asked) {
   size_t few[3 + 2 * 12], *row = few, width = ROW_WIDTH(self);
   if (asked->start > asked->end)
     Py_RETURN_NONE;

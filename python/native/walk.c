@@ -7,7 +7,7 @@
 /* A batch of UTF-8 may have a number for so many characters, since each batch validates the whole text. */
 #define CHARACTERS_A_NUMBER 8
 
-/* How many times as many rows a batch may have as the one before. Each batch builds DFAs anew. */
+/* How many times as many rows a batch may have as the one before. */
 #define GROWTH 16
 
 /* The rows of the first batch: as many as are wanted, or as fit into `first`. If the caller may stop at any match of a
@@ -32,7 +32,7 @@ static void read_as_utf8(Walk *walk) {
     walk->room = most_room(walk);
 }
 
-void walk_begin(Walk *walk, const Pattern *pattern, Text *text, const sre_asked *asked, Py_ssize_t most) {
+void walk_begin(Walk *walk, Pattern *pattern, Text *text, const sre_asked *asked, Py_ssize_t most) {
   walk->pattern = pattern;
   walk->text = text;
   walk->asked = *asked;
