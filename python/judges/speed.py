@@ -6,7 +6,8 @@
 
 The tables: `short` and `long` have 15 patterns by 7 calls, on 18 characters and on 400,000; `ascii`, `latin-1`,
 `cyrillic` and `emoji` have the 4 calls that iterate over matches, on 400,000 characters of that kind; `matches` has
-methods of a match; `captures` has captures in atomic scopes. A ratio is the least time of several rounds by the engine
+methods of a match; `captures` has captures in atomic scopes; `service` asks each pattern over 2,000 texts of 200
+characters, so that DFAs serve which earlier calls have built. A ratio is the least time of several rounds by the engine
 over that by `re`. The rounds of both take turns.
 """
 import math
@@ -40,6 +41,12 @@ ROUNDS = 7
 
 # Captures inside atomic groups, lookarounds and possessive loops, over 8,000 letters.
 CAPTURES = (r"(a+)*+a", r"(a+)*+b", r"(?>(a+))b", r"(?=(a+))b", r"(?=(a+))\1b")
+
+# What a service searches in many short texts, with and without matches, and for which there are DFAs.
+SERVED = (
+    r"[\w.]+@[\w.]+\.\w+", r"(\d{4})-(\d\d)-(\d\d)", r"(?:25[0-5]|\d?\d)(?:\.\d{1,3}){3}", r"\w+ing\b",
+    r"(?i)warning|failed|timeout", r"(\w+)=(\w+)", r"let|size|quick|book",
+)
 
 
 def call_of(compiled, name, text):
@@ -111,12 +118,27 @@ def captures():
         told(f"search {pattern}", [ratio(*both, rounds=2)])
 
 
+def service():
+    """A pattern over many short texts, half of which have only words."""
+    text = long_text("ascii")
+    pieces = [text[at : at + 200] for at in range(0, len(text), 200)]
+    pieces[::2] = [re.sub("[^a-z]", " ", it) for it in pieces[::2]]
+    for name in ("search", "match", "findall"):
+        ratios = []
+        for pattern in SERVED:
+            methods = [getattr(it.compile(pattern), name) for it in (re, gaffsilver)]
+            ratios.append(ratio(*(lambda method=it: [method(piece) for piece in pieces] for it in methods)))
+            print(f"    {ratios[-1]:5.2f} {name} {pattern}", flush=True)
+        told(f"service, {name}", ratios)
+
+
 TABLES = {
     "short": lambda: table("short", SHORT, CALLS, 1.2),
     "long": lambda: table("long", long_text("ascii"), CALLS, 1.2),
     **{it: lambda kind=it: table(kind, long_text(kind), WALKS, 1) for it in KINDS},
     "matches": matches,
     "captures": captures,
+    "service": service,
 }
 
 
