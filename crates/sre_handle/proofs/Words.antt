@@ -27,8 +27,10 @@ word_good null_ptr = (tt, (record { fits = lit< tt }, tt))
 abbrev pub Pointed : RattleType
 Pointed = Struct (record { name = []; args = []; types = []; fields = RawPtr ∷ [] })
 
-pub made : {M : Type 1} {𝓤 : Ura M} (𝓛 : Logic 𝓤) (p : Ptr) → ent 𝓤 (emp 𝓤) (sem 𝓛 (Pointed.own_val (p, tt) (word p ∷ [])))
-made 𝓛 p = makes_shadow 𝓛 (Pointed.own_val (p, tt) (word p ∷ [])) (λ vss. (tt, (tt, tt))) ((ptr_val p ∷ [], tt), (refl, (refl, tt)))
+pub made : {M : Type 1} {𝓤 : Ura M} (𝓛 : Logic 𝓤) (p : Ptr) → ent 𝓤 (emp 𝓤)
+    (sem 𝓛 (Pointed.own_val (p, tt) (word p ∷ [])))
+made 𝓛 p = makes_shadow 𝓛 (Pointed.own_val (p, tt) (word p ∷ [])) (λ vss. (tt, (tt, tt)))
+    ((ptr_val p ∷ [], tt), (refl, (refl, tt)))
 
 pub told : (p : Ptr) (vs : List Val) → Is Pointed (p, tt) vs → vs ≡ word p ∷ []
 told p vs is = subst (λ (us : List Val). vs ≡ vstruct (of_list (us ++ [])) ∷ []) is.1.1.0 is.1.0

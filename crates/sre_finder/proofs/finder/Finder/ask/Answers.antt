@@ -20,8 +20,8 @@ returns-then-is_over-clause-none g c = λ t whole.
     let seen = subst (λ n. SeenAs encoding a.text place n hay) c.end_in-end.ensures.end
     (subst (λ l. SeenAs encoding l place c.end_in-end.result.position hay)
     (ap g.S.StrDrive.text c.string-text.ensures) c.in-Some.ensures) in
-    none_left_of_any encoding c.self-2.inside.code (code_of asked) c.self-2.inside.parts.whole c.self-2.invariant.1 code a
-    refl t (items_whole asked.pattern_codes t whole) place hay seen c.args.from.position
+    none_left_of_any encoding c.self-2.inside.code (code_of asked) c.self-2.inside.parts.whole c.self-2.invariant.1
+    code a refl t (items_whole asked.pattern_codes t whole) place hay seen c.args.from.position
     (subst (λ n. NoneLeftOfAny hay c.self-2.inside.parts.whole n) c.place_of-start.ensures
     (c.is_over.ensures.over c.if-is_over.true))
 

@@ -37,19 +37,28 @@ some_of (Some x) s = (x, refl)
 pub into_raw_box_spec : {M : Type 1} → statement M
 into_raw_box_spec 𝓤 𝓛 𝓜 𝓡 wired =
     let H = 𝓛.H in let 𝓣 = tables 𝓤 H 𝓜 𝓡 𝓡.env in let En = f.ended in let c = f.clauses 𝓛 𝓜.mem 𝓡.returns in
-    let Row : RattleType = slot.the_row in let K : RattleType = kept.the_row in let hs : Stays En.signature.params En.kept = (stay_dropped (plain (λ _. Row)) yes, tt) in
-    proved_at 𝓛 En hs c 𝓜 𝓡 (Goes-dropped 𝓛 0 (plain (λ _. Row)) yes (λ κs x f. refl), tt) f.Key.name code.function (code.unfolded 𝓤 H 𝓜 𝓡 wired) (λ z are.
+    let Row : RattleType = slot.the_row in let K : RattleType = kept.the_row in
+    let hs : Stays En.signature.params En.kept = (stay_dropped (plain (λ _. Row)) yes, tt) in
+    proved_at 𝓛 En hs c 𝓜 𝓡 (Goes-dropped 𝓛 0 (plain (λ _. Row)) yes (λ κs x f. refl), tt) f.Key.name code.function
+    (code.unfolded 𝓤 H 𝓜 𝓡 wired) (λ z are.
     let v = z.0.3.0 in let p = v.at in let ws = word p ∷ [] in let e : z.0.4.0 ≡ ws = told p z.0.4.0 are.0.0 in
-    let Post : Val → SProp 𝓤 = (walk_of 𝓛 En hs c).post z in let Run : List Val → SProp 𝓤 = λ ws. WpFn 𝓤 H 𝓣.C 𝓣.Λ code.function ws Post in
+    let Post : Val → SProp 𝓤 = (walk_of 𝓛 En hs c).post z in
+    let Run : List Val → SProp 𝓤 = λ ws. WpFn 𝓤 H 𝓣.C 𝓣.Λ code.function ws Post in
     let Says : K.Denot → Type 0 = λ x. IfSome v.code (λ code. Suits code.0 code.1 x) in
-    qed 𝓛 ((raw (alive 𝓛 En.signature z.0.0 z.0.1) ⊛ ‵ (owns (types_at En.signature.params z.0.0) z.0.3 z.0.4)) ∷ raw (fact 𝓤 (IsSome v.code)) ∷ []) ∵
+    qed 𝓛 ((raw (alive 𝓛 En.signature z.0.0 z.0.1) ⊛ ‵ (owns (types_at En.signature.params z.0.0) z.0.3 z.0.4)) ∷ raw
+    (fact 𝓤 (IsSome v.code)) ∷ []) ∵
     move ! (1 ∷ []) $ heard ! (IsSome v.code) (λ is. let g = some_of v.code is in
-    split ! $ move ! (1 ∷ []) $ fsplit ! $ fsplit ! $ keep ! (1 ∷ 3 ∷ []) $ rewrite ! 0 (λ (o : Option (List ℕ × Table)). ‵ (held p o)) g.1 refl $
-    fpick ! (λ x. fpick ! (λ fits. let says : Says x = subst (λ o. IfSome o (λ code. Suits code.0 code.1 x)) (sym g.1) fits in
+    split ! $ move ! (1 ∷ []) $ fsplit ! $ fsplit ! $ keep ! (1 ∷ 3 ∷ []) $
+    rewrite ! 0 (λ (o : Option (List ℕ × Table)). ‵ (held p o)) g.1 refl $
+    fpick ! (λ x. fpick ! (λ fits. let says : Says x = subst (λ o. IfSome o (λ code. Suits code.0 code.1 x))
+    (sym g.1) fits in
     suffices ! (Run ws) (subst (λ (us : List Val). ent 𝓤 (Run ws) (Run us)) (sym (λ i. e i ++ [])) (id⊢ 𝓤 (Run ws))) $
     enter ! 𝓣.C 𝓣.Λ code.function ws Post $ alloc_all ! (λ l. pass_all ! refl (word_good p, tt) $
     -- [the box in memory; no tokens]
-    sets ! (of_opd ! (get_in ! (fld ! refl (stop !)) (sub ! {τs = tcons ty_ptr tnil} 0 refl (whole !)))) refl (ptr_good p) $ sets ! (of_opd ! (get ! refl)) refl (ptr_good p) $ sets ! (agg ! (and_then ! (get ! refl) (no_more !))) refl (word_good p) $
+    sets ! (of_opd ! (get_in ! (fld ! refl (stop !)) (sub ! {τs = tcons ty_ptr tnil} 0 refl (whole !)))) refl
+    (ptr_good p) $ sets ! (of_opd ! (get ! refl)) refl (ptr_good p) $
+    sets ! (agg ! (and_then ! (get ! refl) (no_more !))) refl (word_good p) $
     use0 𝓛 (‵ (Pointed.own_val (p, tt) ws)) (made 𝓛 p) $ fjoin ! $
     use0 𝓛 (raw (fact 𝓤 (Says x))) (fact_i 𝓤 _ (emp 𝓤) says) $ nothing ! $ nothing ! $ fjoin ! $
-    returns ! (look_at ! 0 refl) $ free_all ! refl $ keep ! (3 ∷ 0 ∷ 2 ∷ 1 ∷ []) $ by ! (leaves 𝓛 En hs c z (word p) (record { at = p; value = x }) (tt, tt) (tt, tt)))))))
+    returns ! (look_at ! 0 refl) $ free_all ! refl $ keep ! (3 ∷ 0 ∷ 2 ∷ 1 ∷ []) $
+    by ! (leaves 𝓛 En hs c z (word p) (record { at = p; value = x }) (tt, tt) (tt, tt)))))))
