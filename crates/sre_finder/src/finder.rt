@@ -336,6 +336,29 @@ impl<'c> Finder<'c> {
         end
     }
 
+    // Whether no match begins at a cursor or after it, because a required literal is missing. `false` if none is known.
+    pub(crate) fn lacks_literal<S: Haystack>(
+        &mut self,
+        req: &Request<'_, S>,
+        from: StringCursor,
+    ) -> bool
+        requires own { self.old.code ≡ code_of req.now }
+        requires known { EndStands (S.stands (string_of req.now)) self.old.end }
+        requires stands { Standing req.now from }
+        requires inside { from.position ≤ end_of req.now }
+        ensures code { self.new.code ≡ self.old.code }
+        ensures known { EndStands (S.stands (string_of req.now)) self.new.end }
+        ensures none { result ≡ true → (t : Tree) → Whole (words_of (code_of req.now)) t
+            → NoneUntil (asked_of req.now) t from.position None }
+    {
+        let end = self.end_in(req, from);
+        let text = req.string();
+        let Some(hay) = text.hay(self.parts.encoding, end) else {
+            return false;
+        };
+        is_over(&mut self.parts.seeker, hay, text.place_of(from))
+    }
+
     // Translates the code to a pattern. Not inlined: it is called once, and its large frame is cleared at each call.
     #[inline(never)]
     fn read(&mut self)

@@ -96,6 +96,7 @@ impl Kept {
             finder: starts.into_finder(alloc, code),
             spans,
             pace: Pace::new(Debt::none()),
+            is_new: true,
         }
     }
 }

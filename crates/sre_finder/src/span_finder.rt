@@ -23,6 +23,7 @@ use sre_patterns::{Encoding, ways_of};
 use sre_request::Request;
 use std::alloc::{Allocator, Global};
 use std::marker::Model;
+use std::mem::replace;
 
 // The match of a step: its start, and whether the state shows it.
 #[derive(Clone, Copy)]
@@ -46,6 +47,8 @@ pub struct SpanFinder<'c> {
     pub(crate) finder: Finder<'c>,
     pub(crate) spans: Spans,
     pub(crate) pace: Pace,
+    // whether nothing was searched in this text
+    pub(crate) is_new: bool,
 }
 
 impl<'c> Model for SpanFinder<'c> {
@@ -111,6 +114,7 @@ impl<'c> SpanFinder<'c> {
             finder,
             spans,
             pace: _,
+            is_new: _,
         } = self;
         Kept {
             starts: finder.into_parts(),
@@ -131,6 +135,7 @@ impl<'c> SpanFinder<'c> {
     {
         self.finder.reset();
         self.pace.begin_text();
+        self.is_new = true;
         if let Some(exact) = &mut self.spans.exact {
             exact.reset();
         }
@@ -277,6 +282,11 @@ impl<'c> SpanFinder<'c> {
         }
         if self.spans.exact.is_none() {
             return self.run(req, state, cursor, places);
+        }
+        // a missing literal is found before DFAs read the text
+        let is_first = replace(&mut self.is_new, false);
+        if is_first && self.finder.lacks_literal(req, *cursor) {
+            return Ok(None);
         }
         match self.known(req, *cursor) {
             Known::Nothing => Ok(None),

@@ -63,8 +63,10 @@ into_box_spec {M} 𝓤 𝓛 𝓜 𝓡 wired T L =
     let inst = layouts (a_type ∷ []) (T, tt) in let fn = inst_fn inst code.function in
     let hs : Stays En.signature.params En.kept =
     (stay_dropped (plain (λ _. Row)) no, (stay_dropped (plain (λ _. Z)) yes, tt)) in
-    proved_at 𝓛 En hs c 𝓜 𝓡 (Goes-blank 𝓛 1 (plain (λ _. Row)) no (λ κs x f. tt),
-    (Goes-dropped 𝓛 1 (plain (λ _. Z)) yes (λ κs x f. refl), tt)) (#self inst) fn
+    proved_at 𝓛 En hs c 𝓜 𝓡 (
+      Goes-blank 𝓛 1 (plain (λ _. Row)) no (λ κs x f. tt),
+      (Goes-dropped 𝓛 1 (plain (λ _. Z)) yes (λ κs x f. refl), tt),
+    ) (#self inst) fn
     (code.unfolded 𝓤 H 𝓜 𝓡 wired (T, tt)) (λ z are.
     let Y : RattleType = arg (bare (layout Z)) no Z in let LY = arg_laws (bare (layout Z)) no Z LZ refl in
     let dz : Dict = impl ("sre_handle::Destruct++none::drop" ∷ []) (tcons (layout Y) tnil) dnil in
