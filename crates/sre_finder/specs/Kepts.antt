@@ -1,9 +1,7 @@
 -- What is kept of a finder suits a code.
 -- Definitions for the contracts of this crate.
-use Rattle.std.specs.Prelude.{◌≡◌, ℕ, List, length, min, false}
+use Rattle.std.specs.Prelude.{◌≡◌, ℕ, List}
 use Rattle.sre_chars.specs.Tables.{Table}
-use Rattle.sre_chars.specs.declared.constants.EmptyRule.TheVariants.{Never}
-use Rattle.sre_model.specs.Found.{Asked}
 use Rattle.sre_code.specs.Codes.{words_of, uni_of}
 use Rattle.sre_code.specs.declared.code.Code.{Code}
 use Rattle.sre_patterns.specs.declared.encoding.Encoding.{Encoding}
@@ -28,15 +26,3 @@ encoding_beside Ascii encoding = encoding
 encoding_beside Utf8 Bytes = Bytes
 encoding_beside Utf8 Ascii = Utf8
 encoding_beside Utf8 Utf8 = Utf8
-
--- what a search of a text asks, between two positions
-abbrev pub search_of : List ℕ → Table → ℕ → ℕ → Asked
-search_of text uni start end = record {
-  text = text;
-  table = uni;
-  start = min start (min end (length text));
-  end = min end (length text);
-  match_all = false;
-  must_advance = false;
-  empty_rule = Never;
-}

@@ -3,5 +3,4 @@ pub mod Finders
 pub mod Spans
 pub mod FinderIters
 pub mod Kepts
-pub mod Patterns
 pub mod SpanIters

@@ -8,3 +8,4 @@ pub mod Outlasting
 pub mod Begun
 pub mod Following
 pub mod Telling
+pub mod Passing

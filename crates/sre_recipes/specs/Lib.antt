@@ -1,6 +1,8 @@
 pub mod Slices
 pub mod FoundTexts
 pub mod Captured
+pub mod Matches
+pub mod Patterns
 pub mod Bounded
 pub mod Followed
 pub mod Pieces

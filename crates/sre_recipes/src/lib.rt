@@ -25,6 +25,8 @@ mod find;
 mod found;
 mod groups;
 mod lexer;
+mod matches;
+mod pattern;
 mod replace;
 mod slice;
 mod span;
@@ -39,6 +41,8 @@ pub use groups::{
     Captures, CapturesOf, all_captures, captures_bounded, match_captures, search_captures,
 };
 pub use lexer::{Token, TokenOf, Tokens, TokensOf, tokens_of};
+pub use matches::Match;
+pub use pattern::Pattern;
 pub use replace::{
     Piece, PieceOf, replace_all, replace_all_bytes, replace_bounded, replace_bounded_bytes,
 };

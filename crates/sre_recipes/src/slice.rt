@@ -22,7 +22,11 @@ pub(crate) fn up_to<S: Text>(text: S, start: &StringCursor, position: usize) -> 
 }
 
 // Moves a cursor to a position, in either direction. `None` if the text ends before that position.
-fn moved_to<S: Text>(text: S, from: &StringCursor, position: usize) -> Option<StringCursor>
+pub(crate) fn moved_to<S: Text>(
+    text: S,
+    from: &StringCursor,
+    position: usize,
+) -> Option<StringCursor>
     requires { S.stands text from.now from.now.position }
     ensures { MatchOption result (length (S.text text) < position)
         (λ to. S.stands text to to.position × (to.position ≡ position)) }

@@ -1,4 +1,4 @@
-use Rattle.sre_finder.proofs.pattern.Pattern.new.Goals as goal
+use Rattle.sre_recipes.proofs.pattern.Pattern.new.Goals as goal
 
 pub invariant_of-result : goal.invariant_of-result
 invariant_of-result c = c.new-2.ensures.suits _ _

@@ -1,0 +1,292 @@
+//! A compiled pattern that owns all that it needs, for many texts.
+
+ghost use Rattle.std.specs.Prelude.{◌≡◌, ◌≢◌, ◌≤◌, ◌<◌, ℕ, None, length, true, false, is_some};
+ghost use Rattle.std.specs.Prelude.{IfOk, IfErr, OnOk, OnErr, MatchOption};
+ghost use Rattle.std.specs.Option.{option_map};
+ghost use Rattle.sre_growth.specs.Refusal.{Refused};
+ghost use Rattle.sre_engine.specs.Tree.{Tree};
+ghost use Rattle.sre_engine.specs.Grammar.{Whole, IsCode};
+ghost use Rattle.sre_engine.specs.Marks.{no_marks};
+ghost use Rattle.sre_engine.specs.Found.{found};
+ghost use Rattle.sre_engine.specs.Codes.{words_of, uni_of};
+ghost use Rattle.sre_engine.specs.Refusals.{place_of};
+ghost use Rattle.sre_engine.specs.Requests.{code_of, asked_of, stands_in};
+ghost use Rattle.sre_engine.specs.Answers.{answer_of};
+ghost use Rattle.sre_finder.specs.Kepts.{Suits};
+ghost use Rattle.sre_recipes.specs.Matches.{match_seen, placed_match, placed_groups, groups_seen};
+ghost use Rattle.sre_recipes.specs.Patterns.{search_of, rest_of, FirstFrom};
+
+use crate::groups::CapturesOf;
+use crate::matches::{Match, match_groups, match_if};
+use crate::texts::Text;
+use sre_engine::{
+    Code, CodeError, OwnedCode, Request, SreError, State, StrDrive, StringCursor, UniTable,
+};
+use sre_finder::{Encoding, Haystack, Kept};
+use std::alloc::Global;
+use std::marker::Model;
+
+/// A compiled pattern that owns its bytecode, its Unicode tables, its DFAs and the memory of a search. DFAs are built
+/// once all its searches together have spent as much as that costs, so a service that searches many short texts has
+/// them, too.
+///
+/// Its calls take a `&str` or a `&[u8]`. **Offsets count bytes**; only `search` and `state` count characters.
+///
+/// ```
+/// // The bytecode of `a`.
+/// let mut pattern = Pattern::new(alloc, &[16, 97, 1], UniTable::ascii(alloc))?;
+/// assert!(pattern.is_match("éab")?);
+/// assert!(pattern.find("éab")?.is_some_and(|found| found.range() == (2..3)));
+/// assert!(pattern.find_at("éab", 3)?.is_none());
+/// ```
+pub struct Pattern {
+    alloc: Global,
+    code: OwnedCode,
+    kept: Kept,
+    state: State<Global>,
+}
+
+// Custom `Drop`, so that callers contain one call instead of the drop of each field.
+impl Drop for Pattern {
+    fn drop(self) {
+        let Pattern {
+            alloc: _,
+            code,
+            kept,
+            state,
+        } = self;
+        drop((code, kept, state));
+    }
+}
+
+impl Model for Pattern {
+    ghost use Rattle.sre_engine.specs.Owned.{words_kept, uni_kept};
+    ghost use Rattle.sre_finder.specs.Kepts.{Suits};
+    ghost use Rattle.sre_recipes.specs.Patterns.{PatternValue};
+
+    ghost Value = { PatternValue };
+
+    ghost view = { λ p. record { words = words_kept p.code; table = uni_kept p.code; shown = p.state } };
+
+    ghost invariant = { λ p. Suits (words_kept p.code) (uni_kept p.code) p.kept };
+}
+
+impl Pattern {
+    /// Checks bytecode as `Code::check` does, and stores a copy of it.
+    ///
+    /// # Errors
+    ///
+    /// Those of `Code::check`. [`CodeError::Memory`] also if the allocation of the copy failed.
+    pub fn new(alloc: Global, words: &[u32], uni: UniTable) -> Result<Pattern, CodeError>
+        ensures words { IfOk result (λ pattern. pattern.words ≡ words.now) }
+        ensures uni { IfOk result (λ pattern. pattern.table ≡ uni.entry) }
+        ensures tree { OnOk result (IsCode words.now) }
+        ensures refused { IfErr result (λ e. e ≢ CodeError.Memory → (tree : Tree) → ¬ (Whole words.now tree)) }
+        ensures place { IfErr result (λ e. place_of e ≤ length words.now) }
+        ensures grows { IfErr result (λ e. e ≡ CodeError.Memory → Refused Global) }
+    {
+        let code = OwnedCode::new(alloc, words, uni)?;
+        Ok(Pattern {
+            alloc,
+            code,
+            kept: Kept::new(Encoding::Ascii),
+            state: State::new(alloc),
+        })
+    }
+
+    /// The code, a view of the owned bytecode and tables.
+    pub fn code(&self) -> Code<'_>
+        ensures words { words_of result ≡ self.now.words }
+        ensures uni { uni_of result ≡ self.now.table }
+    {
+        self.code.code()
+    }
+
+    /// The state, which shows the match of the last search.
+    pub fn state(&self) -> &State<Global>
+        ensures { result.now ≡ self.now.shown }
+    {
+        &self.state
+    }
+
+    /// Searches a text from one position to another, and returns whether there is a match, which the state then shows.
+    /// Without a match it has no captures. Both positions count characters, and are clamped to the text.
+    ///
+    /// # Errors
+    ///
+    /// [`SreError::Memory`] if an allocation failed.
+    pub fn search<S: Haystack>(
+        &mut self,
+        text: S,
+        start: usize,
+        end: usize,
+    ) -> Result<bool, SreError>
+        ensures answer { (t : Tree) → Whole self.old.words t → IfOk result (λ b.
+            answer_of b self.new.shown ≡ found (search_of (S.text text) self.old.table start end) t) }
+        ensures cursor { IfOk result (λ b. b ≡ true
+            → S.stands text self.new.shown.cursor self.new.shown.cursor.position) }
+        ensures no { IfOk result (λ b. b ≡ false → self.new.shown.marks ≡ no_marks) }
+        ensures err { OnErr result (self.new.shown.marks ≡ no_marks) }
+        ensures refused { OnErr result (Refused Global) }
+        ensures words { self.new.words ≡ self.old.words }
+        ensures uni { self.new.table ≡ self.old.table }
+    {
+        let request = Request::new(text, start, end, self.code.code(), false);
+        search_kept(self.alloc, request, &mut self.kept, &mut self.state)
+    }
+
+    /// Returns whether a text has a match.
+    ///
+    /// # Errors
+    ///
+    /// [`SreError::Memory`] if an allocation failed.
+    pub fn is_match<S: Haystack>(&mut self, text: S) -> Result<bool, SreError>
+        ensures ok { (t : Tree) → Whole self.old.words t
+            → IfOk result (λ b. b ≡ is_some (found (rest_of (S.text text) self.old.table 0) t)) }
+        ensures refused { OnErr result (Refused Global) }
+        ensures words { self.new.words ≡ self.old.words }
+        ensures uni { self.new.table ≡ self.old.table }
+    {
+        self.search_from(text, 0)
+    }
+
+    /// Returns the first match of a text.
+    ///
+    /// # Errors
+    ///
+    /// [`SreError::Memory`] if an allocation failed.
+    pub fn find<S: Text + Haystack>(&mut self, text: S) -> Result<Option<Match<S>>, SreError>
+        ensures ok { (t : Tree) → Whole self.old.words t → IfOk result (λ one.
+            option_map (match_seen S.text) one ≡ option_map (placed_match (S.text text) (S.place text))
+            (found (rest_of (S.text text) self.old.table 0) t)) }
+        ensures refused { OnErr result (Refused Global) }
+        ensures words { self.new.words ≡ self.old.words }
+        ensures uni { self.new.table ≡ self.old.table }
+    {
+        let found = self.search_from(text, 0)?;
+        Ok(match_if(found, text, &self.state))
+    }
+
+    /// Returns the first match that begins at a byte offset or after it. The text before that offset is seen by `^`,
+    /// `\b` and lookbehinds. `None` if the text has fewer bytes.
+    ///
+    /// A `&str` is read from its start to count its characters.
+    ///
+    /// # Errors
+    ///
+    /// [`SreError::Memory`] if an allocation failed.
+    pub fn find_at<S: Text + Haystack>(
+        &mut self,
+        text: S,
+        offset: usize,
+    ) -> Result<Option<Match<S>>, SreError>
+        ensures ok { (t : Tree) → Whole self.old.words t → (p : ℕ)
+            → FirstFrom (S.place text) (length (S.text text)) offset p → IfOk result (λ one.
+            option_map (match_seen S.text) one ≡ option_map (placed_match (S.text text) (S.place text))
+            (found (rest_of (S.text text) self.old.table p) t)) }
+        ensures beyond { S.place text (length (S.text text)) < offset → IfOk result (λ one. one ≡ None) }
+        ensures refused { OnErr result (Refused Global) }
+        ensures words { self.new.words ≡ self.old.words }
+        ensures uni { self.new.table ≡ self.old.table }
+    {
+        let Some(start) = cursor_from(text, offset) else {
+            return Ok(None);
+        };
+        let found = self.search_from(text, start.position())?;
+        Ok(match_if(found, text, &self.state))
+    }
+
+    /// Returns the first match of a text with its groups: `get(0)` is the match, and `get(1)` the first group.
+    ///
+    /// ```
+    /// // The bytecode of `(a)b`.
+    /// let mut pattern = Pattern::new(alloc, &[17, 0, 16, 97, 17, 1, 16, 98, 1], UniTable::ascii(alloc))?;
+    /// if let Some(found) = pattern.captures("éab")? {
+    ///     assert!(found.get(1).is_some_and(|group| group.text() == "a" && group.start() == 2));
+    /// }
+    /// ```
+    ///
+    /// # Errors
+    ///
+    /// [`SreError::Memory`] if an allocation failed.
+    pub fn captures<S: Text + Haystack>(
+        &mut self,
+        text: S,
+    ) -> Result<Option<CapturesOf<Match<S>, Global>>, SreError>
+        ensures ok { (t : Tree) → Whole self.old.words t → IfOk result (λ one.
+            option_map (groups_seen S.text) one ≡ option_map (placed_groups (S.text text) (S.place text))
+            (found (rest_of (S.text text) self.old.table 0) t)) }
+        ensures refused { OnErr result (Refused Global) }
+        ensures words { self.new.words ≡ self.old.words }
+        ensures uni { self.new.table ≡ self.old.table }
+    {
+        if self.search_from(text, 0)? {
+            Ok(Some(match_groups(self.alloc, text, &self.state)?))
+        } else {
+            Ok(None)
+        }
+    }
+
+    // Searches a text from a position to its end.
+    fn search_from<S: Haystack>(&mut self, text: S, start: usize) -> Result<bool, SreError>
+        requires { start ≤ length (S.text text) }
+        ensures answer { (t : Tree) → Whole self.old.words t → IfOk result (λ b.
+            answer_of b self.new.shown ≡ found (rest_of (S.text text) self.old.table start) t) }
+        ensures cursor { IfOk result (λ b. b ≡ true
+            → S.stands text self.new.shown.cursor self.new.shown.cursor.position) }
+        ensures forward { IfOk result (λ b. b ≡ true → self.new.shown.start ≤ self.new.shown.cursor.position) }
+        ensures refused { OnErr result (Refused Global) }
+        ensures words { self.new.words ≡ self.old.words }
+        ensures uni { self.new.table ≡ self.old.table }
+    {
+        let mut request = Request::whole(text, self.code.code());
+        request.set_start(start);
+        search_kept(self.alloc, request, &mut self.kept, &mut self.state)
+    }
+}
+
+// Searches the range of a request of the code to which the DFAs belong. They are put back.
+fn search_kept<S: Haystack>(
+    alloc: Global,
+    request: Request<'_, S>,
+    kept: &mut Kept,
+    state: &mut State<Global>,
+) -> Result<bool, SreError>
+    requires { Suits (words_of (code_of request)) (uni_of (code_of request)) kept.old }
+    ensures answer { (t : Tree) → Whole (words_of (code_of request.entry)) t
+        → IfOk result (λ b. answer_of b state.new ≡ found (asked_of request.entry) t) }
+    ensures cursor { IfOk result
+        (λ b. b ≡ true → stands_in request.entry state.new.cursor state.new.cursor.position) }
+    ensures forward { IfOk result (λ b. b ≡ true → state.new.start ≤ state.new.cursor.position) }
+    ensures no { IfOk result (λ b. b ≡ false → state.new.marks ≡ no_marks) }
+    ensures err { OnErr result (state.new.marks ≡ no_marks) }
+    ensures refused { OnErr result (Refused Global) }
+    ensures suits { Suits (words_of (code_of request.entry)) (uni_of (code_of request.entry)) kept.new }
+{
+    let encoding = request.string().encoding(request.end());
+    let mut finder = kept.take(alloc, request.pattern_codes(), encoding);
+    let found = finder.search(request, state);
+    *kept = finder.into_kept();
+    found
+}
+
+// The cursor at the first character that begins at a byte offset or after it. `None` if the text has fewer bytes.
+fn cursor_from<S: Haystack>(text: S, offset: usize) -> Option<StringCursor>
+    ensures { MatchOption result (S.place text (length (S.text text)) < offset)
+        (λ at. S.stands text at at.position
+        × FirstFrom (S.place text) (length (S.text text)) offset at.position) }
+{
+    let end = text.create_cursor(text.count());
+    if text.place_of(end) < offset {
+        return None;
+    }
+    let start = text.create_cursor(0);
+    if offset <= text.place_of(start) {
+        return Some(start);
+    }
+    let mut cursor = text.cursor_up_to(start, offset, end);
+    'inside: while text.place_of(cursor) < offset {
+        text.skip(&mut cursor, 1); // no character begins at the offset
+    }
+    Some(cursor)
+}
