@@ -11,5 +11,6 @@ pub mod Computed
 pub mod Lexed
 pub mod Spans
 pub mod Limits
+pub mod Nexts
 pub mod Adjoining
 pub mod Rows

@@ -21,6 +21,7 @@
 mod bounds;
 mod compute;
 mod divide;
+mod every;
 mod find;
 mod found;
 mod groups;

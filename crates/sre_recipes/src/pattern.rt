@@ -1,28 +1,34 @@
 //! A compiled pattern that owns all that it needs, for many texts.
 
-ghost use Rattle.std.specs.Prelude.{◌≡◌, ◌≢◌, ◌≤◌, ◌<◌, ℕ, None, length, true, false, is_some};
+ghost use Rattle.std.specs.Prelude.{◌≡◌, ◌≢◌, ◌≤◌, ◌<◌, ℕ, List, None, length, true, false, is_some, map};
 ghost use Rattle.std.specs.Prelude.{IfOk, IfErr, OnOk, OnErr, MatchOption};
 ghost use Rattle.std.specs.Option.{option_map};
+ghost use Rattle.sre_chars.specs.Tables.{Table};
 ghost use Rattle.sre_growth.specs.Refusal.{Refused};
 ghost use Rattle.sre_engine.specs.Tree.{Tree};
 ghost use Rattle.sre_engine.specs.Grammar.{Whole, IsCode};
 ghost use Rattle.sre_engine.specs.Marks.{no_marks};
-ghost use Rattle.sre_engine.specs.Found.{found};
+ghost use Rattle.sre_engine.specs.Found.{found, walk};
 ghost use Rattle.sre_engine.specs.Codes.{words_of, uni_of};
 ghost use Rattle.sre_engine.specs.Refusals.{place_of};
 ghost use Rattle.sre_engine.specs.Requests.{code_of, asked_of, stands_in};
 ghost use Rattle.sre_engine.specs.Answers.{answer_of};
 ghost use Rattle.sre_finder.specs.Kepts.{Suits};
+ghost use Rattle.sre_finder.specs.SpanIters.{request_of, has_ended};
+ghost use Rattle.sre_recipes.specs.Pieces.{pieces_between};
+ghost use Rattle.sre_recipes.specs.Templates.{written, replaced};
 ghost use Rattle.sre_recipes.specs.Matches.{match_seen, placed_match, placed_groups, groups_seen};
 ghost use Rattle.sre_recipes.specs.Patterns.{search_of, rest_of, FirstFrom};
 
+use crate::every::{add_captures, add_matches, add_pieces, append_replaced};
 use crate::groups::CapturesOf;
 use crate::matches::{Match, match_groups, match_if};
-use crate::texts::Text;
+use crate::replace::PieceOf;
+use crate::texts::{Rewritten, Text};
 use sre_engine::{
     Code, CodeError, OwnedCode, Request, SreError, State, StrDrive, StringCursor, UniTable,
 };
-use sre_finder::{Encoding, Haystack, Kept};
+use sre_finder::{Encoding, Haystack, Kept, SpanIter};
 use std::alloc::Global;
 use std::marker::Model;
 
@@ -170,7 +176,7 @@ impl Pattern {
     /// Returns the first match that begins at a byte offset or after it. The text before that offset is seen by `^`,
     /// `\b` and lookbehinds. `None` if the text has fewer bytes.
     ///
-    /// A `&str` is read from its start to count its characters.
+    /// A `&str` is read from its start to count its characters, so a loop over all matches should be `find_all`.
     ///
     /// # Errors
     ///
@@ -227,6 +233,117 @@ impl Pattern {
         }
     }
 
+    /// Returns all matches of a text, in order, as an iteration finds them. After an empty match, the next one begins
+    /// later or is not empty.
+    ///
+    /// # Errors
+    ///
+    /// [`SreError::Memory`] if an allocation failed.
+    pub fn find_all<S: Text + Haystack>(&mut self, text: S) -> Result<Vec<Match<S>>, SreError>
+        ensures ok { (t : Tree) → Whole self.old.words t → IfOk result (λ all.
+            map (match_seen S.text) all.items ≡ map (placed_match (S.text text) (S.place text))
+            (walk (rest_of (S.text text) self.old.table 0) t)) }
+        ensures refused { OnErr result (Refused Global) }
+        ensures words { self.new.words ≡ self.old.words }
+        ensures uni { self.new.table ≡ self.old.table }
+    {
+        let mut all = Vec::new(self.alloc);
+        let request = Request::whole(text, self.code.code());
+        let mut walk = walk_kept(self.alloc, request, &mut self.kept);
+        let added = add_matches(&mut walk, &mut all);
+        self.kept = walk.into_finder().into_kept();
+        added?;
+        Ok(all)
+    }
+
+    /// Returns all matches of a text with their groups.
+    ///
+    /// # Errors
+    ///
+    /// [`SreError::Memory`] if an allocation failed.
+    pub fn all_captures<S: Text + Haystack>(
+        &mut self,
+        text: S,
+    ) -> Result<Vec<CapturesOf<Match<S>, Global>>, SreError>
+        ensures ok { (t : Tree) → Whole self.old.words t → IfOk result (λ all.
+            map (groups_seen S.text) all.items ≡ map (placed_groups (S.text text) (S.place text))
+            (walk (rest_of (S.text text) self.old.table 0) t)) }
+        ensures refused { OnErr result (Refused Global) }
+        ensures words { self.new.words ≡ self.old.words }
+        ensures uni { self.new.table ≡ self.old.table }
+    {
+        let mut all = Vec::new(self.alloc);
+        let request = Request::whole(text, self.code.code());
+        let mut walk = walk_kept(self.alloc, request, &mut self.kept);
+        let added = add_captures(self.alloc, &mut walk, &mut all);
+        self.kept = walk.into_finder().into_kept();
+        added?;
+        Ok(all)
+    }
+
+    /// Returns the pieces of a text between its matches. There is one piece more than there are matches, and pieces can
+    /// be empty.
+    ///
+    /// ```
+    /// // The bytecode of `,`.
+    /// let mut pattern = Pattern::new(alloc, &[16, 44, 1], UniTable::ascii(alloc))?;
+    /// assert!(pattern.split("é,,b")?.as_slice() == ["é", "", "b"].as_slice());
+    /// ```
+    ///
+    /// # Errors
+    ///
+    /// [`SreError::Memory`] if an allocation failed.
+    pub fn split<S: Text + Haystack>(&mut self, text: S) -> Result<Vec<S>, SreError>
+        ensures ok { (t : Tree) → Whole self.old.words t → IfOk result (λ pieces.
+            map S.text pieces.items ≡ pieces_between (S.text text) 0 (length (S.text text))
+            (walk (rest_of (S.text text) self.old.table 0) t)) }
+        ensures refused { OnErr result (Refused Global) }
+        ensures words { self.new.words ≡ self.old.words }
+        ensures uni { self.new.table ≡ self.old.table }
+    {
+        let mut pieces = Vec::new(self.alloc);
+        let request = Request::whole(text, self.code.code());
+        let mut walk = walk_kept(self.alloc, request, &mut self.kept);
+        let added = add_pieces(&mut walk, &mut pieces);
+        self.kept = walk.into_finder().into_kept();
+        added?;
+        Ok(pieces)
+    }
+
+    /// Returns a text with each match replaced by the expansion of a template: a `String` for a `&str`, and a
+    /// `Vec<u8>` for a `&[u8]`.
+    ///
+    /// ```
+    /// // The bytecode of `(a)`.
+    /// let mut pattern = Pattern::new(alloc, &[17, 0, 16, 97, 17, 1, 1], UniTable::ascii(alloc))?;
+    /// let new = pattern.replace_all("éab", &[Piece::Text("<"), Piece::Group(1), Piece::Text(">")])?;
+    /// assert!(new.as_str() == "é<a>b");
+    /// ```
+    ///
+    /// # Errors
+    ///
+    /// [`SreError::Memory`] if an allocation failed.
+    pub fn replace_all<S: Rewritten + Haystack>(
+        &mut self,
+        text: S,
+        template: &[PieceOf<S>],
+    ) -> Result<S::New, SreError>
+        ensures ok { (t : Tree) → Whole self.old.words t → IfOk result (λ new.
+            S.shown new ≡ replaced (S.text text) (written S.text (S.text text) template.now) 0 (length (S.text text))
+            (walk (rest_of (S.text text) self.old.table 0) t)) }
+        ensures refused { OnErr result (Refused Global) }
+        ensures words { self.new.words ≡ self.old.words }
+        ensures uni { self.new.table ≡ self.old.table }
+    {
+        let mut output = Vec::new(self.alloc);
+        let request = Request::whole(text, self.code.code());
+        let mut walk = walk_kept(self.alloc, request, &mut self.kept);
+        let added = append_replaced(&mut walk, template, &mut output);
+        self.kept = walk.into_finder().into_kept();
+        added?;
+        Ok(S::from_output(output))
+    }
+
     // Searches a text from a position to its end.
     fn search_from<S: Haystack>(&mut self, text: S, start: usize) -> Result<bool, SreError>
         requires { start ≤ length (S.text text) }
@@ -268,6 +385,22 @@ fn search_kept<S: Haystack>(
     let found = finder.search(request, state);
     *kept = finder.into_kept();
     found
+}
+
+// An iteration over a request's matches, with the DFAs of its code. They are taken out.
+fn walk_kept<'a, S: Haystack>(
+    alloc: Global,
+    request: Request<'a, S>,
+    kept: &mut Kept,
+) -> SpanIter<'a, 'a, S, Global>
+    requires { Suits (words_of (code_of request)) (uni_of (code_of request)) kept.old }
+    ensures req { request_of result ≡ request.entry }
+    ensures open { has_ended result ≡ false }
+    ensures suits { (ws : List ℕ) (uni : Table) → Suits ws uni kept.new }
+{
+    let encoding = request.string().encoding(request.end());
+    let finder = kept.take(alloc, request.pattern_codes(), encoding);
+    finder.walk(request, State::new(alloc))
 }
 
 // The cursor at the first character that begins at a byte offset or after it. `None` if the text has fewer bytes.

@@ -103,7 +103,7 @@ fn append_replacement<S: Text, A: Allocator + Copy>(
 }
 
 // Appends the text from a cursor to a match, then the expansion of the template. Moves the cursor to the match's end.
-fn append_match<S: Text, A: Allocator + Copy>(
+pub(crate) fn append_match<S: Text, A: Allocator + Copy>(
     output: &mut Vec<u8, A>,
     text: S,
     last: &mut StringCursor,
