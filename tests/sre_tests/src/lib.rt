@@ -12,6 +12,8 @@ mod fakes;
 #[cfg(test)]
 mod names;
 #[cfg(test)]
+mod patterns;
+#[cfg(test)]
 mod recipes;
 #[cfg(test)]
 mod writes;
