@@ -24,8 +24,7 @@ ghost use Rattle.sre_engine.specs.Starts.{NoneUntil, StartFrom};
 ghost use Rattle.sre_finder.specs.Finders.{EndStands, CoveringAny, NoneLeftOfAny};
 
 use crate::haystack::Haystack;
-use crate::pace::{Debt, Pace};
-use regex_hir::{Hir, Look};
+use crate::pace::{Debt, Pace, is_anchored, is_found_along};
 use sre_automata::{Seeker, Told};
 use sre_chars::string::{StrDrive, StringCursor};
 use sre_code::Code;
@@ -225,28 +224,6 @@ impl<'c> Finder<'c> {
         if let Some(whole) = &mut parts.whole {
             whole.reset();
         }
-    }
-}
-
-// Whether a search visits only the occurrences of a confirmed prefix that is probably rare: two characters or more, or
-// the whole code.
-fn is_found_along(code: &Code<'_>) -> bool {
-    let hints = code.hints();
-    match hints.prefix {
-        Some((length, _)) => length > 1 || hints.literal,
-        None => false,
-    }
-}
-
-// Whether a match begins only at the text's start. There the machine is run once, while DFAs would read all.
-pub(crate) fn is_anchored(hir: &Hir) -> bool {
-    match hir {
-        Hir::Look(Look::Start) => true,
-        Hir::Concat(parts) => match parts.first() {
-            Some(Hir::Look(Look::Start)) => true,
-            _ => false,
-        },
-        _ => false,
     }
 }
 

@@ -12,6 +12,9 @@
 
 ghost use Rattle.std.specs.Prelude.{◌<◌};
 
+use regex_hir::{Hir, Look};
+use sre_code::Code;
+
 /// Limit on failed candidates. A candidate with a match takes two off the count.
 const VAIN: u32 = 8;
 
@@ -41,6 +44,28 @@ const LOOKING: usize = 7 << 12;
 
 /// Limit on a balance of steps: a step whose first start failed adds 2, any other step subtracts 1.
 const FAILING: u32 = 4;
+
+/// Whether a search visits only the occurrences of a confirmed prefix that is probably rare: two characters or more, or
+/// the whole code.
+pub(crate) fn is_found_along(code: &Code<'_>) -> bool {
+    let hints = code.hints();
+    match hints.prefix {
+        Some((length, _)) => length > 1 || hints.literal,
+        None => false,
+    }
+}
+
+/// Whether a match begins only at the text's start. There the machine is run once, while DFAs would read all.
+pub(crate) fn is_anchored(hir: &Hir) -> bool {
+    match hir {
+        Hir::Look(Look::Start) => true,
+        Hir::Concat(parts) => match parts.first() {
+            Some(Hir::Look(Look::Start)) => true,
+            _ => false,
+        },
+        _ => false,
+    }
+}
 
 /// What the machine has still to spend before DFAs are built.
 #[derive(Clone, Copy, Debug)]

@@ -11,10 +11,10 @@ ghost use Rattle.sre_finder.specs.Finders.{EndStands};
 ghost use Rattle.sre_finder.specs.Kepts.{Suits};
 ghost use Rattle.sre_finder.specs.Spans.{ExactlyAny, Knows, Between, StepsFrom, ShowsStep, FindsNone};
 
-use crate::finder::{Finder, SIZE_LIMIT, is_anchored};
+use crate::finder::{Finder, SIZE_LIMIT};
 use crate::haystack::Haystack;
 use crate::kept::{Kept, Spans};
-use crate::pace::{Debt, Pace};
+use crate::pace::{Debt, Pace, is_anchored};
 use sre_automata::{FirstMatch, Seeker};
 use sre_chars::string::{StrDrive, StringCursor};
 use sre_code::Code;

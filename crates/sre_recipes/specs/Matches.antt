@@ -1,6 +1,7 @@
 -- Matches and groups with their byte offsets, as they show.
 -- Of the specification: what sre_recipes makes public rests on it.
-use Rattle.std.specs.Prelude.{ℕ, ◌+◌, ◌-◌, ◌/◌, List, length, map, Option, Some, None, cond, nat_eq, nat_le, slice_range}
+use Rattle.std.specs.Prelude.{ℕ, ◌+◌, ◌-◌, ◌/◌, List, length, map, Option, Some, None, cond, nat_eq, nat_le}
+use Rattle.std.specs.Prelude.{slice_range}
 use Rattle.std.specs.List.{range_with_len}
 use Rattle.std.specs.Option.{option_map}
 use Rattle.sre_engine.specs.Marks.{Marks, group}

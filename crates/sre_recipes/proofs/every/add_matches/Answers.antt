@@ -30,7 +30,8 @@ walk-preserved g c =
     let same = c.string-text.ensures ∙ ap string_of c.req.ensures in
     let all : List Placed = map seen c.walk.all.items in
     let longer : List Placed = map seen c.push.new.list.items in
-    let one : seen c.match_behind.result ≡ placed (g.S.StrDrive.text whole) (g.S.Haystack.place whole) span.start span.end =
+    let here = placed (g.S.StrDrive.text whole) (g.S.Haystack.place whole) in
+    let one : seen c.match_behind.result ≡ here span.start span.end =
     rw same at c.match_behind.ensures.is in
     let added : longer ≡ all ++ placed (g.S.StrDrive.text whole) (g.S.Haystack.place whole) span.start span.end ∷ [] =
     ap (map seen) c.in_ok-push.ensures.items
@@ -46,7 +47,7 @@ walk-preserved g c =
           listed_step shown all longer step.0 (left_of before t) (left_of after t)
           (map seen c.args.all.now.items ++ map shown (left_of c.args.walk.now t)) step.3
           (added
-          ∙ ap₂ (λ x y. all ++ placed (g.S.StrDrive.text whole) (g.S.Haystack.place whole) x y ∷ []) (sym step.1) (sym step.2))
+          ∙ ap₂ (λ x y. all ++ here x y ∷ []) (sym step.1) (sym step.2))
           (c.walk.invariant.left t tree);
     }
 

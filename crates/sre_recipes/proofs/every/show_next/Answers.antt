@@ -13,5 +13,5 @@ returns-clause-over g c = λ none.
     let gives = rw c.in-Some.is at c.in_ok-next_of.ensures.gives in
     let shows = c.in_ok-shown.ensures in
     absurd
-    (never_false c.args.walk.now c.next_of.new.walk c.show.new.self c.in-Some.field-0 c.in_ok-shown.shown gives shows.req
-    shows.ended shows.answer none)
+    (never_false c.args.walk.now c.next_of.new.walk c.show.new.self c.in-Some.field-0 c.in_ok-shown.shown gives
+    shows.req shows.ended shows.answer none)
