@@ -422,12 +422,12 @@ static void kept(const uint32_t *words, size_t count, const sre_table *table) {
 
 /* How many calls return SRE_MEMORY if each request in turn fails. Any other returns the plain answer, and so does the
  * next one. A call by a pattern is its first, or the first that builds DFAs. */
-static long told_memory(sre_pattern *pattern, bool is_utf8, bool is_kept, bool has_paid) {
+static long refused_calls(sre_pattern *pattern, bool is_utf8, bool is_kept, bool has_paid) {
   const text in = {"  ab=12 xxxy abb", 16, is_utf8};
   const outcome plain = outcome_of(pattern, false, in, UINT64_MAX);
   sre_found found;
   size_t marks[4];
-  long told = 0;
+  long refused = 0;
   bool is_refused = true;
   for (long before = 0; is_refused; before++) {
     sre_pattern_free(pattern);
@@ -439,13 +439,13 @@ static long told_memory(sre_pattern *pattern, bool is_utf8, bool is_kept, bool h
     outcome it = outcome_of(pattern, is_kept, in, UINT64_MAX);
     until_refusal = -1;
     is_refused = requests > before;
-    bool is_told = it.answer == SRE_MEMORY || it.walk == SRE_MEMORY;
-    told += is_told;
-    CHECK(is_told || is_same(&it, &plain));
+    bool is_memory = it.answer == SRE_MEMORY || it.walk == SRE_MEMORY;
+    refused += is_memory;
+    CHECK(is_memory || is_same(&it, &plain));
     it = outcome_of(pattern, is_kept, in, UINT64_MAX);
     CHECK(is_same(&it, &plain));
   }
-  return told;
+  return refused;
 }
 
 static void no_memory_for_patterns(const uint32_t *words, size_t count) {
@@ -458,9 +458,9 @@ static void no_memory_for_patterns(const uint32_t *words, size_t count) {
   until_refusal = -1;
   CHECK(!pattern.is_kept && requests > 0);
   for (int is_utf8 = 0; is_utf8 < 2; is_utf8++) {
-    long plain = told_memory(&pattern, is_utf8, false, false);
-    CHECK(plain > 0 && told_memory(&pattern, is_utf8, true, false) == plain);
-    CHECK(told_memory(&pattern, is_utf8, true, true) <= plain);
+    long plain = refused_calls(&pattern, is_utf8, false, false);
+    CHECK(plain > 0 && refused_calls(&pattern, is_utf8, true, false) == plain);
+    CHECK(refused_calls(&pattern, is_utf8, true, true) <= plain);
   }
   is_one = false;
   sre_pattern_free(&pattern);

@@ -116,8 +116,8 @@ static bool may_others_run(const Text *text) {
   return text->is_fixed && text->length >= LONG_TEXT && !is_alone();
 }
 
-/* Whether DFAs may serve a call: a search. With a confirmed prefix the engine builds none. At starts of lines they gain
- * little, and if a match begins at the start of the text alone, they read all of it in vain. */
+/* Whether DFAs may serve a call: a search. With a confirmed prefix the engine builds none, nor where a match begins at
+ * the start of the text alone. At starts of lines they gain little. */
 static bool may_have_dfas(const Pattern *pattern, const sre_asked *asked) {
   return asked->search && !pattern->code.hints.has_prefix && !pattern->at_line_start;
 }

@@ -74,7 +74,7 @@ def steps_of(pattern, text):
 
 
 class Mallinfo(ctypes.Structure):
-    """What glibc tells of its heap."""
+    """What glibc reports of its heap."""
 
     _fields_ = [(it, ctypes.c_size_t) for it in (
         "arena", "ordblks", "smblks", "hblks", "hblkhd", "usmblks", "fsmblks", "uordblks", "fordblks", "keepcost")]
@@ -83,11 +83,11 @@ class Mallinfo(ctypes.Structure):
 def bytes_in_use():
     """How many bytes malloc has given out; 0 if the C library does not tell."""
     gc.collect()
-    told = getattr(ctypes.CDLL(None), "mallinfo2", None)
-    if told is None:
+    report = getattr(ctypes.CDLL(None), "mallinfo2", None)
+    if report is None:
         return 0
-    told.restype = Mallinfo
-    heap = told()
+    report.restype = Mallinfo
+    heap = report()
     return heap.uordblks + heap.hblkhd
 
 

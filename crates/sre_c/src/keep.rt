@@ -18,7 +18,7 @@ use sre_handle::{KeptSlot, RawBox};
 use std::alloc::Global;
 use std::mem::replace;
 
-/// Of a search that has built nothing yet.
+/// What is kept before anything is built.
 pub fn fresh() -> Kept
     ensures { (words : List ℕ) (table : Table) → Suits words table result }
 {

@@ -32,5 +32,5 @@ pub made : {M : Type 1} {𝓤 : Ura M} (𝓛 : Logic 𝓤) (p : Ptr) → ent �
 made 𝓛 p = makes_shadow 𝓛 (Pointed.own_val (p, tt) (word p ∷ [])) (λ vss. (tt, (tt, tt)))
     ((ptr_val p ∷ [], tt), (refl, (refl, tt)))
 
-pub told : (p : Ptr) (vs : List Val) → Is Pointed (p, tt) vs → vs ≡ word p ∷ []
-told p vs is = subst (λ (us : List Val). vs ≡ vstruct (of_list (us ++ [])) ∷ []) is.1.1.0 is.1.0
+pub one_word : (p : Ptr) (vs : List Val) → Is Pointed (p, tt) vs → vs ≡ word p ∷ []
+one_word p vs is = subst (λ (us : List Val). vs ≡ vstruct (of_list (us ++ [])) ∷ []) is.1.1.0 is.1.0

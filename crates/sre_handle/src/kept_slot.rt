@@ -10,8 +10,8 @@ use sre_finder::Kept;
 use std::marker::Model;
 use std::ptr::null_mut;
 
-/// Owns a box, whose content suits the words and the table of a code; or nothing. It has no `Drop`, since C has none:
-/// whoever lets go of it shows that it is empty.
+/// Owns a box, whose content suits the words and the table of a code; or nothing. It has no `Drop`, since C has none,
+/// and is dropped by `discard` alone, which requires that it owns nothing.
 #[repr(C)]
 pub struct KeptSlot {
     at: *mut u8,
@@ -51,7 +51,7 @@ impl KeptSlot {
         }
     }
 
-    /// Lets go of a slot that owns nothing.
+    /// Drops a slot that owns nothing.
     pub fn discard(self)
         requires { self.code ≡ None }
     {

@@ -1,4 +1,4 @@
--- `discard` lets go of a slot that owns nothing.
+-- `discard` drops a slot that owns nothing.
 use Rattle.std.proofs.Common.{◌≡◌, List, [], ◌∷◌, ◌++◌, refl, sym, subst}
 use mir.Val.{Val, vunit}
 use base.Logic.{SProp, ent, id⊢}
@@ -14,7 +14,7 @@ use denote.Steps.{nothing}
 use denote.Triple.Entry.{alive}
 use denote.Triple.Walked.{Stays, stay_dropped, walk_of, Goes-dropped}
 use Rattle.std.proofs.raw_atomic.Walks.{proved_at, leaves}
-use Rattle.sre_handle.proofs.Words.{word, word_good, told}
+use Rattle.sre_handle.proofs.Words.{word, word_good, one_word}
 use Rattle.sre_handle.specs.contracts.kept_slot.KeptSlot as slot
 use Rattle.sre_handle.specs.contracts.kept_slot.KeptSlot.discard as f
 use Rattle.sre_handle.proofs.kept_slot.KeptSlot.discard.Statement.{statement}
@@ -27,7 +27,7 @@ discard_spec 𝓤 𝓛 𝓜 𝓡 wired =
     let hs : Stays En.signature.params En.kept = (stay_dropped (plain (λ _. Row)) yes, tt) in
     proved_at 𝓛 En hs c 𝓜 𝓡 (Goes-dropped 𝓛 0 (plain (λ _. Row)) yes (λ κs x f. refl), tt) f.Key.name code.function
     (code.unfolded 𝓤 H 𝓜 𝓡 wired) (λ z are.
-    let p = z.0.3.0.at in let ws = word p ∷ [] in let e : z.0.4.0 ≡ ws = told p z.0.4.0 are.0.0 in
+    let p = z.0.3.0.at in let ws = word p ∷ [] in let e : z.0.4.0 ≡ ws = one_word p z.0.4.0 are.0.0 in
     let Post : Val → SProp 𝓤 = (walk_of 𝓛 En hs c).post z in
     let Run : List Val → SProp 𝓤 = λ ws. WpFn 𝓤 H 𝓣.C 𝓣.Λ code.function ws Post in
     qed 𝓛 ((raw (alive 𝓛 En.signature z.0.0 z.0.1) ⊛ ‵ (owns (types_at En.signature.params z.0.0) z.0.3 z.0.4)) ∷ raw

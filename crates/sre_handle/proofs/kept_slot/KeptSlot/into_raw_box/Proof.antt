@@ -23,7 +23,7 @@ use Rattle.std.specs.declared.option.Option.TheVariants.{None, Some}
 use Rattle.sre_chars.specs.Tables.{Table}
 use Rattle.sre_finder.specs.Kepts.{Suits}
 use Rattle.sre_finder.specs.contracts.kept.Kept as kept
-use Rattle.sre_handle.proofs.Words.{ptr_good, word, word_good, Pointed, made, told}
+use Rattle.sre_handle.proofs.Words.{ptr_good, word, word_good, Pointed, made, one_word}
 use Rattle.sre_handle.specs.Slots.{held}
 use Rattle.sre_handle.specs.contracts.kept_slot.KeptSlot as slot
 use Rattle.sre_handle.specs.contracts.kept_slot.KeptSlot.into_raw_box as f
@@ -41,7 +41,7 @@ into_raw_box_spec 𝓤 𝓛 𝓜 𝓡 wired =
     let hs : Stays En.signature.params En.kept = (stay_dropped (plain (λ _. Row)) yes, tt) in
     proved_at 𝓛 En hs c 𝓜 𝓡 (Goes-dropped 𝓛 0 (plain (λ _. Row)) yes (λ κs x f. refl), tt) f.Key.name code.function
     (code.unfolded 𝓤 H 𝓜 𝓡 wired) (λ z are.
-    let v = z.0.3.0 in let p = v.at in let ws = word p ∷ [] in let e : z.0.4.0 ≡ ws = told p z.0.4.0 are.0.0 in
+    let v = z.0.3.0 in let p = v.at in let ws = word p ∷ [] in let e : z.0.4.0 ≡ ws = one_word p z.0.4.0 are.0.0 in
     let Post : Val → SProp 𝓤 = (walk_of 𝓛 En hs c).post z in
     let Run : List Val → SProp 𝓤 = λ ws. WpFn 𝓤 H 𝓣.C 𝓣.Λ code.function ws Post in
     let Says : K.Denot → Type 0 = λ x. IfSome v.code (λ code. Suits code.0 code.1 x) in

@@ -23,7 +23,7 @@ use Rattle.sre_finder.specs.Kepts.{Suits}
 use Rattle.sre_finder.specs.contracts.kept.Kept as kept
 use Rattle.sre_handle.specs.Heap.{heap_box}
 use Rattle.sre_handle.specs.contracts.raw_box.RawBox as raw_box
-use Rattle.sre_handle.proofs.Words.{ptr_good, word, word_good, Pointed, made, told}
+use Rattle.sre_handle.proofs.Words.{ptr_good, word, word_good, Pointed, made, one_word}
 use Rattle.sre_handle.specs.contracts.kept_slot.KeptSlot.of as f
 use Rattle.sre_handle.proofs.kept_slot.KeptSlot.of.Statement.{statement}
 use Rattle.sre_handle.proofs.kept_slot.KeptSlot.of.Code as code
@@ -36,7 +36,7 @@ of_spec 𝓤 𝓛 𝓜 𝓡 wired =
     let hs : Stays En.signature.params En.kept = (stay_dropped (plain (λ _. Row)) yes, tt) in
     proved_at 𝓛 En hs c 𝓜 𝓡 (Goes-dropped 𝓛 0 (plain (λ _. Row)) yes (λ κs x f. refl), tt) f.Key.name code.function
     (code.unfolded 𝓤 H 𝓜 𝓡 wired) (λ z are.
-    let v = z.0.3.0 in let p = v.at in let ws = word p ∷ [] in let e : z.0.4.0 ≡ ws = told p z.0.4.0 are.0.0 in
+    let v = z.0.3.0 in let p = v.at in let ws = word p ∷ [] in let e : z.0.4.0 ≡ ws = one_word p z.0.4.0 are.0.0 in
     let g = z.1 in
     let Fits = Suits g.0 g.1 in
     let Post : Val → SProp 𝓤 = (walk_of 𝓛 En hs c).post z in

@@ -45,7 +45,7 @@ use Rattle.std.proofs.boxed.Box.TheLaws as box_laws
 use Rattle.std.specs.contracts.boxed.Box.from_raw as callee
 use Rattle.std.proofs.boxed.Box.from_raw.Met.{met}
 use Rattle.sre_handle.proofs.Destruct++none.drop.Code as none
-use Rattle.sre_handle.proofs.Words.{ptr_good, word, word_good, told}
+use Rattle.sre_handle.proofs.Words.{ptr_good, word, word_good, one_word}
 use Rattle.sre_handle.specs.contracts.raw_box.RawBox as raw_box
 use Rattle.sre_handle.specs.contracts.raw_box.RawBox.into_box.{ended, clauses}
 use Rattle.sre_handle.specs.contracts.raw_box.RawBox.into_box.Key.{name as #self}
@@ -80,7 +80,7 @@ into_box_spec {M} 𝓤 𝓛 𝓜 𝓡 wired T L =
     let κ = z.0.0.0 in let q = z.0.1.0 in let v = z.0.3.0 in let p = v.at in let a = z.0.3.1.0 in
     let Post : Val → SProp 𝓤 = (walk_of 𝓛 En hs c).post z in
     let Run : List Val → SProp 𝓤 = λ ws. WpFn 𝓤 H 𝓣.C 𝓣.Λ fn ws Post in
-    let e : z.0.4.0 ≡ word p ∷ [] = told p z.0.4.0 are.0.0 in
+    let e : z.0.4.0 ≡ word p ∷ [] = one_word p z.0.4.0 are.0.0 in
     let h = one (layout Z) z.0.4.1.0 ((LZ.lawful 𝓛).typed a z.0.4.1.0 are.1.0) in let ws = word p ∷ h.0 ∷ [] in
     qed 𝓛 (((‵ (flft κ q) ⊛ ‵ ftrue) ⊛ ‵ (owns (types_at En.signature.params z.0.0) z.0.3 z.0.4)) ∷ raw
     ((c z.0.0 z.0.3).requires z.1) ∷ []) ∵ split ! $ move ! (1 ∷ []) $ fsplit3 ! $ fsplit ! $ drop ! $
