@@ -1,12 +1,12 @@
 -- What the ends and the starts of a DFA's matches imply for a pattern's.
-use Rattle.std.proofs.Common.{◌≡◌, ◌≤◌, ◌<◌, ℕ, List, length, All, Option, Some, None, option_map, refl, sym, ap, ◌∙◌}
-use Rattle.std.proofs.Common.{subst, arith, inl, inr, Fits, w8, get_or}
+use Rattle.std.proofs.Common.{◌≡◌, ◌≤◌, ◌<◌, ◌+◌, ℕ, List, length, All, Option, Some, None, option_map}
+use Rattle.std.proofs.Common.{refl, sym, ap, ◌∙◌, subst, arith, inl, inr, Fits, w8, get_or}
 use Rattle.std.proofs.Math.Logic.{∥∥₁_elim}
 use Rattle.std.proofs.lemmas.Bool.{cases_lt}
 use Rattle.std.proofs.lemmas.List.Elements.{All-from_get_or}
-use Rattle.regex_hir.specs.Re.{Re, Trace}
+use Rattle.regex_hir.specs.Re.{Re, Trace, accept, attempt}
 use Rattle.regex_hir.specs.Find.{Match, find}
-use Rattle.regex_hir.proofs.FindLemmas.{none_of_first_between, first_between_cong}
+use Rattle.regex_hir.proofs.FindLemmas.{none_of_first_between, first_between_cong, first_between_skip, first_between_here}
 use Rattle.regex_nfa.specs.Run.{run, find_in}
 use Rattle.regex_nfa.specs.Paths.{Accepts}
 use Rattle.regex_nfa.specs.declared.nfa.Nfa.{Nfa}
@@ -16,7 +16,7 @@ use Rattle.regex_nfa.proofs.StopLemmas.{Accepts_stop, Accepts_wider}
 use Rattle.regex_compile.specs.Implements.{Implements, HasPaths}
 use Rattle.regex_dfa.specs.Search.{end_from, IsLeast}
 use Rattle.regex_dfa.specs.declared.reverse.Start.TheVariants as start
-use Rattle.sre_automata.specs.Told.{NoneLeft, NoneUpTo, IsBetween}
+use Rattle.sre_automata.specs.Told.{NoneLeft, NoneUpTo, IsBetween, NoneBetween, EndsAt}
 
 pub are_bytes : (hay : List ℕ) → ((i : ℕ) → Fits w8 (get_or hay i 0)) → All (λ b. b < 256) hay
 are_bytes hay h = All-from_get_or (λ b. b < 256) hay 0 (λ i _. omega (arith, h i))
@@ -69,6 +69,66 @@ module _ (nfa : Nfa) (re : Re) (hay : List ℕ) (paths : HasPaths nfa re) (bytes
           | (inr more) ↦ found.3 i j low (omega (arith, high, more)) (paths hay i j match)
         ];
       }
+
+pub none_between_here : (nfa : Nfa) (hay : List ℕ) (from : ℕ) → NoneBetween nfa hay from from
+none_between_here nfa hay from = record { after = omega arith; none = λ i p q. absurd (omega (arith, p, q)) }
+
+pub none_between_next : (nfa : Nfa) (hay : List ℕ) (from at : ℕ) → NoneBetween nfa hay from at
+    → end_from nfa hay (length hay) nfa.start at ≡ None → NoneBetween nfa hay from (at + 1)
+none_between_next nfa hay from at before e = record {
+  after = omega (arith, before.after);
+  none = λ i p q. elim (cases_lt i at) [
+    | (inl below) ↦ before.none i p below
+    | (inr past) ↦
+        let here : i ≡ at = omega (arith, past, q) in
+        ap (run nfa hay (length hay) nfa.start) here ∙ no_trace (run nfa hay (length hay) nfa.start at) e
+  ];
+}
+  where
+    no_trace : (o : Option Trace) → option_map (λ (t : Trace). t.end) o ≡ None → o ≡ None
+    no_trace None e = refl
+    no_trace (Some t) e = absurd (cc e)
+
+-- where none begins in between, the search finds the same from there
+module _ (nfa : Nfa) (re : Re) (hay : List ℕ) (is : Implements nfa re) (from at : ℕ) (gap : NoneBetween nfa hay from at)
+  where
+    pub find_skips : find re hay from ≡ find re hay at
+    unfolding find
+    find_skips =
+        first_between_skip (attempt hay re accept) from at (length hay) gap.after
+        (λ i p q. sym (is hay i) ∙ gap.none i p q)
+
+    pub found_behind : (least end : ℕ) → IsBetween hay re at least end → IsBetween hay re from least end
+    found_behind least end b = record {
+      match = b.match;
+      found = find_skips ∙ b.found;
+      begins = b.begins;
+      ends = b.ends;
+      after = omega (arith, gap.after, b.after);
+      forward = b.forward;
+      inside = b.inside;
+    }
+
+    -- a path that begins there is the first
+    pub found_here : (end : ℕ) → at ≤ length hay → EndsAt nfa hay at end → IsBetween hay re from at end
+    unfolding find
+    found_here end inside e =
+        let trace = some_trace (run nfa hay (length hay) nfa.start at) end e.ends in
+        found_behind at end (record {
+          match = record { start = at; trace = trace.0 };
+          found =
+              first_between_here (attempt hay re accept) at (length hay) trace.0 inside (sym (is hay at) ∙ trace.1);
+          begins = refl;
+          ends = trace.2;
+          after = omega arith;
+          forward = e.forward;
+          inside = e.inside;
+        })
+      where
+        some_trace : (o : Option Trace) (end : ℕ) → option_map (λ (t : Trace). t.end) o ≡ Some end
+            → (t : Trace) × (o ≡ Some t) × (t.end ≡ end)
+        some_trace None end e = absurd (cc e)
+        some_trace (Some t) end e = (t, refl, cc e)
 
 -- the match that is found has the end of the leftmost, and begins at the least start of a path to there
 module _ (nfa : Nfa) (re : Re) (hay : List ℕ) (is : Implements nfa re) (bytes : All (λ b. b < 256) hay) (from : ℕ)

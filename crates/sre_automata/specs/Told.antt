@@ -4,6 +4,9 @@ use Rattle.std.specs.Prelude.{◌≡◌, ⊤, ℕ, ◌≤◌, ◌<◌, List, len
 use Rattle.regex_hir.specs.Re.{Re}
 use Rattle.regex_hir.specs.Matches.{Matches}
 use Rattle.regex_hir.specs.Find.{Match, find}
+use Rattle.regex_nfa.specs.Run.{run}
+use Rattle.regex_nfa.specs.declared.nfa.Nfa.{Nfa}
+use Rattle.regex_dfa.specs.Search.{end_from}
 use Rattle.sre_automata.specs.declared.Told.{Told}
 use Rattle.sre_automata.specs.declared.Told.TheVariants.{Nothing, From}
 use Rattle.sre_automata.specs.declared.FirstMatch.{FirstMatch}
@@ -12,6 +15,17 @@ use Rattle.sre_automata.specs.declared.FirstMatch.TheVariants as first_match
 -- no match begins at a place or behind it
 pub record NoneLeft (hay : List ℕ) (re : Re) (start : ℕ) : Type 0 where
   pub none : (i j : ℕ) → start ≤ i → i ≤ length hay → Matches hay re i j → ⊥
+
+-- no path begins from one place up to before another
+pub record NoneBetween (nfa : Nfa) (hay : List ℕ) (start at : ℕ) : Type 0 where
+  pub after : start ≤ at
+  pub none : (i : ℕ) → start ≤ i → i < at → run nfa hay (length hay) nfa.start i ≡ None
+
+-- the first path that begins at a place has this end
+pub record EndsAt (nfa : Nfa) (hay : List ℕ) (at end : ℕ) : Type 0 where
+  pub ends : end_from nfa hay (length hay) nfa.start at ≡ Some end
+  pub forward : at ≤ end
+  pub inside : end ≤ length hay
 
 -- none begins from one place up to before another
 pub record NoneUpTo (hay : List ℕ) (re : Re) (start from : ℕ) : Type 0 where

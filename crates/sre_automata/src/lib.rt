@@ -9,7 +9,7 @@ ghost use Rattle.std.specs.Prelude.{◌≡◌, ◌≤◌, IfSome, length};
 ghost use Rattle.regex_hir.specs.Re.{Re};
 ghost use Rattle.regex_hir.specs.Meaning.{meaning};
 ghost use Rattle.regex_compile.specs.Implements.{Implements, HasPaths};
-ghost use Rattle.sre_automata.specs.Told.{Tells, FindsFirst};
+ghost use Rattle.sre_automata.specs.Told.{Tells, FindsFirst, NoneBetween, EndsAt};
 
 use regex_compile::compile;
 use regex_dfa::{Dfa, End, Forward, Reverse, Start};
@@ -49,7 +49,12 @@ pub struct Automata {
     forward: Forward,
     reverse: Reverse,
     read: usize,
+    // number of next starts to try one by one, before a search
+    beside: usize,
 }
+
+// A match that begins less than so many bytes behind the last one is beside it.
+const BESIDE: usize = 2;
 
 // Custom `Drop`, so that callers contain one call. A derived one would drop each table in each caller.
 impl Drop for Automata {
@@ -59,6 +64,7 @@ impl Drop for Automata {
             forward,
             reverse,
             read: _,
+            beside: _,
         } = self;
         drop((dfa, forward, reverse));
     }
@@ -78,7 +84,7 @@ impl Model for Automata {
 impl Automata {
     ghost use Rattle.std.specs.Prelude.{false};
     ghost use Rattle.regex_nfa.specs.Paths.{Accepts};
-    ghost use Rattle.regex_dfa.specs.Search.{IsEnd, IsLeast, end_from};
+    ghost use Rattle.regex_dfa.specs.Search.{IsEnd, IsLeast, end_from, entry};
 
     /// Compiles a pattern to an NFA and prepares its DFAs. Returns `None` if the NFA takes more than `size_limit`
     /// bytes, or if an allocation failed.
@@ -106,6 +112,7 @@ impl Automata {
             forward,
             reverse,
             read: 0,
+            beside: 0,
         })
     }
 
@@ -114,14 +121,14 @@ impl Automata {
         self.read
     }
 
-    /// The end of the leftmost match that begins at or after an offset.
-    fn leftmost_end(&mut self, hay: &[u8], start: usize) -> End
+    /// The end of the leftmost match that begins at or after an offset; if `anchored`, of the one that begins there.
+    fn end_of(&mut self, hay: &[u8], start: usize, anchored: bool) -> End
         requires { start ≤ length hay.now }
-        ensures end { IsEnd self.old hay.now start (length hay.now) false false
-            (end_from self.old hay.now (length hay.now) self.old.unanchored start) result }
+        ensures end { IsEnd self.old hay.now start (length hay.now) anchored false
+            (end_from self.old hay.now (length hay.now) (entry self.old anchored) start) result }
         ensures same { self.new ≡ self.old }
     {
-        let (anchored, earliest) = (false, false);
+        let earliest = false;
         let end = self
             .forward
             .find_end(&self.dfa, hay, start, hay.len(), anchored, earliest);
@@ -143,13 +150,34 @@ impl Automata {
         found
     }
 
+    // Tries the next `beside` offsets one by one. Returns the first at which a match begins, and the end of that match;
+    // else an offset before which none begins.
+    fn end_beside(&mut self, hay: &[u8], start: usize) -> (usize, Option<usize>)
+        requires { start ≤ length hay.now }
+        ensures inside { result.0 ≤ length hay.now }
+        ensures none { NoneBetween self.old hay.now start result.0 }
+        ensures end { IfSome result.1 (EndsAt self.old hay.now result.0) }
+        ensures same { self.new ≡ self.old }
+    {
+        let last = start.saturating_add(self.beside).min(hay.len());
+        let mut at = start;
+        'beside: while at < last {
+            match self.end_of(hay, at, true) {
+                End::At(end) => return (at, Some(end)),
+                End::NoMatch => at += 1,
+                _ => break,
+            }
+        }
+        (at, None)
+    }
+
     /// Returns where the next match can begin, at the offset `start` or after it.
     pub fn next_from(&mut self, hay: &[u8], start: usize) -> Told
         requires { start ≤ length hay.now }
         ensures told { (re : Re) → HasPaths self.old re → Tells hay.now re start result }
         ensures same { self.new ≡ self.old }
     {
-        match self.leftmost_end(hay, start) {
+        match self.end_of(hay, start, false) {
             End::NoMatch => Told::Nothing,
             End::At(end) => match self.least_start(hay, start, end) {
                 Start::At(from) => Told::From(from),
@@ -166,10 +194,19 @@ impl Automata {
         ensures finds { (re : Re) → Implements self.old re → FindsFirst hay.now re start result }
         ensures same { self.new ≡ self.old }
     {
-        match self.leftmost_end(hay, start) {
+        let (at, beside) = self.end_beside(hay, start);
+        if let Some(end) = beside {
+            self.beside = at - start + 1;
+            return FirstMatch::Between(at, end);
+        }
+        match self.end_of(hay, at, false) {
             End::NoMatch => FirstMatch::Nothing,
-            End::At(end) => match self.least_start(hay, start, end) {
-                Start::At(from) => FirstMatch::Between(from, end),
+            End::At(end) => match self.least_start(hay, at, end) {
+                Start::At(from) => {
+                    let gap = from - start;
+                    self.beside = if gap < BESIDE { gap + 1 } else { 0 };
+                    FirstMatch::Between(from, end)
+                }
                 _ => FirstMatch::Unknown,
             },
             _ => FirstMatch::Unknown,
