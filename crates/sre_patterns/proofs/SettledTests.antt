@@ -1,5 +1,5 @@
 -- From which character on categories, sets and tests give one answer.
-use Rattle.std.proofs.Common.{◌≡◌, ℕ, ◌+◌, ◌-◌, ◌<◌, ◌≤◌, max, Bool, false, not, ◌&&◌}
+use Rattle.std.proofs.Common.{◌≡◌, ℕ, ◌+◌, ◌<◌, ◌≤◌, max, Bool, false, not, ◌&&◌}
 use Rattle.std.proofs.Common.{cond, nat_eq, nat_lt, List, slice_range, refl, sym, ap, ap₂, ◌∙◌, arith}
 use Rattle.std.proofs.lemmas.Bool.Decides.{nat_tests}
 use Rattle.sre_chars.specs.Categories.{category}
@@ -8,7 +8,7 @@ use Rattle.sre_chars.specs.Tables.{Table, ascii_table, is_between}
 use Rattle.sre_chars.specs.declared.constants.SreCatCode.{SreCatCode}
 use Rattle.sre_chars.specs.declared.constants.SreOpcode.TheVariants as opcode
 use Rattle.sre_model.specs.Tree.{Charset}
-use Rattle.sre_model.specs.Characters.{item_holds, bit_of, verdict, holds}
+use Rattle.sre_model.specs.Characters.{item_holds, bit_of, verdict}
 use Rattle.sre_model.specs.Grammar.{Word, word, Opcode}
 use Rattle.sre_model.specs.Standing.{HasSet, ItemSays}
 use Rattle.std.proofs.lemmas.Option.{slice_get-get_or}

@@ -1,6 +1,6 @@
 -- Classes of what a test takes.
 use Rattle.std.proofs.Common.{◌≡◌, ℕ, ◌+◌, ◌≤◌, Bool, true, false, ◌||◌, List, [], ◌∷◌, ◌++◌, refl, sym, ap, ◌∙◌}
-use Rattle.std.proofs.Common.{⊎_elim, arith, true≢false, drop, get_or, suc}
+use Rattle.std.proofs.Common.{inl, inr, arith, true≢false, drop, get_or, suc}
 use Rattle.std.proofs.lemmas.Bool.{cases_lt}
 use Rattle.std.proofs.lemmas.Bool.Decides.{nat_tests}
 use Rattle.std.specs.Char.{IsScalar}
@@ -55,13 +55,20 @@ pub bytes-class : (bound : ℕ) (table : Table) (t : Test) (xs ranges : List (�
 bytes-class bound table t xs ranges few h e =
     bytes-take bound table ranges t (λ c l k. e c (omega arith) ∙ h c l k)
 
-pub utf8-class : (table : Table) (t : Test) (xs ranges : List (ℕ × ℕ)) → HasBelow 128 (holds table t) xs
-    → HasExactly ranges (in_ranges (xs ++ (128, 1114111) ∷ [])) → CoversTest InUtf8 table (char_in ranges) t
+pub utf8-class : (table : Table) (t : Test) (xs ranges : List (ℕ × ℕ)) → HasBelow 1114112 (holds table t) xs
+    → HasExactly ranges (in_ranges xs) → CoversTest InUtf8 table (char_in ranges) t
 utf8-class table t xs ranges h e =
     utf8-take table ranges t (λ c s k.
     let most : c ≤ 1114111 = scalar-most c s in
-    e c most ∙ ⊎_elim (λ below. kept xs ((128, 1114111) ∷ []) c (h c below k)) (λ at. added xs 128 1114111 c at most)
-    (cases_lt c 128))
+    e c most ∙ h c (omega (arith, most)) k)
+
+-- ranges with one more that has all characters from a number on
+pub below-on : (test : ℕ → Bool) (xs : List (ℕ × ℕ)) (from last : ℕ) → HasBelow from test xs
+    → HasBelow (last + 1) test (xs ++ (from, last) ∷ [])
+below-on test xs from last h c l k = elim (cases_lt c from) [
+  | (inl below) ↦ kept xs ((from, last) ∷ []) c (h c below k)
+  | (inr at) ↦ added xs from last c at (omega (arith, l))
+]
 
 -- the one test that LITERAL begins
 pub plain-literal : (ws : List ℕ) (i j v : ℕ) (t : Test) → Opcode ws i opcode.LITERAL → Word ws (i + 1) v

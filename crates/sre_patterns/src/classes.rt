@@ -1,6 +1,6 @@
 //! Single-character tests, as classes of bytes or characters.
 
-ghost use Rattle.std.specs.Prelude.{◌≡◌, ℕ, IfOk, Some, [], ◌∷◌, encode_utf8};
+ghost use Rattle.std.specs.Prelude.{◌≡◌, ◌<◌, ℕ, IfOk, Some, [], ◌∷◌, encode_utf8};
 ghost use Rattle.regex_hir.specs.Re.{literal};
 ghost use Rattle.regex_hir.specs.Meaning.{meaning};
 ghost use Rattle.sre_model.specs.Tree.{Test, AnyAll, Literal, Plain};
@@ -10,9 +10,11 @@ ghost use Rattle.sre_code.specs.Codes.{items_of, uni_of};
 ghost use Rattle.sre_shape.specs.Covers.{CoversTest};
 ghost use Rattle.sre_model.specs.Characters.{holds};
 ghost use Rattle.sre_chars.specs.Tables.{Table};
-ghost use Rattle.sre_patterns.specs.Patterns.{view_of, CoversTestAt, HasJust};
+ghost use Rattle.sre_patterns.specs.Patterns.{view_of, CoversTestAt, HasBelow, HasJust};
+ghost use Rattle.sre_patterns.specs.Settling.{SettledFrom};
 
 use crate::encoding::Encoding;
+use crate::settled::settled_from;
 use crate::words::{operand, test_opcode};
 use regex_class::Class;
 use regex_hir::Hir;
@@ -21,6 +23,12 @@ use sre_code::Code;
 use sre_reading::one_character::{takes, test_end};
 use sre_request::Request;
 use std::alloc::{AllocError, Global};
+
+/// The number of characters: one more than the greatest.
+pub(crate) const CHARACTERS: u32 = 0x11_0000;
+
+// Each character below takes at most two bytes in UTF-8. Each is tested where a table decides.
+const NEAR: u32 = 0x800;
 
 /// A pattern that covers the test at an address: the bytes of a literal, or a class.
 pub(crate) fn pattern_of(
@@ -80,7 +88,7 @@ fn literal_character(alloc: Global, value: u32) -> Result<Option<Hir>, AllocErro
     Ok(Some(Hir::Literal(text.into_bytes())))
 }
 
-/// A class that covers the test at an address. For UTF-8 it has all characters past ASCII.
+// A class that covers the test at an address.
 fn class_of(
     alloc: Global,
     code: &Code<'_>,
@@ -103,15 +111,36 @@ fn class_of(
             Ok(Hir::Bytes(Class::new(ranges)?))
         }
         Encoding::Utf8 => {
-            let mut ranges = taken_below(alloc, code, place, opcode, 128)?;
-            ranges.push((128, 0x10_FFFF))?;
+            let ranges = characters_of(alloc, code, place, opcode)?;
             Ok(Hir::Chars(Class::new(ranges)?))
         }
     }
 }
 
-/// Whether the test at an address accepts a character.
-pub(crate) fn is_taken(code: &Code<'_>, place: usize, opcode: SreOpcode, character: u32) -> bool
+// The characters that the test at an address accepts, as ranges. From `NEAR` on it may be all characters.
+fn characters_of(
+    alloc: Global,
+    code: &Code<'_>,
+    place: usize,
+    opcode: SreOpcode,
+) -> Result<Vec<(u32, u32)>, AllocError>
+    requires code { Opcode (items_of code.now) place opcode }
+    requires stands { HasTest (items_of code.now) place }
+    ensures { IfOk result (λ r. (j : ℕ) (t : Test) → TestStands (items_of code.now) place j t
+        → HasBelow 1114112 (holds (uni_of code.now) t) r.items) }
+{
+    if let Some(from) = settled_from(code, place, opcode) {
+        if from <= NEAR {
+            return Ok(taken_and_on(alloc, code, place, opcode, from)?);
+        }
+    }
+    let mut ranges = taken_below(alloc, code, place, opcode, NEAR)?;
+    ranges.push((NEAR, CHARACTERS - 1))?;
+    Ok(ranges)
+}
+
+// Whether the test at an address accepts a character.
+fn is_taken(code: &Code<'_>, place: usize, opcode: SreOpcode, character: u32) -> bool
     requires code { Opcode (items_of code.now) place opcode }
     requires stands { HasTest (items_of code.now) place }
     ensures { (j : ℕ) (t : Test) → TestStands (items_of code.now) place j t
@@ -119,6 +148,29 @@ pub(crate) fn is_taken(code: &Code<'_>, place: usize, opcode: SreOpcode, charact
 {
     let req = Request::new(b"".as_slice(), 0, 0, *code, false);
     takes(&req, place, opcode, character)
+}
+
+/// The characters that the test at an address accepts. Its results are constant from the character `from` on.
+pub(crate) fn taken_and_on(
+    alloc: Global,
+    code: &Code<'_>,
+    place: usize,
+    opcode: SreOpcode,
+    from: u32,
+) -> Result<Vec<(u32, u32)>, AllocError>
+    requires code { Opcode (items_of code.now) place opcode }
+    requires stands { HasTest (items_of code.now) place }
+    requires inside { from < 1114112 }
+    requires settled { (j : ℕ) (t : Test) → TestStands (items_of code.now) place j t
+        → SettledFrom from (holds (uni_of code.now) t) }
+    ensures { IfOk result (λ r. (j : ℕ) (t : Test) → TestStands (items_of code.now) place j t
+        → HasJust 1114112 (holds (uni_of code.now) t) r.items) }
+{
+    let mut ranges = taken_below(alloc, code, place, opcode, from)?;
+    if is_taken(code, place, opcode, from) {
+        ranges.push((from, CHARACTERS - 1))?;
+    }
+    Ok(ranges)
 }
 
 /// The numbers below a bound that the test at an address accepts, each as a range.

@@ -17,10 +17,9 @@ ghost use Rattle.sre_shape.specs.Covers.{InBytes, InUtf8};
 ghost use Rattle.sre_shape.specs.Exact.{ExactTree, AreKept};
 ghost use Rattle.sre_shape.specs.Repeated as repetitions;
 ghost use Rattle.sre_patterns.specs.Patterns.{view_of, HasItem, HasBranch, HasJust};
-ghost use Rattle.sre_patterns.specs.Settling.{SettledFrom};
 ghost use Rattle.sre_patterns.specs.Ordered.{HasTree, HasCounted, HasGiving, TriesItems, TriesItem, TriesTest};
 
-use crate::classes::{end_of_test, is_taken, taken_below};
+use crate::classes::{CHARACTERS, end_of_test, taken_and_on, taken_below};
 use crate::encoding::Encoding;
 use crate::fault::Fault;
 use crate::positions::{exact_look, position_in};
@@ -33,9 +32,6 @@ use regex_hir::Hir;
 use sre_chars::constants::SreOpcode;
 use sre_code::Code;
 use std::alloc::{AllocError, Global};
-
-// The number of characters: one more than the greatest.
-const CHARACTERS: u32 = 0x11_0000;
 
 // Up to which character each result of a test is computed. Unicode's white space is below it.
 const FAR: u32 = 0x4000;
@@ -171,29 +167,6 @@ fn characters_at(alloc: Global, code: &Code<'_>, place: usize) -> Result<Hir, Fa
     }
     let ranges = taken_and_on(alloc, code, place, opcode, from)?;
     Ok(Hir::Chars(Class::new(ranges)?))
-}
-
-// The characters that the test at an address accepts. Its results are constant from the character `from` on.
-fn taken_and_on(
-    alloc: Global,
-    code: &Code<'_>,
-    place: usize,
-    opcode: SreOpcode,
-    from: u32,
-) -> Result<Vec<(u32, u32)>, AllocError>
-    requires code { Opcode (items_of code.now) place opcode }
-    requires stands { HasTest (items_of code.now) place }
-    requires inside { from < 1114112 }
-    requires settled { (j : ℕ) (t : Test) → TestStands (items_of code.now) place j t
-        → SettledFrom from (holds (uni_of code.now) t) }
-    ensures { IfOk result (λ r. (j : ℕ) (t : Test) → TestStands (items_of code.now) place j t
-        → HasJust 1114112 (holds (uni_of code.now) t) r.items) }
-{
-    let mut ranges = taken_below(alloc, code, place, opcode, from)?;
-    if is_taken(code, place, opcode, from) {
-        ranges.push((from, CHARACTERS - 1))?;
-    }
-    Ok(ranges)
 }
 
 // The numbers below a bound that the test at an address accepts, each as a range.

@@ -1,5 +1,4 @@
-use Rattle.std.proofs.Common.{subst, arith, List, ℕ}
-use Rattle.regex_class.specs.Ranges.{in_ranges, HasExactly}
+use Rattle.std.proofs.Common.{arith}
 use Rattle.regex_hir.proofs.MeaningLemmas.{meaning-Bytes, meaning-Chars}
 use Rattle.sre_code.specs.Codes.{uni_of}
 use Rattle.sre_patterns.proofs.Tests.{bytes-class, utf8-class}
@@ -20,10 +19,5 @@ returns-in_ok-new-in-Ascii c j t s =
 
 pub returns-in_ok-new-in-Utf8 : goal.returns-in_ok-new-in-Utf8
 returns-in_ok-new-in-Utf8 c j t s =
-    let ranges = c.in_ok-new-in-Utf8.field-0.ranges.items in
-    let exactly =
-    subst (λ (z : List (ℕ × ℕ)). HasExactly ranges (in_ranges z)) c.in_ok-push-in-Utf8.ensures.items
-    c.in_ok-new-in-Utf8.ensures in
     rw (c.in-Utf8.is, meaning-Chars)
-    (utf8-class (uni_of c.args.code.now) t c.in_ok-ranges-in-Utf8.ranges.items ranges
-    (just-below 128 _ _ (c.in_ok-ranges-in-Utf8.ensures j t s)) exactly)
+    (utf8-class (uni_of c.args.code.now) t _ _ (c.in_ok-ranges-in-Utf8.ensures j t s) c.in_ok-new-in-Utf8.ensures)

@@ -2,8 +2,8 @@ use Rattle.std.proofs.Common.{◌∙◌, sym, refl}
 use Rattle.sre_model.specs.Characters.{holds}
 use Rattle.sre_code.specs.Codes.{uni_of}
 use Rattle.sre_patterns.proofs.OrderedTests.{just-on, just-off}
-use Rattle.sre_patterns.proofs.in_order.taken_and_on.Goals.{then-is_taken+in_ok-push, else-is_taken}
-use Rattle.sre_patterns.proofs.in_order.taken_and_on.Goals as goal
+use Rattle.sre_patterns.proofs.classes.taken_and_on.Goals.{then-is_taken+in_ok-push, else-is_taken}
+use Rattle.sre_patterns.proofs.classes.taken_and_on.Goals as goal
 
 pub returns : goal.returns
 returns c j t s =
