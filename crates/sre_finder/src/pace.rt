@@ -6,6 +6,9 @@
 //! each text the DFAs also pause while they have read much more than the search has passed. The time of a search then
 //! stays linear in the text's length if the machine's is.
 //!
+//! The machine shows the match of a span, with its captures. If spans are shown, it finds some of the next matches
+//! itself, as long as few starts fail.
+//!
 //! On demand, DFAs are built once the machine has spent as much as building them costs. So a search takes at most about
 //! twice the time of the better choice, whatever the text. Before that, a finder checks once whether a required literal
 //! still occurs.
@@ -41,6 +44,9 @@ const RUN: usize = 16;
 
 /// What is left of `BUILDING` when a finder checks for a required literal. To read the literal costs less than DFAs.
 const LOOKING: usize = 7 << 12;
+
+/// Number of runs in a step up to which the machine is probably faster than a DFA and the run that shows its span.
+const FEW: u64 = 2;
 
 /// Limit on a balance of steps: a step whose first start failed adds 2, any other step subtracts 1.
 const FAILING: u32 = 4;
@@ -113,6 +119,10 @@ pub(crate) struct Pace {
     is_first: bool,
     is_told: bool,
     has_failed: bool,
+    // number of next matches that the machine finds alone, and of spans to be shown before it tries that
+    alone: u32,
+    shown: u32,
+    pause_of_alone: u32,
     // in this text: the offset of the first question, and how many bytes the DFAs had read by then
     begun: Option<(usize, usize)>,
 }
@@ -131,6 +141,9 @@ impl Pace {
             is_first: false,
             is_told: false,
             has_failed: false,
+            alone: 0,
+            shown: 0,
+            pause_of_alone: PAUSE,
             begun: None,
         }
     }
@@ -238,6 +251,36 @@ impl Pace {
         };
         let passed = place.wrapping_sub(origin);
         read.wrapping_sub(before) / most <= passed.saturating_add(MORE)
+    }
+
+    /// Records that the machine was run to show a span.
+    #[inline(always)]
+    pub(crate) fn note_shown(&mut self) {
+        if self.shown > 0 {
+            self.shown -= 1;
+        } else {
+            self.alone = STEPS;
+        }
+    }
+
+    /// Returns whether the machine finds the next match alone.
+    #[inline(always)]
+    pub(crate) fn is_alone(&mut self) -> bool {
+        if self.alone == 0 {
+            return false;
+        }
+        self.alone -= 1;
+        true
+    }
+
+    /// Records how many runs a step of the machine took.
+    #[inline(always)]
+    pub(crate) fn note_runs(&mut self, runs: u64) {
+        if self.alone > 0 && runs > FEW {
+            self.alone = 0;
+            self.shown = self.pause_of_alone;
+            self.pause_of_alone = self.pause_of_alone.saturating_mul(2);
+        }
     }
 
     /// Records a failed run of the machine.

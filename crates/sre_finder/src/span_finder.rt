@@ -104,6 +104,14 @@ impl<'c> SpanFinder<'c> {
         }
     }
 
+    // Records that the machine was run to show a span.
+    #[inline(always)]
+    pub(crate) fn note_shown(&mut self)
+        ensures { self.new ≡ self.old }
+    {
+        self.pace.note_shown();
+    }
+
     /// Drops the finder, and returns what it has built for its code.
     #[inline(always)]
     pub fn into_kept(self) -> Kept
@@ -237,6 +245,7 @@ impl<'c> SpanFinder<'c> {
         self.spans
             .debt
             .pay(state.started(), reached.saturating_sub(from.position()));
+        self.pace.note_runs(state.started());
         if !is_found {
             return Ok(None);
         }
@@ -280,7 +289,7 @@ impl<'c> SpanFinder<'c> {
         if !self.spans.is_made {
             self.make();
         }
-        if self.spans.exact.is_none() {
+        if self.spans.exact.is_none() || self.pace.is_alone() {
             return self.run(req, state, cursor, places);
         }
         // a missing literal is found before DFAs read the text

@@ -154,6 +154,7 @@ impl<'c, 'a, S: StrDrive, A: Allocator + Copy> SpanIter<'c, 'a, S, A> {
         if self.is_shown {
             return Ok(true);
         }
+        self.finder.note_shown();
         self.places.note_step(&self.req);
         let (state, admitted) = (&mut self.state, self.places.list());
         show_at(&self.req, state, self.at, self.advances, admitted)

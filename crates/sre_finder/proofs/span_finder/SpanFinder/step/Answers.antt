@@ -1,4 +1,4 @@
-use Rattle.std.proofs.Common.{◌+◌, refl, sym, subst, arith}
+use Rattle.std.proofs.Common.{◌+◌, refl, subst, arith}
 use Rattle.sre_request.specs.Requests.{string_of, start_of, asked_of}
 use Rattle.sre_engine.specs.Starts.{NoneBetween}
 use Rattle.sre_engine.proofs.LeadingStarts.{found_none_behind}
