@@ -9,3 +9,4 @@ pub mod Walked
 pub mod Rows
 pub mod Bounded
 pub mod Beginnings
+pub mod Firsts
