@@ -170,18 +170,20 @@ static uint32_t walk(const question *it, bool is_kept, bool is_text, sre_asked a
   return status;
 }
 
-/* Searches texts that are long enough together for DFAs to be built, in the encoding of a line's text. */
+/* Searches texts that are long enough together for DFAs to be built, in the encoding of a line's text. A pattern with
+ * back-references may take exponential time, so the first search has a step limit, and may be the only one. */
 static void build(const question *it) {
-  const sre_asked asked = {.end = SIZE_MAX, .steps = UINT64_MAX, .search = true};
+  sre_asked asked = {.end = SIZE_MAX, .steps = 1 << 20, .search = true};
   const size_t zeros = 512, count = zeros + it->count;
   uint8_t *text = room(count);
   memset(text, 0, zeros);
   memcpy(text + zeros, it->text, it->count);
   sre_found found;
   size_t marks[1];
-  for (size_t passed = 0; passed < 40000; passed += count)
-    (it->is_text ? sre_pattern_answer_utf8 : sre_pattern_answer_bytes)(it->pattern, text, count, &asked, &found, marks,
-                                                                       0);
+  uint32_t status = SRE_NO;
+  for (size_t passed = 0; passed < 40000 && status != SRE_STEP_LIMIT; passed += count, asked.steps = UINT64_MAX)
+    status = (it->is_text ? sre_pattern_answer_utf8 : sre_pattern_answer_bytes)(it->pattern, text, count, &asked,
+                                                                                &found, marks, 0);
   free(text);
 }
 

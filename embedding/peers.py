@@ -1,16 +1,19 @@
 #!/usr/bin/env python3
-"""Counts the instructions of the library, by patterns that are kept and by codes, beside RE2 and PCRE2.
+"""Counts the instructions of the library, by patterns that are kept and by codes, beside those of other engines.
 
-    peers.py LIBRARY [--characters N,..] [--only NAME,..] [--program PATH]
+    peers.py LIBRARY [--characters N,..] [--only NAME,..] [--program PATH] [--regex PATH]
 
-LIBRARY is a folder of `python/build.py library`. For each length and each line of WORK in tools/speed.py that all can
-ask, cachegrind counts the instructions a character that finding all spans takes: by a pattern that is kept, then by a
-code, by each engine with a compiled pattern, and by the program `sre_cases` at PATH, with the ratio of the first to
-these. An engine without headers (libre2-dev, libpcre2-dev) is left out. It runs under CPython 3.11 to 3.13. The status
-is 1 if the numbers of matches differ.
+LIBRARY is a folder of `python/build.py library`. For each length and each line of WORK in tools/speed.py but `match`,
+cachegrind counts the instructions a character that one more search for all spans takes: by a pattern that is kept
+and by a code, each with the ratios to RE2, PCRE2, this Python's `re` and the kit's `regex`, with compiled patterns,
+and to the program `sre_cases` of --program. An engine without headers (libre2-dev, libpcre2-dev) is left out, and so is
+the cell of a pattern that an engine refuses. The kit's `regex` is in the program peers.rt, at the PATH of --regex. If
+it is not there, it is proved and built: some minutes. (Built by tools/unproved.py, it takes 2.6 times the
+instructions.) It runs under CPython 3.11 to 3.13. The status is 1 if the numbers of matches differ.
 """
 import argparse
 import os
+import shutil
 import sys
 import tempfile
 
@@ -22,26 +25,52 @@ import words
 from ending import Fault, ended
 from repository import run, write
 
-# What other engines may not be able to say.
-APART = ('looks', 'reference', 'possessive', 'elements')
 # How peers.cc is compiled for an engine, and how it is called: with which file for the pattern, and which options.
 COMPILED = {'SRE': '-DBY_SRE -I{0} {0}/libsre_c.a', 'RE2': '-DBY_RE2 -lre2', 'PCRE2': '-DBY_PCRE2 -lpcre2-8'}
 CALLED = {'kept': ('SRE', 'words', ''), 'code': ('SRE', 'words', 'c'), 'RE2': ('RE2', 'pattern', ''),
-          'PCRE2': ('PCRE2', 'pattern', ''), 'JIT': ('PCRE2', 'pattern', 'j')}
+          'PCRE2': ('PCRE2', 'pattern', ''), 'JIT': ('PCRE2', 'pattern', 'j'), 'CPython': ('CPython', 'pattern', ''),
+          'regex': ('regex', 'pattern', '')}
+# What peers.cc does, by `re`.
+BY_RE = """
+import re, sys
+pattern, text = (open(it, 'rb').read() if 'b' in sys.argv[4] else open(it, encoding='utf-8', newline='').read()
+                 for it in sys.argv[1:3])
+pattern = re.compile(pattern)
+for _ in range(int(sys.argv[3])):
+    for _ in pattern.finditer(text):
+        pass
+print(sum(1 for _ in pattern.finditer(text)))
+"""
 # After so many characters a pattern has DFAs.
 BUILT = 40000
+
+
+def prove_regex(path):
+    """Proves and builds the program that calls the kit's `regex`."""
+    with tempfile.TemporaryDirectory(prefix='peers-') as room:
+        os.makedirs(f'{room}/crates/peers/src')
+        shutil.copy(f'{HERE}/peers.rt', f'{room}/crates/peers/src/main.rt')
+        write(f'{room}/crates.txt', 'peers: regex\n')
+        made = run('rt', 'run', cwd=f'{room}/crates/peers')
+        if made.returncode:
+            raise Fault('peers.rt cannot be built', *made.stdout.splitlines())
+        shutil.copy(f'{room}/crates/peers/out/peers', path)
 
 
 class Lines:
     """The lines of the table, over texts of several lengths."""
 
     def __init__(self, options, room):
-        self.options, self.room, self.has = options, room, []
+        self.options, self.room = options, room
+        # how a program with each engine is called
+        self.calls = {'CPython': [sys.executable, '-S', '-s', '-c', BY_RE]}
+        if options.regex:
+            self.calls['regex'] = [options.regex]
         for name, given in COMPILED.items():
             last = given.format(options.library).split()
             made = run('c++', '-std=c++17', '-O2', f'{HERE}/peers.cc', *last, '-o', f'{room}/{name}')
             if not made.returncode:
-                self.has.append(name)
+                self.calls[name] = [f'{room}/{name}']
             elif name == 'SRE':
                 raise Fault(f'{last[-1]} cannot be linked', *made.stdout.splitlines())
             else:
@@ -51,10 +80,13 @@ class Lines:
         """The instructions of one more search of the whole text by each engine, and how many matches they find."""
         counts, found, times = {}, set(), BUILT // characters + 2
         for name, (engine, file, options) in CALLED.items():
-            if engine in self.has:
-                command = [f'{self.room}/{it}' for it in (engine, file, 'text')]
-                options += 'b' * is_bytes
-                found.add(run(*command, '1', options).stdout)
+            if engine not in self.calls:
+                continue
+            command = [*self.calls[engine], f'{self.room}/{file}', f'{self.room}/text']
+            options += 'b' * is_bytes
+            told = run(*command, '1', options).stdout
+            if told:
+                found.add(told)
                 more, less = (speed.instructions(*command, str(it), options) for it in (times + 1, times))
                 counts[name] = more - less
         return counts, found
@@ -68,7 +100,7 @@ class Lines:
         return found[0] - found[1]
 
     def rows(self, work):
-        """A row of a line for each length."""
+        """Rows of a line for each length: by a pattern that is kept, and by a code."""
         for characters in self.options.characters:
             pattern, asked = speed.case_of(work, characters)
             letters = ''.join(letter for letter, flag in words.FLAGS.items() if flag & work.flags)
@@ -84,7 +116,8 @@ class Lines:
                 counts['program'] = self.of_program(*lines)
             counts = {name: it / characters for name, it in counts.items()}
             is_right = found == {f'{len([*words.matches(pattern, asked)])}\n'}
-            yield f'{characters:,}', counts.pop('kept'), counts, is_right
+            for ours in ('kept', 'code'):
+                yield f'{characters:,} {ours}', counts.pop(ours), counts.copy(), is_right
 
 
 def main(given):
@@ -95,9 +128,13 @@ def main(given):
         type=lambda it: [int(number) for number in it.split(',')])
     add('--only', default='', metavar='NAME,..')
     add('--program', metavar='PATH')
+    add('--regex', metavar='PATH')
     options = parser.parse_args(given)
     words.require_known_numbers()
-    works = [it for it in speed.chosen(options.only) if it.verb != 'match' and it.name not in APART]
+    if options.regex and not os.path.isfile(options.regex):
+        prove_regex(options.regex)
+    os.environ['PYTHONHASHSEED'] = '0'  # so that each run of Python has the same instructions before it searches
+    works = [it for it in speed.chosen(options.only) if it.verb != 'match']
     with tempfile.TemporaryDirectory(prefix='peers-') as room:
         return speed.measured(Lines(options, room).rows, works)
 

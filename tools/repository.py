@@ -64,11 +64,11 @@ def tallied(passed, failed):
     return 0 if passed and not failed else 1
 
 
-def answers(program, lines):
+def answers(program, lines, *given):
     """What a program answers to a file of these lines, line by line; no line where it does not come to a good end."""
     with tempfile.TemporaryDirectory(prefix="lines-") as room:
         write(f"{room}/lines.txt", "".join(f"{it}\n" for it in lines))
-        ran = subprocess.run([program, f"{room}/lines.txt"], capture_output=True, text=True)
+        ran = subprocess.run([program, f"{room}/lines.txt", *given], capture_output=True, text=True)
     return [] if ran.returncode or ran.stderr else ran.stdout.splitlines()
 
 
