@@ -15,7 +15,7 @@ use crate::types::SreWalked;
 use crate::walk::write_rows;
 use sre_engine::engine::{Nobody, Starts};
 use sre_engine::{Request, SearchIter, SreError, State, StrDrive};
-use sre_finder::{Haystack, Kept, SpanFinder};
+use sre_finder::{Encoding, Haystack, Kept, SpanFinder};
 use std::alloc::Global;
 
 /// The budget of a call without a step limit.
@@ -98,6 +98,50 @@ impl<S: StrDrive> Asks<S> for Machine {
         walked: &mut SreWalked,
     ) -> Status {
         write_by(alloc, request, &mut Nobody, width, rows, walked)
+    }
+}
+
+/// Within one call over so few characters, the machine cannot spend as much as DFAs cost.
+const FEW: usize = 128;
+
+// Whether a range has few characters.
+#[inline(always)]
+fn is_short<S: StrDrive>(request: &Request<'_, S>) -> bool {
+    request.end().saturating_sub(request.start()) <= FEW
+}
+
+/// The machine and DFAs, for a single call over bytes or UTF-8.
+#[derive(Clone, Copy)]
+pub struct Once;
+
+impl<S: Haystack> Asks<S> for Once {
+    ghost suits = { λ _ words table. ⊤ };
+
+    fn search(
+        &mut self,
+        alloc: Global,
+        state: &mut State<Global>,
+        request: &Request<'_, S>,
+        steps: &mut u64,
+    ) -> Result<Option<bool>, SreError> {
+        if is_short(request) {
+            return Machine.search(alloc, state, request, steps);
+        }
+        Kept::new(Encoding::Bytes).search(alloc, state, request, steps)
+    }
+
+    fn write(
+        &mut self,
+        alloc: Global,
+        request: &Request<'_, S>,
+        width: usize,
+        rows: &mut [usize],
+        walked: &mut SreWalked,
+    ) -> Status {
+        if is_short(request) {
+            return Machine.write(alloc, request, width, rows, walked);
+        }
+        Kept::new(Encoding::Bytes).write(alloc, request, width, rows, walked)
     }
 }
 

@@ -9,6 +9,7 @@ ghost use Rattle.sre_c.specs.Walked.{Walks};
 ghost use Rattle.sre_c.specs.Budgets.{no_limit};
 
 use crate::answer::answer;
+use crate::asks::Once;
 use crate::pattern::SrePattern;
 use crate::status::Status;
 use crate::types::{SreAsked, SreFound, SreWalked};
@@ -17,13 +18,6 @@ use sre_finder::{Encoding, Haystack, Kept};
 use sre_handle::{KeptSlot, RawBox};
 use std::alloc::Global;
 use std::mem::replace;
-
-/// What is kept before anything is built.
-pub fn fresh() -> Kept
-    ensures { (words : List ℕ) (table : Table) → Suits words table result }
-{
-    Kept::new(Encoding::Bytes)
-}
 
 /// Takes out what is kept, and leaves the pattern empty.
 pub fn take(alloc: Global, pattern: &mut SrePattern<'_>) -> Option<Box<Kept>>
@@ -51,7 +45,7 @@ fn take_or_new(alloc: Global, pattern: &mut SrePattern<'_>) -> Option<Box<Kept>>
 {
     match take(alloc, pattern) {
         Some(kept) => Some(kept),
-        None => Box::new(alloc, fresh()).ok(),
+        None => Box::new(alloc, Kept::new(Encoding::Bytes)).ok(),
     }
 }
 
@@ -83,15 +77,7 @@ pub fn answer_by_pattern<S: Haystack>(
     ensures code { pattern.new.code ≡ pattern.old.code }
 {
     let Some(mut kept) = take_or_new(alloc, pattern) else {
-        return answer(
-            alloc,
-            &mut fresh(),
-            &pattern.code,
-            text,
-            asked,
-            found,
-            marks,
-        );
+        return answer(alloc, &mut Once, &pattern.code, text, asked, found, marks);
     };
     let status = answer(alloc, &mut *kept, &pattern.code, text, asked, found, marks);
     put(pattern, kept);
@@ -116,7 +102,7 @@ pub fn walk_by_pattern<S: Haystack>(
     let Some(mut kept) = take_or_new(alloc, pattern) else {
         return walk(
             alloc,
-            &mut fresh(),
+            &mut Once,
             &pattern.code,
             text,
             asked,

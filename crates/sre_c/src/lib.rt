@@ -33,11 +33,11 @@ mod types;
 mod walk;
 
 use answer::answer;
-use asks::Machine;
+use asks::{Machine, Once};
 use beginnings::begins;
 use check::check_code;
 use code::SreCode;
-use keep::{answer_by_pattern, fresh, take, walk_by_pattern};
+use keep::{answer_by_pattern, take, walk_by_pattern};
 use numbers::{Points, Units};
 use pattern::SrePattern;
 use status::Status;
@@ -119,7 +119,7 @@ pub extern "C" fn sre_answer_bytes(
     ensures steps { found.new.steps ≤ asked.now.steps }
     ensures unlimited { asked.now.steps ≡ no_limit → found.new.steps ≡ asked.now.steps }
 {
-    answer(alloc, &mut fresh(), code, text, asked, found, marks).number()
+    answer(alloc, &mut Once, code, text, asked, found, marks).number()
 }
 
 /// The match in UTF-8, whose code points are the characters.
@@ -140,7 +140,7 @@ pub extern "C" fn sre_answer_utf8(
     ensures unlimited { asked.now.steps ≡ no_limit → found.new.steps ≡ asked.now.steps }
 {
     let status = match str::from_utf8(text) {
-        Ok(text) => answer(alloc, &mut fresh(), code, text, asked, found, marks),
+        Ok(text) => answer(alloc, &mut Once, code, text, asked, found, marks),
         Err(_) => {
             found.steps = asked.steps;
             Status::NotUtf8
@@ -219,7 +219,7 @@ pub extern "C" fn sre_walk_bytes(
     ensures steps { walked.new.steps ≤ asked.now.steps }
     ensures unlimited { asked.now.steps ≡ no_limit → walked.new.steps ≡ asked.now.steps }
 {
-    walk(alloc, &mut fresh(), code, text, asked, width, rows, walked).number()
+    walk(alloc, &mut Once, code, text, asked, width, rows, walked).number()
 }
 
 /// All matches in UTF-8, whose code points are the characters, in rows.
@@ -240,7 +240,7 @@ pub extern "C" fn sre_walk_utf8(
     ensures unlimited { asked.now.steps ≡ no_limit → walked.new.steps ≡ asked.now.steps }
 {
     let status = match str::from_utf8(text) {
-        Ok(text) => walk(alloc, &mut fresh(), code, text, asked, width, rows, walked),
+        Ok(text) => walk(alloc, &mut Once, code, text, asked, width, rows, walked),
         Err(_) => {
             *walked = begun(asked);
             Status::NotUtf8
