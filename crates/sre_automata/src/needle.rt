@@ -31,33 +31,48 @@ impl Model for Needle {
     ghost view = { λ needle. needle.bytes.items };
 }
 
-// The longest literal of a sequence, and the last of several. The search for starts finds a literal at the front
-// anyway.
-fn longest_literal(parts: &[Hir]) -> Option<&[u8]>
+// How well a literal excludes a match: a longer one better, and of two as long one that begins with a byte that is
+// probably rare in prose, programs and logs.
+fn rank(bytes: &[u8]) -> usize {
+    let is_rare = match bytes.first() {
+        Some(b'0'..=b'9' | b'A'..=b'Z' | b'a'..=b'z' | b'_') => false,
+        Some(b' ' | b'\n' | b'"' | b','..=b'/' | b':' | b'=') => false,
+        _ => true,
+    };
+    bytes
+        .len()
+        .saturating_mul(2)
+        .saturating_add(usize::from(is_rare))
+}
+
+// The best literal of a sequence, and the last of several. The search for starts finds a literal at the front anyway.
+fn best_literal(parts: &[Hir]) -> Option<&[u8]>
     ensures { IfSome result (λ bytes. Contains (cat_all (map meaning parts.now)) bytes.now) }
 {
-    let mut longest: Option<&[u8]> = None;
-    let mut length = 0;
+    let mut best: Option<&[u8]> = None;
+    let mut most = 0;
     'part: for part in parts {
         if let Hir::Literal(bytes) = part {
-            if bytes.len() >= length {
-                length = bytes.len();
-                longest = Some(bytes);
+            let own = rank(bytes);
+            if own >= most {
+                most = own;
+                best = Some(bytes);
             }
         }
     }
-    longest
+    best
 }
 
 impl Needle {
-    /// Returns the longest literal in the sequence that a pattern is, and the last of several: each match contains it.
+    /// Returns the longest literal in the sequence that a pattern is, and the probably rarest of several: each match
+    /// contains it.
     /// `None` if the pattern is no literal and has none in sequence, or if an allocation failed.
     pub fn of(alloc: Global, hir: &Hir) -> Option<Needle>
         ensures { IfSome result (λ needle. Contains (meaning hir.now) needle) }
     {
         let bytes = match hir {
             Hir::Literal(bytes) => bytes,
-            Hir::Concat(parts) => longest_literal(parts)?,
+            Hir::Concat(parts) => best_literal(parts)?,
             _ => return None,
         };
         let Ok(bytes) = Vec::from_slice(alloc, bytes) else {
