@@ -188,8 +188,8 @@ fn patterns_of_classes_and_positions_are_tight(rt: HostRuntime) {
             alloc,
             &words,
             Encoding::Utf8,
-            "([97-99;128-1114111;]{1,} x )",
-            "([97-99;128-1114111;]{1,}? x )"
+            "([97-99;]{1,} x )",
+            "([97-99;]{1,}? x )"
         )
     );
     // \bfoo(?=x)$, whose boundary depends on the Unicode tables
@@ -214,7 +214,7 @@ fn patterns_of_classes_and_positions_are_tight(rt: HostRuntime) {
             "(boundary foo line end )"
         )
     );
-    // (?i)a
+    // (?i)a, whose characters depend on the Unicode tables
     assert!(rt;
         are(
             alloc,
@@ -222,6 +222,15 @@ fn patterns_of_classes_and_positions_are_tight(rt: HostRuntime) {
             Encoding::Bytes,
             "[65-65;97-97;]",
             "[65-65;97-97;]"
+        )
+    );
+    assert!(rt;
+        are(
+            alloc,
+            &[40, 97, 1],
+            Encoding::Utf8,
+            "[65-65;97-97;2048-1114111;]",
+            "[65-65;97-97;2048-1114111;]"
         )
     );
 }
