@@ -104,10 +104,10 @@ impl<S: StrDrive> Asks<S> for Machine {
 /// Within one call over so few characters, the machine cannot spend as much as DFAs cost.
 const FEW: usize = 128;
 
-// Whether a range has few characters.
+// How many characters a range has.
 #[inline(always)]
-fn is_short<S: StrDrive>(request: &Request<'_, S>) -> bool {
-    request.end().saturating_sub(request.start()) <= FEW
+fn range<S: StrDrive>(request: &Request<'_, S>) -> usize {
+    request.end().saturating_sub(request.start())
 }
 
 /// The machine and DFAs, for a single call over bytes or UTF-8.
@@ -124,7 +124,7 @@ impl<S: Haystack> Asks<S> for Once {
         request: &Request<'_, S>,
         steps: &mut u64,
     ) -> Result<Option<bool>, SreError> {
-        if is_short(request) {
+        if range(request) <= FEW {
             return Machine.search(alloc, state, request, steps);
         }
         Kept::new(Encoding::Bytes).search(alloc, state, request, steps)
@@ -138,7 +138,7 @@ impl<S: Haystack> Asks<S> for Once {
         rows: &mut [usize],
         walked: &mut SreWalked,
     ) -> Status {
-        if is_short(request) {
+        if range(request) <= FEW {
             return Machine.write(alloc, request, width, rows, walked);
         }
         Kept::new(Encoding::Bytes).write(alloc, request, width, rows, walked)
@@ -156,18 +156,13 @@ impl<S: Haystack> Asks<S> for Kept {
         request: &Request<'_, S>,
         steps: &mut u64,
     ) -> Result<Option<bool>, SreError> {
-        let mut finder = finder_in(alloc, self, request);
-        let Ok(request) = request.clone() else {
-            unreachable!(); // it takes no memory
-        };
-        if *steps == NO_LIMIT {
-            let found = finder.search(request, state);
-            *self = finder.into_kept();
-            return answered(found);
+        let characters = range(request);
+        if characters <= FEW && self.is_alone() {
+            let told = Machine.search(alloc, state, request, steps);
+            self.note_alone(state.started(), characters);
+            return told;
         }
-        let told = finder.search_within(request, state, steps);
-        *self = finder.into_kept();
-        told
+        search_by_finder(alloc, self, state, request, steps)
     }
 
     // Captures of a span, and what the DFAs leave open, cost steps that nothing counts. So within a limit the machine
@@ -207,6 +202,35 @@ fn finder_in<'a, S: Haystack>(
 {
     let encoding = request.string().encoding(request.end());
     kept.take(alloc, request.pattern_codes(), encoding)
+}
+
+// Searches with the DFAs that are kept, or those that it builds. Not inlined, since its large frame is cleared at each
+// call.
+#[inline(never)]
+fn search_by_finder<S: Haystack>(
+    alloc: Global,
+    kept: &mut Kept,
+    state: &mut State<Global>,
+    request: &Request<'_, S>,
+    steps: &mut u64,
+) -> Result<Option<bool>, SreError>
+    requires suits { Suits (words_of (code_of request.now)) (uni_of (code_of request.now)) kept.old }
+    ensures finds { Finds (words_of (code_of request.now)) (asked_of request.now) true result state.new steps.old
+        steps.new }
+    ensures suits { Suits (words_of (code_of request.now)) (uni_of (code_of request.now)) kept.new }
+{
+    let mut finder = finder_in(alloc, kept, request);
+    let Ok(request) = request.clone() else {
+        unreachable!(); // it takes no memory
+    };
+    if *steps == NO_LIMIT {
+        let found = finder.search(request, state);
+        *kept = finder.into_kept();
+        return answered(found);
+    }
+    let told = finder.search_within(request, state, steps);
+    *kept = finder.into_kept();
+    told
 }
 
 // Writes the matches by the machine, or by DFAs that find spans once they are built. Also returns what is kept.

@@ -40,6 +40,7 @@ use code::SreCode;
 use keep::{answer_by_pattern, take, walk_by_pattern};
 use numbers::{Points, Units};
 use pattern::SrePattern;
+use simdutf8::basic::from_utf8;
 use status::Status;
 use std::alloc::Global;
 use step_bound::step_bound;
@@ -139,7 +140,7 @@ pub extern "C" fn sre_answer_utf8(
     ensures steps { found.new.steps ≤ asked.now.steps }
     ensures unlimited { asked.now.steps ≡ no_limit → found.new.steps ≡ asked.now.steps }
 {
-    let status = match str::from_utf8(text) {
+    let status = match from_utf8(text) {
         Ok(text) => answer(alloc, &mut Once, code, text, asked, found, marks),
         Err(_) => {
             found.steps = asked.steps;
@@ -239,7 +240,7 @@ pub extern "C" fn sre_walk_utf8(
     ensures steps { walked.new.steps ≤ asked.now.steps }
     ensures unlimited { asked.now.steps ≡ no_limit → walked.new.steps ≡ asked.now.steps }
 {
-    let status = match str::from_utf8(text) {
+    let status = match from_utf8(text) {
         Ok(text) => walk(alloc, &mut Once, code, text, asked, width, rows, walked),
         Err(_) => {
             *walked = begun(asked);
@@ -344,7 +345,7 @@ pub extern "C" fn sre_pattern_answer_utf8(
     ensures unlimited { asked.now.steps ≡ no_limit → found.new.steps ≡ asked.now.steps }
     ensures code { pattern.new.code ≡ pattern.old.code }
 {
-    let status = match str::from_utf8(text) {
+    let status = match from_utf8(text) {
         Ok(text) => answer_by_pattern(alloc, pattern, text, asked, found, marks),
         Err(_) => {
             found.steps = asked.steps;
@@ -392,7 +393,7 @@ pub extern "C" fn sre_pattern_walk_utf8(
     ensures unlimited { asked.now.steps ≡ no_limit → walked.new.steps ≡ asked.now.steps }
     ensures code { pattern.new.code ≡ pattern.old.code }
 {
-    let status = match str::from_utf8(text) {
+    let status = match from_utf8(text) {
         Ok(text) => walk_by_pattern(alloc, pattern, text, asked, width, rows, walked),
         Err(_) => {
             *walked = begun(asked);

@@ -14,6 +14,7 @@ ghost use Rattle.sre_model.specs.Characters.{item_holds, is_member};
 ghost use Rattle.sre_model.specs.Grammar.{Opcode, word, bytes_of, BlocksBelow};
 ghost use Rattle.sre_model.specs.Standing.{SetStands, HasSet, ItemSays};
 
+use crate::ascii_set::AsciiSet;
 use crate::operands::{category_code, operand, word};
 use sre_chars::constants::{SreCatCode, SreOpcode};
 use sre_chars::string::{LentTable, category, upper_unicode};
@@ -108,11 +109,15 @@ fn range_ignoring_case(words: &[u32], uni: &LentTable, place: usize, character: 
     }
 }
 
-/// Whether a character is in a category. It is not inlined, for the same reason.
+/// Whether a character is in a category. An ASCII character is looked up as a bit, any other one in the table. It is
+/// not inlined, for the same reason.
 #[inline(never)]
 pub fn is_in_category(uni: &LentTable, code: SreCatCode, character: u32) -> bool
     ensures { result ≡ category uni.now (category_number code) character }
 {
+    if character < 128 {
+        return AsciiSet::of_category(code).contains(character);
+    }
     category(uni, code, character)
 }
 

@@ -12,6 +12,7 @@ use Rattle.sre_model.specs.Anchors.{is_anchored}
 use Rattle.sre_model.specs.Prefixes.{behind_items, ReadsBehind}
 use Rattle.sre_model.specs.Runs.{Run}
 use Rattle.sre_turns.specs.Machine.{Decides, outcomes}
+use Rattle.sre_code.specs.AsciiSets.{AreTold}
 use Rattle.sre_code.specs.Codes.{words_of, hints_of}
 use Rattle.sre_code.specs.declared.code.Code.{Code}
 use Rattle.sre_engine.specs.Counts.{width_fits, may_start}
@@ -84,9 +85,10 @@ pub record ScansBehind (s : Places) (r : Run) (a : Asked) (code : Code) (c : Can
 
 -- Along the members of a first set
 
--- a first set is confirmed, and the cursor stands
+-- a first set is confirmed, its ASCII characters may be told, and the cursor stands
 pub record Seeks (s : Members) (r : Run) (code : Code) (compared : ℕ) : Type 0 where
   pub set : (hints_of code).first_set ≡ true
+  pub told : AreTold (words_of code) 5 s.told
   pub stands : r.stands s.start s.start.position
   pub none : compared ≡ 0
 

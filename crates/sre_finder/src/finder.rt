@@ -24,7 +24,7 @@ ghost use Rattle.sre_engine.specs.Starts.{NoneUntil, StartFrom};
 ghost use Rattle.sre_finder.specs.Finders.{EndStands, CoveringAny, NoneLeftOfAny};
 
 use crate::haystack::Haystack;
-use crate::pace::{Debt, Pace, is_anchored, is_found_along};
+use crate::pace::{Pace, Reads, is_anchored, is_found_along};
 use sre_automata::{Seeker, Told};
 use sre_chars::string::{StrDrive, StringCursor};
 use sre_code::Code;
@@ -43,10 +43,11 @@ pub struct Finder<'c> {
     alloc: Global,
     code: Code<'c>,
     parts: Parts,
-    pace: Pace,
     // whether it excludes no further start in this text
     is_silent: bool,
     end: Option<StringCursor>,
+    // how much the DFAs have read of this text
+    reads: Reads,
 }
 
 // What a finder has built, without its code.
@@ -57,8 +58,7 @@ pub(crate) struct Parts {
     seeker: Option<Seeker>,
     // for a code with back-references: finds a required literal of the whole pattern
     whole: Option<Seeker>,
-    // what the machine has still to spend before the DFAs are built
-    debt: Debt,
+    pace: Pace,
 }
 
 // Custom `Drop`, so that callers contain one call instead of the drop of each field.
@@ -69,7 +69,7 @@ impl Drop for Parts {
             is_read: _,
             seeker,
             whole,
-            debt: _,
+            pace: _,
         } = self;
         drop((seeker, whole));
     }
@@ -88,7 +88,7 @@ impl Parts {
             is_read: false,
             seeker: None,
             whole: None,
-            debt: Debt::of_building(),
+            pace: Pace::new(),
         }
     }
 
@@ -101,14 +101,13 @@ impl Parts {
         ensures encoding { result.encoding ≡ self.encoding }
         ensures end { result.end ≡ None }
     {
-        let pace = Pace::new(self.debt);
         Finder {
             alloc,
             code,
             parts: self,
-            pace,
             is_silent: false,
             end: None,
+            reads: Reads::new(),
         }
     }
 }
@@ -165,12 +164,11 @@ impl<'c> Finder<'c> {
         let Finder {
             alloc: _,
             code: _,
-            mut parts,
-            pace,
+            parts,
             is_silent: _,
             end: _,
+            reads: _,
         } = self;
-        parts.debt = pace.debt();
         parts
     }
 
@@ -190,14 +188,14 @@ impl<'c> Finder<'c> {
     pub(crate) fn fail(&mut self)
         ensures { self.new ≡ self.old }
     {
-        self.pace.note_failed();
+        self.parts.pace.note_failed();
     }
 
     // Builds the DFAs on first use from now on.
     pub(crate) fn hurry(&mut self)
         ensures { self.new ≡ self.old }
     {
-        self.pace.hurry();
+        self.parts.pace.hurry();
     }
 
     /// Returns whether the DFAs exist. With `on_demand` that is whether they were built.
@@ -215,8 +213,9 @@ impl<'c> Finder<'c> {
         ensures end { self.new.end ≡ None }
     {
         self.end = None;
-        self.pace.begin_text();
+        self.reads = Reads::new();
         let parts = &mut self.parts;
+        parts.pace.begin_text();
         self.is_silent = parts.is_read && parts.seeker.is_none() && parts.whole.is_none();
         if let Some(seeker) = &mut parts.seeker {
             seeker.reset();
@@ -269,21 +268,21 @@ fn is_over(whole: &mut Option<Seeker>, hay: &[u8], start: usize) -> bool
     }
 }
 
-// Where the next match can begin, at `start` or after it. Looks for the required literal first, then runs the DFAs if
+// Where the next match can begin, at `at` or after it. Looks for the required literal first, then runs the DFAs if
 // they may read more.
-fn told_by(seeker: &mut Seeker, pace: &mut Pace, hay: &[u8], start: usize) -> Told
-    requires { start ≤ length hay.now }
-    ensures told { Tells hay.now (meaning seeker.old) start result }
+fn told_by(seeker: &mut Seeker, pace: &mut Pace, reads: &mut Reads, hay: &[u8], at: usize) -> Told
+    requires { at ≤ length hay.now }
+    ensures told { Tells hay.now (meaning seeker.old) at result }
     ensures same { seeker.new ≡ seeker.old }
 {
-    if seeker.has_none_left(hay, start) {
+    if seeker.has_none_left(hay, at) {
         return Told::Nothing;
     }
-    if !pace.may_read(start, seeker.read()) {
-        return Told::From(start);
+    if !pace.may_read(reads, at, seeker.read()) {
+        return Told::From(at);
     }
     seeker.make();
-    seeker.next_from(hay, start)
+    seeker.next_from(hay, at)
 }
 
 impl<'c> Finder<'c> {
@@ -336,6 +335,18 @@ impl<'c> Finder<'c> {
         is_over(&mut self.parts.seeker, hay, text.place_of(from))
     }
 
+    // Translates the code to a pattern, if that was not tried before.
+    #[inline(always)]
+    pub(crate) fn know(&mut self)
+        ensures code { self.new.code ≡ self.old.code }
+        ensures encoding { self.new.encoding ≡ self.old.encoding }
+        ensures end { self.new.end ≡ self.old.end }
+    {
+        if !self.parts.is_read {
+            self.read();
+        }
+    }
+
     // Translates the code to a pattern. Not inlined: it is called once, and its large frame is cleared at each call.
     #[inline(never)]
     fn read(&mut self)
@@ -362,9 +373,7 @@ impl<'c> Finder<'c> {
         ensures none { (t : Tree) → Whole (words_of (code_of req.now)) t
             → NoneUntil (asked_of req.now) t from.position result }
     {
-        if !self.parts.is_read {
-            self.read();
-        }
+        self.know();
         let end = self.end_in(req, from);
         let text = req.string();
         let Some(hay) = text.hay(self.parts.encoding, end) else {
@@ -378,7 +387,7 @@ impl<'c> Finder<'c> {
             self.is_silent = true;
             return Some(from);
         };
-        let told = told_by(seeker, &mut self.pace, hay, start);
+        let told = told_by(seeker, &mut self.parts.pace, &mut self.reads, hay, start);
         self.is_silent = seeker.lacks_automata();
         match told {
             Told::Nothing => None,
@@ -392,7 +401,7 @@ impl<'c, S: Haystack> Starts<S> for Finder<'c> {
 
     #[inline(always)]
     fn beyond(&mut self, req: &Request<'_, S>, from: StringCursor) -> Option<StringCursor> {
-        if self.is_silent || !self.pace.asks(from.position()) {
+        if self.is_silent || !self.parts.pace.asks(from.position()) {
             return Some(from);
         }
         self.ask(req, from)
@@ -430,7 +439,6 @@ impl<'c> Finder<'c> {
         ensures code { self.new.code ≡ self.old.code }
     {
         self.reset();
-        self.pace.ask_first();
         state.search_by(req, self)
     }
 
@@ -454,7 +462,6 @@ impl<'c> Finder<'c> {
         ensures code { self.new.code ≡ self.old.code }
     {
         self.reset();
-        self.pace.ask_first();
         state.search_within_by(req, steps, self)
     }
 

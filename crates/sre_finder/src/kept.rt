@@ -6,7 +6,7 @@ ghost use Rattle.sre_code.specs.Codes.{words_of, uni_of};
 ghost use Rattle.sre_finder.specs.Kepts.{Suits, encoding_beside};
 
 use crate::finder::Parts;
-use crate::pace::{Debt, Pace};
+use crate::pace::{Alone, Debt, Reads};
 use crate::span_finder::SpanFinder;
 use sre_automata::Seeker;
 use sre_code::Code;
@@ -31,6 +31,7 @@ pub(crate) struct Spans {
     pub(crate) debt: Debt,
     // whether it was tried to build them
     pub(crate) is_made: bool,
+    pub(crate) alone: Alone,
 }
 
 // In which encoding a text is read, beside others that were read in one.
@@ -58,8 +59,27 @@ impl Kept {
                 exact: None,
                 debt: Debt::of_building(),
                 is_made: false,
+                alone: Alone::new(),
             },
         }
+    }
+
+    /// Whether the machine alone is to find the next match, if the range is so short that it cannot lose much: before
+    /// the DFAs are built, and while it has found the last matches at their first starts.
+    #[inline(always)]
+    pub fn is_alone(&mut self) -> bool
+        ensures suits { (ws : List ℕ) (uni : Table) → Suits ws uni self.old → Suits ws uni self.new }
+    {
+        self.spans.debt.is_due() || self.spans.alone.is_alone()
+    }
+
+    /// Records how many runs and characters a search by the machine alone took.
+    #[inline(always)]
+    pub fn note_alone(&mut self, runs: u64, characters: usize)
+        ensures suits { (ws : List ℕ) (uni : Table) → Suits ws uni self.old → Suits ws uni self.new }
+    {
+        self.spans.debt.pay(runs, characters);
+        self.spans.alone.note_runs(runs);
     }
 
     /// Takes out what is kept, and returns the finder of a code with it, for a text that is read in an encoding. DFAs
@@ -95,7 +115,7 @@ impl Kept {
         SpanFinder {
             finder: starts.into_finder(alloc, code),
             spans,
-            pace: Pace::new(Debt::none()),
+            reads: Reads::new(),
             is_new: true,
         }
     }

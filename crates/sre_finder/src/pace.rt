@@ -2,9 +2,9 @@
 //!
 //! Most steps of an iteration match at the first start, so the DFAs run only after a failed run of the machine. If
 //! first starts keep failing, the DFAs run before the first start too, for some steps. If candidates of the DFAs keep
-//! failing, the DFAs pause, each time twice as long. A DFA may read far beyond the candidate that it returns. So in
-//! each text the DFAs also pause while they have read much more than the search has passed. The time of a search then
-//! stays linear in the text's length if the machine's is.
+//! failing, the DFAs pause, each time twice as long up to a limit. What is learned so holds for later texts too. A DFA
+//! may read far beyond the candidate that it returns. So in each text the DFAs also pause while they have read much more
+//! than the search has passed. The time of a search then stays linear in the text's length if the machine's is.
 //!
 //! The machine shows the match of a span, with its captures. If spans are shown, it finds some of the next matches
 //! itself, as long as few starts fail.
@@ -33,17 +33,20 @@ const MORE: usize = 8192;
 /// The same for DFAs that find whole matches. They read each match to its end, and back to its start.
 const READ_OF_MATCHES: usize = 8;
 
-/// Number of questions that the first pause skips, and a pause after too many bytes read.
+/// Number of questions that the first pause skips, and a pause after too many bytes read. A pause is at most `LONGEST`,
+/// since a later text may be one where the DFAs save time.
 const PAUSE: u32 = 64;
+
+const LONGEST: u32 = 1 << 12;
 
 /// What building DFAs costs, counted in characters that a search passes: some hundred thousand instructions, at about
 /// 12 a character (both measured). `RUN` is the cost of a run of the machine, beside the characters that it passes.
-const BUILDING: usize = 1 << 15;
+const BUILDING: u32 = 1 << 15;
 
-const RUN: usize = 16;
+const RUN: u32 = 16;
 
 /// What is left of `BUILDING` when a finder checks for a required literal. To read the literal costs less than DFAs.
-const LOOKING: usize = 7 << 12;
+const LOOKING: u32 = 7 << 12;
 
 /// Number of runs in a step up to which the machine is probably faster than a DFA and the run that shows its span.
 const FEW: u64 = 2;
@@ -73,9 +76,15 @@ pub(crate) fn is_anchored(hir: &Hir) -> bool {
     }
 }
 
+// The pause after one of this length.
+#[inline(always)]
+fn longer(pause: u32) -> u32 {
+    pause.saturating_mul(2).min(LONGEST)
+}
+
 /// What the machine has still to spend before DFAs are built.
 #[derive(Clone, Copy, Debug)]
-pub(crate) struct Debt(usize);
+pub(crate) struct Debt(u32);
 
 impl Debt {
     /// The cost of building DFAs.
@@ -97,8 +106,103 @@ impl Debt {
     /// Pays for so many runs of the machine, and for the characters that the search has passed.
     #[inline(always)]
     pub(crate) fn pay(&mut self, runs: u64, characters: usize) {
-        let runs = runs.min(BUILDING as u64) as usize;
+        let runs = runs.min(u64::from(BUILDING)) as u32;
+        let characters = characters.min(BUILDING as usize) as u32;
         self.0 = self.0.saturating_sub(runs * RUN).saturating_sub(characters);
+    }
+}
+
+/// How much DFAs have read of a text, beside what the search has passed.
+#[derive(Clone, Copy, Debug)]
+pub(crate) struct Reads {
+    // the offset of the first question, and how many bytes the DFAs had read by then
+    begun: Option<(usize, usize)>,
+}
+
+impl Reads {
+    /// Nothing is read yet.
+    #[inline(always)]
+    pub(crate) fn new() -> Reads {
+        Reads { begun: None }
+    }
+
+    /// Returns whether the DFAs may search for a whole match from the offset `place` on, if they have read `read`
+    /// bytes.
+    #[inline(always)]
+    pub(crate) fn may_match(&mut self, place: usize, read: usize) -> bool {
+        self.is_worth(place, read, READ_OF_MATCHES)
+    }
+
+    // Whether the DFAs have read at most `most` bytes of this text for each byte that the search has passed, with
+    // `MORE` bytes in addition.
+    #[inline(always)]
+    fn is_worth(&mut self, place: usize, read: usize, most: usize) -> bool
+        requires { 0 < most }
+    {
+        let Some((origin, before)) = self.begun else {
+            self.begun = Some((place, read));
+            return true;
+        };
+        let passed = place.wrapping_sub(origin);
+        read.wrapping_sub(before) / most <= passed.saturating_add(MORE)
+    }
+}
+
+/// When the machine finds matches alone, since it has to show them.
+#[derive(Clone, Copy, Debug)]
+pub(crate) struct Alone {
+    // number of next matches that it finds alone
+    matches: u32,
+    // number of spans to be shown before it tries that, now and the next time
+    shown: u32,
+    pause: u32,
+}
+
+impl Alone {
+    /// No span was shown yet.
+    #[inline(always)]
+    pub(crate) fn new() -> Alone {
+        Alone {
+            matches: 0,
+            shown: 0,
+            pause: PAUSE,
+        }
+    }
+
+    /// Begins a walk, which may show no match.
+    #[inline(always)]
+    pub(crate) fn begin_walk(&mut self) {
+        self.matches = 0;
+    }
+
+    /// Records that the machine was run to show a span.
+    #[inline(always)]
+    pub(crate) fn note_shown(&mut self) {
+        if self.shown > 0 {
+            self.shown -= 1;
+        } else {
+            self.matches = STEPS;
+        }
+    }
+
+    /// Returns whether the machine finds the next match alone.
+    #[inline(always)]
+    pub(crate) fn is_alone(&mut self) -> bool {
+        if self.matches == 0 {
+            return false;
+        }
+        self.matches -= 1;
+        true
+    }
+
+    /// Records how many runs a step of the machine took.
+    #[inline(always)]
+    pub(crate) fn note_runs(&mut self, runs: u64) {
+        if self.matches > 0 && runs > FEW {
+            self.matches = 0;
+            self.shown = self.pause;
+            self.pause = longer(self.pause);
+        }
     }
 }
 
@@ -119,38 +223,23 @@ pub(crate) struct Pace {
     is_first: bool,
     is_told: bool,
     has_failed: bool,
-    // number of next matches that the machine finds alone, and of spans to be shown before it tries that
-    alone: u32,
-    shown: u32,
-    pause_of_alone: u32,
-    // in this text: the offset of the first question, and how many bytes the DFAs had read by then
-    begun: Option<(usize, usize)>,
 }
 
 impl Pace {
-    /// The DFAs are built only once the machine has spent what is still to be spent.
-    pub(crate) fn new(debt: Debt) -> Pace {
+    /// The DFAs are built only once the machine has spent as much as that costs.
+    pub(crate) fn new() -> Pace {
         Pace {
             first: 0,
             failing: 0,
             vain: 0,
             rest: 0,
             pause: PAUSE,
-            debt,
+            debt: Debt::of_building(),
             at: usize::MAX,
             is_first: false,
             is_told: false,
             has_failed: false,
-            alone: 0,
-            shown: 0,
-            pause_of_alone: PAUSE,
-            begun: None,
         }
-    }
-
-    /// What is still to be spent.
-    pub(crate) fn debt(&self) -> Debt {
-        self.debt
     }
 
     /// The DFAs are built when they are first run.
@@ -158,15 +247,13 @@ impl Pace {
         self.debt = Debt::none();
     }
 
-    /// Restarts the counts of bytes and characters for another text.
+    /// Begins another text.
     pub(crate) fn begin_text(&mut self) {
-        self.begun = None;
+        self.note_last();
+        self.has_failed = false;
+        self.is_first = false;
+        self.is_told = false;
         self.at = usize::MAX;
-    }
-
-    /// The DFAs run before the first start in the next `STEPS` steps.
-    pub(crate) fn ask_first(&mut self) {
-        self.first = STEPS;
     }
 
     // Records that the start of the last question had a match, unless a failure was recorded.
@@ -221,65 +308,28 @@ impl Pace {
 
     /// Returns whether the DFAs may search for a start from the offset `place` on, if they have read `read` bytes in
     /// all. If not, they pause.
-    pub(crate) fn may_read(&mut self, place: usize, read: usize) -> bool {
+    pub(crate) fn may_read(&mut self, reads: &mut Reads, place: usize, read: usize) -> bool {
         if self.debt.is_due() {
             return false;
         }
-        let is_worth = self.is_worth(place, read, READ);
+        let is_worth = reads.is_worth(place, read, READ);
         if !is_worth {
             self.rest = PAUSE;
         }
         is_worth
     }
 
-    /// Returns whether the DFAs may search for a whole match from the offset `place` on, if they have read `read`
-    /// bytes.
+    // Records a failed run at a step's first start. If the DFAs have not excluded it, they were run before it in vain.
     #[inline(always)]
-    pub(crate) fn may_match(&mut self, place: usize, read: usize) -> bool {
-        self.is_worth(place, read, READ_OF_MATCHES)
-    }
-
-    // Whether the DFAs have read at most `most` bytes of this text for each byte that the search has passed, with
-    // `MORE` bytes in addition.
-    #[inline(always)]
-    fn is_worth(&mut self, place: usize, read: usize, most: usize) -> bool
-        requires { 0 < most }
-    {
-        let Some((origin, before)) = self.begun else {
-            self.begun = Some((place, read));
-            return true;
-        };
-        let passed = place.wrapping_sub(origin);
-        read.wrapping_sub(before) / most <= passed.saturating_add(MORE)
-    }
-
-    /// Records that the machine was run to show a span.
-    #[inline(always)]
-    pub(crate) fn note_shown(&mut self) {
-        if self.shown > 0 {
-            self.shown -= 1;
-        } else {
-            self.alone = STEPS;
+    fn note_first_failed(&mut self) {
+        if self.is_told {
+            self.first = 0;
+            return;
         }
-    }
-
-    /// Returns whether the machine finds the next match alone.
-    #[inline(always)]
-    pub(crate) fn is_alone(&mut self) -> bool {
-        if self.alone == 0 {
-            return false;
-        }
-        self.alone -= 1;
-        true
-    }
-
-    /// Records how many runs a step of the machine took.
-    #[inline(always)]
-    pub(crate) fn note_runs(&mut self, runs: u64) {
-        if self.alone > 0 && runs > FEW {
-            self.alone = 0;
-            self.shown = self.pause_of_alone;
-            self.pause_of_alone = self.pause_of_alone.saturating_mul(2);
+        self.failing = self.failing.saturating_add(2);
+        if self.failing > FAILING {
+            self.failing = 0;
+            self.first = STEPS;
         }
     }
 
@@ -291,18 +341,14 @@ impl Pace {
         }
         self.has_failed = true;
         if self.is_first {
-            self.failing = self.failing.saturating_add(2);
-            if self.failing > FAILING {
-                self.failing = 0;
-                self.first = STEPS;
-            }
+            self.note_first_failed();
         }
         if self.is_told {
             self.vain = self.vain.saturating_add(1);
             if self.vain > VAIN {
                 self.vain = 0;
                 self.rest = self.pause;
-                self.pause = self.pause.saturating_mul(2);
+                self.pause = longer(self.pause);
             }
         }
     }

@@ -97,6 +97,7 @@ impl<'c> SpanFinder<'c> {
         if step.is_shown {
             return Ok(true);
         }
+        self.note_shown();
         let advances = bars(must_advance, step.start.position(), from);
         let shown = show_at(&req, state, step.start, advances, places.list())?;
         Ok(shown)

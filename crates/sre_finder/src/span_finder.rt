@@ -14,7 +14,7 @@ ghost use Rattle.sre_finder.specs.Spans.{ExactlyAny, Knows, Between, StepsFrom, 
 use crate::finder::{Finder, SIZE_LIMIT};
 use crate::haystack::Haystack;
 use crate::kept::{Kept, Spans};
-use crate::pace::{Debt, Pace, is_anchored};
+use crate::pace::{Debt, Reads, is_anchored};
 use sre_automata::{FirstMatch, Seeker};
 use sre_chars::string::{StrDrive, StringCursor};
 use sre_code::Code;
@@ -46,7 +46,8 @@ enum Known {
 pub struct SpanFinder<'c> {
     pub(crate) finder: Finder<'c>,
     pub(crate) spans: Spans,
-    pub(crate) pace: Pace,
+    // how much its DFAs have read of this text
+    pub(crate) reads: Reads,
     // whether nothing was searched in this text
     pub(crate) is_new: bool,
 }
@@ -88,7 +89,8 @@ impl<'c> SpanFinder<'c> {
         Kept::new(encoding).into_finder(alloc, code)
     }
 
-    // Builds the DFAs that find spans, if there are any. Without them, the prefilter builds its own.
+    // Builds the DFAs that find spans, if there are any; the prefilter then tells the literal to look for. Without them,
+    // it builds its own.
     #[inline(never)]
     fn make(&mut self)
         ensures code { self.new.code ≡ self.old.code }
@@ -101,6 +103,8 @@ impl<'c> SpanFinder<'c> {
         self.spans.exact = exact_of(alloc, code, self.spans.encoding);
         if self.spans.exact.is_none() {
             self.finder.hurry();
+        } else {
+            self.finder.know();
         }
     }
 
@@ -109,7 +113,7 @@ impl<'c> SpanFinder<'c> {
     pub(crate) fn note_shown(&mut self)
         ensures { self.new ≡ self.old }
     {
-        self.pace.note_shown();
+        self.spans.alone.note_shown();
     }
 
     /// Drops the finder, and returns what it has built for its code.
@@ -121,7 +125,7 @@ impl<'c> SpanFinder<'c> {
         let SpanFinder {
             finder,
             spans,
-            pace: _,
+            reads: _,
             is_new: _,
         } = self;
         Kept {
@@ -142,11 +146,21 @@ impl<'c> SpanFinder<'c> {
         ensures end { self.new.end ≡ None }
     {
         self.finder.reset();
-        self.pace.begin_text();
+        self.reads = Reads::new();
         self.is_new = true;
         if let Some(exact) = &mut self.spans.exact {
             exact.reset();
         }
+    }
+
+    // Forgets the last text, before an iteration that may show no match.
+    pub(crate) fn begin_walk(&mut self)
+        ensures code { self.new.code ≡ self.old.code }
+        ensures encoding { self.new.encoding ≡ self.old.encoding }
+        ensures end { self.new.end ≡ None }
+    {
+        self.reset();
+        self.spans.alone.begin_walk();
     }
 }
 
@@ -196,7 +210,7 @@ impl<'c> SpanFinder<'c> {
             return Known::Unknown;
         };
         let place = text.place_of(from);
-        if !self.pace.may_match(place, exact.read()) {
+        if !self.reads.may_match(place, exact.read()) {
             return Known::Unknown; // they read far beyond each match
         }
         match exact.first_match(hay, place) {
@@ -245,7 +259,7 @@ impl<'c> SpanFinder<'c> {
         self.spans
             .debt
             .pay(state.started(), reached.saturating_sub(from.position()));
-        self.pace.note_runs(state.started());
+        self.spans.alone.note_runs(state.started());
         if !is_found {
             return Ok(None);
         }
@@ -289,7 +303,7 @@ impl<'c> SpanFinder<'c> {
         if !self.spans.is_made {
             self.make();
         }
-        if self.spans.exact.is_none() || self.pace.is_alone() {
+        if self.spans.exact.is_none() || self.spans.alone.is_alone() {
             return self.run(req, state, cursor, places);
         }
         // a missing literal is found before DFAs read the text

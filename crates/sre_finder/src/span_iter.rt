@@ -96,7 +96,7 @@ impl<'c> SpanFinder<'c> {
         ensures encoding { encoding_of result ≡ self.entry.encoding }
     {
         let mut finder = self;
-        finder.reset();
+        finder.begin_walk();
         let cursor = req.string().create_cursor(req.start());
         let advances = req.must_advance();
         let places = AdmittedPlaces::new(&state);

@@ -11,8 +11,8 @@ ghost use Rattle.sre_reading.specs.Reads.{TestStandsAt, test_takes};
 
 use crate::words::word;
 use sre_chars::constants::SreOpcode;
-use sre_chars::string::{LentTable, StrDrive, category, lower_ascii, lower_unicode, upper_ascii};
-use sre_code::members::is_member;
+use sre_chars::string::{LentTable, StrDrive, lower_ascii, lower_unicode, upper_ascii};
+use sre_code::members::{is_in_category, is_member};
 use sre_code::operands::{category_code, operand};
 use sre_request::Request;
 use std::convert::TryFrom;
@@ -69,7 +69,7 @@ pub fn takes<S: StrDrive>(
             match opcode {
                 SreOpcode::ANY => character != 10,
                 SreOpcode::ANY_ALL => true,
-                SreOpcode::CATEGORY => category(uni, category_code(words, place + 1), character),
+                SreOpcode::CATEGORY => is_in_category(uni, category_code(words, place + 1), character),
                 $(
                     SreOpcode::$literal => operand(words, place, 1) == $folded,
                     SreOpcode::$not_literal => operand(words, place, 1) != $folded,

@@ -68,23 +68,29 @@ fn next_taken<S: StrDrive>(
 }
 
 /// The first cursor, from a given one on, whose character is a member of the confirmed first set, if there is one. The
-/// set's ASCII characters are computed only if the first character is no member, since most steps of an iteration end
-/// there.
+/// set's ASCII characters are told once the first character of a call is no member, since most steps of an iteration
+/// end there; later calls of the search then have them.
 pub(crate) fn next_member<S: StrDrive>(
     req: &Request<'_, S>,
+    told: &mut Option<AsciiSet>,
     start: StringCursor,
 ) -> Option<StringCursor>
     requires set { (hints_of (code_of req.now)).first_set ≡ true }
+    requires told { AreTold (words_of (code_of req.now)) 5 told.old }
     requires stands { Standing req.now start }
     requires inside { start.position ≤ end_of req.now }
+    ensures told { AreTold (words_of (code_of req.now)) 5 told.new }
     ensures next { NextMember (asked_of req.now) (words_of (code_of req.now)) start.position result }
     ensures stands { IfSome result (λ next. Standing req.now next) }
 {
     if start.position() >= req.end() {
         return None;
     }
-    if takes(req, None, read(req, start).0) {
-        return Some(start);
+    if told.is_none() {
+        if takes(req, None, read(req, start).0) {
+            return Some(start);
+        }
+        *told = members_told(req);
     }
-    next_taken(req, members_told(req), start)
+    next_taken(req, *told, start)
 }

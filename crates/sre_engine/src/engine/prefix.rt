@@ -44,6 +44,9 @@ pub(crate) struct Spot {
 // Among so many words the one that is sought is chosen.
 const LOOKED_AT: usize = 16;
 
+// In a range of so few characters the first word is sought, since choosing one takes longer.
+const FEW: usize = 64;
+
 // A rough rank of how common a character is in prose, programs and logs. Past ASCII a `str` seeks more slowly.
 #[inline(always)]
 fn commonness(character: u32) -> u32 {
@@ -80,6 +83,18 @@ fn rarest(words: &[u32]) -> usize
     place
 }
 
+// The index of the word to seek in a range of so many characters.
+#[inline(always)]
+fn sought(words: &[u32], characters: usize) -> usize
+    requires { 0 < length words.now }
+    ensures { result < length words.now }
+{
+    if characters <= FEW {
+        return 0;
+    }
+    rarest(words)
+}
+
 /// The prefix, if one is confirmed.
 pub(crate) fn confirmed_prefix<'a, S: StrDrive>(req: &Request<'a, S>) -> Option<Prefix<'a>>
     ensures none { result ≡ None → (hints_of (code_of req.now)).prefix ≡ None }
@@ -98,7 +113,7 @@ pub(crate) fn confirmed_prefix<'a, S: StrDrive>(req: &Request<'a, S>) -> Option<
         overlaps: &words[7 + length..7 + length + length],
         literals: literals as usize,
         whole: hints.literal,
-        sought: rarest(prefix),
+        sought: sought(prefix, req.end().saturating_sub(req.start())),
     })
 }
 

@@ -3,6 +3,7 @@
 ghost use Rattle.std.specs.Prelude.{◌≡◌, ◌≤◌, ◌+◌, ◌-◌, length, IfSome, None, true, false, ⊤};
 ghost use Rattle.sre_model.specs.Tree.{Tree};
 ghost use Rattle.sre_model.specs.Grammar.{Whole};
+ghost use Rattle.sre_code.specs.AsciiSets.{AreTold};
 ghost use Rattle.sre_code.specs.Codes.{words_of, hints_of};
 ghost use Rattle.sre_code.specs.declared.code.Code.{Code};
 ghost use Rattle.sre_request.specs.Requests.{string_of, end_of, code_of, asked_of};
@@ -17,6 +18,7 @@ use crate::engine::members::next_member;
 use crate::engine::next_start::{looked_at, next_start};
 use crate::engine::prefix::{Prefix, Spot, find};
 use sre_chars::string::{StrDrive, StringCursor};
+use sre_code::ascii_set::AsciiSet;
 use sre_request::Request;
 
 /// A prefilter: it excludes starts that have no match.
@@ -134,22 +136,25 @@ pub(crate) fn find_told<S: StrDrive, F: Starts<S>>(
 #[inline(always)]
 pub(crate) fn next_member_told<S: StrDrive, F: Starts<S>>(
     req: &Request<'_, S>,
+    told: &mut Option<AsciiSet>,
     start: StringCursor,
     starts: &mut F,
 ) -> Option<StringCursor>
     requires set { (hints_of (code_of req.now)).first_set ≡ true }
+    requires told { AreTold (words_of (code_of req.now)) 5 told.old }
     requires stands { Standing req.now start }
     requires inside { start.position ≤ end_of req.now }
     requires suits { F.suits starts.old (string_of req.now) (code_of req.now) }
     ensures suits { F.suits starts.new (string_of req.now) (code_of req.now) }
+    ensures told { AreTold (words_of (code_of req.now)) 5 told.new }
     ensures stands { IfSome result (λ next. Standing req.now next) }
     ensures next { IfSome result
         (λ next. IsMemberFrom (asked_of req.now) (words_of (code_of req.now)) start.position next) }
     ensures none { (t : Tree) → Whole (words_of (code_of req.now)) t
         → NoneUntil (asked_of req.now) t start.position result }
 {
-    let told = starts.beyond(req, start)?;
-    next_member(req, told)
+    let beyond = starts.beyond(req, start)?;
+    next_member(req, told, beyond)
 }
 
 /// The first cursor, from a given one on, at which a match may begin and which the prefilter does not exclude.

@@ -1,15 +1,30 @@
 //! Candidates: the members of a confirmed first set.
 
+ghost use Rattle.std.specs.Prelude.{◌≡◌, None};
+
 use crate::engine::candidates::{Candidate, Candidates};
 use crate::engine::leading_run::{leading_run, pass_start};
 use crate::engine::told::{Starts, next_member_told};
 use sre_chars::string::{StrDrive, StringCursor};
+use sre_code::ascii_set::AsciiSet;
 use sre_request::Request;
 
 /// The members from a cursor on.
 #[derive(Clone, Copy)]
 pub(crate) struct Members {
-    pub(crate) start: StringCursor,
+    start: StringCursor,
+    // The ASCII members, once they are told.
+    told: Option<AsciiSet>,
+}
+
+impl Members {
+    #[inline(always)]
+    pub(crate) fn new(start: StringCursor) -> Members
+        ensures start { result.start ≡ start }
+        ensures told { result.told ≡ None }
+    {
+        Members { start, told: None }
+    }
 }
 
 impl<S: StrDrive> Candidates<S> for Members {
@@ -31,7 +46,7 @@ impl<S: StrDrive> Candidates<S> for Members {
         _compared: &mut u64,
         starts: &mut F,
     ) -> Option<Candidate> {
-        let cursor = next_member_told(req, self.start, starts)?;
+        let cursor = next_member_told(req, &mut self.told, self.start, starts)?;
         Some(Candidate::at(cursor))
     }
 

@@ -53,7 +53,7 @@ impl<A: Allocator + Copy> State<A> {
             return self.search_along(req, &mut Places::new(&prefix, from), allowed, starts);
         }
         if req.pattern_codes().hints().first_set {
-            return self.search_along(req, &mut Members { start: from }, allowed, starts);
+            return self.search_along(req, &mut Members::new(from), allowed, starts);
         }
         if is_anchored(req) {
             return self.search_along(req, &mut OnlyStart { start: from }, allowed, starts);

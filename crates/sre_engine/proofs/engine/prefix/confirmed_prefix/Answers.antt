@@ -34,7 +34,7 @@ invariant_of-result g c =
       confirmed =
           subst (λ (ws : List ℕ). Overlapping (prefix_of ws c.in-Some.length) (overlaps_of ws c.in-Some.length))
           (sym c.words-words.ensures.same) (prefix_overlaps code c.in-Some.length c.in-Some.literals e);
-      among = c.rarest.ensures;
+      among = c.sought.ensures;
     }
 
 pub returns-clause-some : goal.returns-clause-some

@@ -7,4 +7,4 @@ pub returns-clause-none : goal.returns-clause-none
 returns-clause-none g c = λ t whole.
     let asked = c.args.req.now in
     none_until_member (code_of asked) c.requires.set (asked_of asked) t refl whole _ _ _
-    (c.in_ok-told.ensures.none t whole) c.next_member.ensures.next
+    (c.in_ok-beyond.ensures.none t whole) c.next_member.ensures.next

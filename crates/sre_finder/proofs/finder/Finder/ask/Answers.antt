@@ -15,14 +15,14 @@ returns-then-is_over-clause-none g c = λ t whole.
     let a = asked_of asked in
     let hay = c.in-Some.hay.now in
     let place = g.S.Haystack.place c.string-text.result in
-    let encoding = c.self-2.inside.parts.encoding in
-    let code : c.self-2.inside.code ≡ code_of asked = search rules in
+    let encoding = c.self.inside.parts.encoding in
+    let code : c.self.inside.code ≡ code_of asked = search rules in
     let seen = subst (λ n. SeenAs encoding a.text place n hay) c.end_in-end.ensures.end
     (subst (λ l. SeenAs encoding l place c.end_in-end.result.position hay)
     (ap g.S.StrDrive.text c.string-text.ensures) c.in-Some.ensures) in
-    none_left_of_any encoding c.self-2.inside.code (code_of asked) c.self-2.inside.parts.whole c.self-2.invariant.1
+    none_left_of_any encoding c.self.inside.code (code_of asked) c.self.inside.parts.whole c.self.invariant.1
     code a refl t (items_whole asked.pattern_codes t whole) place hay seen c.args.from.position
-    (subst (λ n. NoneLeftOfAny hay c.self-2.inside.parts.whole n) c.place_of-start.ensures
+    (subst (λ n. NoneLeftOfAny hay c.self.inside.parts.whole n) c.place_of-start.ensures
     (c.is_over.ensures.over c.if-is_over.true))
 
 pub returns-clause-none : goal.returns-clause-none
@@ -33,12 +33,12 @@ returns-clause-none g c = λ t whole.
     let hay = c.in-Some.hay.now in
     let place = g.S.Haystack.place text in
     let pattern = meaning c.in-Some-seeker.seeker in
-    let own : Covering c.self-2.inside.parts.encoding c.self-2.inside.code pattern =
-    rw c.in-Some-seeker.is at c.self-2.invariant.0 in
-    let code : c.self-2.inside.code ≡ code_of asked = search rules in
+    let own : Covering c.self.inside.parts.encoding c.self.inside.code pattern =
+    rw c.in-Some-seeker.is at c.self.invariant.0 in
+    let code : c.self.inside.code ≡ code_of asked = search rules in
     let covers = covers_same _ _ _ _ pattern own refl code t (items_whole asked.pattern_codes t whole) in
-    let seen = subst (λ n. SeenAs c.self-2.inside.parts.encoding a.text place n hay) c.end_in-end.ensures.end
-    (subst (λ l. SeenAs c.self-2.inside.parts.encoding l place c.end_in-end.result.position hay)
+    let seen = subst (λ n. SeenAs c.self.inside.parts.encoding a.text place n hay) c.end_in-end.ensures.end
+    (subst (λ l. SeenAs c.self.inside.parts.encoding l place c.end_in-end.result.position hay)
     (ap g.S.StrDrive.text c.string-text.ensures) c.in-Some.ensures) in
     let told = subst (λ n. Tells hay pattern n c.told_by-told.result) c.place_of-start.ensures
     c.told_by-told.ensures.told in
@@ -46,12 +46,12 @@ returns-clause-none g c = λ t whole.
       | in-Nothing w ↦
           let none : NoneLeft hay pattern (place c.args.from.position) = rw w.in-Nothing.is at told in
           rw w.result-is
-          (no_start_left c.self-2.inside.parts.encoding a t pattern place hay covers seen c.args.from.position none)
+          (no_start_left c.self.inside.parts.encoding a t pattern place hay covers seen c.args.from.position none)
       | in-From w ↦
           let none : NoneUpTo hay pattern (place c.args.from.position) w.in-From.offset = rw w.in-From.is at told in
           let next = w.cursor_up_to.ensures in
           rw w.result-is
-          (no_start_below c.self-2.inside.parts.encoding a t pattern place hay covers seen c.args.from.position
+          (no_start_below c.self.inside.parts.encoding a t pattern place hay covers seen c.args.from.position
           w.cursor_up_to.result.position w.in-From.offset none
           (omega (arith, next.inside, c.end_in-end.ensures.end)) next.passed)
     ]

@@ -11,8 +11,8 @@ invariant_of-result g c =
     let here = rw (c.string.ensures, c.start.ensures.value) at c.create_cursor-cursor.ensures in
     let at = (g.met.S.StrDrive.stands_at (string_of asked) cursor (start_of asked) here).0 in
     record {
-      own = c.reset.ensures.code ∙ c.requires;
-      known = ∣ subst (EndStands stands) (sym c.reset.ensures.end) tt ∣₁;
+      own = c.begin_walk.ensures.code ∙ c.requires;
+      known = ∣ subst (EndStands stands) (sym c.begin_walk.ensures.end) tt ∣₁;
       here = ∣ here ∣₁;
       last = ∣ subst (stands cursor) (sym at) here ∣₁;
       admitted = c.new-places.ensures.admitted _;

@@ -4,7 +4,7 @@ use Rattle.sre_engine.specs.Requests.{code_of, asked_of}
 use Rattle.sre_engine.specs.Searches.{has_found}
 use Rattle.sre_c.specs.Replies.{Finds}
 use Rattle.sre_c.proofs.Finding.{finds_any, finds_within}
-use Rattle.sre_c.proofs.asks.KeptAsks.search.Goals as goal
+use Rattle.sre_c.proofs.asks.search_by_finder.Goals as goal
 
 pub returns-then-steps-eq-NO_LIMIT-clause-finds : goal.returns-then-steps-eq-NO_LIMIT-clause-finds
 returns-then-steps-eq-NO_LIMIT-clause-finds g c =
