@@ -157,7 +157,7 @@ impl<S: Haystack> Asks<S> for Kept {
         steps: &mut u64,
     ) -> Result<Option<bool>, SreError> {
         let characters = range(request);
-        if characters <= FEW && self.is_alone() {
+        if characters <= FEW && *steps == NO_LIMIT && self.is_alone() {
             let told = Machine.search(alloc, state, request, steps);
             self.note_alone(state.started(), characters);
             return told;
