@@ -2,8 +2,8 @@
 //!
 //! Most steps of an iteration match at the first start, so the DFAs run only after a failed run of the machine. If
 //! first starts keep failing, the DFAs run before the first start too, for some steps. If candidates of the DFAs keep
-//! failing, the DFAs pause, each time twice as long up to a limit. What is learned so holds for later texts too. A DFA
-//! may read far beyond the candidate that it returns. So in each text the DFAs also pause while they have read much more
+//! failing, the DFAs pause, each time twice as long up to a limit. These counts hold for later texts, too. A DFA may
+//! read far beyond the candidate that it returns. So in each text the DFAs also pause while they have read much more
 //! than the search has passed. The time of a search then stays linear in the text's length if the machine's is.
 //!
 //! The machine shows the match of a span, with its captures. If spans are shown, it finds some of the next matches
@@ -319,7 +319,7 @@ impl Pace {
         is_worth
     }
 
-    // Records a failed run at a step's first start. If the DFAs have not excluded it, they were run before it in vain.
+    // Records a failed run at a step's first start. If the DFAs were run before it and kept it, that saved no run.
     #[inline(always)]
     fn note_first_failed(&mut self) {
         if self.is_told {

@@ -89,8 +89,8 @@ impl<'c> SpanFinder<'c> {
         Kept::new(encoding).into_finder(alloc, code)
     }
 
-    // Builds the DFAs that find spans, if there are any; the prefilter then tells the literal to look for. Without them,
-    // it builds its own.
+    // Builds the DFAs that find spans, if there are any. Then the prefilter only looks for a required literal. Without
+    // them, it builds its own DFAs.
     #[inline(never)]
     fn make(&mut self)
         ensures code { self.new.code ≡ self.old.code }
