@@ -49,6 +49,8 @@ FLAGS += ["-Wno-unused-parameter", "-Wno-missing-field-initializers", "-Wno-cast
 # Some compilers define the level themselves.
 FLAGS += ["-fstack-protector-strong", "-U_FORTIFY_SOURCE", "-D_FORTIFY_SOURCE=2", *words_of("CFLAGS")]
 LINKED = ["-shared", "-Wl,-z,relro,-z,now", *words_of("LDFLAGS")]
+# The extension's own functions stand before these.
+WRAPPED = "-Wl,--wrap=malloc,--wrap=realloc"
 
 # What the folder of a library has.
 LIBRARY = ("libsre_c.a", "libsre_c.so", "sre.h")
@@ -208,7 +210,7 @@ def build_extension(facts, library, into):
     named = [f"-ffile-prefix-map={it}=." for it in (HERE, facts["include"])]
     run(
         *COMPILER, *named, *FLAGS, f"-I{library}", f"-I{facts['include']}", *sources, f"{library}/libsre_c.a",
-        "-o", made, *LINKED, f"-Wl,--version-script={HERE}/native/exports.map", "-Wl,--gc-sections",
+        "-o", made, *LINKED, WRAPPED, f"-Wl,--version-script={HERE}/native/exports.map", "-Wl,--gc-sections",
     )
 
 

@@ -11,7 +11,7 @@ TYPE_CHECKING = False
 if TYPE_CHECKING:
     from typing import Any
 
-ABI = 459789760  # SRE_ABI of the `sre.h` whose structs are below
+ABI = 849984695  # SRE_ABI of the `sre.h` whose structs are below
 NO, YES, STEP_LIMIT, MEMORY, NO_CODE, NO_ROOM = range(6)
 UNSET = FOREVER = 2**64 - 1
 
@@ -49,7 +49,7 @@ class Code(Structure):
 
 
 class Pattern(Structure):
-    _fields_ = [("code", Code), ("kept", c_void_p), ("is_kept", c_bool)]
+    _fields_ = [("code", Code), ("kept", c_void_p), ("is_kept", c_bool), ("reads_utf8", c_bool)]
 
 
 class Asked(Structure):

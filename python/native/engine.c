@@ -69,6 +69,8 @@ const sre_table *engine_table(State *state, bool is_unicode) {
 void engine_fail(uint32_t status) {
   if (status == SRE_MEMORY)
     PyErr_NoMemory();
+  else if (status == STOPPED)
+    assert(PyErr_Occurred());
   else if (status == SRE_NO_CODE)
     PyErr_SetString(PyExc_RuntimeError, "invalid SRE code");
   else
@@ -132,10 +134,11 @@ bool engine_may_gain(const Pattern *pattern, const Text *text, const sre_asked *
 
 uint64_t engine_first_steps(const Text *text) { return FEW_STEPS + (uint64_t)text->length / CHARACTERS_A_STEP; }
 
-/* What keeps the DFAs of a search over bytes or UTF-8; null if a call of another thread has it. Each encoding has its
- * own, since one for both drops them at each change, which made short texts among long ones up to 12 times as slow. */
+/* What keeps the DFAs of a search over bytes or UTF-8, and the memory of a match; null if a call of another thread has
+ * it. Each encoding has its own, since one for both drops the DFAs at each change, which made short texts among long
+ * ones up to 12 times as slow. */
 static sre_pattern *take(Pattern *pattern, const Text *text, bool is_utf8, const sre_asked *asked) {
-  if (pattern->is_taken || (text->size > 1 && !is_utf8) || !may_have_dfas(pattern, asked))
+  if (pattern->is_taken || (text->size > 1 && !is_utf8) || (asked->search && !may_have_dfas(pattern, asked)))
     return NULL;
   pattern->is_taken = true;
   return is_utf8 ? &pattern->of_utf8 : &pattern->of_bytes;
@@ -169,13 +172,13 @@ static uint32_t answer(const Pattern *pattern, sre_pattern *kept, const Text *te
 /* The answer by the DFAs that are kept, if it may have them. */
 static uint32_t answer_kept(Pattern *pattern, const Text *text, bool is_utf8, bool others_run, const sre_asked *asked,
                             sre_found *found, size_t *marks) {
+  EngineCall call;
   sre_pattern *kept = take(pattern, text, is_utf8, asked);
-  PyThreadState *saved = others_run ? PyEval_SaveThread() : NULL;
+  engine_call_begin(&call, text, others_run);
   uint32_t status = answer(pattern, kept, text, is_utf8, asked, found, marks);
-  if (saved)
-    PyEval_RestoreThread(saved);
+  bool is_stopped = engine_call_end(&call);
   give_back(pattern, kept);
-  return status;
+  return is_stopped ? STOPPED : status;
 }
 
 /* The answer by the first steps, while other threads wait. If these do not suffice, the engine starts again with the
@@ -285,12 +288,12 @@ uint32_t engine_walk(Pattern *pattern, const Text *text, const sre_asked *given,
     *walked = (sre_walked){.start = asked->start, .steps = asked->steps};
     return SRE_NO;
   }
+  EngineCall call;
   size_t width = WALK_WIDTH(pattern);
   sre_pattern *kept = take(pattern, text, text->utf8, asked);
-  PyThreadState *saved = may_others_run(text) ? PyEval_SaveThread() : NULL;
+  engine_call_begin(&call, text, may_others_run(text));
   uint32_t status = walk(&pattern->code, kept, text, asked, width, rows, width * room, walked);
-  if (saved)
-    PyEval_RestoreThread(saved);
+  bool is_stopped = engine_call_end(&call);
   give_back(pattern, kept);
-  return status;
+  return is_stopped ? STOPPED : status;
 }

@@ -161,11 +161,29 @@ uint64_t engine_first_steps(const Text *text);
 uint32_t engine_walk(Pattern *pattern, const Text *text, const sre_asked *asked, size_t *rows, size_t room,
                      sre_walked *walked);
 
+/* The status of a call that the handler of a signal ended. Its exception is set. */
+#define STOPPED UINT32_MAX
+
 /* Sets the exception of a status other than SRE_YES and SRE_NO. */
 void engine_fail(uint32_t status);
 
 /* The same for the status of a search from a position, in a call with a step limit. */
 void engine_fail_in(uint32_t status, const Pattern *pattern, size_t start, uint64_t max_steps);
+
+/* ---- signals during a call of the engine (signals.c) ---- */
+
+typedef struct EngineCall {
+  struct EngineCall *outer; /* the call of the same thread during which a handler made this one */
+  PyThreadState *saved;     /* of this thread while others run, else null */
+  int64_t looked;           /* when it last looked for signals, if others run */
+  unsigned requests;        /* for memory, so far */
+  bool is_stopped;          /* a handler has raised an exception */
+} EngineCall;
+
+/* Between these two the handlers of signals run, in the thread that runs them. With `others_run` other threads run, too.
+ * The second says whether a handler has raised an exception, which is set then. */
+void engine_call_begin(EngineCall *call, const Text *text, bool others_run);
+bool engine_call_end(EngineCall *call);
 
 /* ---- iterations over matches (walk.c) ---- */
 

@@ -61,7 +61,7 @@ static size_t *place_of_rows(Walk *walk) {
   return walk->rows = rows;
 }
 
-/* Reads rows within so many steps. */
+/* Reads rows within so many steps. False with an exception. */
 static bool read_rows(Walk *walk, uint64_t steps, sre_walked *walked) {
   sre_asked asked = walk->asked;
   size_t *rows = place_of_rows(walk);
@@ -70,7 +70,7 @@ static bool read_rows(Walk *walk, uint64_t steps, sre_walked *walked) {
   asked.steps = steps;
   walk->status = engine_walk(walk->pattern, walk->text, &asked, rows, walk->room, walked);
   walk->batch = rows;
-  return true;
+  return walk->status != STOPPED;
 }
 
 /* Reads a batch. If the first steps do not suffice, it is read again as UTF-8, and they are not charged. */

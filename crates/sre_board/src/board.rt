@@ -17,6 +17,7 @@ ghost use Rattle.sre_board.specs.Choices.{Fits, regions_of, is_tried, down_to_re
 
 use crate::chains::{Chains, frame_of};
 use crate::marks::Marks;
+use crate::requests::Requests;
 use crate::trail::Trail;
 use sre_chars::string::StringCursor;
 use sre_growth::Refusal;
@@ -26,6 +27,9 @@ use std::marker::Model;
 
 /// How many characters a search for one character scans, at least, in the time that a repeat takes for one.
 pub const LOOK_SPEED: usize = 32;
+
+// A stack has much memory if there is room for more choices, changes or chains.
+const MANY: usize = 256;
 
 /// A choice: where to continue, the loops in progress, and how many changes and chains there were when it was saved.
 #[derive(Clone, Copy)]
@@ -51,6 +55,7 @@ pub struct Board<A: Allocator> {
     entered: usize,
     // how many shorter counts the last repeat had that failed with all of them
     vain: usize,
+    requests: Requests<A>,
 }
 
 impl<A: Allocator> Model for Board<A> {
@@ -189,6 +194,7 @@ impl<A: Allocator + Copy> Board<A> {
             passed: 0,
             entered: 0,
             vain: 0,
+            requests: Requests::new(alloc),
         }
     }
 
@@ -217,6 +223,13 @@ impl<A: Allocator> Board<A> {
             (Some(start), Some(end)) if start <= end => Some((start, end)),
             _ => None,
         }
+    }
+
+    /// Whether it has much memory, some ten thousand bytes or more.
+    pub fn is_large(&self) -> bool {
+        self.choices.capacity() > MANY
+            || self.chains.capacity() > MANY
+            || self.trail.capacity() > MANY
     }
 
     /// Whether an atomic scope is open.
@@ -409,6 +422,15 @@ impl<A: Allocator> Board<A> {
         }
     }
 
+    /// Counts a step. Once for 4,096 of them it makes a small memory request, so an allocator that refuses ends a run,
+    /// however long that would take.
+    #[inline(always)]
+    pub fn ask_allocator(&mut self) -> Result<(), Refusal<A>>
+        ensures { self.new ≡ self.old }
+    {
+        self.requests.step()
+    }
+
     /// Notes that a step scanned so many characters. It ignores stretches of less than 64 characters, which take the
     /// time of a few steps.
     #[inline(always)]
@@ -417,6 +439,7 @@ impl<A: Allocator> Board<A> {
     {
         if characters >= 64 {
             self.passed = self.passed.saturating_add(characters);
+            self.requests.pass(characters);
         }
     }
 
@@ -496,6 +519,14 @@ impl<A: Allocator> Board<A> {
     /// Begins a loop, or a body of one.
     #[inline(always)]
     pub fn enter(&mut self, frame: Frame) -> Result<(), Refusal<A>>
+        ensures { IfOk result (λ _. self.new ≡ record self.old { frames = frame ∷ self.old.frames }) }
+    {
+        self.ask_allocator()?;
+        self.push_loop(frame)
+    }
+
+    #[inline(always)]
+    fn push_loop(&mut self, frame: Frame) -> Result<(), Refusal<A>>
         ensures { IfOk result (λ _. self.new ≡ record self.old { frames = frame ∷ self.old.frames }) }
     {
         self.frame = self.chains.push(frame, self.frame)?;

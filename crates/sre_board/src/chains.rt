@@ -99,6 +99,11 @@ impl<A: Allocator> Chains<A> {
         self.nodes.len()
     }
 
+    /// How many chains there is room for.
+    pub(crate) fn capacity(&self) -> usize {
+        self.nodes.capacity()
+    }
+
     /// The number of the empty chain.
     #[inline(always)]
     pub(crate) fn empty(&self) -> usize

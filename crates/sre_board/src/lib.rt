@@ -13,6 +13,7 @@ mod ends;
 mod failures;
 mod marks;
 mod places;
+mod requests;
 mod slots;
 mod trail;
 

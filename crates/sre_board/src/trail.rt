@@ -57,6 +57,11 @@ impl<A: Allocator> Trail<A> {
         self.changes.len()
     }
 
+    /// How many changes there is room for.
+    pub(crate) fn capacity(&self) -> usize {
+        self.changes.capacity()
+    }
+
     /// Drops all captures for good, and keeps the memory.
     #[inline(always)]
     pub(crate) fn clear(&mut self)

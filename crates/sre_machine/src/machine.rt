@@ -272,10 +272,9 @@ fn longer_saved<S: StrDrive, A: Allocator, const KEEPS: bool>(
     longer::<S, A, false>(req, board, place, count, start)
 }
 
-/// Continues with the newest choice, if there is one. Markers of tried instructions are popped: these failed, which is
-/// memoized if the memo is open.
+// The newest choice, if there is one. Markers of tried instructions are popped.
 #[inline(always)]
-pub(super) fn back<S: StrDrive, A: Allocator, const KEEPS: bool>(
+fn newest_choice<S: StrDrive, A: Allocator, const KEEPS: bool>(
     req: &Request<'_, S>,
     board: &mut Board<A>,
     memo: &mut Memo<A>,
@@ -319,6 +318,26 @@ pub(super) fn back<S: StrDrive, A: Allocator, const KEEPS: bool>(
             }
         }
     }
+}
+
+/// Continues with the newest choice, if there is one. Markers of tried instructions are popped: these failed, which is
+/// memoized if the memo is open.
+#[inline(always)]
+pub(super) fn back<S: StrDrive, A: Allocator, const KEEPS: bool>(
+    req: &Request<'_, S>,
+    board: &mut Board<A>,
+    memo: &mut Memo<A>,
+) -> Result<Option<Next>, Refusal<A>>
+    requires stands { IsBack (run_of req.now) board.old }
+    requires remembers { RecallsOf req.now memo.old }
+    ensures next { IfOk result (λ found. MatchOption found
+        (Finishes A req.now KEEPS board.old memo.old memo.new)
+        (λ next. Retreats A req.now KEEPS board.old memo.old next board.new memo.new)) }
+    ensures remembers { RecallsOf req.now memo.new }
+    ensures same { IfOk result (λ _. memo.new ≡ record memo.old { kept = memo.new.kept; marked = memo.new.marked }) }
+{
+    board.ask_allocator()?;
+    newest_choice::<S, A, KEEPS>(req, board, memo)
 }
 
 /// Executes one instruction, which may batch loop iterations if `STRIDES` is set. Each loop of steps has its own

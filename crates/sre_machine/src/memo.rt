@@ -147,6 +147,11 @@ impl<A: Allocator> Memo<A> {
         self.refused = None;
     }
 
+    /// Whether anything may be memoized.
+    pub(crate) fn is_used(&self) -> bool {
+        self.is_used
+    }
+
     // Drops what is memoized, if anything may be.
     #[inline(always)]
     fn forget_used(&mut self)

@@ -67,6 +67,17 @@ impl<A: Allocator + Copy> Runner<A> {
     pub fn allocator(&self) -> A {
         self.board.allocator()
     }
+
+    /// Drops the captures, and the memory too if there is much of it or failures are memoized in it.
+    pub fn renew(&mut self)
+        ensures board { self.new.board ≡ bare no_marks }
+    {
+        if self.memo.is_used() || self.board.is_large() {
+            *self = Runner::new(self.allocator());
+        } else {
+            self.board.clear();
+        }
+    }
 }
 
 impl<A: Allocator> Runner<A> {

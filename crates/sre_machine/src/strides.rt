@@ -30,6 +30,9 @@ use sre_request::Request;
 use sre_turns::Frame;
 use std::alloc::Allocator;
 
+// The most iterations of a batch, so that a run makes its memory requests between batches.
+const MOST_BODIES: usize = 65536;
+
 /// The end of a loop's body: the loop's frame, and the cursor.
 #[derive(Clone, Copy)]
 pub(super) struct BodyEnd {
@@ -120,9 +123,14 @@ fn stride<S: StrDrive>(
     let mut frame = first;
     let mut cursor = start;
     let told = told_before(req, place, alternatives, wanted, start);
-    'body: while let Some(end) = next_body(req, place, alternatives, wanted, told, frame, cursor) {
+    let mut bodies = 0;
+    'body: while bodies < MOST_BODIES {
+        let Some(end) = next_body(req, place, alternatives, wanted, told, frame, cursor) else {
+            break;
+        };
         frame = next_frame(frame, Some(cursor.position()));
         cursor = end;
+        bodies += 1;
     }
     BodyEnd { frame, cursor }
 }

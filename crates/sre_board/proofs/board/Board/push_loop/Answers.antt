@@ -1,6 +1,6 @@
 use Rattle.std.proofs.Common.{arith}
 use Rattle.sre_board.proofs.Choosing.{enter_held, fits-more, pushed_in}
-use Rattle.sre_board.proofs.board.Board.enter.Goals as goal
+use Rattle.sre_board.proofs.board.Board.push_loop.Goals as goal
 
 pub invariant_of-self : goal.invariant_of-self
 invariant_of-self g c = (

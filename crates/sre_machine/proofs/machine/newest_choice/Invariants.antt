@@ -5,7 +5,7 @@ use Rattle.sre_turns.specs.Limits.{Limit, Grants}
 use Rattle.sre_machine.specs.Memos.{Recalls}
 use Rattle.sre_request.specs.Runs.{run_of}
 use Rattle.sre_machine.specs.Paying.{Pays}
-use Rattle.sre_machine.proofs.machine.back.Given as goal
+use Rattle.sre_machine.proofs.machine.newest_choice.Given as goal
 
 abbrev pub invariant-choice : goal.invariant-choice
 invariant-choice g l = record {
