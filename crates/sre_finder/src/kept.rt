@@ -1,7 +1,9 @@
-//! What a finder of spans keeps from text to text, without the code that it borrows.
+//! What a pattern keeps from text to text, without the code that it borrows.
 
-ghost use Rattle.std.specs.Prelude.{◌≡◌, ℕ, List, None};
+ghost use Rattle.std.specs.Prelude.{◌≡◌, ℕ, List, None, [], IfSome};
 ghost use Rattle.sre_chars.specs.Tables.{Table};
+ghost use Rattle.sre_model.specs.Grammar.{behind_block};
+ghost use Rattle.sre_request.specs.Admitting.{AllAdmitted};
 ghost use Rattle.sre_code.specs.Codes.{words_of, uni_of};
 ghost use Rattle.sre_finder.specs.Kepts.{Suits, encoding_beside};
 
@@ -10,16 +12,36 @@ use crate::pace::{Alone, Debt, Reads};
 use crate::span_finder::SpanFinder;
 use sre_automata::Seeker;
 use sre_code::Code;
+use sre_engine::engine::{AdmittedPlaces, State};
 use sre_patterns::Encoding;
 use std::alloc::Global;
 use std::mem::replace;
 
-/// The DFAs of a code, and what the machine has still to spend before they are built. A pattern that is kept for many
-/// texts owns its code and this, and takes a [`SpanFinder`] out for each text.
+/// The DFAs of a code, what the machine has still to spend before they are built, and the machine's memory. A pattern
+/// that is kept for many texts owns its code and this, and takes a [`SpanFinder`] out for each text.
 #[derive(Drop)]
 pub struct Kept {
     pub(crate) starts: Parts,
     pub(crate) spans: Spans,
+    pub(crate) memory: Option<Box<Memory>>,
+}
+
+/// The machine's memory for the calls of one code, and the FIRST sets of the code's addresses.
+#[derive(Drop)]
+pub struct Memory {
+    pub state: State<Global>,
+    pub places: AdmittedPlaces<Global>,
+}
+
+impl Memory {
+    /// No memory yet, and no FIRST sets. It allocates nothing.
+    pub fn new(alloc: Global) -> Memory
+        ensures { result.places ≡ [] }
+    {
+        let state = State::new(alloc);
+        let places = AdmittedPlaces::new(&state);
+        Memory { state, places }
+    }
 }
 
 // DFAs that find spans, if they are built.
@@ -61,7 +83,29 @@ impl Kept {
                 is_made: false,
                 alone: Alone::new(),
             },
+            memory: None,
         }
+    }
+
+    /// Takes out the memory of earlier calls, if it is kept.
+    #[inline(always)]
+    pub fn take_memory(&mut self) -> Option<Box<Memory>>
+        ensures suits { (ws : List ℕ) (uni : Table) → Suits ws uni self.old → Suits ws uni self.new }
+        ensures serves { (ws : List ℕ) (uni : Table) → Suits ws uni self.old
+            → IfSome result (λ m. AllAdmitted (behind_block ws) m.value.places) }
+    {
+        replace(&mut self.memory, None)
+    }
+
+    /// Keeps the memory of a call, but frees much of it.
+    #[inline(always)]
+    pub fn put_memory(&mut self, memory: Box<Memory>)
+        ensures suits { (ws : List ℕ) (uni : Table) → Suits ws uni self.old
+            → AllAdmitted (behind_block ws) memory.value.places → Suits ws uni self.new }
+    {
+        let mut memory = memory;
+        memory.state.renew();
+        self.memory = Some(memory);
     }
 
     /// Whether the machine alone is to find the next match, if the range is so short that it cannot lose much: before
@@ -111,7 +155,11 @@ impl Kept {
         ensures encoding { result.encoding ≡ self.spans.encoding }
         ensures end { result.end ≡ None }
     {
-        let Kept { starts, spans } = self;
+        let Kept {
+            starts,
+            spans,
+            memory: _,
+        } = self;
         SpanFinder {
             finder: starts.into_finder(alloc, code),
             spans,

@@ -13,7 +13,7 @@ mod span_iter;
 pub use finder::Finder;
 pub use finder_iter::FinderIter;
 pub use haystack::Haystack;
-pub use kept::Kept;
+pub use kept::{Kept, Memory};
 pub use span_finder::SpanFinder;
 pub use span_iter::{Span, SpanIter};
 pub use sre_patterns::Encoding;

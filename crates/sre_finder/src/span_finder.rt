@@ -131,6 +131,7 @@ impl<'c> SpanFinder<'c> {
         Kept {
             starts: finder.into_parts(),
             spans,
+            memory: None,
         }
     }
 

@@ -1,7 +1,8 @@
 //! FIRST sets by address, computed in the course of an iteration.
 //!
 //! With these sets the machine rejects an alternative by one character. Computing them takes the time of some steps. So
-//! an iteration does it after its first steps, and only if much of the text is left.
+//! an iteration does it after its first steps if much of the text is left, and else after many steps, which may be those
+//! of many texts.
 
 ghost use Rattle.std.specs.Prelude.{◌≡◌, ℕ, List, []};
 ghost use Rattle.sre_code.specs.Codes.{items_of};
@@ -16,16 +17,18 @@ use sre_request::{Admitted, Request};
 use std::alloc::{Allocator, Global};
 use std::marker::Model;
 
-// The sets are computed after so many steps of an iteration.
+// The sets are computed after so many steps, if so many characters are left in the range.
 const FEW_STEPS: u32 = 8;
 
-// With fewer characters left in the range they are not computed.
 const FEW_CHARACTERS: usize = 256;
 
-// Nor are they for a code of more words, so that the list takes little memory.
+// Else they are computed after so many steps.
+const MANY_STEPS: u32 = 64;
+
+// They are not computed for a code of more words, so that the list takes little memory.
 const MANY_WORDS: usize = 4096;
 
-/// The FIRST sets of a code's addresses, once an iteration has computed them, and the number of its first steps so far.
+/// The FIRST sets of a code's addresses, once they are computed, and the number of the first steps so far.
 #[derive(Drop)]
 pub struct AdmittedPlaces<A: Allocator + Copy = Global> {
     list: Vec<Admitted, A>,
@@ -93,13 +96,13 @@ impl<A: Allocator + Copy> AdmittedPlaces<A> {
         &self.list
     }
 
-    /// Notes the next step of an iteration, and computes the sets after the first steps.
+    /// Notes the next step of an iteration, or the next call over a text, and computes the sets after the first steps.
     #[inline(always)]
     pub fn note_step<S: StrDrive>(&mut self, req: &Request<'_, S>)
         requires { AllAdmitted (items_of (code_of req.now)) self.old }
         ensures { AllAdmitted (items_of (code_of req.now)) self.new }
     {
-        if self.steps <= FEW_STEPS {
+        if self.steps < MANY_STEPS {
             self.begin_step(req);
         }
     }
@@ -110,8 +113,10 @@ impl<A: Allocator + Copy> AdmittedPlaces<A> {
         requires { AllAdmitted (items_of (code_of req.now)) self.old }
         ensures { AllAdmitted (items_of (code_of req.now)) self.new }
     {
+        let window = req.end().saturating_sub(req.start());
         self.steps = self.steps.saturating_add(1);
-        if self.steps > FEW_STEPS {
+        if self.steps == MANY_STEPS || (self.steps > FEW_STEPS && window >= FEW_CHARACTERS) {
+            self.steps = MANY_STEPS;
             self.tell(req);
         }
     }
@@ -121,9 +126,8 @@ impl<A: Allocator + Copy> AdmittedPlaces<A> {
         requires { AllAdmitted (items_of (code_of req.now)) self.old }
         ensures { AllAdmitted (items_of (code_of req.now)) self.new }
     {
-        let window = req.end().saturating_sub(req.start());
         let words = req.pattern_codes().items();
-        if window < FEW_CHARACTERS || words.len() > MANY_WORDS || !has_many_alternatives(words) {
+        if words.len() > MANY_WORDS || !has_many_alternatives(words) {
             return;
         }
         if let Ok(list) = admitted_by_place(*self.list.allocator(), words) {

@@ -185,6 +185,22 @@ impl<A: Allocator + Copy> State<A> {
         (self.start, self.cursor) = (start, req.string().create_cursor(start));
     }
 
+    /// Drops the captures, and the memory too if there is much of it, some ten thousand bytes or more. So a state can be
+    /// kept for the next text. Start, cursor and counts are unspecified then.
+    ///
+    /// ```
+    /// // The bytecode of `(a)b`.
+    /// let code = Code::check(alloc, &[17, 0, 16, 97, 17, 1, 16, 98, 1], &uni)?;
+    /// assert!(state.pymatch(&Request::whole("ab", code))?);
+    /// state.renew();
+    /// assert!(state.marks().get(0) == (None, None));
+    /// ```
+    pub fn renew(&mut self)
+        ensures marks { self.new.marks ≡ no_marks }
+    {
+        self.runner.renew();
+    }
+
     /// Matches at the start of the range, and returns whether there is a match. The state then shows it.
     ///
     /// The match is the first match path, in the order of CPython's `_sre`, that the request's flags accept. It lies

@@ -12,3 +12,7 @@ into_finder-requires c =
       | then-eq w ↦ subst (Suits words uni) (sym (w.kept-is ∙ c.replace-before.ensures.value)) c.requires
       | else-eq w ↦ subst (Suits words uni) (sym w.kept-is) (w.new-kept.ensures.suits words uni)
     ]
+
+pub returns-clause-suits : goal.returns-clause-suits
+returns-clause-suits c = λ ws uni.
+    subst (Suits ws uni) (sym c.replace-before.ensures.after) (c.new.ensures.suits ws uni)

@@ -18,4 +18,5 @@ returns-clause-suits c =
       exact = λ code words uni.
           exactly_moved f.spans.encoding f.finder.code code f.spans.exact (words ∙ ap words_of own)
           (uni ∙ ap uni_of own) c.self.invariant;
+      serves = tt;
     }

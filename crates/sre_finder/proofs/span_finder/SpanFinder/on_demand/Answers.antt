@@ -1,0 +1,5 @@
+use Rattle.sre_code.specs.Codes.{words_of, uni_of}
+use Rattle.sre_finder.proofs.span_finder.SpanFinder.on_demand.Goals as goal
+
+pub into_finder-requires : goal.into_finder-requires
+into_finder-requires c = c.new.ensures.suits (words_of c.args.code) (uni_of c.args.code)
