@@ -54,6 +54,7 @@ pub struct Pattern<'a> {
     code: Code<'a>,
     kept: *mut c_void,
     is_kept: bool,
+    reads_utf8: bool,
 }
 
 // SAFETY: the bytecode and the table are borrowed and do not change, and any thread may use and free what is kept.
@@ -82,7 +83,7 @@ pub struct Found {
 }
 
 /// `SRE_ABI` of the `sre.h` whose structs are above.
-pub const ABI: u32 = 459789760;
+pub const ABI: u32 = 849984695;
 
 // The layout of `sre.h`: the engine would write past the end of a struct that is shorter.
 const _: () = {
@@ -91,6 +92,7 @@ const _: () = {
     assert!(size_of::<Code>() == 72 && offset_of!(Code, place) == 24 && offset_of!(Code, error) == 32);
     assert!(offset_of!(Code, hints) == 36 && offset_of!(Code, checked) == 64);
     assert!(size_of::<Pattern>() == 88 && offset_of!(Pattern, kept) == 72 && offset_of!(Pattern, is_kept) == 80);
+    assert!(offset_of!(Pattern, reads_utf8) == 81);
     assert!(size_of::<Asked>() == 32 && offset_of!(Asked, steps) == 16 && offset_of!(Asked, search) == 24);
     assert!(size_of::<Found>() == 40 && offset_of!(Found, last_index) == 16 && offset_of!(Found, steps) == 32);
 };
@@ -124,7 +126,8 @@ impl<'a> Pattern<'a> {
         let mut code = Code { words, words_count, table, place: 0, error: 0, hints, checked: false };
         // SAFETY: the code borrows the bytecode and the table.
         let status = unsafe { sre_check_code(&mut code) };
-        if status == 1 { Ok(Pattern { code, kept: null_mut(), is_kept: false }) } else { Err(status) }
+        let pattern = Pattern { code, kept: null_mut(), is_kept: false, reads_utf8: false };
+        if status == 1 { Ok(pattern) } else { Err(status) }
     }
 
     /// A step limit that suffices for any search in a text of at most so many code points, unless an allocation fails;

@@ -48,7 +48,7 @@ extern "C" {
 
 /* The number of the declarations below, and the result of sre_abi. It changes with each status, struct and function. So
  * a program that was compiled with the header of another library can find that out. */
-#define SRE_ABI 459789760
+#define SRE_ABI 849984695
 
 /* What a function returns. */
 #define SRE_NO 0           /* there is no match, or no further one */
@@ -115,13 +115,14 @@ typedef struct sre_code {
   bool checked;    /* only sre_check_code sets it */
 } sre_code;
 
-/* A code, and the DFAs that calls by this struct have built. A caller fills in the code, zeros the rest and calls
+/* A code, and the DFAs and the memory of calls by this struct. A caller fills in the code, zeros the rest and calls
  * sre_pattern_free at the end. While something is kept, the struct is not copied, and neither its words nor its table
  * change. Only one thread at a time uses it. */
 typedef struct sre_pattern {
   sre_code code;
-  void *kept;   /* the library's own */
-  bool is_kept; /* whether something is kept */
+  void *kept;      /* the library's own, as reads_utf8 */
+  bool is_kept;    /* whether something is kept */
+  bool reads_utf8; /* whether a text was not ASCII */
 } sre_pattern;
 
 /* A request: a range of characters, a step limit, and flags. */
@@ -210,8 +211,8 @@ uint32_t sre_walk_points(const sre_code *code, const uint32_t *text, size_t text
 uint32_t sre_walk_units(const sre_code *code, const uint16_t *text, size_t text_count, const sre_asked *asked,
                         size_t width, size_t *rows, size_t rows_count, sre_walked *walked);
 
-/* The same for the code of a pattern, which keeps the DFAs that these calls build. If it has no room for them, a call
- * does not fail for that, and the next one builds anew. */
+/* The same for the code of a pattern, which keeps the DFAs that these calls build, and some memory. If it has no room
+ * for them, a call does not fail for that, and the next one builds anew. */
 uint32_t sre_pattern_answer_bytes(sre_pattern *pattern, const uint8_t *text, size_t text_count, const sre_asked *asked,
                                   sre_found *found, size_t *marks, size_t marks_count);
 uint32_t sre_pattern_answer_utf8(sre_pattern *pattern, const uint8_t *text, size_t text_count, const sre_asked *asked,

@@ -1,3 +1,4 @@
+pub mod Admitted
 pub mod Telling
 pub mod Budgets
 pub mod RowBudgets

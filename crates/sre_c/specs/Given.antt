@@ -12,6 +12,8 @@ use Rattle.sre_c.specs.declared.status.Status.{Status}
 use Rattle.sre_c.specs.declared.status.Status.TheVariants.{NotUtf8}
 use Rattle.sre_c.specs.declared.code.SreCode.{SreCode}
 use Rattle.sre_c.specs.declared.types.SreAsked.{SreAsked}
+use Rattle.sre_c.specs.declared.utf8.Utf8.{Utf8}
+use Rattle.sre_c.specs.declared.utf8.Utf8.TheVariants.{Ascii, Text, Invalid}
 use Rattle.sre_c.specs.Known.{table_in}
 
 -- what is asked of a table and the characters of a text
@@ -44,3 +46,9 @@ pub record IsEnough (words : List ℕ) (a : Asked) (steps : ℕ) : Type 0 where
 -- a fact of the characters of bytes that are UTF-8; or of bytes that are not the status, and that nothing was done
 abbrev pub InUtf8 : Status → List ℕ → (List ℕ → Type 0) → Type 0 → Type 0
 InUtf8 s bytes says nothing = (IsUtf8 bytes × says (chars bytes)) ⊎ ((s ≡ NotUtf8) × (IsUtf8 bytes → ⊥) × nothing)
+
+-- what bytes are as UTF-8; in ASCII they are the characters
+abbrev pub ReadsUtf8 : List ℕ → Utf8 → Type 0
+ReadsUtf8 bytes (Ascii text) = (text.now ≡ bytes) × IsUtf8 bytes × (chars bytes ≡ bytes)
+ReadsUtf8 bytes (Text text) = (text.now ≡ bytes) × IsUtf8 bytes
+ReadsUtf8 bytes Invalid = IsUtf8 bytes → ⊥

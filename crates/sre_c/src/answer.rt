@@ -2,7 +2,10 @@
 
 ghost use Rattle.std.specs.Prelude.{◌≡◌, ◌<◌, ◌≤◌, ℕ, length, slice_index, slice_index_or, None, true, false, OnErr};
 ghost use Rattle.sre_growth.specs.Refusal.{Refused};
+ghost use Rattle.sre_model.specs.Grammar.{behind_block};
+ghost use Rattle.sre_request.specs.Admitting.{AllAdmitted};
 ghost use Rattle.sre_engine.specs.Codes.{words_of, uni_of};
+ghost use Rattle.sre_code.specs.Codes.{items_of};
 ghost use Rattle.sre_engine.specs.Requests.{asked_of, code_of};
 ghost use Rattle.sre_engine.specs.Answers.{match_shown};
 ghost use Rattle.sre_c.specs.Known.{table_in};
@@ -18,6 +21,7 @@ use crate::status::Status;
 use crate::table::table;
 use crate::types::{SreAsked, SreFound};
 use sre_engine::{Code, CodeError, EmptyRule, LentTable, Request, SreError, State, StrDrive};
+use sre_finder::Memory;
 use std::alloc::Global;
 
 /// The request for a code over a text.
@@ -128,29 +132,41 @@ fn tell(
 fn reply<S: StrDrive, H: Asks<S>>(
     alloc: Global,
     how: &mut H,
+    memory: &mut Memory,
     request: Request<'_, S>,
     asked: &SreAsked,
     found: &mut SreFound,
     marks: &mut [usize],
 ) -> Status
     requires suits { H.suits how.old (words_of (code_of request)) (uni_of (code_of request)) }
+    requires admitted { AllAdmitted (items_of (code_of request)) memory.old.places }
     ensures replies { Replies (words_of (code_of request.entry)) (asked_of request.entry) asked.now.search result
         asked.now.steps (length marks.old) found.new marks.new }
     ensures steps { found.new.steps ≤ asked.now.steps }
     ensures unlimited { asked.now.steps ≡ no_limit → found.new.steps ≡ asked.now.steps }
     ensures suits { H.suits how.new (words_of (code_of request.entry)) (uni_of (code_of request.entry)) }
+    ensures admitted { AllAdmitted (items_of (code_of request.entry)) memory.new.places }
 {
-    let mut state = State::new(alloc);
+    memory.places.note_step(&request);
+    let request = request.with_admitted(memory.places.list());
     let mut steps = asked.steps;
-    let told = ask(alloc, how, &mut state, request, asked.search, &mut steps);
+    let told = ask(
+        alloc,
+        how,
+        &mut memory.state,
+        request,
+        asked.search,
+        &mut steps,
+    );
     found.steps = steps;
-    tell(told, &state, found, marks)
+    tell(told, &memory.state, found, marks)
 }
 
 // The match of a code whose table is at hand, as `answer` returns it.
 fn answer_by<'a, S: StrDrive, H: Asks<S>>(
     alloc: Global,
     how: &mut H,
+    memory: &mut Memory,
     code: &'a SreCode<'a>,
     uni: &'a LentTable<'a>,
     text: S,
@@ -160,11 +176,13 @@ fn answer_by<'a, S: StrDrive, H: Asks<S>>(
 ) -> Status
     requires table { uni.now ≡ table_in code.now.table.now }
     requires steps { found.old.steps ≡ asked.now.steps }
+    requires admitted { AllAdmitted (behind_block code.now.words.now) memory.old.places }
     requires suits { H.suits how.old code.now.words.now (table_in code.now.table.now) }
     ensures answers { Answers result code.now (S.text text) asked.now (length marks.old) found.new marks.new }
     ensures steps { found.new.steps ≤ asked.now.steps }
     ensures unlimited { asked.now.steps ≡ no_limit → found.new.steps ≡ asked.now.steps }
     ensures suits { H.suits how.new code.now.words.now (table_in code.now.table.now) }
+    ensures admitted { AllAdmitted (behind_block code.now.words.now) memory.new.places }
 {
     let code = match check::code(alloc, code, uni) {
         Ok(code) => code,
@@ -172,7 +190,7 @@ fn answer_by<'a, S: StrDrive, H: Asks<S>>(
         Err(_) => return Status::NoCode,
     };
     let request = request(text, asked, code);
-    reply(alloc, how, request, asked, found, marks)
+    reply(alloc, how, memory, request, asked, found, marks)
 }
 
 /// Writes the match, its captures if there is room for them, and the steps that are left.
@@ -191,9 +209,32 @@ pub fn answer<'c, S: StrDrive, H: Asks<S>>(
     ensures unlimited { asked.now.steps ≡ no_limit → found.new.steps ≡ asked.now.steps }
     ensures suits { H.suits how.new code.now.words.now (table_in code.now.table.now) }
 {
+    let mut memory = Memory::new(alloc);
+    answer_in(alloc, how, &mut memory, code, text, asked, found, marks)
+}
+
+/// `answer`, with the memory of earlier calls by this code.
+pub fn answer_in<'c, S: StrDrive, H: Asks<S>>(
+    alloc: Global,
+    how: &mut H,
+    memory: &mut Memory,
+    code: &'c SreCode<'c>,
+    text: S,
+    asked: &SreAsked,
+    found: &mut SreFound,
+    marks: &mut [usize],
+) -> Status
+    requires suits { H.suits how.old code.now.words.now (table_in code.now.table.now) }
+    requires admitted { AllAdmitted (behind_block code.now.words.now) memory.old.places }
+    ensures answers { Answers result code.now (S.text text) asked.now (length marks.old) found.new marks.new }
+    ensures steps { found.new.steps ≤ asked.now.steps }
+    ensures unlimited { asked.now.steps ≡ no_limit → found.new.steps ≡ asked.now.steps }
+    ensures suits { H.suits how.new code.now.words.now (table_in code.now.table.now) }
+    ensures admitted { AllAdmitted (behind_block code.now.words.now) memory.new.places }
+{
     found.steps = asked.steps;
     match table(alloc, code.table) {
-        Some(uni) => answer_by(alloc, how, code, &uni, text, asked, found, marks),
+        Some(uni) => answer_by(alloc, how, memory, code, &uni, text, asked, found, marks),
         None => Status::FaultyTable,
     }
 }

@@ -156,10 +156,9 @@ impl<S: Haystack> Asks<S> for Kept {
         request: &Request<'_, S>,
         steps: &mut u64,
     ) -> Result<Option<bool>, SreError> {
-        let characters = range(request);
-        if characters <= FEW && *steps == NO_LIMIT && self.is_alone() {
+        if is_alone(self, request, *steps) {
             let told = Machine.search(alloc, state, request, steps);
-            self.note_alone(state.started(), characters);
+            self.note_alone(state.started(), range(request));
             return told;
         }
         search_by_finder(alloc, self, state, request, steps)
@@ -175,17 +174,49 @@ impl<S: Haystack> Asks<S> for Kept {
         rows: &mut [usize],
         walked: &mut SreWalked,
     ) -> Status {
-        let mut finder = finder_in(alloc, self, request);
-        if walked.steps == NO_LIMIT {
-            let (status, kept) = write_by_spans(alloc, request, finder, width, rows, walked);
-            *self = kept;
-            return status;
+        let memory = self.take_memory();
+        let status = write_by_finder(alloc, self, request, width, rows, walked);
+        if let Some(memory) = memory {
+            self.put_memory(memory);
         }
-        finder.reset();
-        let status = write_by(alloc, request, &mut finder, width, rows, walked);
-        *self = finder.into_kept();
         status
     }
+}
+
+// Whether the machine alone is to search a range: a short one, without a limit.
+#[inline(always)]
+fn is_alone<S: StrDrive>(kept: &mut Kept, request: &Request<'_, S>, steps: u64) -> bool
+    ensures suits { (ws : List ℕ) (uni : Table) → Suits ws uni kept.old → Suits ws uni kept.new }
+{
+    range(request) <= FEW && steps == NO_LIMIT && kept.is_alone()
+}
+
+// Writes the matches with the DFAs that are kept, or those that it builds.
+fn write_by_finder<S: Haystack>(
+    alloc: Global,
+    kept: &mut Kept,
+    request: &Request<'_, S>,
+    width: usize,
+    rows: &mut [usize],
+    walked: &mut SreWalked,
+) -> Status
+    requires suits { Suits (words_of (code_of request.now)) (uni_of (code_of request.now)) kept.old }
+    requires none { walked.old.count ≡ 0 }
+    ensures rows { Writes result request.now walked.old.steps width walked.new rows.new }
+    ensures steps { walked.new.steps ≤ walked.old.steps }
+    ensures unlimited { walked.old.steps ≡ no_limit → walked.new.steps ≡ walked.old.steps }
+    ensures suits { Suits (words_of (code_of request.now)) (uni_of (code_of request.now)) kept.new }
+{
+    let mut finder = finder_in(alloc, kept, request);
+    if walked.steps == NO_LIMIT {
+        let (status, built) = write_by_spans(alloc, request, finder, width, rows, walked);
+        *kept = built;
+        return status;
+    }
+    finder.reset();
+    let status = write_by(alloc, request, &mut finder, width, rows, walked);
+    *kept = finder.into_kept();
+    status
 }
 
 // The finder of a request's code with what is kept, which is taken out.

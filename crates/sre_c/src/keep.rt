@@ -2,19 +2,22 @@
 
 ghost use Rattle.std.specs.Prelude.{◌≡◌, ◌≤◌, ℕ, List, length, IfSome, None};
 ghost use Rattle.sre_chars.specs.Tables.{Table};
+ghost use Rattle.sre_model.specs.Grammar.{behind_block};
+ghost use Rattle.sre_request.specs.Admitting.{AllAdmitted};
 ghost use Rattle.sre_finder.specs.Kepts.{Suits};
 ghost use Rattle.sre_c.specs.Known.{table_in};
 ghost use Rattle.sre_c.specs.Answered.{Answers};
 ghost use Rattle.sre_c.specs.Walked.{Walks};
 ghost use Rattle.sre_c.specs.Budgets.{no_limit};
 
-use crate::answer::answer;
+use crate::answer::{answer, answer_in};
 use crate::asks::Once;
+use crate::code::SreCode;
 use crate::pattern::SrePattern;
 use crate::status::Status;
 use crate::types::{SreAsked, SreFound, SreWalked};
 use crate::walk::walk;
-use sre_finder::{Encoding, Haystack, Kept};
+use sre_finder::{Encoding, Haystack, Kept, Memory};
 use sre_handle::{KeptSlot, RawBox};
 use std::alloc::Global;
 use std::mem::replace;
@@ -43,9 +46,12 @@ fn take_or_new(alloc: Global, pattern: &mut SrePattern<'_>) -> Option<Box<Kept>>
     ensures empty { pattern.new.kept.code ≡ None }
     ensures code { pattern.new.code ≡ pattern.old.code }
 {
-    match take(alloc, pattern) {
-        Some(kept) => Some(kept),
-        None => Box::new(alloc, Kept::new(Encoding::Bytes)).ok(),
+    if let Some(kept) = take(alloc, pattern) {
+        return Some(kept);
+    }
+    match Box::new(alloc, Kept::new(Encoding::Bytes)) {
+        Ok(kept) => Some(kept),
+        Err(_) => None,
     }
 }
 
@@ -60,6 +66,43 @@ fn put(pattern: &mut SrePattern<'_>, kept: Box<Kept>)
     let slot = KeptSlot::of(RawBox::of(kept));
     replace(&mut pattern.kept, slot).discard();
     pattern.is_kept = true;
+}
+
+// Takes out the memory that is kept, or allocates one. `None` if that fails.
+#[inline(always)]
+fn memory_in(alloc: Global, kept: &mut Kept) -> Option<Box<Memory>>
+    ensures suits { (ws : List ℕ) (uni : Table) → Suits ws uni kept.old → Suits ws uni kept.new }
+    ensures admitted { (ws : List ℕ) (uni : Table) → Suits ws uni kept.old
+        → IfSome result (λ m. AllAdmitted (behind_block ws) m.value.places) }
+{
+    match kept.take_memory() {
+        Some(memory) => Some(memory),
+        None => Box::new(alloc, Memory::new(alloc)).ok(),
+    }
+}
+
+// `answer`, with what is kept.
+fn answer_kept<'c, S: Haystack>(
+    alloc: Global,
+    kept: &mut Kept,
+    code: &'c SreCode<'c>,
+    text: S,
+    asked: &SreAsked,
+    found: &mut SreFound,
+    marks: &mut [usize],
+) -> Status
+    requires suits { Suits code.now.words.now (table_in code.now.table.now) kept.old }
+    ensures answers { Answers result code.now (S.text text) asked.now (length marks.old) found.new marks.new }
+    ensures steps { found.new.steps ≤ asked.now.steps }
+    ensures unlimited { asked.now.steps ≡ no_limit → found.new.steps ≡ asked.now.steps }
+    ensures suits { Suits code.now.words.now (table_in code.now.table.now) kept.new }
+{
+    let Some(mut memory) = memory_in(alloc, kept) else {
+        return answer(alloc, kept, code, text, asked, found, marks);
+    };
+    let status = answer_in(alloc, kept, &mut *memory, code, text, asked, found, marks);
+    kept.put_memory(memory);
+    status
 }
 
 /// `answer`, for the code of a pattern.
@@ -79,7 +122,7 @@ pub fn answer_by_pattern<S: Haystack>(
     let Some(mut kept) = take_or_new(alloc, pattern) else {
         return answer(alloc, &mut Once, &pattern.code, text, asked, found, marks);
     };
-    let status = answer(alloc, &mut *kept, &pattern.code, text, asked, found, marks);
+    let status = answer_kept(alloc, &mut *kept, &pattern.code, text, asked, found, marks);
     put(pattern, kept);
     status
 }

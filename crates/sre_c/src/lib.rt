@@ -30,6 +30,7 @@ mod status;
 mod step_bound;
 mod table;
 mod types;
+mod utf8;
 mod walk;
 
 use answer::answer;
@@ -40,21 +41,21 @@ use code::SreCode;
 use keep::{answer_by_pattern, take, walk_by_pattern};
 use numbers::{Points, Units};
 use pattern::SrePattern;
-use simdutf8::basic::from_utf8;
 use status::Status;
 use std::alloc::Global;
 use step_bound::step_bound;
 use table::check_table;
 use types::{SreAsked, SreFound, SreTable, SreWalked};
+use utf8::{Utf8, read_utf8};
 use walk::{begun, walk};
 
 /// The number of the declarations of `include/sre.h`, which are these statuses, structs and functions
 /// (`tools/header.py`).
 #[unsafe(no_mangle)]
 pub extern "C" fn sre_abi() -> u32
-    ensures { result ≡ 459789760 }
+    ensures { result ≡ 849984695 }
 {
-    459_789_760
+    849_984_695
 }
 
 /// Checks the lists of a table, and sets `checked` and `error`.
@@ -140,9 +141,10 @@ pub extern "C" fn sre_answer_utf8(
     ensures steps { found.new.steps ≤ asked.now.steps }
     ensures unlimited { asked.now.steps ≡ no_limit → found.new.steps ≡ asked.now.steps }
 {
-    let status = match from_utf8(text) {
-        Ok(text) => answer(alloc, &mut Once, code, text, asked, found, marks),
-        Err(_) => {
+    let status = match read_utf8(text, true) {
+        Utf8::Ascii(text) => answer(alloc, &mut Once, code, text, asked, found, marks),
+        Utf8::Text(text) => answer(alloc, &mut Once, code, text, asked, found, marks),
+        Utf8::Invalid => {
             found.steps = asked.steps;
             Status::NotUtf8
         }
@@ -240,9 +242,10 @@ pub extern "C" fn sre_walk_utf8(
     ensures steps { walked.new.steps ≤ asked.now.steps }
     ensures unlimited { asked.now.steps ≡ no_limit → walked.new.steps ≡ asked.now.steps }
 {
-    let status = match from_utf8(text) {
-        Ok(text) => walk(alloc, &mut Once, code, text, asked, width, rows, walked),
-        Err(_) => {
+    let status = match read_utf8(text, true) {
+        Utf8::Ascii(text) => walk(alloc, &mut Once, code, text, asked, width, rows, walked),
+        Utf8::Text(text) => walk(alloc, &mut Once, code, text, asked, width, rows, walked),
+        Utf8::Invalid => {
             *walked = begun(asked);
             Status::NotUtf8
         }
@@ -345,9 +348,13 @@ pub extern "C" fn sre_pattern_answer_utf8(
     ensures unlimited { asked.now.steps ≡ no_limit → found.new.steps ≡ asked.now.steps }
     ensures code { pattern.new.code ≡ pattern.old.code }
 {
-    let status = match from_utf8(text) {
-        Ok(text) => answer_by_pattern(alloc, pattern, text, asked, found, marks),
-        Err(_) => {
+    let status = match read_utf8(text, !pattern.reads_utf8) {
+        Utf8::Ascii(text) => answer_by_pattern(alloc, pattern, text, asked, found, marks),
+        Utf8::Text(text) => {
+            pattern.reads_utf8 = true;
+            answer_by_pattern(alloc, pattern, text, asked, found, marks)
+        }
+        Utf8::Invalid => {
             found.steps = asked.steps;
             Status::NotUtf8
         }
@@ -393,9 +400,13 @@ pub extern "C" fn sre_pattern_walk_utf8(
     ensures unlimited { asked.now.steps ≡ no_limit → walked.new.steps ≡ asked.now.steps }
     ensures code { pattern.new.code ≡ pattern.old.code }
 {
-    let status = match from_utf8(text) {
-        Ok(text) => walk_by_pattern(alloc, pattern, text, asked, width, rows, walked),
-        Err(_) => {
+    let status = match read_utf8(text, !pattern.reads_utf8) {
+        Utf8::Ascii(text) => walk_by_pattern(alloc, pattern, text, asked, width, rows, walked),
+        Utf8::Text(text) => {
+            pattern.reads_utf8 = true;
+            walk_by_pattern(alloc, pattern, text, asked, width, rows, walked)
+        }
+        Utf8::Invalid => {
             *walked = begun(asked);
             Status::NotUtf8
         }
