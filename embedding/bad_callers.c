@@ -53,6 +53,11 @@ static const uint32_t running[] = {14, 4, 0, 3, 4294967295, 23, 17, 1, 429496729
 static const uint32_t referring[] = {14, 4, 0, 1, 4294967295, 23, 13, 0, 4294967295, 17, 0, 13,
                                      5,  22, 97, 98, 0, 17, 1, 18, 11, 0, 1};
 
+/* (?:(x)|x+x+)+y\1 */
+static const uint32_t endless[] = {14, 4, 0, 3, 4294967295, 23, 31, 1, 4294967295, 7, 9, 17, 0, 16, 120, 17, 1, 15, 19,
+                                   17, 24, 6, 1, 4294967295, 16, 120, 1, 24, 6, 1, 4294967295, 16, 120, 1, 15, 2, 0, 18,
+                                   16, 121, 11, 0, 1};
+
 static sre_table ascii = SRE_ASCII;
 
 /* A copy of bytecode in a block of just its size, so that valgrind sees a read past it; the caller frees it. */
@@ -467,6 +472,28 @@ static void no_memory_for_patterns(const uint32_t *words, size_t count) {
   let_go(&pattern.code);
 }
 
+/* A search that would take years ends soon after memory is refused. */
+static void stopped(void) {
+  char text[61];
+  memset(text, 'x', 60);
+  text[60] = 0;
+  sre_pattern pattern = {.code = code_of(endless, COUNT(endless))};
+  sre_found found;
+  size_t marks[2];
+  CHECK(sre_check_code(&pattern.code) == SRE_YES);
+  until_refusal = 50;
+  for (int is_kept = 0; is_kept < 2; is_kept++) {
+    requests = 0;
+    CHECK((is_kept ? sre_pattern_answer_bytes(&pattern, (const uint8_t *)text, 60, &anywhere, &found, marks, 2)
+                   : answer(&pattern.code, text, &anywhere, &found, marks, 2)) == SRE_MEMORY);
+    CHECK(requests > 50 && requests < 60);
+  }
+  until_refusal = -1;
+  CHECK(sre_pattern_answer_bytes(&pattern, (const uint8_t *)"axyx", 4, &anywhere, &found, marks, 2) == SRE_YES);
+  sre_pattern_free(&pattern);
+  let_go(&pattern.code);
+}
+
 static void patterns(void) {
   static const sre_pair low[] = {{65, 97}};
   sre_table faulty = SRE_ASCII;
@@ -494,6 +521,7 @@ int main(void) {
   faulty_tables();
   no_memory();
   patterns();
+  stopped();
   printf("bad callers: %d failures\n", failures);
   return failures != 0;
 }

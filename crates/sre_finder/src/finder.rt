@@ -54,10 +54,10 @@ pub struct Finder<'c> {
 pub(crate) struct Parts {
     pub(crate) encoding: Encoding,
     // whether the code was translated to a pattern
-    is_read: bool,
-    seeker: Option<Seeker>,
+    pub(crate) is_read: bool,
+    pub(crate) seeker: Option<Seeker>,
     // for a code with back-references: finds a required literal of the whole pattern
-    whole: Option<Seeker>,
+    pub(crate) whole: Option<Seeker>,
     pace: Pace,
 }
 

@@ -109,12 +109,20 @@ impl Kept {
     }
 
     /// Whether the machine alone is to find the next match, if the range is so short that it cannot lose much: before
-    /// the DFAs are built, and while it has found the last matches at their first starts.
+    /// the DFAs are built, if there are none, and while it has found the last matches at their first starts.
     #[inline(always)]
     pub fn is_alone(&mut self) -> bool
         ensures suits { (ws : List ℕ) (uni : Table) → Suits ws uni self.old → Suits ws uni self.new }
     {
-        self.spans.debt.is_due() || self.spans.alone.is_alone()
+        self.spans.debt.is_due() || self.has_no_dfas() || self.spans.alone.is_alone()
+    }
+
+    // Whether it was tried to build DFAs, and there are none.
+    #[inline(always)]
+    fn has_no_dfas(&self) -> bool {
+        let (starts, spans) = (&self.starts, &self.spans);
+        let has_none = starts.is_read && starts.seeker.is_none() && starts.whole.is_none();
+        spans.is_made && spans.exact.is_none() && has_none
     }
 
     /// Records how many runs and characters a search by the machine alone took.
