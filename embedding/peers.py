@@ -84,9 +84,9 @@ class Lines:
                 continue
             command = [*self.calls[engine], f'{self.room}/{file}', f'{self.room}/text']
             options += 'b' * is_bytes
-            told = run(*command, '1', options).stdout
-            if told:
-                found.add(told)
+            told = run(*command, '1', options)
+            if told.stdout and not told.returncode:
+                found.add(told.stdout)
                 more, less = (speed.instructions(*command, str(it), options) for it in (times + 1, times))
                 counts[name] = more - less
         return counts, found
