@@ -3,7 +3,8 @@
  *     peers PATTERN_FILE TEXT_FILE TIMES OPTIONS
  *
  * peers.py compiles it with BY_SRE, BY_RE2 or BY_PCRE2. Both files are UTF-8, without a last newline; for BY_SRE the
- * first has numbers with commas between them. Options are letters: b, characters are bytes; c, by a code; j, by JIT. */
+ * first has numbers with commas between them. Options are letters: b, characters are bytes; c, by a code; j, by JIT; g
+ * and the number of groups, each match with its captures. */
 #include <cstdio>
 #include <cstdlib>
 #include <fstream>
@@ -19,10 +20,13 @@ struct Engine {
   sre_table table = SRE_ASCII;
   sre_pattern pattern = {};
   bool is_bytes, is_kept;
+  size_t width = 2;
   std::vector<size_t> rows = std::vector<size_t>(1 << 17);
 
   Engine(const std::string &numbers, const std::string &options)
       : is_bytes(options.find('b') != options.npos), is_kept(options.find('c') == options.npos) {
+    size_t groups = options.find('g');
+    if (groups != options.npos) width = 3 + 2 * strtoul(options.c_str() + groups + 1, nullptr, 10);
     for (const char *at = numbers.c_str(); *at; at += *at == ',') words.push_back(strtoul(at, (char **)&at, 10));
     pattern.code.words = words.data(), pattern.code.words_count = words.size(), pattern.code.table = &table;
     if (sre_check_table(&table) != SRE_YES || sre_check_code(&pattern.code) != SRE_YES) exit(3);
@@ -31,9 +35,9 @@ struct Engine {
   uint32_t walk(const std::string &text, const sre_asked &asked, sre_walked &walked) {
     const uint8_t *bytes = (const uint8_t *)text.data();
     if (is_kept)
-      return (is_bytes ? sre_pattern_walk_bytes : sre_pattern_walk_utf8)(&pattern, bytes, text.size(), &asked, 2,
+      return (is_bytes ? sre_pattern_walk_bytes : sre_pattern_walk_utf8)(&pattern, bytes, text.size(), &asked, width,
                                                                          rows.data(), rows.size(), &walked);
-    return (is_bytes ? sre_walk_bytes : sre_walk_utf8)(&pattern.code, bytes, text.size(), &asked, 2, rows.data(),
+    return (is_bytes ? sre_walk_bytes : sre_walk_utf8)(&pattern.code, bytes, text.size(), &asked, width, rows.data(),
                                                        rows.size(), &walked);
   }
 
@@ -65,16 +69,19 @@ static size_t after(const std::string &text, size_t at) {
 
 struct Engine {
   re2::RE2 code;
+  std::vector<re2::StringPiece> spans;
 
-  Engine(const std::string &pattern, const std::string &) : code(pattern) {
+  Engine(const std::string &pattern, const std::string &options) : code(pattern) {
     if (!code.ok()) exit(3);
+    spans.resize(options.find('g') == options.npos ? 1 : 1 + code.NumberOfCapturingGroups());
   }
 
   long count(const std::string &text) {
-    re2::StringPiece span;
+    const re2::StringPiece &span = spans[0];
     size_t at = 0;
     long found = 0;
-    for (; at <= text.size() && code.Match(text, at, text.size(), re2::RE2::UNANCHORED, &span, 1); found++) {
+    for (; at <= text.size() && code.Match(text, at, text.size(), re2::RE2::UNANCHORED, spans.data(), spans.size());
+         found++) {
       size_t begin = span.data() - text.data();
       at = span.empty() ? after(text, begin) : begin + span.size();
     }

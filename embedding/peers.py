@@ -1,7 +1,7 @@
 #!/usr/bin/env python3
 """Counts the instructions of the library, by patterns that are kept and by codes, beside those of other engines.
 
-    peers.py LIBRARY [--characters N,..] [--only NAME,..] [--program PATH] [--regex PATH]
+    peers.py LIBRARY [--characters N,..] [--only NAME,..] [--groups] [--program PATH] [--regex PATH]
 
 LIBRARY is a folder of `python/build.py library`. For each length and each line of WORK in tools/speed.py but `match`,
 cachegrind counts the instructions a character that one more search for all spans takes: by a pattern that is kept
@@ -9,10 +9,12 @@ and by a code, each with the ratios to RE2, PCRE2, this Python's `re` and the ki
 and to the program `sre_cases` of --program. An engine without headers (libre2-dev, libpcre2-dev) is left out, and so is
 the cell of a pattern that an engine refuses. The kit's `regex` is in the program peers.rt, at the PATH of --regex. If
 it is not there, it is proved and built: some minutes. (Built by tools/unproved.py, it takes 2.6 times the
-instructions.) It runs under CPython 3.11 to 3.13. The status is 1 if the numbers of matches differ.
+instructions.) With --groups each match comes with its captures, but not from `regex` and the program. It runs under
+CPython 3.11 to 3.13. The status is 1 if the numbers of matches differ.
 """
 import argparse
 import os
+import re
 import shutil
 import sys
 import tempfile
@@ -64,7 +66,7 @@ class Lines:
         self.options, self.room = options, room
         # how a program with each engine is called
         self.calls = {'CPython': [sys.executable, '-S', '-s', '-c', BY_RE]}
-        if options.regex:
+        if options.regex and not options.groups:
             self.calls['regex'] = [options.regex]
         for name, given in COMPILED.items():
             last = given.format(options.library).split()
@@ -76,14 +78,14 @@ class Lines:
             else:
                 print(f'{name} is left out: {last[-1]} or its headers are not there')
 
-    def counted(self, is_bytes, characters):
+    def counted(self, shared, characters):
         """The instructions of one more search of the whole text by each engine, and how many matches they find."""
         counts, found, times = {}, set(), BUILT // characters + 2
         for name, (engine, file, options) in CALLED.items():
             if engine not in self.calls:
                 continue
             command = [*self.calls[engine], f'{self.room}/{file}', f'{self.room}/text']
-            options += 'b' * is_bytes
+            options += shared
             told = run(*command, '1', options)
             if told.stdout and not told.returncode:
                 found.add(told.stdout)
@@ -108,7 +110,10 @@ class Lines:
             for name, it in (('pattern', f'(?{letters})' * bool(letters) + work.pattern), ('text', text),
                              ('words', words.case_words(pattern.words))):
                 write(f'{self.room}/{name}', it)
-            counts, found = self.counted(work.is_bytes, characters)
+            shared = 'b' * work.is_bytes
+            if self.options.groups:
+                shared += f'g{re.compile(work.pattern, work.flags).groups}'
+            counts, found = self.counted(shared, characters)
             if self.options.program:
                 # the library is given a text that nobody has checked to be UTF-8
                 reading = words.Asked('match', text.encode())
@@ -127,6 +132,7 @@ def main(given):
     add('--characters', default='1000,10000,100000,1000000', metavar='N,..',
         type=lambda it: [int(number) for number in it.split(',')])
     add('--only', default='', metavar='NAME,..')
+    add('--groups', action='store_true')
     add('--program', metavar='PATH')
     add('--regex', metavar='PATH')
     options = parser.parse_args(given)
