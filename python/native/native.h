@@ -180,8 +180,8 @@ typedef struct EngineCall {
   bool is_stopped;          /* a handler has raised an exception */
 } EngineCall;
 
-/* Between these two the handlers of signals run, in the thread that runs them. With `others_run` other threads run, too.
- * The second says whether a handler has raised an exception, which is set then. */
+/* Between these two the handlers of signals run, in the thread that runs them. With `others_run` other threads run,
+ * too. The second says whether a handler has raised an exception, which is set then. */
 void engine_call_begin(EngineCall *call, const Text *text, bool others_run);
 bool engine_call_end(EngineCall *call);
 

@@ -1,6 +1,6 @@
 /* Signals during a call of the engine. A run of its machine makes a small memory request once for some thousand steps.
- * These functions stand before malloc and realloc in the extension: they run the handlers of signals, and if one of them
- * raises an exception, they refuse all requests from then on, which ends the call. */
+ * These functions stand before malloc and realloc in the extension: they run the handlers of signals, and if one of
+ * them raises an exception, they refuse all requests from then on, which ends the call. */
 #include "native.h"
 
 #include <time.h>

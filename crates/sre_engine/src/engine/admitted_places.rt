@@ -1,8 +1,8 @@
 //! FIRST sets by address, computed in the course of an iteration.
 //!
 //! With these sets the machine rejects an alternative by one character. Computing them takes the time of some steps. So
-//! an iteration does it after its first steps if much of the text is left, and else after many steps, which may be those
-//! of many texts.
+//! an iteration does it after its first steps if much of the text is left, and else after many steps. These may be
+//! those of many texts.
 
 ghost use Rattle.std.specs.Prelude.{◌≡◌, ℕ, List, []};
 ghost use Rattle.sre_code.specs.Codes.{items_of};

@@ -185,8 +185,9 @@ impl<A: Allocator + Copy> State<A> {
         (self.start, self.cursor) = (start, req.string().create_cursor(start));
     }
 
-    /// Drops the captures, and the memory too if there is much of it, some ten thousand bytes or more. So a state can be
-    /// kept for the next text. Start, cursor and counts are unspecified then.
+    /// Drops the captures, and the memory of backtrack stack and memo if there are some ten thousand bytes of it. That
+    /// of the capture slots stays. So a state can be kept for the next text. Start, cursor and counts are unspecified
+    /// then.
     ///
     /// ```
     /// // The bytecode of `(a)b`.
