@@ -71,6 +71,7 @@ fn main(rt: HostRuntime) -> Result<(), std::alloc::AllocError> {
         code,
         kept: sre_handle::KeptSlot::empty(),
         is_kept: false,
+        reads_utf8: false,
     };
     sre_pattern_answer_bytes(alloc, &mut pattern, &[], &asked, &mut found, &mut rows);
     sre_pattern_answer_utf8(alloc, &mut pattern, &[], &asked, &mut found, &mut rows);
@@ -81,6 +82,7 @@ fn main(rt: HostRuntime) -> Result<(), std::alloc::AllocError> {
         code: _,
         kept,
         is_kept: _,
+        reads_utf8: _,
     } = pattern;
     kept.discard();
     Ok(())
