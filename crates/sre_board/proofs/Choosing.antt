@@ -13,7 +13,7 @@ use Rattle.sre_turns.specs.declared.Point.TheVariants.{Instruction}
 use Rattle.sre_chars.specs.declared.string.StringCursor.{StringCursor}
 use Rattle.sre_turns.specs.declared.Frame.{Frame}
 use Rattle.sre_board.specs.Choices.{choice_of, board_of, Fits, regions_of, regions_in}
-use Rattle.sre_board.specs.declared.board.Saved.{Saved}
+use Rattle.sre_board.specs.declared.saved.Saved.{Saved}
 
 abbrev pub Table : Type 0
 Table = List (List Frame)

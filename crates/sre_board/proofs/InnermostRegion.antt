@@ -12,7 +12,7 @@ use Rattle.sre_turns.specs.declared.Point.TheVariants.{Instruction, Alternatives
 use Rattle.sre_turns.specs.declared.Point.TheVariants.{TriedAgain}
 use Rattle.sre_turns.specs.declared.Point.{Point}
 use Rattle.sre_board.specs.Choices.{choice_of, board_of, Fits, regions_of, regions_in, down_to_region}
-use Rattle.sre_board.specs.declared.board.Saved.{Saved}
+use Rattle.sre_board.specs.declared.saved.Saved.{Saved}
 use Rattle.sre_board.proofs.Choosing.{Table, Agree, fits-more, same_choices}
 
 -- from the innermost region on, as the board has it and as its value has it

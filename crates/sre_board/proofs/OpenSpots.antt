@@ -17,7 +17,7 @@ use Rattle.sre_turns.specs.declared.Point.TheVariants.{TriedAgain}
 use Rattle.sre_board.specs.Failures.{Kept}
 use Rattle.sre_board.specs.Choices.{Fits, is_tried}
 use Rattle.std.proofs.lemmas.Bool.{true≢false}
-use Rattle.sre_board.specs.declared.board.Saved.{Saved}
+use Rattle.sre_board.specs.declared.saved.Saved.{Saved}
 use Rattle.sre_board.specs.Ends.{EndsTable, HoldsEnd, HoldsSpotMore, HoldsOpenMore, IsOpenSpot, HasEnd}
 use Rattle.sre_board.specs.Ends.{KeepsSpotEnds, KeepsOpenEnds, HoldsOpenEnds}
 use Rattle.sre_board.proofs.EndsKept.{each_among}

@@ -9,7 +9,7 @@ use Rattle.sre_turns.specs.Board.{Choice, choice, BoardValue}
 use Rattle.sre_turns.specs.declared.Frame.{Frame}
 use Rattle.sre_turns.specs.declared.Point.TheVariants.{Inside, Tried, TriedAgain}
 use Rattle.sre_turns.specs.declared.Point.{Point}
-use Rattle.sre_board.specs.declared.board.Saved.{Saved}
+use Rattle.sre_board.specs.declared.saved.Saved.{Saved}
 
 -- a choice, whose marks are found on the trail and whose loops in the table
 abbrev pub choice_of : List (List Frame) → List Marks → Saved → Choice

@@ -3,21 +3,18 @@
 //! Its value has frames, captures and choices as if each choice held its own copy. In memory all choices share one
 //! trail and one table of chains. A chain is dropped as soon as no choice can return to it.
 
-ghost use Rattle.std.specs.Prelude.{◌≡◌, ℕ, ◌<◌, ◌≤◌, List, [], ◌∷◌, drop, length, reverse, IfOk, MatchOption};
+ghost use Rattle.std.specs.Prelude.{◌≡◌, ◌<◌, ◌≤◌, [], ◌∷◌, drop, length, IfOk, MatchOption};
 ghost use Rattle.std.specs.Prelude.{true, false, slice_index_or, IfSome, OnErr, ◌+◌, ◌^◌};
 ghost use Rattle.sre_model.specs.Marks.{no_marks, set_mark, group};
-ghost use Rattle.sre_model.specs.Marks as values;
-ghost use Rattle.sre_turns.specs.declared.Frame.{Frame};
-ghost use Rattle.sre_chars.specs.declared.string.StringCursor.{StringCursor};
 ghost use Rattle.sre_growth.specs.Refusal.{Refused};
 ghost use Rattle.sre_turns.specs.Board.{Keep, Trying, choice, from_region, Cuts, Dropped, MayBeTried, bare};
 ghost use Rattle.sre_turns.specs.Fruit.{is_inside};
-ghost use Rattle.sre_turns.specs.declared.Point.TheVariants.{Instruction, Inside};
-ghost use Rattle.sre_board.specs.Choices.{Fits, regions_of, is_tried, down_to_region, WaitsAt};
+ghost use Rattle.sre_board.specs.Choices.{WaitsAt};
 
 use crate::chains::{Chains, frame_of};
 use crate::marks::Marks;
 use crate::requests::Requests;
+use crate::saved::{Saved, goes_on_at, innermost, kept, mark_of, needed, regions_of};
 use crate::trail::Trail;
 use sre_chars::string::StringCursor;
 use sre_growth::Refusal;
@@ -28,18 +25,8 @@ use std::marker::Model;
 /// How many characters a search for one character scans, at least, in the time that a repeat takes for one.
 pub const LOOK_SPEED: usize = 32;
 
-// A stack has much memory if there is room for more choices, changes or chains.
+// A stack has much memory if there is room for more choices, changes, chains or capture slots.
 const MANY: usize = 256;
-
-/// A choice: where to continue, the loops in progress, and how many changes and chains there were when it was saved.
-#[derive(Clone, Copy)]
-pub struct Saved {
-    pub point: Point,
-    pub cursor: StringCursor,
-    pub frame: usize,
-    pub chains: usize,
-    pub changes: usize,
-}
 
 /// The loops in progress, the captures and the choices. It counts the atomic scopes among the choices.
 #[derive(Drop)]
@@ -70,113 +57,6 @@ impl<A: Allocator> Model for Board<A> {
     ghost invariant = { λ b.
         (b.frame < length b.chains) × Fits (reverse b.choices.items) (length b.chains) (length b.trail.past)
         × (b.regions ≡ regions_in (reverse b.choices.items)) };
-}
-
-// How many chains the choices need.
-#[inline(always)]
-fn kept(saved: &[Saved]) -> usize
-    ensures { (n more changes : ℕ) → result < n → Fits (reverse saved.now) more changes
-        → Fits (reverse saved.now) n changes }
-{
-    if saved.is_empty() {
-        return 0;
-    }
-    saved[saved.len() - 1].chains
-}
-
-// How many changes the choices need.
-#[inline(always)]
-fn needed(saved: &[Saved]) -> usize
-    ensures { (n changes : ℕ) → Fits (reverse saved.now) n changes
-        → (result ≤ changes) × Fits (reverse saved.now) n result }
-{
-    if saved.is_empty() {
-        return 0;
-    }
-    saved[saved.len() - 1].changes
-}
-
-// The number of atomic scopes that a choice is, 0 or 1.
-#[inline(always)]
-fn regions_of(point: Point) -> usize
-    ensures { result ≡ regions_of point }
-{
-    match point {
-        Point::Inside(_) => 1,
-        _ => 0,
-    }
-}
-
-// The marker on the stack that a point is tried.
-#[inline(always)]
-fn mark_of(point: Point) -> Point
-    requires { MayBeTried point }
-    ensures { (fs : List Frame) (c : StringCursor) (m : values.Marks) → choice result fs c m ≡ Trying point fs c m }
-{
-    match point {
-        Point::Instruction(place) => Point::Tried(place),
-        Point::Again => Point::TriedAgain,
-        Point::Alternatives(_) => unreachable!(),
-        Point::Shorter(_, _) => unreachable!(),
-        Point::Longer(_, _) => unreachable!(),
-        Point::Inside(_) => unreachable!(),
-        Point::Tried(_) => unreachable!(),
-        Point::TriedAgain => unreachable!(),
-    }
-}
-
-/// The point that a choice marks as tried, if it is a marker.
-#[inline(always)]
-pub(crate) fn tried_of(point: Point) -> Option<Point>
-    ensures { MatchOption result (is_tried point ≡ false)
-        (λ tried. (fs : List Frame) (c : StringCursor) (m : values.Marks) → choice point fs c m ≡ Trying tried fs c m) }
-{
-    match point {
-        Point::Tried(place) => Some(Point::Instruction(place)),
-        Point::TriedAgain => Some(Point::Again),
-        Point::Instruction(_) => None,
-        Point::Alternatives(_) => None,
-        Point::Shorter(_, _) => None,
-        Point::Longer(_, _) => None,
-        Point::Inside(_) => None,
-        Point::Again => None,
-    }
-}
-
-// Whether a choice continues at an instruction and a cursor, with the loops of a chain, and, if captures matter, after
-// so many changes.
-#[inline(always)]
-fn goes_on_at(
-    saved: Saved,
-    place: usize,
-    cursor: StringCursor,
-    frame: usize,
-    changes: usize,
-    marks_matter: bool,
-) -> bool
-    ensures { result ≡ true → (saved.point ≡ Instruction place) × (saved.cursor ≡ cursor)
-        × (saved.frame ≡ frame) × (marks_matter ≡ true → saved.changes ≡ changes) }
-{
-    saved.point == Point::Instruction(place)
-        && saved.cursor == cursor
-        && saved.frame == frame
-        && (!marks_matter || saved.changes == changes)
-}
-
-// Pops the choices down to the innermost atomic scope, and that too.
-#[inline(always)]
-fn innermost<A: Allocator>(choices: &mut Vec<Saved, A>) -> Option<(Region, Saved)>
-    ensures { MatchOption result
-        (down_to_region (reverse choices.old.items) ≡ [])
-        (λ x.
-        (x.1.point ≡ Inside x.0) × (down_to_region (reverse choices.old.items) ≡ x.1 ∷ reverse choices.new.items)) }
-{
-    'choice: loop {
-        let saved = choices.pop()?;
-        if let Point::Inside(region) = saved.point {
-            return Some((region, saved));
-        }
-    }
 }
 
 impl<A: Allocator + Copy> Board<A> {
@@ -225,7 +105,7 @@ impl<A: Allocator> Board<A> {
         }
     }
 
-    /// Whether it has much memory, some ten thousand bytes or more.
+    /// Whether it has much memory, for choices, changes, chains or capture slots: some thousand bytes or more.
     pub fn is_large(&self) -> bool {
         self.choices.capacity() > MANY
             || self.chains.capacity() > MANY

@@ -10,9 +10,10 @@ ghost use Rattle.sre_board.specs.Ends.{end_at, page_at, SameEnds, PutsEnd};
 ghost use Rattle.sre_model.specs.Marks.{Marks};
 ghost use Rattle.sre_turns.specs.Moves.{spot_at};
 
-use crate::board::{Board, Saved, tried_of};
+use crate::board::Board;
 use crate::chains::Chains;
 use crate::failures::Failures;
+use crate::saved::{Saved, tried_of};
 use sre_chars::string::StringCursor;
 use sre_growth::Refusal;
 use sre_turns::Point;

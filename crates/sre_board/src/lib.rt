@@ -14,10 +14,12 @@ mod failures;
 mod marks;
 mod places;
 mod requests;
+mod saved;
 mod slots;
 mod trail;
 
-pub use board::{Board, LOOK_SPEED, Saved};
+pub use board::{Board, LOOK_SPEED};
 pub use ends::Ends;
 pub use failures::{Failures, Known};
 pub use marks::{Change, Marks};
+pub use saved::Saved;

@@ -150,6 +150,11 @@ impl<A: Allocator> Marks<A> {
         }
     }
 
+    // How many slots there is room for.
+    pub(crate) fn capacity(&self) -> usize {
+        self.raw.capacity()
+    }
+
     // Whether slot `n` is set to `position`.
     #[inline(always)]
     pub(crate) fn stands_at(&self, n: u32, position: usize) -> bool

@@ -57,9 +57,9 @@ impl<A: Allocator> Trail<A> {
         self.changes.len()
     }
 
-    /// How many changes there is room for.
+    /// How many changes or capture slots there is room for, whichever is more.
     pub(crate) fn capacity(&self) -> usize {
-        self.changes.capacity()
+        self.changes.capacity().max(self.marks.capacity())
     }
 
     /// Drops all captures for good, and keeps the memory.

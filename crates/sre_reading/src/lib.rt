@@ -9,5 +9,6 @@ pub mod one_character;
 pub mod position;
 pub mod references;
 pub mod runs;
+mod takers;
 pub mod text;
 pub mod words;

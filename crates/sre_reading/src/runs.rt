@@ -2,30 +2,22 @@
 //!
 //! The opcode is matched once, before a loop of its own that has the operands at hand.
 
-ghost use Rattle.std.specs.Prelude.{⊤, ◌≡◌, ℕ, ◌+◌, ◌-◌, ◌<◌, ◌≤◌, Bool, true, false, cond, List, length, IfSome};
-ghost use Rattle.std.specs.Prelude.{slice_range};
-ghost use Rattle.sre_chars.specs.Numbers.{category_number};
-ghost use Rattle.sre_chars.specs.Categories.{category};
-ghost use Rattle.sre_chars.specs.Tables.{Table, is_between};
-ghost use Rattle.sre_model.specs.Tree.{Test, SetItem, Charset};
-ghost use Rattle.sre_model.specs.Characters.{item_holds, is_member};
-ghost use Rattle.sre_code.specs.AsciiSet.{contains};
+ghost use Rattle.std.specs.Prelude.{◌≡◌, ℕ, ◌+◌, ◌-◌, ◌<◌, ◌≤◌, Bool, true, false, cond, length, IfSome};
+ghost use Rattle.sre_model.specs.Tree.{Test};
 ghost use Rattle.sre_model.specs.Subject.{passes};
 ghost use Rattle.sre_model.specs.Ways.{most_from, run_length, longest_run};
-ghost use Rattle.sre_model.specs.Standing.{SetStands};
 ghost use Rattle.sre_request.specs.Requests.{end_of};
 ghost use Rattle.sre_request.specs.Runs.{run_of, OpcodeAt, Standing, TestAt};
-ghost use Rattle.sre_reading.specs.AsciiSets.{IsAsciiPart};
 ghost use Rattle.sre_reading.specs.Stretches.{IsLongest, SaysOtherwiseOf, GoesUpTo, GoesOnTo};
 ghost use Rattle.sre_reading.specs.Reads.{TestStandsAt, test_takes};
 
 use crate::one_character::{opcode, takes};
+use crate::takers::{Between, Bits, OfCategory, OfSet, Taker};
 use crate::text::{back_one, read};
-use sre_chars::constants::{MAXREPEAT, SreCatCode, SreOpcode};
-use sre_chars::string::{LentTable, StrDrive, StringCursor};
+use sre_chars::constants::{MAXREPEAT, SreOpcode};
+use sre_chars::string::{StrDrive, StringCursor};
 use sre_code::ascii_members::ascii_members;
 use sre_code::ascii_set::AsciiSet;
-use sre_code::members::{has_bit, is_between, is_in_category, is_member};
 use sre_code::operands::{category_code, operand, word};
 use sre_request::Request;
 
@@ -225,101 +217,6 @@ fn run_by<S: StrDrive, const WANTED: bool>(
     match only_other::<S, WANTED>(req, place, opcode) {
         Some(other) => run_but::<S, WANTED>(req, place, opcode, other, most, start),
         None => run_tested::<S, WANTED>(req, place, opcode, most, start),
-    }
-}
-
-// A test with its operands at hand.
-trait Taker {
-    // What is known of its operands.
-    ghost fits: { Self → Type 0 };
-    // Whether it takes a character.
-    ghost says: { Self → ℕ → Bool → Type 0 };
-
-    fn takes(&self, character: u32) -> bool
-        requires { fits self.now }
-        ensures { says self.now character result };
-}
-
-// Takes the characters from low to high.
-#[derive(Clone, Copy)]
-struct Between {
-    low: u32,
-    high: u32,
-}
-
-impl Taker for Between {
-    ghost fits = { λ b. ⊤ };
-
-    ghost says = { λ b c taken. taken ≡ is_between b.low b.high c };
-
-    #[inline(always)]
-    fn takes(&self, character: u32) -> bool {
-        is_between(self.low, self.high, character)
-    }
-}
-
-// Takes the characters below 256 whose bit is set in the eight words after a CHARSET.
-#[derive(Clone, Copy)]
-struct Bits<'a> {
-    words: &'a [u32],
-    place: usize,
-}
-
-impl<'a> Taker for Bits<'a> {
-    ghost fits = { λ b. b.place + 9 ≤ length b.words.now };
-
-    ghost says = { λ b c taken. (table : Table)
-        → taken ≡ item_holds table (Charset (slice_range b.words.now (b.place + 1) (b.place + 9))) c };
-
-    #[inline(always)]
-    fn takes(&self, character: u32) -> bool {
-        has_bit(self.words, self.place, character)
-    }
-}
-
-// Takes the characters of a category; the ASCII ones are at hand.
-#[derive(Clone, Copy)]
-struct OfCategory<'a> {
-    uni: &'a LentTable<'a>,
-    code: SreCatCode,
-    ascii: AsciiSet,
-}
-
-impl<'a> Taker for OfCategory<'a> {
-    ghost fits = { λ o. (c : ℕ) → c < 128 → contains o.ascii c ≡ category o.uni.now (category_number o.code) c };
-
-    ghost says = { λ o c taken. taken ≡ category o.uni.now (category_number o.code) c };
-
-    #[inline(always)]
-    fn takes(&self, character: u32) -> bool {
-        if character < 128 {
-            return self.ascii.contains(character);
-        }
-        is_in_category(self.uni, self.code, character)
-    }
-}
-
-// Takes the characters of a set; the ASCII ones are at hand.
-#[derive(Clone, Copy)]
-struct OfSet<'a> {
-    words: &'a [u32],
-    uni: &'a LentTable<'a>,
-    set: usize,
-    ascii: AsciiSet,
-}
-
-impl<'a> Taker for OfSet<'a> {
-    ghost fits = { λ o. IsAsciiPart o.words.now o.uni.now o.set o.ascii };
-
-    ghost says = { λ o c taken. (j : ℕ) (set : List SetItem) → SetStands o.words.now o.set j set
-        → taken ≡ is_member o.uni.now set c };
-
-    #[inline(always)]
-    fn takes(&self, character: u32) -> bool {
-        if character < 128 {
-            return self.ascii.contains(character);
-        }
-        is_member(self.words, self.uni, self.set, character)
     }
 }
 

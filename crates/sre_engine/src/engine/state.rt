@@ -185,9 +185,8 @@ impl<A: Allocator + Copy> State<A> {
         (self.start, self.cursor) = (start, req.string().create_cursor(start));
     }
 
-    /// Drops the captures, and the memory of backtrack stack and memo if there are some ten thousand bytes of it. That
-    /// of the capture slots stays. So a state can be kept for the next text. Start, cursor and counts are unspecified
-    /// then.
+    /// Drops the captures, and all memory if there is much of it, so that a state can be kept for the next text. Start,
+    /// cursor and counts are unspecified then.
     ///
     /// ```
     /// // The bytecode of `(a)b`.
@@ -294,36 +293,6 @@ impl<A: Allocator + Copy> State<A> {
             Ok(found) => Ok(Some(found)),
             Err(Halt::Refused(refusal)) => Err(SreError::from(refusal)),
             Err(Halt::UsedUp) => Ok(None),
-        }
-    }
-
-    // Matches as `pymatch` does, from a cursor at the start of the range. The counts of the last search do not change.
-    fn match_from<S: StrDrive>(
-        &mut self,
-        req: &Request<'_, S>,
-        from: StringCursor,
-        allowed: &mut Allowance,
-    ) -> Result<bool, Halt<A>>
-        requires { stands_in req.now from (start_of req.now) }
-        ensures answer { (t : Tree) → Whole (words_of (code_of req.now)) t
-            → IfOk result (λ b. answer_of b self.new ≡ matched (asked_of req.now) t) }
-        ensures cursor { IfOk result (λ b. b ≡ true → stands_in req.now self.new.cursor self.new.cursor.position) }
-        ensures span { IfOk result (λ b. b ≡ true → Spans (start_of req.now) (end_of req.now) self.new) }
-        ensures no { IfOk result (λ b. b ≡ false → self.new.marks ≡ no_marks) }
-        ensures err { OnErr result (self.new.marks ≡ no_marks) }
-        ensures charged { Charged req.now result 1 2 allowed.old allowed.new }
-        ensures counts { CountsStay self.old self.new }
-    {
-        let counted = self.runner.begun();
-        self.runner.begin(req, allowed.is_limited());
-        let told = self.runner.attempt(req, 0, from, allowed);
-        self.runner.count(counted);
-        match told? {
-            Some(end) => {
-                (self.start, self.cursor) = (req.start(), end);
-                Ok(true)
-            }
-            None => Ok(false),
         }
     }
 

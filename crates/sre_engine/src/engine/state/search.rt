@@ -1,4 +1,5 @@
-//! The search: it tries candidate after candidate, of the kind that the confirmed hints select.
+//! Matches and searches from a cursor. A search tries candidate after candidate, of the kind that the confirmed hints
+//! select.
 
 ghost use Rattle.std.specs.Prelude.{◌≡◌, ◌≤◌, true, false, OnErr};
 ghost use Rattle.sre_request.specs.Requests.{string_of, start_of, code_of, asked_of, stands_in};
@@ -27,6 +28,36 @@ use sre_request::Request;
 use std::alloc::Allocator;
 
 impl<A: Allocator + Copy> State<A> {
+    // Matches as `pymatch` does, from a cursor at the start of the range. The counts of the last search do not change.
+    pub(crate) fn match_from<S: StrDrive>(
+        &mut self,
+        req: &Request<'_, S>,
+        from: StringCursor,
+        allowed: &mut Allowance,
+    ) -> Result<bool, Halt<A>>
+        requires { stands_in req.now from (start_of req.now) }
+        ensures answer { (t : Tree) → Whole (words_of (code_of req.now)) t
+            → IfOk result (λ b. answer_of b self.new ≡ matched (asked_of req.now) t) }
+        ensures cursor { IfOk result (λ b. b ≡ true → stands_in req.now self.new.cursor self.new.cursor.position) }
+        ensures span { IfOk result (λ b. b ≡ true → Spans (start_of req.now) (end_of req.now) self.new) }
+        ensures no { IfOk result (λ b. b ≡ false → self.new.marks ≡ no_marks) }
+        ensures err { OnErr result (self.new.marks ≡ no_marks) }
+        ensures charged { Charged req.now result 1 2 allowed.old allowed.new }
+        ensures counts { CountsStay self.old self.new }
+    {
+        let counted = self.runner.begun();
+        self.runner.begin(req, allowed.is_limited());
+        let told = self.runner.attempt(req, 0, from, allowed);
+        self.runner.count(counted);
+        match told? {
+            Some(end) => {
+                (self.start, self.cursor) = (req.start(), end);
+                Ok(true)
+            }
+            None => Ok(false),
+        }
+    }
+
     // Searches as `search` does, from a cursor at the start of the range. The kinds are tried in this order, since a
     // prefix skips more starts than a first set does, and a first set more than FIRST sets.
     #[tactic(auto, using(crate::proofs::Carrying::at_once))]

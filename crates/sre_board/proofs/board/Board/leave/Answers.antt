@@ -1,6 +1,6 @@
 use Rattle.std.proofs.Common.{ℕ, ◌<◌, ◌≤◌, ◌+◌, ◌-◌, List, reverse, arith, subst}
 use Rattle.sre_board.specs.Choices.{Fits}
-use Rattle.sre_board.specs.declared.board.Saved.{Saved}
+use Rattle.sre_board.specs.declared.saved.Saved.{Saved}
 use Rattle.sre_board.proofs.Choosing.{forget_held}
 use Rattle.sre_board.proofs.board.Board.leave.Goals as goal
 

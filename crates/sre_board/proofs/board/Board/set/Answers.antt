@@ -1,7 +1,7 @@
 use Rattle.std.proofs.Common.{ℕ, ◌≤◌, List, reverse, arith, subst}
 use Rattle.std.proofs.lemmas.Result.{IfOk-weaker}
 use Rattle.sre_board.specs.Choices.{Fits}
-use Rattle.sre_board.specs.declared.board.Saved.{Saved}
+use Rattle.sre_board.specs.declared.saved.Saved.{Saved}
 use Rattle.sre_board.proofs.Choosing.{fits-more, set_held}
 use Rattle.sre_board.proofs.board.Board.set.Goals as goal
 

@@ -1,6 +1,6 @@
 use Rattle.std.proofs.Common.{◌≡◌, reverse, length}
 use Rattle.sre_board.specs.Choices.{down_to_region}
-use Rattle.sre_board.proofs.board.innermost.Given as goal
+use Rattle.sre_board.proofs.saved.innermost.Given as goal
 
 abbrev pub invariant-choice : goal.invariant-choice
 invariant-choice g l = down_to_region (reverse l.choices.items) ≡ down_to_region (reverse l.initial.choices.items)
