@@ -1,4 +1,4 @@
-pub mod Admitted
+pub mod KnownSets
 pub mod Telling
 pub mod Budgets
 pub mod RowBudgets

@@ -3,7 +3,7 @@
 ghost use Rattle.std.specs.Prelude.{◌≡◌, ◌<◌, ◌≤◌, ℕ, length, slice_index, slice_index_or, None, true, false, OnErr};
 ghost use Rattle.sre_growth.specs.Refusal.{Refused};
 ghost use Rattle.sre_model.specs.Grammar.{behind_block};
-ghost use Rattle.sre_request.specs.Admitting.{AllAdmitted};
+ghost use Rattle.sre_engine.specs.FirstSets.{SetsOf};
 ghost use Rattle.sre_engine.specs.Codes.{words_of, uni_of};
 ghost use Rattle.sre_code.specs.Codes.{items_of};
 ghost use Rattle.sre_engine.specs.Requests.{asked_of, code_of};
@@ -139,16 +139,16 @@ fn reply<S: StrDrive, H: Asks<S>>(
     marks: &mut [usize],
 ) -> Status
     requires suits { H.suits how.old (words_of (code_of request)) (uni_of (code_of request)) }
-    requires admitted { AllAdmitted (items_of (code_of request)) memory.old.places }
+    requires sets { SetsOf (items_of (code_of request)) memory.old.sets }
     ensures replies { Replies (words_of (code_of request.entry)) (asked_of request.entry) asked.now.search result
         asked.now.steps (length marks.old) found.new marks.new }
     ensures steps { found.new.steps ≤ asked.now.steps }
     ensures unlimited { asked.now.steps ≡ no_limit → found.new.steps ≡ asked.now.steps }
     ensures suits { H.suits how.new (words_of (code_of request.entry)) (uni_of (code_of request.entry)) }
-    ensures admitted { AllAdmitted (items_of (code_of request.entry)) memory.new.places }
+    ensures sets { SetsOf (items_of (code_of request.entry)) memory.new.sets }
 {
-    memory.places.note_step(&request);
-    let request = request.with_admitted(memory.places.list());
+    memory.sets.note_step(&request);
+    let request = request.with_admitted(memory.sets.list());
     let mut steps = asked.steps;
     let told = ask(
         alloc,
@@ -176,13 +176,13 @@ fn answer_by<'a, S: StrDrive, H: Asks<S>>(
 ) -> Status
     requires table { uni.now ≡ table_in code.now.table.now }
     requires steps { found.old.steps ≡ asked.now.steps }
-    requires admitted { AllAdmitted (behind_block code.now.words.now) memory.old.places }
+    requires sets { SetsOf (behind_block code.now.words.now) memory.old.sets }
     requires suits { H.suits how.old code.now.words.now (table_in code.now.table.now) }
     ensures answers { Answers result code.now (S.text text) asked.now (length marks.old) found.new marks.new }
     ensures steps { found.new.steps ≤ asked.now.steps }
     ensures unlimited { asked.now.steps ≡ no_limit → found.new.steps ≡ asked.now.steps }
     ensures suits { H.suits how.new code.now.words.now (table_in code.now.table.now) }
-    ensures admitted { AllAdmitted (behind_block code.now.words.now) memory.new.places }
+    ensures sets { SetsOf (behind_block code.now.words.now) memory.new.sets }
 {
     let code = match check::code(alloc, code, uni) {
         Ok(code) => code,
@@ -225,12 +225,12 @@ pub fn answer_in<'c, S: StrDrive, H: Asks<S>>(
     marks: &mut [usize],
 ) -> Status
     requires suits { H.suits how.old code.now.words.now (table_in code.now.table.now) }
-    requires admitted { AllAdmitted (behind_block code.now.words.now) memory.old.places }
+    requires sets { SetsOf (behind_block code.now.words.now) memory.old.sets }
     ensures answers { Answers result code.now (S.text text) asked.now (length marks.old) found.new marks.new }
     ensures steps { found.new.steps ≤ asked.now.steps }
     ensures unlimited { asked.now.steps ≡ no_limit → found.new.steps ≡ asked.now.steps }
     ensures suits { H.suits how.new code.now.words.now (table_in code.now.table.now) }
-    ensures admitted { AllAdmitted (behind_block code.now.words.now) memory.new.places }
+    ensures sets { SetsOf (behind_block code.now.words.now) memory.new.sets }
 {
     found.steps = asked.steps;
     match table(alloc, code.table) {

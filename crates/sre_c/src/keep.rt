@@ -3,7 +3,7 @@
 ghost use Rattle.std.specs.Prelude.{◌≡◌, ◌≤◌, ℕ, List, length, IfSome, None};
 ghost use Rattle.sre_chars.specs.Tables.{Table};
 ghost use Rattle.sre_model.specs.Grammar.{behind_block};
-ghost use Rattle.sre_request.specs.Admitting.{AllAdmitted};
+ghost use Rattle.sre_engine.specs.FirstSets.{SetsOf};
 ghost use Rattle.sre_finder.specs.Kepts.{Suits};
 ghost use Rattle.sre_c.specs.Known.{table_in};
 ghost use Rattle.sre_c.specs.Answered.{Answers};
@@ -17,7 +17,6 @@ use crate::pattern::SrePattern;
 use crate::status::Status;
 use crate::types::{SreAsked, SreFound, SreWalked};
 use crate::walk::walk;
-use sre_chars::constants::SreOpcode;
 use sre_finder::{Encoding, Haystack, Kept, Memory};
 use sre_handle::{KeptSlot, RawBox};
 use std::alloc::Global;
@@ -69,30 +68,16 @@ fn put(pattern: &mut SrePattern<'_>, kept: Box<Kept>)
     pattern.is_kept = true;
 }
 
-// With more capture slots in its bytecode, a code keeps no memory: slots take 16 bytes each, up to the greatest.
-const MOST_SLOTS: u32 = 512;
-
-// Whether the bytecode sets no slot of a great number. An operand may be taken for a MARK, which costs the memory.
-fn has_few_slots(words: &[u32]) -> bool {
-    'place: for place in 1..words.len() {
-        if words[place - 1] == SreOpcode::MARK as u32 && words[place] >= MOST_SLOTS {
-            return false;
-        }
-    }
-    true
-}
-
-// Takes out the memory that is kept, or allocates one. `None` if that fails, or if memory is not to be kept.
+// Takes out the memory that is kept, or allocates one. `None` if that fails.
 #[inline(always)]
-fn memory_in(alloc: Global, kept: &mut Kept, words: &[u32]) -> Option<Box<Memory>>
+fn memory_in(alloc: Global, kept: &mut Kept) -> Option<Box<Memory>>
     ensures suits { (ws : List ℕ) (uni : Table) → Suits ws uni kept.old → Suits ws uni kept.new }
-    ensures admitted { (ws : List ℕ) (uni : Table) → Suits ws uni kept.old
-        → IfSome result (λ m. AllAdmitted (behind_block ws) m.value.places) }
+    ensures sets { (ws : List ℕ) (uni : Table) → Suits ws uni kept.old
+        → IfSome result (λ m. SetsOf (behind_block ws) m.value.sets) }
 {
     match kept.take_memory() {
         Some(memory) => Some(memory),
-        None if has_few_slots(words) => Box::new(alloc, Memory::new(alloc)).ok(),
-        None => None,
+        None => Box::new(alloc, Memory::new(alloc)).ok(),
     }
 }
 
@@ -112,7 +97,7 @@ fn answer_kept<'c, S: Haystack>(
     ensures unlimited { asked.now.steps ≡ no_limit → found.new.steps ≡ asked.now.steps }
     ensures suits { Suits code.now.words.now (table_in code.now.table.now) kept.new }
 {
-    let Some(mut memory) = memory_in(alloc, kept, code.words) else {
+    let Some(mut memory) = memory_in(alloc, kept) else {
         return answer(alloc, kept, code, text, asked, found, marks);
     };
     let status = answer_in(alloc, kept, &mut *memory, code, text, asked, found, marks);

@@ -46,3 +46,5 @@ pub mod Searches
 pub mod Within
 pub mod Candidates
 pub mod Prefixed
+pub mod FirstSets
+pub mod OneSetsOf

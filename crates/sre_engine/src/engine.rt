@@ -1,12 +1,13 @@
 //! The calls: a match, a search, the iteration over all matches.
 
-mod admitted_places;
 mod anchors;
 mod candidates;
 mod first_characters;
+mod first_sets;
 mod leading_run;
 mod members;
 mod next_start;
+mod opening;
 mod prefix;
 mod search_iter;
 mod state;
@@ -15,8 +16,8 @@ mod walk;
 mod whole_walk;
 mod widths;
 
-pub use admitted_places::AdmittedPlaces;
 pub use first_characters::Beginnings;
+pub use first_sets::FirstSets;
 pub use search_iter::SearchIter;
 pub use sre_board::Marks;
 pub use sre_request::Request;

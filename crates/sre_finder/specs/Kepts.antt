@@ -7,7 +7,7 @@ use Rattle.sre_code.specs.Codes.{words_of, uni_of}
 use Rattle.sre_code.specs.declared.code.Code.{Code}
 use Rattle.sre_patterns.specs.declared.encoding.Encoding.{Encoding}
 use Rattle.sre_patterns.specs.declared.encoding.Encoding.TheVariants.{Bytes, Ascii, Utf8}
-use Rattle.sre_request.specs.Admitting.{AllAdmitted}
+use Rattle.sre_engine.specs.FirstSets.{SetsOf}
 use Rattle.sre_finder.specs.Finders.{CoveringAny}
 use Rattle.sre_finder.specs.Spans.{ExactlyAny}
 use Rattle.sre_finder.specs.declared.kept.Kept.{Kept}
@@ -20,7 +20,7 @@ pub record Suits (ws : List ℕ) (uni : Table) (kept : Kept) : Type 0 where
       → CoveringAny kept.starts.encoding code kept.starts.whole
   pub exact : (code : Code) → words_of code ≡ ws → uni_of code ≡ uni
       → ExactlyAny kept.spans.encoding code kept.spans.exact
-  pub serves : IfSome kept.memory (λ m. AllAdmitted (behind_block ws) m.value.places)
+  pub serves : IfSome kept.memory (λ m. SetsOf (behind_block ws) m.value.sets)
 
 -- how a text is read beside others that were read: once one was not ASCII, all as UTF-8
 abbrev pub encoding_beside : Encoding → Encoding → Encoding

@@ -1,10 +1,10 @@
 //! What a pattern keeps from text to text, without the code that it borrows.
 
-ghost use Rattle.std.specs.Prelude.{◌≡◌, ℕ, List, None, [], IfSome};
+ghost use Rattle.std.specs.Prelude.{◌≡◌, ℕ, List, None, IfSome};
 ghost use Rattle.sre_chars.specs.Tables.{Table};
 ghost use Rattle.sre_model.specs.Grammar.{behind_block};
-ghost use Rattle.sre_request.specs.Admitting.{AllAdmitted};
 ghost use Rattle.sre_code.specs.Codes.{words_of, uni_of};
+ghost use Rattle.sre_engine.specs.FirstSets.{SetsOf};
 ghost use Rattle.sre_finder.specs.Kepts.{Suits, encoding_beside};
 
 use crate::finder::Parts;
@@ -12,7 +12,7 @@ use crate::pace::{Alone, Debt, Reads};
 use crate::span_finder::SpanFinder;
 use sre_automata::Seeker;
 use sre_code::Code;
-use sre_engine::engine::{AdmittedPlaces, State};
+use sre_engine::engine::{FirstSets, State};
 use sre_patterns::Encoding;
 use std::alloc::Global;
 use std::mem::replace;
@@ -30,17 +30,17 @@ pub struct Kept {
 #[derive(Drop)]
 pub struct Memory {
     pub state: State<Global>,
-    pub places: AdmittedPlaces<Global>,
+    pub sets: FirstSets<Global>,
 }
 
 impl Memory {
     /// No memory yet, and no FIRST sets. It allocates nothing.
     pub fn new(alloc: Global) -> Memory
-        ensures { result.places ≡ [] }
+        ensures { (ws : List ℕ) → SetsOf ws result.sets }
     {
         let state = State::new(alloc);
-        let places = AdmittedPlaces::new(&state);
-        Memory { state, places }
+        let sets = FirstSets::new(&state);
+        Memory { state, sets }
     }
 }
 
@@ -92,7 +92,7 @@ impl Kept {
     pub fn take_memory(&mut self) -> Option<Box<Memory>>
         ensures suits { (ws : List ℕ) (uni : Table) → Suits ws uni self.old → Suits ws uni self.new }
         ensures serves { (ws : List ℕ) (uni : Table) → Suits ws uni self.old
-            → IfSome result (λ m. AllAdmitted (behind_block ws) m.value.places) }
+            → IfSome result (λ m. SetsOf (behind_block ws) m.value.sets) }
     {
         replace(&mut self.memory, None)
     }
@@ -101,7 +101,7 @@ impl Kept {
     #[inline(always)]
     pub fn put_memory(&mut self, memory: Box<Memory>)
         ensures suits { (ws : List ℕ) (uni : Table) → Suits ws uni self.old
-            → AllAdmitted (behind_block ws) memory.value.places → Suits ws uni self.new }
+            → SetsOf (behind_block ws) memory.value.sets → Suits ws uni self.new }
     {
         let mut memory = memory;
         memory.state.renew();

@@ -7,7 +7,6 @@ ghost use Rattle.sre_model.specs.Grammar.{Whole};
 ghost use Rattle.sre_model.specs.Marks.{no_marks};
 ghost use Rattle.sre_model.specs.Found.{found};
 ghost use Rattle.sre_code.specs.Codes.{items_of, words_of};
-ghost use Rattle.sre_request.specs.Admitting.{AllAdmitted};
 ghost use Rattle.sre_request.specs.Requests.{end_of, code_of, asked_of, stands_in};
 ghost use Rattle.sre_engine.specs.Answers.{answer_of};
 ghost use Rattle.sre_engine.specs.Counts.{KeepsToSteps, runs_of};
@@ -19,8 +18,8 @@ use crate::haystack::Haystack;
 use crate::span_finder::SpanFinder;
 use crate::span_iter::bars;
 use sre_chars::string::{StrDrive, StringCursor};
-use sre_engine::engine::{AdmittedPlaces, Nobody, SreError, Starts, State, step_admitted};
-use sre_request::{Admitted, Request};
+use sre_engine::engine::{FirstSets, Nobody, SreError, Starts, State, step_admitted};
+use sre_request::Request;
 use std::alloc::Allocator;
 
 // Makes the state show the first match of a request that starts at a cursor, by the machine.
@@ -29,11 +28,11 @@ pub(crate) fn show_at<S: StrDrive, A: Allocator + Copy>(
     state: &mut State<A>,
     at: StringCursor,
     must_advance: bool,
-    admitted: &[Admitted],
+    sets: &FirstSets<A>,
 ) -> Result<bool, SreError>
     requires stands { stands_in req.now at at.position }
     requires inside { at.position ≤ end_of req.now }
-    requires admitted { AllAdmitted (items_of (code_of req.now)) admitted.now }
+    requires sets { SetsOf (items_of (code_of req.now)) sets.now }
     ensures answer { (t : Tree) → Whole (words_of (code_of req.now)) t → IfOk result (λ b.
         answer_of b state.new
         ≡ found (record (asked_of req.now) { start = at.position; must_advance = must_advance }) t) }
@@ -48,7 +47,7 @@ pub(crate) fn show_at<S: StrDrive, A: Allocator + Copy>(
     req.set_must_advance(must_advance);
     req.set_start(at.position());
     let mut cursor = at;
-    let shown = step_admitted(&mut req, state, &mut cursor, &mut Nobody, admitted)?;
+    let shown = step_admitted(&mut req, state, &mut cursor, &mut Nobody, sets)?;
     Ok(shown)
 }
 
@@ -82,8 +81,8 @@ impl<'c> SpanFinder<'c> {
         let mut req = req;
         let (from, must_advance) = (req.start(), req.must_advance());
         let mut cursor = req.string().create_cursor(from);
-        let mut places = AdmittedPlaces::new(state);
-        let step = match self.step(&mut req, state, &mut cursor, &mut places) {
+        let mut sets = FirstSets::new(state);
+        let step = match self.step(&mut req, state, &mut cursor, &mut sets) {
             Ok(Some(step)) => step,
             Ok(None) => {
                 state.reset(&req, 0); // captures of an earlier search
@@ -99,7 +98,7 @@ impl<'c> SpanFinder<'c> {
         }
         self.note_shown();
         let advances = bars(must_advance, step.start.position(), from);
-        let shown = show_at(&req, state, step.start, advances, places.list())?;
+        let shown = show_at(&req, state, step.start, advances, &sets)?;
         Ok(shown)
     }
     // `search` by the machine, with the prefilter.

@@ -4,9 +4,9 @@
 ghost use Rattle.std.specs.Prelude.{◌≡◌, true, IfOk, IfSome, OnErr, None};
 ghost use Rattle.sre_growth.specs.Refusal.{Refused};
 ghost use Rattle.sre_code.specs.Codes.{items_of, words_of, uni_of};
-ghost use Rattle.sre_request.specs.Admitting.{AllAdmitted};
 ghost use Rattle.sre_request.specs.Requests.{string_of, start_of, code_of, stands_in};
 ghost use Rattle.sre_engine.specs.Answers.{MayTakeMemory};
+ghost use Rattle.sre_engine.specs.FirstSets.{SetsOf};
 ghost use Rattle.sre_finder.specs.Finders.{EndStands};
 ghost use Rattle.sre_finder.specs.Kepts.{Suits};
 ghost use Rattle.sre_finder.specs.Spans.{ExactlyAny, Knows, Between, StepsFrom, ShowsStep, FindsNone};
@@ -18,7 +18,7 @@ use crate::pace::{Debt, Reads, is_anchored};
 use sre_automata::{FirstMatch, Seeker};
 use sre_chars::string::{StrDrive, StringCursor};
 use sre_code::Code;
-use sre_engine::engine::{AdmittedPlaces, SreError, State, step_admitted};
+use sre_engine::engine::{FirstSets, SreError, State, step_admitted};
 use sre_patterns::{Encoding, ways_of};
 use sre_request::Request;
 use std::alloc::{Allocator, Global};
@@ -230,15 +230,15 @@ impl<'c> SpanFinder<'c> {
         req: &mut Request<'_, S>,
         state: &mut State<A>,
         cursor: &mut StringCursor,
-        places: &mut AdmittedPlaces<A>,
+        sets: &mut FirstSets<A>,
     ) -> Result<Option<Step>, SreError>
         requires own { self.old.code ≡ code_of req.old }
-        requires admitted { AllAdmitted (items_of (code_of req.old)) places.old }
+        requires sets { SetsOf (items_of (code_of req.old)) sets.old }
         requires known { EndStands (S.stands (string_of req.old)) self.old.end }
         requires stands { stands_in req.old cursor.old (start_of req.old) }
         ensures own { self.new.code ≡ code_of req.new }
         ensures encoding { self.new.encoding ≡ self.old.encoding }
-        ensures admitted { AllAdmitted (items_of (code_of req.new)) places.new }
+        ensures sets { SetsOf (items_of (code_of req.new)) sets.new }
         ensures known { EndStands (S.stands (string_of req.new)) self.new.end }
         ensures some { IfOk result (λ o. IfSome o (λ step. StepsFrom req.old step.start req.new)) }
         ensures shows { IfOk result (λ o. IfSome o (λ step.
@@ -250,8 +250,8 @@ impl<'c> SpanFinder<'c> {
         ensures literal { OnErr result (MayTakeMemory (code_of req.old)) }
     {
         let from = *cursor;
-        places.note_step(req);
-        let is_found = step_admitted(req, state, cursor, &mut self.finder, places.list())?;
+        sets.note_step(req);
+        let is_found = step_admitted(req, state, cursor, &mut self.finder, sets)?;
         let reached = if is_found {
             cursor.position()
         } else {
@@ -279,15 +279,15 @@ impl<'c> SpanFinder<'c> {
         req: &mut Request<'_, S>,
         state: &mut State<A>,
         cursor: &mut StringCursor,
-        places: &mut AdmittedPlaces<A>,
+        sets: &mut FirstSets<A>,
     ) -> Result<Option<Step>, SreError>
         requires own { self.old.code ≡ code_of req.old }
-        requires admitted { AllAdmitted (items_of (code_of req.old)) places.old }
+        requires sets { SetsOf (items_of (code_of req.old)) sets.old }
         requires known { EndStands (S.stands (string_of req.old)) self.old.end }
         requires stands { stands_in req.old cursor.old (start_of req.old) }
         ensures own { self.new.code ≡ code_of req.new }
         ensures encoding { self.new.encoding ≡ self.old.encoding }
-        ensures admitted { AllAdmitted (items_of (code_of req.new)) places.new }
+        ensures sets { SetsOf (items_of (code_of req.new)) sets.new }
         ensures known { EndStands (S.stands (string_of req.new)) self.new.end }
         ensures some { IfOk result (λ o. IfSome o (λ step. StepsFrom req.old step.start req.new)) }
         ensures shows { IfOk result (λ o. IfSome o (λ step.
@@ -299,13 +299,13 @@ impl<'c> SpanFinder<'c> {
         ensures literal { OnErr result (MayTakeMemory (code_of req.old)) }
     {
         if self.spans.debt.is_due() {
-            return self.run(req, state, cursor, places);
+            return self.run(req, state, cursor, sets);
         }
         if !self.spans.is_made {
             self.make();
         }
         if self.spans.exact.is_none() || self.spans.alone.is_alone() {
-            return self.run(req, state, cursor, places);
+            return self.run(req, state, cursor, sets);
         }
         // a missing literal is found before DFAs read the text
         let is_first = replace(&mut self.is_new, false);
@@ -323,7 +323,7 @@ impl<'c> SpanFinder<'c> {
                     is_shown: false,
                 }))
             }
-            Known::Unknown => self.run(req, state, cursor, places),
+            Known::Unknown => self.run(req, state, cursor, sets),
         }
     }
 }

@@ -7,16 +7,17 @@ ghost use Rattle.sre_model.specs.Grammar.{Whole};
 ghost use Rattle.sre_model.specs.Marks.{no_marks};
 ghost use Rattle.sre_model.specs.Found.{found};
 ghost use Rattle.sre_code.specs.Codes.{items_of, words_of};
-ghost use Rattle.sre_request.specs.Admitting.{AllAdmitted, one_all_admitted};
 ghost use Rattle.sre_request.specs.Requests.{string_of, start_of, end_of, code_of, asked_of, stands_in};
 ghost use Rattle.sre_engine.specs.Answers.{answer_of, match_shown};
+ghost use Rattle.sre_engine.specs.FirstSets.{SetsOf};
+ghost use Rattle.sre_engine.specs.OneSetsOf.{one_sets_of};
 ghost use Rattle.sre_finder.specs.Finders.{EndStands};
 
 use crate::haystack::Haystack;
 use crate::searched::show_at;
 use crate::span_finder::SpanFinder;
 use sre_chars::string::{StrDrive, StringCursor};
-use sre_engine::engine::{AdmittedPlaces, SreError, State};
+use sre_engine::engine::{FirstSets, SreError, State};
 use sre_request::Request;
 use std::alloc::Allocator;
 
@@ -45,7 +46,7 @@ pub struct SpanIter<'c, 'a, S: StrDrive, A: Allocator + Copy> {
     // whether the state shows it
     is_shown: bool,
     ended: bool,
-    places: AdmittedPlaces<A>,
+    sets: FirstSets<A>,
     ghost own: { finder.code ≡ code_of req },
     ghost known: { ∥ EndStands (S.stands (string_of req)) finder.end ∥₁ },
     ghost here: { ∥ (stands_in req cursor (start_of req)) ∥₁ },
@@ -55,7 +56,7 @@ pub struct SpanIter<'c, 'a, S: StrDrive, A: Allocator + Copy> {
         → found (record (asked_of req) { start = at.position; must_advance = advances }) t
         ≡ Some (match_shown state) },
     ghost ends: { is_shown ≡ true → ∥ (stands_in req state.cursor state.cursor.position) ∥₁ },
-    ghost admitted: { AllAdmitted (items_of (code_of req)) places } by { one_all_admitted },
+    ghost first_sets: { SetsOf (items_of (code_of req)) sets } by { one_sets_of },
 }
 
 // Custom `Drop`, as that of `Finder`.
@@ -70,9 +71,9 @@ impl<'c, 'a, S: StrDrive, A: Allocator + Copy> Drop for SpanIter<'c, 'a, S, A> {
             advances: _,
             is_shown: _,
             ended: _,
-            places,
+            sets,
         } = self;
-        drop((finder, state, places));
+        drop((finder, state, sets));
     }
 }
 
@@ -99,7 +100,7 @@ impl<'c> SpanFinder<'c> {
         finder.begin_walk();
         let cursor = req.string().create_cursor(req.start());
         let advances = req.must_advance();
-        let places = AdmittedPlaces::new(&state);
+        let sets = FirstSets::new(&state);
         SpanIter {
             finder,
             req,
@@ -109,7 +110,7 @@ impl<'c> SpanFinder<'c> {
             advances,
             is_shown: false,
             ended: false,
-            places,
+            sets,
         }
     }
 }
@@ -155,9 +156,8 @@ impl<'c, 'a, S: StrDrive, A: Allocator + Copy> SpanIter<'c, 'a, S, A> {
             return Ok(true);
         }
         self.finder.note_shown();
-        self.places.note_step(&self.req);
-        let (state, admitted) = (&mut self.state, self.places.list());
-        show_at(&self.req, state, self.at, self.advances, admitted)
+        self.sets.note_step(&self.req);
+        show_at(&self.req, &mut self.state, self.at, self.advances, &self.sets)
     }
 
     /// Drops the iteration and returns the finder, for use with another text.
@@ -174,9 +174,9 @@ impl<'c, 'a, S: StrDrive, A: Allocator + Copy> SpanIter<'c, 'a, S, A> {
             advances: _,
             is_shown: _,
             ended: _,
-            places,
+            sets,
         } = self;
-        drop((state, places));
+        drop((state, sets));
         finder
     }
 }
@@ -206,7 +206,7 @@ impl<'c, 'a, S: Haystack, A: Allocator + Copy> SpanIter<'c, 'a, S, A> {
             &mut self.req,
             &mut self.state,
             &mut self.cursor,
-            &mut self.places,
+            &mut self.sets,
         ) {
             Ok(Some(step)) => {
                 self.at = step.start;

@@ -83,20 +83,32 @@ fn rarest(words: &[u32]) -> usize
     place
 }
 
-// The index of the word to seek in a range of so many characters.
+// The index of the word to seek in a range of so many characters. `known` is that of the rarest, if it was chosen.
 #[inline(always)]
-fn sought(words: &[u32], characters: usize) -> usize
+fn sought(words: &[u32], characters: usize, known: Option<usize>) -> usize
     requires { 0 < length words.now }
     ensures { result < length words.now }
 {
     if characters <= FEW {
         return 0;
     }
-    rarest(words)
+    match known {
+        Some(place) if place < words.len() => place,
+        _ => rarest(words),
+    }
 }
 
-/// The prefix, if one is confirmed.
-pub(crate) fn confirmed_prefix<'a, S: StrDrive>(req: &Request<'a, S>) -> Option<Prefix<'a>>
+/// The index of the rarest of the first words of a prefix, if one is confirmed.
+pub(crate) fn rarest_in<S: StrDrive>(req: &Request<'_, S>) -> Option<usize> {
+    let prefix = confirmed_prefix(req, None)?;
+    Some(rarest(prefix.words))
+}
+
+/// The prefix, if one is confirmed. `known` is the index of its rarest word, if it was chosen.
+pub(crate) fn confirmed_prefix<'a, S: StrDrive>(
+    req: &Request<'a, S>,
+    known: Option<usize>,
+) -> Option<Prefix<'a>>
     ensures none { result ≡ None → (hints_of (code_of req.now)).prefix ≡ None }
     ensures some { IfSome result (λ prefix. IsPrefix (code_of req.now) prefix.words.now prefix.literals prefix.whole) }
 {
@@ -113,7 +125,7 @@ pub(crate) fn confirmed_prefix<'a, S: StrDrive>(req: &Request<'a, S>) -> Option<
         overlaps: &words[7 + length..7 + length + length],
         literals: literals as usize,
         whole: hints.literal,
-        sought: sought(prefix, req.end().saturating_sub(req.start())),
+        sought: sought(prefix, req.end().saturating_sub(req.start()), known),
     })
 }
 

@@ -3,10 +3,11 @@
 ghost use Rattle.std.specs.Prelude.{◌≡◌, ◌<◌, true, false, IfSome, IfOk, None, Some};
 ghost use Rattle.sre_model.specs.Marks.{no_marks};
 ghost use Rattle.sre_code.specs.Codes.{items_of};
-ghost use Rattle.sre_request.specs.Admitting.{AllAdmitted, one_all_admitted};
 ghost use Rattle.sre_request.specs.Requests.{string_of, start_of, code_of, asked_of, stands_in};
+ghost use Rattle.sre_engine.specs.FirstSets.{SetsOf};
+ghost use Rattle.sre_engine.specs.OneSetsOf.{one_sets_of};
 
-use crate::engine::admitted_places::AdmittedPlaces;
+use crate::engine::first_sets::FirstSets;
 use crate::engine::state::{SreError, State};
 use crate::engine::told::{Nobody, Starts};
 use crate::engine::walk::{step_admitted, step_within};
@@ -45,10 +46,10 @@ pub struct SearchIter<'a, S: StrDrive, A: Allocator + Copy = Global> {
     state: State<A>,
     cursor: StringCursor,
     ended: bool,
-    places: AdmittedPlaces<A>,
+    sets: FirstSets<A>,
     ghost here: { ∥ (stands_in req cursor (start_of req)) ∥₁ },
     ghost over: { ended ≡ true → state.marks ≡ no_marks },
-    ghost admitted: { AllAdmitted (items_of (code_of req)) places } by { one_all_admitted },
+    ghost first_sets: { SetsOf (items_of (code_of req)) sets } by { one_sets_of },
 }
 
 // Custom, as that of `State`.
@@ -59,9 +60,9 @@ impl<'a, S: StrDrive, A: Allocator + Copy> Drop for SearchIter<'a, S, A> {
             state,
             cursor: _,
             ended: _,
-            places,
+            sets,
         } = self;
-        drop((state, places));
+        drop((state, sets));
     }
 }
 
@@ -76,14 +77,28 @@ impl<'a, S: StrDrive, A: Allocator + Copy> SearchIter<'a, S, A> {
         ensures state { shown_of result ≡ state }
         ensures open { has_ended result ≡ false }
     {
+        let sets = FirstSets::new(&state);
+        SearchIter::with_sets(req, state, sets)
+    }
+
+    /// As `new`, with FIRST sets of the code that an earlier iteration computed.
+    pub fn with_sets(
+        req: Request<'a, S>,
+        state: State<A>,
+        sets: FirstSets<A>,
+    ) -> SearchIter<'a, S, A>
+        requires { SetsOf (items_of (code_of req)) sets }
+        ensures req { request_of result ≡ req.entry }
+        ensures state { shown_of result ≡ state }
+        ensures open { has_ended result ≡ false }
+    {
         let cursor = req.string().create_cursor(req.start());
-        let places = AdmittedPlaces::new(&state);
         SearchIter {
             req,
             state,
             cursor,
             ended: false,
-            places,
+            sets,
         }
     }
 
@@ -133,11 +148,10 @@ impl<'a, S: StrDrive, A: Allocator + Copy> SearchIter<'a, S, A> {
         if self.ended {
             return Ok(Some(false));
         }
-        self.places.note_step(&self.req);
+        self.sets.note_step(&self.req);
         let mut allowed = Allowance::Turns(*steps);
         let (req, state, cursor) = (&mut self.req, &mut self.state, &mut self.cursor);
-        let admitted = self.places.list();
-        let told = step_within(req, state, cursor, &mut allowed, starts, admitted);
+        let told = step_within(req, state, cursor, &mut allowed, starts, &self.sets);
         *steps = allowed.left();
         match told {
             Ok(true) => Ok(Some(true)),
@@ -163,9 +177,9 @@ impl<'a, S: StrDrive, A: Allocator + Copy> SearchIter<'a, S, A> {
         if self.ended {
             return None;
         }
-        self.places.note_step(&self.req);
+        self.sets.note_step(&self.req);
         let (req, state, cursor) = (&mut self.req, &mut self.state, &mut self.cursor);
-        match step_admitted(req, state, cursor, starts, self.places.list()) {
+        match step_admitted(req, state, cursor, starts, &self.sets) {
             Ok(true) => Some(Ok(())),
             Ok(false) => {
                 self.ended = true;
@@ -176,6 +190,20 @@ impl<'a, S: StrDrive, A: Allocator + Copy> SearchIter<'a, S, A> {
                 Some(Err(error))
             }
         }
+    }
+
+    /// Drops the iteration, and returns the state and the FIRST sets for use with another text.
+    pub fn into_parts(self) -> (State<A>, FirstSets<A>)
+        ensures { SetsOf (items_of (code_of (request_of self.entry))) result.1 }
+    {
+        let SearchIter {
+            req: _,
+            state,
+            cursor: _,
+            ended: _,
+            sets,
+        } = self;
+        (state, sets)
     }
 
     /// The state, which shows the match of the last item.

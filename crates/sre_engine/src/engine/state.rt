@@ -16,6 +16,7 @@ ghost use Rattle.sre_engine.specs.Searches.{Answered, CountsAll, has_found, Runs
 ghost use Rattle.sre_engine.specs.Within.{AnsweredWithin};
 ghost use Rattle.sre_growth.specs.Refusal.{Refused};
 
+use crate::engine::first_sets::FirstSets;
 use crate::engine::told::{Nobody, Starts};
 use sre_board::Marks;
 use sre_chars::string::{StrDrive, StringCursor};
@@ -366,12 +367,8 @@ impl<A: Allocator + Copy> State<A> {
         ensures once { self.new.restarted ≡ 0 }
         ensures literal { OnErr result (MayTakeMemory (code_of req.entry)) }
     {
-        let start = req.string().create_cursor(req.start());
-        match self.search_from(&req, start, &mut Allowance::Unlimited, starts) {
-            Ok(found) => Ok(found),
-            Err(Halt::Refused(refusal)) => Err(SreError::from(refusal)),
-            Err(Halt::UsedUp) => unreachable!(),
-        }
+        let sets = FirstSets::new(self);
+        self.search_with(req, starts, &sets)
     }
 
     /// Searches the range as `search` does, within one budget of steps for all its starts. Returns `None`, without
@@ -435,7 +432,8 @@ impl<A: Allocator + Copy> State<A> {
     {
         let start = req.string().create_cursor(req.start());
         let mut allowed = Allowance::Turns(*steps);
-        let told = self.search_from(&req, start, &mut allowed, starts);
+        let sets = FirstSets::new(self);
+        let told = self.search_from(&req, start, &mut allowed, starts, &sets);
         *steps = allowed.left();
         match told {
             Ok(found) => Ok(Some(found)),

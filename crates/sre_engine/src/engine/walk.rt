@@ -2,36 +2,37 @@
 
 ghost use Rattle.std.specs.Prelude.{◌≡◌, OnErr};
 ghost use Rattle.sre_code.specs.Codes.{items_of};
-ghost use Rattle.sre_request.specs.Admitting.{AllAdmitted};
 ghost use Rattle.sre_request.specs.Requests.{string_of, start_of, code_of, stands_in};
 ghost use Rattle.sre_machine.specs.Allowances.{is_limited};
 ghost use Rattle.sre_engine.specs.Answers.{MayTakeMemory};
 ghost use Rattle.sre_engine.specs.Costs.{Charged};
 ghost use Rattle.sre_engine.specs.Counts.{BeginsAgain, runs_of};
+ghost use Rattle.sre_engine.specs.FirstSets.{SetsOf};
 ghost use Rattle.sre_engine.specs.Searches.{Answered, Stepped, RunsOnceAnchored};
 ghost use Rattle.sre_growth.specs.Refusal.{Refused};
 
+use crate::engine::first_sets::FirstSets;
 use crate::engine::state::{SreError, State};
 use crate::engine::told::Starts;
 use sre_chars::string::{StrDrive, StringCursor};
 use sre_machine::allowance::Allowance;
 use sre_machine::turns::Halt;
-use sre_request::{Admitted, Request};
+use sre_request::Request;
 use std::alloc::Allocator;
 
-// Searches as `State::search_from` does, with the FIRST sets of the code's addresses if they are computed.
+// Searches as `State::search_from` does, with the FIRST sets of the code if they are computed.
 #[inline(always)]
-fn search_admitted<S: StrDrive, A: Allocator + Copy, F: Starts<S>>(
+pub(super) fn search_admitted<S: StrDrive, A: Allocator + Copy, F: Starts<S>>(
     req: &Request<'_, S>,
     state: &mut State<A>,
     from: StringCursor,
     allowed: &mut Allowance,
     starts: &mut F,
-    admitted: &[Admitted],
+    sets: &FirstSets<A>,
 ) -> Result<bool, Halt<A>>
     requires stands { stands_in req.now from (start_of req.now) }
     requires suits { F.suits starts.old (string_of req.now) (code_of req.now) }
-    requires admitted { AllAdmitted (items_of (code_of req.now)) admitted.now }
+    requires sets { SetsOf (items_of (code_of req.now)) sets.now }
     ensures suits { F.suits starts.new (string_of req.now) (code_of req.now) }
     ensures answers { Answered req.now result state.new }
     ensures again { BeginsAgain (is_limited allowed.old) state.new }
@@ -39,11 +40,12 @@ fn search_admitted<S: StrDrive, A: Allocator + Copy, F: Starts<S>>(
     ensures anchored { RunsOnceAnchored req.now state.new }
     ensures literal { OnErr result (MayTakeMemory (code_of req.now)) }
 {
+    let admitted = sets.list();
     if admitted.is_empty() {
-        return state.search_from(req, from, allowed, starts);
+        return state.search_from(req, from, allowed, starts, sets);
     }
     let asked = req.with_admitted(admitted);
-    state.search_from(&asked, from, allowed, starts)
+    state.search_from(&asked, from, allowed, starts, sets)
 }
 
 /// Searches from a cursor at the start of the range. After a match, which the state shows, the request and the cursor
@@ -58,11 +60,11 @@ pub(crate) fn step_within<S: StrDrive, A: Allocator + Copy, F: Starts<S>>(
     cursor: &mut StringCursor,
     allowed: &mut Allowance,
     starts: &mut F,
-    admitted: &[Admitted],
+    sets: &FirstSets<A>,
 ) -> Result<bool, Halt<A>>
     requires stands { stands_in req.old cursor.old (start_of req.old) }
     requires suits { F.suits starts.old (string_of req.old) (code_of req.old) }
-    requires admitted { AllAdmitted (items_of (code_of req.old)) admitted.now }
+    requires sets { SetsOf (items_of (code_of req.old)) sets.now }
     ensures suits { F.suits starts.new (string_of req.new) (code_of req.new) }
     ensures stepped { Stepped req.old result state.new req.new }
     ensures here { stands_in req.new cursor.new (start_of req.new) }
@@ -71,7 +73,7 @@ pub(crate) fn step_within<S: StrDrive, A: Allocator + Copy, F: Starts<S>>(
     ensures anchored { RunsOnceAnchored req.old state.new }
     ensures literal { OnErr result (MayTakeMemory (code_of req.old)) }
 {
-    if !search_admitted(req, state, *cursor, allowed, starts, admitted)? {
+    if !search_admitted(req, state, *cursor, allowed, starts, sets)? {
         return Ok(false);
     }
     *cursor = state.cursor();
@@ -106,10 +108,11 @@ pub fn step_by<S: StrDrive, A: Allocator + Copy, F: Starts<S>>(
     ensures once { state.new.restarted ≡ 0 }
     ensures literal { OnErr result (MayTakeMemory (code_of req.old)) }
 {
-    step_admitted(req, state, cursor, starts, &[])
+    let sets = FirstSets::new(state);
+    step_admitted(req, state, cursor, starts, &sets)
 }
 
-/// One step as `step_by` takes it, with a list of FIRST sets. The list, which may be empty, changes no answer.
+/// One step as `step_by` takes it, with the FIRST sets of the code, as far as they are computed. They change no answer.
 ///
 /// # Errors
 ///
@@ -119,11 +122,11 @@ pub fn step_admitted<S: StrDrive, A: Allocator + Copy, F: Starts<S>>(
     state: &mut State<A>,
     cursor: &mut StringCursor,
     starts: &mut F,
-    admitted: &[Admitted],
+    sets: &FirstSets<A>,
 ) -> Result<bool, SreError>
     requires stands { stands_in req.old cursor.old (start_of req.old) }
     requires suits { F.suits starts.old (string_of req.old) (code_of req.old) }
-    requires admitted { AllAdmitted (items_of (code_of req.old)) admitted.now }
+    requires sets { SetsOf (items_of (code_of req.old)) sets.now }
     ensures suits { F.suits starts.new (string_of req.new) (code_of req.new) }
     ensures stepped { Stepped req.old result state.new req.new }
     ensures here { stands_in req.new cursor.new (start_of req.new) }
@@ -132,14 +135,7 @@ pub fn step_admitted<S: StrDrive, A: Allocator + Copy, F: Starts<S>>(
     ensures once { state.new.restarted ≡ 0 }
     ensures literal { OnErr result (MayTakeMemory (code_of req.old)) }
 {
-    match step_within(
-        req,
-        state,
-        cursor,
-        &mut Allowance::Unlimited,
-        starts,
-        admitted,
-    ) {
+    match step_within(req, state, cursor, &mut Allowance::Unlimited, starts, sets) {
         Ok(found) => Ok(found),
         Err(Halt::Refused(refusal)) => Err(SreError::from(refusal)),
         Err(Halt::UsedUp) => unreachable!(),

@@ -8,21 +8,21 @@ ghost use Rattle.sre_model.specs.Marks.{no_marks};
 ghost use Rattle.sre_model.specs.Found.{walk};
 ghost use Rattle.sre_model.specs.WalkBounds.{most_matches, AreInOrder};
 ghost use Rattle.sre_code.specs.Codes.{items_of, words_of};
-ghost use Rattle.sre_request.specs.Admitting.{AllAdmitted};
 ghost use Rattle.sre_request.specs.Requests.{string_of, start_of, end_of, code_of, asked_of, stands_in};
 ghost use Rattle.sre_engine.specs.Counts.{StepsCount, CountsOfWalk};
+ghost use Rattle.sre_engine.specs.FirstSets.{SetsOf};
 ghost use Rattle.sre_engine.specs.Searches.{Stepped};
 ghost use Rattle.sre_engine.specs.Answers.{match_shown};
 ghost use Rattle.sre_engine.specs.Listed.{match_of};
 ghost use Rattle.sre_growth.specs.Refusal.{Refused};
 
-use crate::engine::admitted_places::AdmittedPlaces;
+use crate::engine::first_sets::FirstSets;
 use crate::engine::state::{SreError, State};
 use crate::engine::told::{Nobody, Starts};
 use crate::engine::walk::step_admitted;
 use sre_chars::string::{StrDrive, StringCursor};
 use sre_growth::Refusal;
-use sre_request::{Admitted, Request};
+use sre_request::Request;
 use std::alloc::{Allocator, Global};
 
 /// A match: its start and end in characters, its capture slots as `Marks::raw` returns them, and the number of the
@@ -62,11 +62,11 @@ fn counted_step<S: StrDrive, A: Allocator + Copy, F: Starts<S>>(
     cursor: &mut StringCursor,
     starts: &mut F,
     tally: &mut Tally,
-    admitted: &[Admitted],
+    sets: &FirstSets<A>,
 ) -> Result<bool, SreError>
     requires stands { stands_in req.old cursor.old (start_of req.old) }
     requires suits { F.suits starts.old (string_of req.old) (code_of req.old) }
-    requires admitted { AllAdmitted (items_of (code_of req.old)) admitted.now }
+    requires sets { SetsOf (items_of (code_of req.old)) sets.now }
     ensures suits { F.suits starts.new (string_of req.new) (code_of req.new) }
     ensures stepped { Stepped req.old result state.new req.new }
     ensures here { stands_in req.new cursor.new (start_of req.new) }
@@ -75,7 +75,7 @@ fn counted_step<S: StrDrive, A: Allocator + Copy, F: Starts<S>>(
     ensures started { tally.new.started ≤ tally.old.started + state.new.started }
     ensures compared { tally.new.compared ≤ tally.old.compared + state.new.compared }
 {
-    let found = step_admitted(req, state, cursor, starts, admitted);
+    let found = step_admitted(req, state, cursor, starts, sets);
     tally.started = tally.started.saturating_add(state.started());
     tally.compared = tally.compared.saturating_add(state.compared());
     found
@@ -105,11 +105,11 @@ fn add_matches<S: StrDrive, A: Allocator + Copy, F: Starts<S>>(
     ensures once { state.new.restarted ≡ 0 }
 {
     let mut cursor = req.string().create_cursor(req.start());
-    let mut places = AdmittedPlaces::new(state);
-    'step: while counted_step(&mut req, state, &mut cursor, starts, tally, places.list())? {
+    let mut sets = FirstSets::new(state);
+    'step: while counted_step(&mut req, state, &mut cursor, starts, tally, &sets)? {
         let found = found_in(state)?;
         sre_growth::push(all, found)?;
-        places.note_step(&req);
+        sets.note_step(&req);
     }
     Ok(())
 }

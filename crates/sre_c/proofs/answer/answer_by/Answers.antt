@@ -1,7 +1,7 @@
 use Rattle.std.proofs.Common.{◌∙◌, ap, length}
 use Rattle.sre_engine.specs.Codes.{words_of, uni_of}
 use Rattle.sre_engine.specs.Requests.{asked_of, code_of}
-use Rattle.sre_c.proofs.Admitted.{admitted_of, admitted_in}
+use Rattle.sre_c.proofs.KnownSets.{sets_of, sets_in}
 use Rattle.sre_c.proofs.Matches.{answers_in}
 use Rattle.sre_c.proofs.answer.answer_by.Goals as goal
 
@@ -13,12 +13,12 @@ returns-clause-answers g c =
     c.reply.result (ap words_of c.request-request.ensures.code ∙ c.in-Ok.ensures.words) c.in-Ok.ensures.uni
     c.request-request.ensures.asked c.reply.ensures.replies
 
-pub reply-requires-clause-admitted : goal.reply-requires-clause-admitted
-reply-requires-clause-admitted g c =
-    admitted_of (code_of c.request-request.result) c.args.code.now.words.now c.args.memory.now.places
-    (ap words_of c.request-request.ensures.code ∙ c.in-Ok.ensures.words) c.requires.admitted
+pub reply-requires-clause-sets : goal.reply-requires-clause-sets
+reply-requires-clause-sets g c =
+    sets_of (code_of c.request-request.result) c.args.code.now.words.now c.args.memory.now.sets
+    (ap words_of c.request-request.ensures.code ∙ c.in-Ok.ensures.words) c.requires.sets
 
-pub returns-clause-admitted : goal.returns-clause-admitted
-returns-clause-admitted g c =
-    admitted_in (code_of c.request-request.result) c.args.code.now.words.now c.reply.new.memory.places
-    (ap words_of c.request-request.ensures.code ∙ c.in-Ok.ensures.words) c.reply.ensures.admitted
+pub returns-clause-sets : goal.returns-clause-sets
+returns-clause-sets g c =
+    sets_in (code_of c.request-request.result) c.args.code.now.words.now c.reply.new.memory.sets
+    (ap words_of c.request-request.ensures.code ∙ c.in-Ok.ensures.words) c.reply.ensures.sets

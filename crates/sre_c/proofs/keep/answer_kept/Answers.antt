@@ -1,6 +1,6 @@
 use Rattle.std.proofs.Common.{sym, subst}
 use Rattle.sre_model.specs.Grammar.{behind_block}
-use Rattle.sre_request.specs.Admitting.{AllAdmitted}
+use Rattle.sre_engine.specs.FirstSets.{SetsOf}
 use Rattle.sre_c.specs.Known.{table_in}
 use Rattle.sre_c.proofs.keep.answer_kept.Goals as goal
 
@@ -14,14 +14,14 @@ answer_in-status-requires-clause-suits g c =
     let code = c.args.code.now in
     c.memory_in.ensures.suits code.words.now (table_in code.table.now) c.requires.suits
 
-pub answer_in-status-requires-clause-admitted : goal.answer_in-status-requires-clause-admitted
-answer_in-status-requires-clause-admitted g c =
+pub answer_in-status-requires-clause-sets : goal.answer_in-status-requires-clause-sets
+answer_in-status-requires-clause-sets g c =
     let code = c.args.code.now in
-    subst (λ m. AllAdmitted (behind_block code.words.now) m.places) (sym c.deref_mut.ensures.value)
-    (c.in-Some.ensures.admitted code.words.now (table_in code.table.now) c.requires.suits)
+    subst (λ m. SetsOf (behind_block code.words.now) m.sets) (sym c.deref_mut.ensures.value)
+    (c.in-Some.ensures.sets code.words.now (table_in code.table.now) c.requires.suits)
 
 pub returns-clause-suits : goal.returns-clause-suits
 returns-clause-suits g c =
     let code = c.args.code.now in
     c.put_memory.ensures.suits code.words.now (table_in code.table.now) c.answer_in-status.ensures.suits
-    c.answer_in-status.ensures.admitted
+    c.answer_in-status.ensures.sets

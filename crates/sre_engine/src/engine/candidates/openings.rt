@@ -1,16 +1,18 @@
 //! Candidates without a confirmed prefix or first set: the starts that the FIRST set of the first items allows.
 
-ghost use Rattle.std.specs.Prelude.{◌≡◌, ◌≤◌, None, IfSome};
+ghost use Rattle.std.specs.Prelude.{◌≡◌, ◌≤◌, IfSome};
 ghost use Rattle.sre_model.specs.Tree.{Tree};
 ghost use Rattle.sre_model.specs.Grammar.{WholeItems};
 ghost use Rattle.sre_model.specs.LeadingRuns.{RunStands};
 ghost use Rattle.sre_request.specs.Requests.{end_of, asked_of};
 ghost use Rattle.sre_request.specs.Runs.{run_of, Standing};
+ghost use Rattle.sre_engine.specs.FirstSets.{Opens};
 ghost use Rattle.sre_engine.specs.Starts.{Bars, TestsThere, PassesTo};
 
 use crate::engine::candidates::{Candidate, Candidates};
 use crate::engine::first_characters::{First, Wanted};
 use crate::engine::leading_run::{LeadingRun, leading_run, pass_start};
+use crate::engine::opening::Opening;
 use crate::engine::told::{Starts, next_start_told};
 use sre_chars::string::{StrDrive, StringCursor};
 use sre_request::Request;
@@ -33,14 +35,28 @@ pub(crate) struct Openings {
 }
 
 impl Openings {
-    /// The starts of a request from a cursor on.
+    /// The starts of a request from a cursor on, and how its matches begin, if that was read before.
     #[inline(always)]
-    pub(crate) fn new<S: StrDrive>(req: &Request<'_, S>, from: StringCursor) -> Openings
+    pub(crate) fn new<S: StrDrive>(
+        req: &Request<'_, S>,
+        from: StringCursor,
+        known: Option<Opening>,
+    ) -> Openings
+        requires { IfSome known (Opens (run_of req.now).words) }
         ensures start { result.start ≡ from }
         ensures test { TestsThere (run_of req.now).words result.first.wanted }
         ensures bars { Bars (run_of req.now).words result.first }
-        ensures lead { result.lead ≡ None }
+        ensures lead { (t : Tree) → WholeItems (run_of req.now).words t
+            → IfSome result.lead (λ run. RunStands (run_of req.now).words t run.first run.test) }
     {
+        if let Some(opening) = known {
+            return Openings {
+                first: opening.first,
+                lead: opening.lead,
+                is_read: true,
+                start: from,
+            };
+        }
         let reads_sets = false;
         Openings {
             first: First::of_items(req.pattern_codes().items(), reads_sets),

@@ -4,12 +4,15 @@
 ghost use Rattle.std.specs.Prelude.{◌≡◌, ◌≤◌, true, false, OnErr};
 ghost use Rattle.sre_request.specs.Requests.{string_of, start_of, code_of, asked_of, stands_in};
 ghost use Rattle.sre_request.specs.Runs.{run_of};
+ghost use Rattle.sre_code.specs.Codes.{items_of};
 ghost use Rattle.sre_machine.specs.Allowances.{is_limited};
 ghost use Rattle.sre_engine.specs.Answers.{MayTakeMemory};
 ghost use Rattle.sre_engine.specs.Counts.{BeginsAgain, runs_of};
 ghost use Rattle.sre_engine.specs.Prefixed.{IsPrefix};
 ghost use Rattle.sre_engine.specs.Costs.{Charged};
+ghost use Rattle.sre_engine.specs.FirstSets.{SetsOf};
 ghost use Rattle.sre_engine.specs.Searches.{Answered, AnsweredAtOnce, RunsOnceAnchored};
+ghost use Rattle.sre_growth.specs.Refusal.{Refused};
 
 use crate::engine::anchors::is_anchored;
 use crate::engine::candidates::Candidates;
@@ -17,9 +20,11 @@ use crate::engine::candidates::members::Members;
 use crate::engine::candidates::only_start::OnlyStart;
 use crate::engine::candidates::openings::Openings;
 use crate::engine::candidates::places::Places;
+use crate::engine::first_sets::FirstSets;
 use crate::engine::prefix::{Prefix, Spot, confirmed_prefix, find, go_on, may_end, prefix_start};
-use crate::engine::state::State;
+use crate::engine::state::{SreError, State};
 use crate::engine::told::Starts;
+use crate::engine::walk::search_admitted;
 use crate::engine::widths::{is_past, last_start};
 use sre_chars::string::{StrDrive, StringCursor};
 use sre_machine::allowance::Allowance;
@@ -58,6 +63,35 @@ impl<A: Allocator + Copy> State<A> {
         }
     }
 
+    /// Searches the range as `search_by` does, with the FIRST sets of the code, as far as they are computed. They
+    /// change no answer.
+    ///
+    /// # Errors
+    ///
+    /// [`SreError::Memory`] if an allocation fails.
+    pub fn search_with<S: StrDrive, F: Starts<S>>(
+        &mut self,
+        req: Request<'_, S>,
+        starts: &mut F,
+        sets: &FirstSets<A>,
+    ) -> Result<bool, SreError>
+        requires suits { F.suits starts.old (string_of req) (code_of req) }
+        requires sets { SetsOf (items_of (code_of req)) sets.now }
+        ensures suits { F.suits starts.new (string_of req.entry) (code_of req.entry) }
+        ensures answers { Answered req.entry result self.new }
+        ensures refused { OnErr result (Refused A) }
+        ensures anchored { RunsOnceAnchored req.entry self.new }
+        ensures once { self.new.restarted ≡ 0 }
+        ensures literal { OnErr result (MayTakeMemory (code_of req.entry)) }
+    {
+        let start = req.string().create_cursor(req.start());
+        match search_admitted(&req, self, start, &mut Allowance::Unlimited, starts, sets) {
+            Ok(found) => Ok(found),
+            Err(Halt::Refused(refusal)) => Err(SreError::from(refusal)),
+            Err(Halt::UsedUp) => unreachable!(),
+        }
+    }
+
     // Searches as `search` does, from a cursor at the start of the range. The kinds are tried in this order, since a
     // prefix skips more starts than a first set does, and a first set more than FIRST sets.
     #[tactic(auto, using(crate::proofs::Carrying::at_once))]
@@ -67,9 +101,11 @@ impl<A: Allocator + Copy> State<A> {
         from: StringCursor,
         allowed: &mut Allowance,
         starts: &mut F,
+        sets: &FirstSets<A>,
     ) -> Result<bool, Halt<A>>
         requires stands { stands_in req.now from (start_of req.now) }
         requires suits { F.suits starts.old (string_of req.now) (code_of req.now) }
+        requires sets { SetsOf (items_of (code_of req.now)) sets.now }
         ensures suits { F.suits starts.new (string_of req.now) (code_of req.now) }
         ensures answers { Answered req.now result self.new }
         ensures again { BeginsAgain (is_limited allowed.old) self.new }
@@ -77,7 +113,7 @@ impl<A: Allocator + Copy> State<A> {
         ensures anchored { RunsOnceAnchored req.now self.new }
         ensures literal { OnErr result (MayTakeMemory (code_of req.now)) }
     {
-        if let Some(prefix) = confirmed_prefix(req) {
+        if let Some(prefix) = confirmed_prefix(req, sets.rarest()) {
             if prefix.whole {
                 return Ok(self.search_whole(req, &prefix, from));
             }
@@ -89,7 +125,12 @@ impl<A: Allocator + Copy> State<A> {
         if is_anchored(req) {
             return self.search_along(req, &mut OnlyStart { start: from }, allowed, starts);
         }
-        self.search_along(req, &mut Openings::new(req, from), allowed, starts)
+        self.search_along(
+            req,
+            &mut Openings::new(req, from, sets.opening()),
+            allowed,
+            starts,
+        )
     }
 
     // Searches for a prefix that is the whole code.

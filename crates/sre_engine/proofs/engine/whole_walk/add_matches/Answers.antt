@@ -67,7 +67,7 @@ step-preserved g c =
       code = goes.pattern_codes ∙ inv.code;
       string = goes.string ∙ inv.string;
       suits = step.suits;
-      admitted = c.note_step.ensures;
+      sets = c.note_step.ensures;
       left = λ t whole.
           let own : Whole (words_of (code_of c.step.req)) t =
           subst (λ k. Whole (words_of k) t) (sym inv.code) whole in

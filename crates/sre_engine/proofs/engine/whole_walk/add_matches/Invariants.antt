@@ -4,9 +4,9 @@ use Rattle.sre_model.specs.Grammar.{Whole}
 use Rattle.sre_model.specs.Found.{walk}
 use Rattle.sre_model.specs.WalkBounds.{most_matches}
 use Rattle.sre_code.specs.Codes.{items_of, words_of}
-use Rattle.sre_request.specs.Admitting.{AllAdmitted}
 use Rattle.sre_request.specs.Requests.{string_of, start_of, end_of, code_of, must_advance_of, asked_of, stands_in}
 use Rattle.sre_engine.specs.Counts.{StepsCount}
+use Rattle.sre_engine.specs.FirstSets.{SetsOf}
 use Rattle.sre_engine.specs.Listed.{match_of}
 use Rattle.sre_engine.proofs.WalkCounts.{step_of}
 use Rattle.sre_engine.proofs.engine.whole_walk.add_matches.Given as goal
@@ -17,7 +17,7 @@ invariant-step g l = record {
   code : code_of l.req ≡ code_of l.fn.req;
   string : string_of l.req ≡ string_of l.fn.req;
   suits : g.F.Starts.suits l.starts (string_of l.req) (code_of l.req);
-  admitted : AllAdmitted (items_of (code_of l.req)) l.places;
+  sets : SetsOf (items_of (code_of l.req)) l.sets;
   left : (t : Tree) → Whole (words_of (code_of l.fn.req)) t
       → map match_of l.all.items ++ walk (asked_of l.req) t ≡ map match_of l.fn.all.items ++ walk (asked_of l.fn.req) t;
   asked : asked_of l.req ≡ step_of (asked_of l.fn.req) (start_of l.req) (must_advance_of l.req);

@@ -40,7 +40,7 @@ invariant_of-self g c =
       here = ∣ c.in-Ok-Some.ensures.here ∣₁;
       last = ∣ subst (λ x. g.S.StrDrive.stands x from from.position) (sym steps.goes_on.string) steps.begins ∣₁;
       inside = omega (arith, steps.goes_on.forward, u.in_window.0.0);
-      admitted = c.in-Ok-Some.ensures.admitted;
+      first_sets = c.in-Ok-Some.ensures.sets;
       shown = λ yes t whole.
           let own = subst (λ d. Whole (words_of d) t) steps.goes_on.pattern_codes whole in
           found_behind r from.position (start_of u) u c.bars-self.result steps.goes_on steps.finds bars t own

@@ -1,0 +1,26 @@
+-- FIRST sets of a code: of its addresses, and of what comes first in each match.
+-- The clauses of `FirstSets` and of the searches that use it rest on it.
+use Rattle.std.specs.Prelude.{ℕ, List, Option, IfSome}
+use Rattle.sre_model.specs.Tree.{Tree}
+use Rattle.sre_model.specs.Grammar.{WholeItems}
+use Rattle.sre_model.specs.LeadingRuns.{RunStands}
+use Rattle.sre_request.specs.Admitting.{AllAdmitted}
+use Rattle.sre_request.specs.declared.admitted.Admitted.{Admitted}
+use Rattle.sre_engine.specs.Starts.{Bars, TestsThere}
+use Rattle.sre_engine.specs.declared.engine.opening.Opening.{Opening}
+
+-- each match begins so
+pub record Opens (ws : List ℕ) (o : Opening) : Type 0 where
+  pub test : TestsThere ws o.first.wanted
+  pub bars : Bars ws o.first
+  pub lead : (t : Tree) → WholeItems ws t → IfSome o.lead (λ run. RunStands ws t run.first run.test)
+
+-- the FIRST sets of addresses, and how matches begin, as far as they are computed
+pub record Sets : Type 0 where
+  pub admitted : List Admitted
+  pub opening : Option Opening
+
+-- they are those of these words
+pub record SetsOf (ws : List ℕ) (sets : Sets) : Type 0 where
+  pub admitted : AllAdmitted ws sets.admitted
+  pub opening : IfSome sets.opening (Opens ws)
