@@ -1,13 +1,17 @@
 //! Matches and searches from a cursor. A search tries candidate after candidate, of the kind that the confirmed hints
 //! select.
 
-ghost use Rattle.std.specs.Prelude.{◌≡◌, ◌≤◌, true, false, OnErr};
-ghost use Rattle.sre_request.specs.Requests.{string_of, start_of, code_of, asked_of, stands_in};
+ghost use Rattle.std.specs.Prelude.{◌≡◌, ◌≤◌, true, false, IfOk, OnErr};
+ghost use Rattle.sre_model.specs.Tree.{Tree};
+ghost use Rattle.sre_model.specs.Grammar.{Whole};
+ghost use Rattle.sre_model.specs.Marks.{no_marks};
+ghost use Rattle.sre_model.specs.Found.{matched};
+ghost use Rattle.sre_request.specs.Requests.{string_of, start_of, end_of, code_of, asked_of, stands_in};
 ghost use Rattle.sre_request.specs.Runs.{run_of};
-ghost use Rattle.sre_code.specs.Codes.{items_of};
+ghost use Rattle.sre_code.specs.Codes.{items_of, words_of};
 ghost use Rattle.sre_machine.specs.Allowances.{is_limited};
-ghost use Rattle.sre_engine.specs.Answers.{MayTakeMemory};
-ghost use Rattle.sre_engine.specs.Counts.{BeginsAgain, runs_of};
+ghost use Rattle.sre_engine.specs.Answers.{answer_of, Spans, MayTakeMemory};
+ghost use Rattle.sre_engine.specs.Counts.{CountsStay, BeginsAgain, runs_of};
 ghost use Rattle.sre_engine.specs.Prefixed.{IsPrefix};
 ghost use Rattle.sre_engine.specs.Costs.{Charged};
 ghost use Rattle.sre_engine.specs.FirstSets.{SetsOf};
