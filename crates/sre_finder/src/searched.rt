@@ -7,6 +7,7 @@ ghost use Rattle.sre_model.specs.Grammar.{Whole};
 ghost use Rattle.sre_model.specs.Marks.{no_marks};
 ghost use Rattle.sre_model.specs.Found.{found};
 ghost use Rattle.sre_code.specs.Codes.{items_of, words_of};
+ghost use Rattle.sre_engine.specs.FirstSets.{SetsOf};
 ghost use Rattle.sre_request.specs.Requests.{end_of, code_of, asked_of, stands_in};
 ghost use Rattle.sre_engine.specs.Answers.{answer_of};
 ghost use Rattle.sre_engine.specs.Counts.{KeepsToSteps, runs_of};

@@ -175,7 +175,13 @@ impl<'c, 'a, S: StrDrive, A: Allocator + Copy> SpanIter<'c, 'a, S, A> {
         }
         self.finder.note_shown();
         self.sets.note_step(&self.req);
-        show_at(&self.req, &mut self.state, self.at, self.advances, &self.sets)
+        show_at(
+            &self.req,
+            &mut self.state,
+            self.at,
+            self.advances,
+            &self.sets,
+        )
     }
 
     /// Drops the iteration and returns the finder, for use with another text.

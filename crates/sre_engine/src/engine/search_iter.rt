@@ -78,20 +78,6 @@ impl<'a, S: StrDrive, A: Allocator + Copy> SearchIter<'a, S, A> {
         ensures open { has_ended result ≡ false }
     {
         let sets = FirstSets::new(&state);
-        SearchIter::with_sets(req, state, sets)
-    }
-
-    /// As `new`, with FIRST sets of the code that an earlier iteration computed.
-    pub fn with_sets(
-        req: Request<'a, S>,
-        state: State<A>,
-        sets: FirstSets<A>,
-    ) -> SearchIter<'a, S, A>
-        requires { SetsOf (items_of (code_of req)) sets }
-        ensures req { request_of result ≡ req.entry }
-        ensures state { shown_of result ≡ state }
-        ensures open { has_ended result ≡ false }
-    {
         let cursor = req.string().create_cursor(req.start());
         SearchIter {
             req,
@@ -190,20 +176,6 @@ impl<'a, S: StrDrive, A: Allocator + Copy> SearchIter<'a, S, A> {
                 Some(Err(error))
             }
         }
-    }
-
-    /// Drops the iteration, and returns the state and the FIRST sets for use with another text.
-    pub fn into_parts(self) -> (State<A>, FirstSets<A>)
-        ensures { SetsOf (items_of (code_of (request_of self.entry))) result.1 }
-    {
-        let SearchIter {
-            req: _,
-            state,
-            cursor: _,
-            ended: _,
-            sets,
-        } = self;
-        (state, sets)
     }
 
     /// The state, which shows the match of the last item.

@@ -366,8 +366,13 @@ impl<A: Allocator + Copy> State<A> {
         ensures once { self.new.restarted ≡ 0 }
         ensures literal { OnErr result (MayTakeMemory (code_of req.entry)) }
     {
+        let start = req.string().create_cursor(req.start());
         let sets = FirstSets::new(self);
-        self.search_with(req, starts, &sets)
+        match self.search_from(&req, start, &mut Allowance::Unlimited, starts, &sets) {
+            Ok(found) => Ok(found),
+            Err(Halt::Refused(refusal)) => Err(SreError::from(refusal)),
+            Err(Halt::UsedUp) => unreachable!(),
+        }
     }
 
     /// Searches the range as `search` does, within one budget of steps for all its starts. Returns `None`, without

@@ -22,7 +22,7 @@ use std::alloc::Allocator;
 
 // Searches as `State::search_from` does, with the FIRST sets of the code if they are computed.
 #[inline(always)]
-pub(super) fn search_admitted<S: StrDrive, A: Allocator + Copy, F: Starts<S>>(
+fn search_admitted<S: StrDrive, A: Allocator + Copy, F: Starts<S>>(
     req: &Request<'_, S>,
     state: &mut State<A>,
     from: StringCursor,

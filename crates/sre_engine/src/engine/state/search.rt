@@ -16,7 +16,6 @@ ghost use Rattle.sre_engine.specs.Prefixed.{IsPrefix};
 ghost use Rattle.sre_engine.specs.Costs.{Charged};
 ghost use Rattle.sre_engine.specs.FirstSets.{SetsOf};
 ghost use Rattle.sre_engine.specs.Searches.{Answered, AnsweredAtOnce, RunsOnceAnchored};
-ghost use Rattle.sre_growth.specs.Refusal.{Refused};
 
 use crate::engine::anchors::is_anchored;
 use crate::engine::candidates::Candidates;
@@ -26,9 +25,8 @@ use crate::engine::candidates::openings::Openings;
 use crate::engine::candidates::places::Places;
 use crate::engine::first_sets::FirstSets;
 use crate::engine::prefix::{Prefix, Spot, confirmed_prefix, find, go_on, may_end, prefix_start};
-use crate::engine::state::{SreError, State};
+use crate::engine::state::State;
 use crate::engine::told::Starts;
-use crate::engine::walk::search_admitted;
 use crate::engine::widths::{is_past, last_start};
 use sre_chars::string::{StrDrive, StringCursor};
 use sre_machine::allowance::Allowance;
@@ -64,35 +62,6 @@ impl<A: Allocator + Copy> State<A> {
                 Ok(true)
             }
             None => Ok(false),
-        }
-    }
-
-    /// Searches the range as `search_by` does, with the FIRST sets of the code, as far as they are computed. They
-    /// change no answer.
-    ///
-    /// # Errors
-    ///
-    /// [`SreError::Memory`] if an allocation fails.
-    pub fn search_with<S: StrDrive, F: Starts<S>>(
-        &mut self,
-        req: Request<'_, S>,
-        starts: &mut F,
-        sets: &FirstSets<A>,
-    ) -> Result<bool, SreError>
-        requires suits { F.suits starts.old (string_of req) (code_of req) }
-        requires sets { SetsOf (items_of (code_of req)) sets.now }
-        ensures suits { F.suits starts.new (string_of req.entry) (code_of req.entry) }
-        ensures answers { Answered req.entry result self.new }
-        ensures refused { OnErr result (Refused A) }
-        ensures anchored { RunsOnceAnchored req.entry self.new }
-        ensures once { self.new.restarted ≡ 0 }
-        ensures literal { OnErr result (MayTakeMemory (code_of req.entry)) }
-    {
-        let start = req.string().create_cursor(req.start());
-        match search_admitted(&req, self, start, &mut Allowance::Unlimited, starts, sets) {
-            Ok(found) => Ok(found),
-            Err(Halt::Refused(refusal)) => Err(SreError::from(refusal)),
-            Err(Halt::UsedUp) => unreachable!(),
         }
     }
 
