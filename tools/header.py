@@ -22,6 +22,8 @@ NUMBERED = {
     "python/gaffsilver/_library.py": r"(?m)^ABI = (\d+)\b",
     "embedding/sre.rs": r"const ABI: u32 = (\d+);",
 }
+# The program by which the library is built without its proofs.
+CALLER = "tests/exports.rt"
 # The file of sre_chars with the struct that the crate takes from there, and what C calls it.
 PAIRS, CALLED = "crates/sre_chars/src/table/entries.rt", {"UniPair": "sre_pair"}
 
@@ -109,14 +111,26 @@ def other_numbers(number):
                 yield f"{path} has {name} with the size {size}"
 
 
+def uncalled():
+    """What the program that calls each export lacks: an export, or a field of a struct."""
+    text = read(f"{ROOT}/{CALLER}")
+    types, code, pattern, root = (read(f"{CRATE}/src/{it}.rt") for it in SOURCES[1:])
+    names = [it[0] for it in EXPORT.findall(root)]
+    names += [it for _, body in STRUCT.findall(types + code + pattern) for it, _ in FIELD.findall(body)]
+    for name in dict.fromkeys(names):
+        if not re.search(rf"\b{name}\b", text):
+            yield f"{CALLER} lacks {name}, so no library is built without proofs"
+
+
 def unlike():
-    """What differs between the header and the crate."""
+    """What differs between the header and the crate, and what its caller lacks."""
     own, there = exported(), in_header()
     for name in sorted({*own, *there}):
         in_c, in_crate = (it.get(name, "nothing") for it in (there, own))
         if in_c != in_crate:
             yield f"{HEADER} has {name} as {in_c}, and sre_c as {in_crate}"
     yield from other_numbers(own["SRE_ABI"])
+    yield from uncalled()
     marked = read(f"{CRATE}/src/lib.rt").count("no_mangle")
     if marked != sum(it.startswith(("uint32_t (", "void (")) for it in own.values()):
         yield f"crates/sre_c/src/lib.rt marks {marked} functions, and not all of them are read"
