@@ -96,29 +96,11 @@ impl<'c> SpanFinder<'c> {
         ensures last { last_asked result ≡ asked_of req.entry }
         ensures encoding { encoding_of result ≡ self.entry.encoding }
     {
-        let sets = FirstSets::new(&state);
-        self.walk_with(req, state, sets)
-    }
-
-    /// As `walk`, with FIRST sets of the code that an earlier iteration computed.
-    pub fn walk_with<'a, S: Haystack, A: Allocator + Copy>(
-        self,
-        req: Request<'a, S>,
-        state: State<A>,
-        sets: FirstSets<A>,
-    ) -> SpanIter<'c, 'a, S, A>
-        requires own { self.code ≡ code_of req }
-        requires sets { SetsOf (items_of (code_of req)) sets }
-        ensures req { request_of result ≡ req.entry }
-        ensures state { shown_of result ≡ state }
-        ensures open { has_ended result ≡ false }
-        ensures last { last_asked result ≡ asked_of req.entry }
-        ensures encoding { encoding_of result ≡ self.entry.encoding }
-    {
         let mut finder = self;
         finder.begin_walk();
         let cursor = req.string().create_cursor(req.start());
         let advances = req.must_advance();
+        let sets = FirstSets::new(&state);
         SpanIter {
             finder,
             req,
@@ -189,18 +171,6 @@ impl<'c, 'a, S: StrDrive, A: Allocator + Copy> SpanIter<'c, 'a, S, A> {
         ensures code { result.code ≡ code_of (request_of self.entry) }
         ensures encoding { result.encoding ≡ encoding_of self.entry }
     {
-        let (finder, state, sets) = self.into_parts();
-        drop((state, sets));
-        finder
-    }
-
-    /// Drops the iteration and returns the finder, the state and the FIRST sets, for use with another text.
-    #[inline(always)]
-    pub fn into_parts(self) -> (SpanFinder<'c>, State<A>, FirstSets<A>)
-        ensures code { result.0.code ≡ code_of (request_of self.entry) }
-        ensures encoding { result.0.encoding ≡ encoding_of self.entry }
-        ensures sets { SetsOf (items_of (code_of (request_of self.entry))) result.2 }
-    {
         let SpanIter {
             finder,
             req: _,
@@ -212,7 +182,8 @@ impl<'c, 'a, S: StrDrive, A: Allocator + Copy> SpanIter<'c, 'a, S, A> {
             ended: _,
             sets,
         } = self;
-        (finder, state, sets)
+        drop((state, sets));
+        finder
     }
 }
 

@@ -1,7 +1,7 @@
 use Rattle.std.proofs.Common.{◌∙◌, sym, subst, ap₂, arith}
 use Rattle.sre_request.specs.Requests.{string_of, start_of, asked_of}
 use Rattle.sre_finder.specs.Finders.{EndStands}
-use Rattle.sre_finder.proofs.span_finder.SpanFinder.walk_with.Goals as goal
+use Rattle.sre_finder.proofs.span_finder.SpanFinder.walk.Goals as goal
 
 pub invariant_of-result : goal.invariant_of-result
 invariant_of-result g c =
@@ -11,11 +11,11 @@ invariant_of-result g c =
     let here = rw (c.string.ensures, c.start.ensures.value) at c.create_cursor-cursor.ensures in
     let at = (g.met.S.StrDrive.stands_at (string_of asked) cursor (start_of asked) here).0 in
     record {
-      own = c.begin_walk.ensures.code ∙ c.requires.own;
+      own = c.begin_walk.ensures.code ∙ c.requires;
       known = ∣ subst (EndStands stands) (sym c.begin_walk.ensures.end) tt ∣₁;
       here = ∣ here ∣₁;
       last = ∣ subst (stands cursor) (sym at) here ∣₁;
-      first_sets = c.requires.sets;
+      first_sets = c.new-sets.ensures _;
       inside = omega (arith, at, c.start.ensures.value, c.start.ensures.in_window);
       shown = λ yes. absurd (cc);
       ends = λ yes. absurd (cc);
