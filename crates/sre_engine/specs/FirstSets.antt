@@ -1,6 +1,6 @@
 -- FIRST sets of a code: of its addresses, and of what comes first in each match.
 -- The clauses of `FirstSets` and of the searches that use it rest on it.
-use Rattle.std.specs.Prelude.{ℕ, List, Option, IfSome}
+use Rattle.std.specs.Prelude.{ℕ, List, [], Option, None, IfSome}
 use Rattle.sre_model.specs.Tree.{Tree}
 use Rattle.sre_model.specs.Grammar.{WholeItems}
 use Rattle.sre_model.specs.LeadingRuns.{RunStands}
@@ -19,6 +19,10 @@ pub record Opens (ws : List ℕ) (o : Opening) : Type 0 where
 pub record Sets : Type 0 where
   pub admitted : List Admitted
   pub opening : Option Opening
+
+-- nothing is computed
+abbrev pub no_sets : Sets
+no_sets = record { admitted = []; opening = None }
 
 -- they are those of these words
 pub record SetsOf (ws : List ℕ) (sets : Sets) : Type 0 where

@@ -4,7 +4,7 @@ ghost use Rattle.std.specs.Prelude.{◌≡◌, ℕ, List, None, IfSome};
 ghost use Rattle.sre_chars.specs.Tables.{Table};
 ghost use Rattle.sre_model.specs.Grammar.{behind_block};
 ghost use Rattle.sre_code.specs.Codes.{words_of, uni_of};
-ghost use Rattle.sre_engine.specs.FirstSets.{SetsOf};
+ghost use Rattle.sre_engine.specs.FirstSets.{SetsOf, no_sets};
 ghost use Rattle.sre_finder.specs.Kepts.{Suits, encoding_beside};
 
 use crate::finder::Parts;
@@ -36,7 +36,8 @@ pub struct Memory {
 impl Memory {
     /// No memory yet, and no FIRST sets. It allocates nothing.
     pub fn new(alloc: Global) -> Memory
-        ensures { (ws : List ℕ) → SetsOf ws result.sets }
+        ensures none { result.sets ≡ no_sets }
+        ensures suits { (ws : List ℕ) → SetsOf ws result.sets }
     {
         let state = State::new(alloc);
         let sets = FirstSets::new(&state);

@@ -8,7 +8,7 @@
 ghost use Rattle.std.specs.Prelude.{◌≡◌, ℕ, ◌<◌, List, length};
 ghost use Rattle.sre_code.specs.Codes.{items_of};
 ghost use Rattle.sre_request.specs.Requests.{code_of};
-ghost use Rattle.sre_engine.specs.FirstSets.{SetsOf};
+ghost use Rattle.sre_engine.specs.FirstSets.{SetsOf, no_sets};
 
 use crate::engine::opening::Opening;
 use crate::engine::prefix::rarest_in;
@@ -87,7 +87,8 @@ fn has_many_alternatives(words: &[u32]) -> bool {
 impl<A: Allocator + Copy> FirstSets<A> {
     /// No sets. It allocates nothing now, and later uses the state's allocator.
     pub fn new(state: &State<A>) -> FirstSets<A>
-        ensures { (ws : List ℕ) → SetsOf ws result }
+        ensures none { result ≡ no_sets }
+        ensures known { (ws : List ℕ) → SetsOf ws result }
     {
         FirstSets {
             list: Vec::new(state.allocator()),

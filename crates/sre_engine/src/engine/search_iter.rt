@@ -28,7 +28,8 @@ use std::alloc::{Allocator, Global};
 /// If the code has a branch of three or more alternatives, the iteration computes a FIRST set for each address: after
 /// eight steps if 256 characters of the range are left, and else after 64. The list comes from the state's allocator.
 /// It takes up to 64 bytes a code word, since it grows by doubling, and up to 48 more while it is computed. A code of
-/// more than 4,096 words gets no list. If its allocation fails, the iteration continues without it.
+/// more than 4,096 words gets no list. If its allocation fails, the iteration continues without it. After eight steps
+/// it has read what must come first in each match, so later steps may run the machine at fewer starts.
 ///
 /// ```
 /// // The bytecode of `a`.
