@@ -1,12 +1,10 @@
 -- One more row of an iteration, or why there is none.
-use Rattle.std.proofs.Common.{◌≡◌, ◌∙◌, ◌<◌, ◌+◌, ◌*◌, ℕ, List, slice_index, true, false, Some, None, Ok, sym}
+use Rattle.std.proofs.Common.{◌≡◌, ◌∙◌, ◌<◌, ◌+◌, ◌*◌, ℕ, List, slice_index, true, false, Some, None, Ok, refl, sym}
 use Rattle.std.proofs.Common.{ap, subst, arith}
 use Rattle.sre_chars.specs.declared.string.StrDrive.{Ghosts}
-use Rattle.std.specs.Global.{Global}
+use Rattle.sre_request.specs.declared.request.Request.{Request}
 use Rattle.sre_engine.specs.Requests.{start_of, must_advance_of}
-use Rattle.sre_engine.specs.Answers.{match_shown}
-use Rattle.sre_engine.specs.declared.engine.search_iter.SearchIter.{SearchIter}
-use Rattle.sre_engine.specs.Iterators.{request_of, shown_of}
+use Rattle.sre_engine.specs.Answers.{Shown, match_shown}
 use Rattle.sre_c.specs.declared.status.Status.TheVariants.{No, StepLimit}
 use Rattle.sre_c.specs.declared.types.SreWalked.{SreWalked}
 use Rattle.sre_c.specs.Walked.{IsRow}
@@ -14,56 +12,54 @@ use Rattle.sre_c.specs.Rows.{RowsKeep, Searched, WritesNext}
 use Rattle.sre_c.proofs.Rows.{with_steps, step_written}
 use Rattle.sre_c.proofs.RowBudgets.{one_behind, one_more_kept, rows_ended, rows_limited}
 
-module _ {S : Type 0} {text : Ghosts S} (it next : SearchIter S Global text) (width left : ℕ) (w : SreWalked) where
+module _ {S : Type 0} {text : Ghosts S} (r next : Request S text) (s : Shown) (width left : ℕ) (w : SreWalked) where
   -- the iteration ends
-  pub ended : (rows : List ℕ) → Searched it (Ok (Some false)) next w.steps left
-      → WritesNext (Some No) it next width w (with_steps w w.steps left) rows rows
+  pub ended : (rows : List ℕ) → Searched r (Ok (Some false)) s next w.steps left
+      → WritesNext (Some No) r next width w (with_steps w w.steps left) rows rows
   ended rows x = record {
     each = λ first given before. (
-      rows_ended first it next width w rows given left before.so_far before.kept before.goes_on x.gives x.spent,
+      rows_ended first r next s width w rows given left before.so_far before.kept x,
       omega (arith, before.fewer, x.spent.fewer),
       λ none. x.unlimited (before.unlimited none ∙ none) ∙ before.unlimited none,
     );
   }
 
   -- it exceeds the step limit
-  pub limited : (rows : List ℕ) → Searched it (Ok None) next w.steps left
-      → WritesNext (Some StepLimit) it next width w (with_steps w w.steps left) rows rows
+  pub limited : (rows : List ℕ) → Searched r (Ok None) s next w.steps left
+      → WritesNext (Some StepLimit) r next width w (with_steps w w.steps left) rows rows
   limited rows x = record {
     each = λ first given before. (
-      rows_limited first it next width w rows given left before.so_far before.kept before.goes_on before.untaken
-          x.gives x.spent,
+      rows_limited first r next s width w rows given left before.so_far before.kept before.untaken x,
       omega (arith, before.fewer, x.spent.fewer),
       λ none. x.unlimited (before.unlimited none ∙ none) ∙ before.unlimited none,
     );
   }
 
   -- a match comes, whose row is written
-  pub one_more : (u : SreWalked) (at : ℕ) (old new : List ℕ) → Searched it (Ok (Some true)) next w.steps left
+  pub one_more : (u : SreWalked) (at : ℕ) (old new : List ℕ) → Searched r (Ok (Some true)) s next w.steps left
       → at ≡ w.count * width
       → u ≡ record {
         count = w.count + 1;
-        start = start_of (request_of next);
+        start = start_of next;
         steps = left;
         steps_before = w.steps;
-        must_advance = must_advance_of (request_of next);
-      } → IsRow (match_shown (shown_of next)) at width new
-      → ((i : ℕ) → i < at → slice_index new i ≡ slice_index old i) → WritesNext None it next width w u old new
+        must_advance = must_advance_of next;
+      } → IsRow (match_shown s) at width new
+      → ((i : ℕ) → i < at → slice_index new i ≡ slice_index old i) → WritesNext None r next width w u old new
   one_more u at old new x place noted row same =
       let count = ap (λ (v : SreWalked). v.count) noted in
       let steps = ap (λ (v : SreWalked). v.steps) noted in
       record {
         each = λ first given before. record {
-          goes_on = x.gives.after;
-          so_far = step_written first it next width w u old new before.so_far x.gives
+          so_far = step_written first r next s width w u old new before.so_far (x.stepped.yes refl) x.stepped.ok
               (ap (λ (v : SreWalked). v.start) noted) (ap (λ (v : SreWalked). v.must_advance) noted) at place count row
               same;
           fewer = omega (arith, steps, before.fewer, x.spent.fewer);
           untaken = λ none. absurd (omega (arith, count, none));
           unlimited = λ none. steps ∙ x.unlimited (before.unlimited none ∙ none) ∙ before.unlimited none;
           kept = subst (λ n. RowsKeep first u.count given n) (sym steps)
-              (one_more_kept first it next width w old u.count before.so_far before.behind x.gives count given w.steps
-              left before.kept x.spent);
-          behind = one_behind first it next width w old u.count before.so_far before.behind x.gives count;
+              (one_more_kept first r next s width w old u.count before.so_far before.behind x.stepped count x.again
+              given w.steps left before.kept x.spent);
+          behind = one_behind first r next s width w old u.count before.so_far before.behind x.stepped count;
         };
       }

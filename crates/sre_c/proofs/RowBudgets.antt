@@ -1,5 +1,5 @@
 -- What the searches for the rows of an iteration leave of its steps.
-use Rattle.std.proofs.Common.{◌≡◌, ◌∙◌, ◌+◌, ℕ, List, [], ◌∷◌, ◌++◌, length, take, cond, Bool, true, false, Option}
+use Rattle.std.proofs.Common.{◌≡◌, ◌∙◌, ◌+◌, ◌≤◌, ℕ, List, [], ◌∷◌, ◌++◌, length, take, Bool, true, false, Option}
 use Rattle.std.proofs.Common.{Some, None, Ok, refl, sym, ap, subst, arith}
 use Rattle.std.proofs.Common.{append_assoc, length-append, take_at, zero, suc}
 use Rattle.std.specs.Global.{Global}
@@ -10,17 +10,16 @@ use Rattle.sre_model.specs.Found.{Match, walk, asked_after}
 use Rattle.sre_code.specs.Codes.{words_of}
 use Rattle.sre_request.specs.declared.request.Request.{Request}
 use Rattle.sre_engine.specs.Requests.{end_of, code_of, asked_of}
-use Rattle.sre_engine.specs.Answers.{match_shown}
+use Rattle.sre_engine.specs.Answers.{Shown, match_shown}
+use Rattle.sre_engine.specs.Searches.{Stepped, CountsInside}
 use Rattle.sre_engine.specs.Counts.{KeepsToSteps, runs_of}
-use Rattle.sre_engine.specs.declared.engine.search_iter.SearchIter.{SearchIter}
 use Rattle.sre_engine.specs.declared.engine.state.SreError.{SreError}
-use Rattle.sre_engine.specs.Iterators.{request_of, shown_of, has_ended, Gives, Counted, NextWithin}
 use Rattle.sre_engine.proofs.CountLaws.{once}
 use Rattle.sre_c.specs.declared.status.Status.TheVariants.{No, StepLimit}
 use Rattle.sre_c.specs.declared.types.SreWalked.{SreWalked}
 use Rattle.sre_c.specs.Walked.{IsWritten}
 use Rattle.sre_c.specs.Budgets.{KeepsBudget, KeepBudget}
-use Rattle.sre_c.specs.Rows.{IsSoFar, RowsKeep, IsBehind, asked_behind, WritesRows}
+use Rattle.sre_c.specs.Rows.{IsSoFar, RowsKeep, IsBehind, asked_behind, WritesRows, Searched}
 use Rattle.sre_c.proofs.Rows.{with_steps, written_with, so_far_with}
 use Rattle.sre_c.proofs.Budgets.{one_kept, behind_one, rows_unspent, unspent}
 
@@ -66,111 +65,94 @@ first_more all left m width w rows count before more =
     ap (take count) parts ∙ take_at (ms ++ m ∷ []) left count size ∙ ap (λ xs. xs ++ m ∷ []) (sym first)
 
 -- one more match is found
-module _ {S A : Type 0} {text : Ghosts S} (first : Request S text) (it next : SearchIter S A text) (width : ℕ)
-    (w : SreWalked) (rows : List ℕ) (count : ℕ) (before : IsSoFar first (request_of it) width w rows)
-    (behind : IsBehind first (request_of it) w.count) (gives : Gives it next) (more : count ≡ w.count + 1) where
-  left_then : (t : Tree) → Whole (words_of (code_of (request_of it))) t
-      → walk (asked_of (request_of it)) t ≡ match_shown (shown_of next) ∷ walk (asked_of (request_of next)) t
-  left_then t whole =
-      ap (λ b. cond b [] (walk (asked_of (request_of it)) t)) (sym gives.before) ∙ gives.first t whole
-      ∙ ap (λ b. match_shown (shown_of next) ∷ cond b [] (walk (asked_of (request_of next)) t)) gives.after
-
+module _ {S : Type 0} {text : Ghosts S} (first r next : Request S text) (s : Shown) (width : ℕ) (w : SreWalked)
+    (rows : List ℕ) (count : ℕ) (before : IsSoFar first r width w rows) (behind : IsBehind first r w.count)
+    (found : Stepped {E = Option SreError} r (Ok true) s next) (more : count ≡ w.count + 1) where
   first_then : (t : Tree) → Whole (words_of (code_of first)) t → take count (walk (asked_of first) t)
-      ≡ take w.count (walk (asked_of first) t) ++ match_shown (shown_of next) ∷ []
+      ≡ take w.count (walk (asked_of first) t) ++ match_shown s ∷ []
   first_then t whole =
-      first_more (walk (asked_of first) t) (walk (asked_of (request_of next)) t) (match_shown (shown_of next)) width w
-      rows count (subst (λ ms. IsWritten (walk (asked_of first) t) ms width w rows)
-      (left_then t (subst (λ code. Whole (words_of code) t) (sym before.code) whole)) (before.written t whole)) more
+      first_more (walk (asked_of first) t) (walk (asked_of next) t) (match_shown s) width w rows count
+      (subst (λ ms. IsWritten (walk (asked_of first) t) ms width w rows)
+      (found.ok t (subst (λ code. Whole (words_of code) t) (sym before.code) whole)) (before.written t whole)) more
 
-  pub one_behind : IsBehind first (request_of next) count
+  pub one_behind : IsBehind first next count
   one_behind = record {
     each = λ t whole.
-        let m = match_shown (shown_of next) in
+        let m = match_shown s in
         let ms = take w.count (walk (asked_of first) t) in
-        gives.request.asked ∙ ap (λ a. asked_after a m) (behind.each t whole)
+        (found.yes refl).asked ∙ ap (λ a. asked_after a m) (behind.each t whole)
         ∙ sym (behind_one (asked_of first) ms m)
         ∙ ap (asked_behind (asked_of first)) (sym (first_then t whole));
   }
 
-  search_kept : (given left : ℕ)
-      → KeepsToSteps Global {E = SreError} (asked_of (request_of it)) (code_of (request_of it)) (Ok (Some true))
-      (runs_of (shown_of next)) given left
-      → KeepsBudget (words_of (code_of first)) (asked_of (request_of it)) (shown_of next).start (Ok (Some true)) given
-      left
-  search_kept given left kept = record {
-    code = code_of (request_of it);
+  search_kept : s.restarted ≤ s.started → (given left : ℕ)
+      → KeepsToSteps Global {E = SreError} (asked_of r) (code_of r) (Ok (Some true)) (runs_of s) given left
+      → KeepsBudget (words_of (code_of first)) (asked_of r) s.start (Ok (Some true)) given left
+  search_kept again given left kept = record {
+    code = code_of r;
     own = ap words_of before.code;
-    runs = runs_of (shown_of next);
+    runs = runs_of s;
     few =
-        let few = once (asked_of (request_of it)) (code_of (request_of it)) ((shown_of next).start + 1)
-        (shown_of next).cursor.position (shown_of next) gives.up_to_match in
-        omega (arith, few, gives.counted.again);
+        let few = once (asked_of r) (code_of r) (s.start + 1) s.cursor.position s (found.up_to_match refl) in
+        omega (arith, few, again);
     kept = kept;
   }
 
-  pub one_more_kept : (given left after : ℕ) → RowsKeep first w.count given left
-      → KeepsToSteps Global {E = SreError} (asked_of (request_of it)) (code_of (request_of it)) (Ok (Some true))
-      (runs_of (shown_of next)) left after
+  pub one_more_kept : s.restarted ≤ s.started → (given left after : ℕ) → RowsKeep first w.count given left
+      → KeepsToSteps Global {E = SreError} (asked_of r) (code_of r) (Ok (Some true)) (runs_of s) left after
       → RowsKeep first count given after
-  one_more_kept given left after rows_kept kept = record {
+  one_more_kept again given left after rows_kept kept = record {
     each = λ t whole.
-        let m = match_shown (shown_of next) in
+        let m = match_shown s in
         let ms = take w.count (walk (asked_of first) t) in
         let words = words_of (code_of first) in
         subst (λ xs. KeepBudget words (asked_of first) xs given after) (sym (first_then t whole))
         (one_kept words (asked_of first) ms m given left after (rows_kept.each t whole)
         (subst (λ a. KeepsBudget words a m.start (Ok (Some true)) left after) (behind.each t whole)
-        (search_kept left after kept)));
+        (search_kept again left after kept)));
   }
 
 -- the last search, which found none
-pub last_kept : {S A : Type 0} {text : Ghosts S} (first : Request S text) (it next : SearchIter S A text)
-    (told : Option Bool) (given left : ℕ) → code_of (request_of it) ≡ code_of first → Counted it next
-    → KeepsToSteps Global {E = SreError} (asked_of (request_of it)) (code_of (request_of it)) (Ok told)
-    (runs_of (shown_of next)) given left
-    → KeepsBudget (words_of (code_of first)) (asked_of (request_of it)) (end_of (request_of it)) (Ok told) given left
-last_kept first it next told given left own counted kept = record {
-  code = code_of (request_of it);
+pub last_kept : {S : Type 0} {text : Ghosts S} (first r : Request S text) (s : Shown) (told : Option Bool)
+    (given left : ℕ) → code_of r ≡ code_of first → CountsInside r s → s.restarted ≤ s.started
+    → KeepsToSteps Global {E = SreError} (asked_of r) (code_of r) (Ok told) (runs_of s) given left
+    → KeepsBudget (words_of (code_of first)) (asked_of r) (end_of r) (Ok told) given left
+last_kept first r s told given left own counts again kept = record {
+  code = code_of r;
   own = ap words_of own;
-  runs = runs_of (shown_of next);
+  runs = runs_of s;
   few =
-      let a = asked_of (request_of it) in
-      let few = once a (code_of (request_of it)) (a.end + 1) a.end (shown_of next) counted.counts in
-      omega (arith, few, counted.again);
+      let a = asked_of r in
+      let few = once a (code_of r) (a.end + 1) a.end s counts in
+      omega (arith, few, again);
   kept = kept;
 }
 
 -- the iteration ends, or exceeds the step limit
-module _ {S A : Type 0} {text : Ghosts S} (first : Request S text) (it next : SearchIter S A text) (width : ℕ)
-    (w : SreWalked) (rows : List ℕ) (given left : ℕ) (before : IsSoFar first (request_of it) width w rows)
-    (rows_kept : RowsKeep first w.count given w.steps) (open_before : has_ended it ≡ false) where
-  pub rows_ended : NextWithin it (Ok (Some false)) next
-      → KeepsToSteps Global {E = SreError} (asked_of (request_of it)) (code_of (request_of it)) (Ok (Some false))
-      (runs_of (shown_of next)) w.steps left
-      → WritesRows No first (request_of next) given width (with_steps w w.steps left) rows
-  rows_ended ended kept =
-      subst (λ r. WritesRows No first r given width (with_steps w w.steps left) rows) (sym ended.1.request) (
+module _ {S : Type 0} {text : Ghosts S} (first r next : Request S text) (s : Shown) (width : ℕ) (w : SreWalked)
+    (rows : List ℕ) (given left : ℕ) (before : IsSoFar first r width w rows)
+    (rows_kept : RowsKeep first w.count given w.steps) where
+  pub rows_ended : Searched r (Ok (Some false)) s next w.steps left
+      → WritesRows No first next given width (with_steps w w.steps left) rows
+  rows_ended x =
+      subst (λ q. WritesRows No first q given width (with_steps w w.steps left) rows) (sym (x.stepped.no refl).0) (
         λ t whole.
-            let here = subst (λ code. Whole (words_of code) t) (sym before.code) whole in
-            let none = ap (λ b. cond b [] (walk (asked_of (request_of it)) t)) (sym open_before)
-            ∙ ended.0.none t here in
+            let none = x.stepped.ok t (subst (λ code. Whole (words_of code) t) (sym before.code) whole) in
             subst (λ ms. IsWritten (walk (asked_of first) t) ms width (with_steps w w.steps left) rows) none
             (written_with _ _ width w rows w.steps left (before.written t whole)),
-        so_far_with first (request_of it) width w rows w.steps left before,
+        so_far_with first r width w rows w.steps left before,
         rows_kept,
-        last_kept first it next (Some false) w.steps left before.code (ended.1.counted open_before) kept,
+        last_kept first r s (Some false) w.steps left before.code x.stepped.counts x.again x.spent,
       )
 
-  pub rows_limited : (w.count ≡ 0 → w.steps ≡ given) → NextWithin it (Ok None) next
-      → KeepsToSteps Global {E = SreError} (asked_of (request_of it)) (code_of (request_of it)) (Ok None)
-      (runs_of (shown_of next)) w.steps left
-      → WritesRows StepLimit first (request_of next) given width (with_steps w w.steps left) rows
-  rows_limited none_yet stays kept =
-      subst (λ r. WritesRows StepLimit first r given width (with_steps w w.steps left) rows) (sym stays.0.request) (
-        so_far_with first (request_of it) width w rows w.steps left before,
-        kept.used refl,
-        λ enough. kept.enough enough refl,
+  pub rows_limited : (w.count ≡ 0 → w.steps ≡ given) → Searched r (Ok None) s next w.steps left
+      → WritesRows StepLimit first next given width (with_steps w w.steps left) rows
+  rows_limited none_yet x =
+      subst (λ q. WritesRows StepLimit first q given width (with_steps w w.steps left) rows) (sym x.stepped.err.0) (
+        so_far_with first r width w rows w.steps left before,
+        x.spent.used refl,
+        λ enough. x.spent.enough enough refl,
         none_yet,
         rows_kept,
-        last_kept first it next None w.steps left before.code stays.0.counted kept,
+        last_kept first r s None w.steps left before.code x.stepped.counts x.again x.spent,
       )

@@ -1,17 +1,16 @@
 -- Rows of matches: one more after those that exist, and an iteration that is written up to some request.
-use Rattle.std.proofs.Common.{◌≡◌, ◌∙◌, ◌<◌, ◌+◌, ◌*◌, ℕ, List, [], ◌∷◌, ◌++◌, length, slice_index, cond, nat_eq}
+use Rattle.std.proofs.Common.{◌≡◌, ◌∙◌, ◌<◌, ◌+◌, ◌*◌, ℕ, List, [], ◌∷◌, ◌++◌, length, slice_index, nat_eq, true}
 use Rattle.std.proofs.Common.{sym, ap, subst, arith, append_assoc}
 use Rattle.std.proofs.Common.{length-append}
 use Rattle.sre_chars.specs.declared.string.StrDrive.{Ghosts}
-use Rattle.sre_model.specs.Tree.{Tree}
 use Rattle.sre_model.specs.Grammar.{Whole}
 use Rattle.sre_model.specs.Found.{Asked, Match, walk}
 use Rattle.sre_code.specs.Codes.{words_of}
 use Rattle.sre_request.specs.declared.request.Request.{Request}
 use Rattle.sre_engine.specs.Requests.{start_of, code_of, asked_of, must_advance_of}
-use Rattle.sre_engine.specs.Answers.{match_shown}
-use Rattle.sre_engine.specs.declared.engine.search_iter.SearchIter.{SearchIter}
-use Rattle.sre_engine.specs.Iterators.{request_of, shown_of, Gives}
+use Rattle.sre_engine.specs.Answers.{Shown, match_shown}
+use Rattle.sre_engine.specs.Searches.{WalksOn}
+use Rattle.sre_engine.specs.Walks.{GoesOn}
 use Rattle.sre_c.specs.declared.status.Status.{Status}
 use Rattle.sre_c.specs.declared.status.Status.TheVariants.{No, Yes, StepLimit, Memory, NoCode, NoRoom}
 use Rattle.sre_c.specs.declared.status.Status.TheVariants.{NotUtf8, FaultyTable}
@@ -73,42 +72,32 @@ so_far_with first next width w rows m n is = record {
 }
 
 -- of a walk that is written so far one match more is found
-module _ {S A : Type 0} {text : Ghosts S} (first : Request S text) (it next : SearchIter S A text) (width : ℕ)
-    (w u : SreWalked) (old new : List ℕ) (before : IsSoFar first (request_of it) width w old) (gives : Gives it next)
-    (start : u.start ≡ start_of (request_of next)) (advance : u.must_advance ≡ must_advance_of (request_of next)) where
-  asked_then : asked_of (request_of next)
-      ≡ record (asked_of (request_of it)) { start = u.start; must_advance = u.must_advance }
+module _ {S : Type 0} {text : Ghosts S} (first r next : Request S text) (s : Shown) (width : ℕ) (w u : SreWalked)
+    (old new : List ℕ) (before : IsSoFar first r width w old) (goes : GoesOn r s next) (left : WalksOn r true s next)
+    (start : u.start ≡ start_of next) (advance : u.must_advance ≡ must_advance_of next) where
+  asked_then : asked_of next ≡ record (asked_of r) { start = u.start; must_advance = u.must_advance }
   asked_then =
-      gives.request.asked
-      ∙ ap (λ p. record (asked_of (request_of it)) {
-        start = p;
-        must_advance = nat_eq (shown_of next).cursor.position (shown_of next).start;
-      }) (sym (start ∙ ap (λ (a : Asked). a.start) gives.request.asked))
-      ∙ ap (λ b. record (asked_of (request_of it)) { start = u.start; must_advance = b })
-      (sym (advance ∙ ap (λ (a : Asked). a.must_advance) gives.request.asked))
-
-  left_then : (t : Tree) → Whole (words_of (code_of (request_of it))) t
-      → walk (asked_of (request_of it)) t ≡ match_shown (shown_of next) ∷ walk (asked_of (request_of next)) t
-  left_then t whole =
-      ap (λ b. cond b [] (walk (asked_of (request_of it)) t)) (sym gives.before) ∙ gives.first t whole
-      ∙ ap (λ b. match_shown (shown_of next) ∷ cond b [] (walk (asked_of (request_of next)) t)) gives.after
+      goes.asked
+      ∙ ap (λ p. record (asked_of r) { start = p; must_advance = nat_eq s.cursor.position s.start })
+      (sym (start ∙ ap (λ (a : Asked). a.start) goes.asked))
+      ∙ ap (λ b. record (asked_of r) { start = u.start; must_advance = b })
+      (sym (advance ∙ ap (λ (a : Asked). a.must_advance) goes.asked))
 
   pub step_written : (place : ℕ) → place ≡ w.count * width → u.count ≡ w.count + 1
-      → IsRow (match_shown (shown_of next)) place width new
-      → ((i : ℕ) → i < place → slice_index new i ≡ slice_index old i) → IsSoFar first (request_of next) width u new
+      → IsRow (match_shown s) place width new
+      → ((i : ℕ) → i < place → slice_index new i ≡ slice_index old i) → IsSoFar first next width u new
   step_written place is more row kept = record {
     written = λ t whole.
-        one_written (walk (asked_of first) t) (walk (asked_of (request_of next)) t) (match_shown (shown_of next)) width
-        place w u old new
+        one_written (walk (asked_of first) t) (walk (asked_of next) t) (match_shown s) width place w u old new
         (subst (λ ms. IsWritten (walk (asked_of first) t) ms width w old)
-        (left_then t (subst (λ code. Whole (words_of code) t) (sym before.code) whole)) (before.written t whole))
+        (left t (subst (λ code. Whole (words_of code) t) (sym before.code) whole)) (before.written t whole))
         is more row kept;
-    code = gives.request.pattern_codes ∙ before.code;
+    code = goes.pattern_codes ∙ before.code;
     same = asked_then ∙ ap (λ (a : Asked). record a { start = u.start; must_advance = u.must_advance }) before.same;
     inside =
         let last = ap (λ (a : Asked). a.end) before.same in
-        let at = ap (λ (a : Asked). a.start) gives.request.asked in
-        omega (arith, start, at, gives.request.span.inside, last);
+        let at = ap (λ (a : Asked). a.start) goes.asked in
+        omega (arith, start, at, goes.span.inside, last);
   }
 
 -- the next request has the code of the first

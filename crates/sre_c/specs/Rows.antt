@@ -1,26 +1,27 @@
 -- How far an iteration of a request is written.
 -- Definitions for the contracts inside this crate; what it makes public does not rest on it.
 use Rattle.std.specs.Prelude.{ℕ, ◌≡◌, ◌≤◌, ◌<◌, ◌+◌, ◌*◌, ◌⊎◌, List, [], ◌∷◌, length, take, Bool, false, Option}
-use Rattle.std.specs.Prelude.{Some, None, Result, Ok}
+use Rattle.std.specs.Prelude.{Some, None, Result, Ok, OnErr, slice_index}
 use Rattle.std.specs.Global.{Global}
 use Rattle.sre_chars.specs.declared.string.StrDrive.{Ghosts}
 use Rattle.sre_model.specs.Tree.{Tree}
 use Rattle.sre_model.specs.Grammar.{Whole}
-use Rattle.sre_model.specs.Found.{Asked, Match, walk, asked_after}
+use Rattle.sre_model.specs.Marks.{Marks}
+use Rattle.sre_model.specs.Found.{Asked, Match, found, walk, asked_after}
 use Rattle.sre_growth.specs.Refusal.{Refused}
 use Rattle.sre_code.specs.Codes.{words_of}
-use Rattle.sre_code.specs.declared.code.Code.{Code}
-use Rattle.sre_engine.specs.Requests.{string_of, end_of, code_of, asked_of}
+use Rattle.sre_engine.specs.Requests.{start_of, end_of, code_of, asked_of}
 use Rattle.sre_engine.specs.Counts.{AreEnough, KeepsToSteps, runs_of}
 use Rattle.sre_request.specs.declared.request.Request.{Request}
-use Rattle.sre_engine.specs.declared.engine.search_iter.SearchIter.{SearchIter}
 use Rattle.sre_engine.specs.declared.engine.state.SreError.{SreError}
-use Rattle.sre_engine.specs.Iterators.{request_of, shown_of, has_ended, NextWithin}
+use Rattle.sre_engine.specs.Answers.{Shown}
+use Rattle.sre_engine.specs.Searches.{Stepped, given_up}
+use Rattle.sre_finder.specs.Spans.{match_with, GoesOnBehind}
 use Rattle.sre_c.specs.declared.status.Status.{Status}
 use Rattle.sre_c.specs.declared.status.Status.TheVariants.{No, Yes, StepLimit, Memory, NoCode, NoRoom}
 use Rattle.sre_c.specs.declared.status.Status.TheVariants.{NotUtf8, FaultyTable}
 use Rattle.sre_c.specs.declared.types.SreWalked.{SreWalked}
-use Rattle.sre_c.specs.Walked.{IsWritten}
+use Rattle.sre_c.specs.Walked.{IsRow, IsWritten}
 use Rattle.sre_c.specs.Budgets.{no_limit, KeepsBudget, KeepBudget}
 
 -- the matches of a request are those that are written, and those of the one that is asked next
@@ -76,36 +77,35 @@ WritesRows NotUtf8 first next steps width w rows = ⊥
 WritesRows FaultyTable first next steps width w rows = ⊥
 
 -- rows that an iteration has written so far, with what its searches leave of the steps
-pub record AreWritten {S A : Type 0} {text : Ghosts S} (first : Request S text) (it : SearchIter S A text)
-    (width given : ℕ) (w : SreWalked) (rows : List ℕ) : Type 0 where
-  pub goes_on : has_ended it ≡ false
-  pub so_far : IsSoFar first (request_of it) width w rows
+pub record AreWritten {S : Type 0} {text : Ghosts S} (first next : Request S text) (width given : ℕ) (w : SreWalked)
+    (rows : List ℕ) : Type 0 where
+  pub so_far : IsSoFar first next width w rows
   pub fewer : w.steps ≤ given
   pub untaken : w.count ≡ 0 → w.steps ≡ given
   pub unlimited : given ≡ no_limit → w.steps ≡ given
   pub kept : RowsKeep first w.count given w.steps
-  pub behind : IsBehind first (request_of it) w.count
+  pub behind : IsBehind first next w.count
 
 -- the same after one more row; or what a status says, for which there is none
-abbrev pub NextIs : {S A : Type 0} {text : Ghosts S} → Option Status
-    → Request S text → SearchIter S A text → ℕ → ℕ → SreWalked → List ℕ → Type 0
+abbrev pub NextIs : {S : Type 0} {text : Ghosts S} → Option Status
+    → Request S text → Request S text → ℕ → ℕ → SreWalked → List ℕ → Type 0
 NextIs None first next width given w rows = AreWritten first next width given w rows
 NextIs (Some status) first next width given w rows =
-    WritesRows status first (request_of next) given width w rows × (w.steps ≤ given)
-    × (given ≡ no_limit → w.steps ≡ given)
+    WritesRows status first next given width w rows × (w.steps ≤ given) × (given ≡ no_limit → w.steps ≡ given)
 
 -- what the search for the next match says, and what it leaves of the steps
-pub record Searched {S A : Type 0} {text : Ghosts S} (it : SearchIter S A text) (told : Result (Option Bool) SreError)
-    (next : SearchIter S A text) (given left : ℕ) : Type 0 where
-  pub gives : NextWithin it told next
-  pub spent : KeepsToSteps A (asked_of (request_of it)) (code_of (request_of it)) told (runs_of (shown_of next)) given
-      left
+pub record Searched {S : Type 0} {text : Ghosts S} (r : Request S text) (told : Result (Option Bool) SreError)
+    (s : Shown) (next : Request S text) (given left : ℕ) : Type 0 where
+  pub stepped : Stepped r (given_up told) s next
+  pub again : s.restarted ≤ s.started
+  pub refused : OnErr told (Refused Global)
+  pub spent : KeepsToSteps Global (asked_of r) (code_of r) told (runs_of s) given left
   pub unlimited : given ≡ no_limit → left ≡ given
 
 -- one more row of each iteration that has written rows so far
-pub record WritesNext {S A : Type 0} {text : Ghosts S} (status : Option Status) (it next : SearchIter S A text)
-    (width : ℕ) (w u : SreWalked) (old new : List ℕ) : Type 0 where
-  pub each : (first : Request S text) (given : ℕ) → AreWritten first it width given w old
+pub record WritesNext {S : Type 0} {text : Ghosts S} (status : Option Status) (r next : Request S text) (width : ℕ)
+    (w u : SreWalked) (old new : List ℕ) : Type 0 where
+  pub each : (first : Request S text) (given : ℕ) → AreWritten first r width given w old
       → NextIs status first next width given u new
 
 -- the same of rows after which some request is next
@@ -113,8 +113,12 @@ abbrev pub Writes : {S : Type 0} {text : Ghosts S} → Status → Request S text
 Writes {S = S} {text = text} status first steps width w rows =
     (next : Request S text) × WritesRows status first next steps width w rows
 
--- what is built is of some request with the same code
-pub record SuitsNext {S : Type 0} {text : Ghosts S} (suits : S → Code → Type 0) (first : Request S text) : Type 0 where
-  pub next : Request S text
-  pub fits : suits (string_of next) (code_of next)
-  pub code : code_of next ≡ code_of first
+-- the next match is written in a row of so many numbers, from a place on, and no number before it changes
+pub record WritesSpan {S : Type 0} {text : Ghosts S} (r next : Request S text) (at width : ℕ) (old new : List ℕ)
+    : Type 0 where
+  pub start : ℕ
+  pub goes_on : GoesOnBehind r start (start_of next) next
+  pub row : (t : Tree) → Whole (words_of (code_of r)) t → (marks : Marks)
+      × (found (asked_of r) t ≡ Some (match_with start (start_of next) marks))
+      × IsRow (match_with start (start_of next) marks) at width new
+  pub before : (i : ℕ) → i < at → slice_index new i ≡ slice_index old i

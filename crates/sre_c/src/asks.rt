@@ -1,21 +1,24 @@
 //! How a text is searched: by the machine, and with DFAs where the text's type allows it.
 
-ghost use Rattle.std.specs.Prelude.{◌≡◌, ◌≤◌, ⊤, ℕ, List, true, None};
+ghost use Rattle.std.specs.Prelude.{◌≡◌, ◌≤◌, ⊤, ℕ, List, true, None, IfSome};
 ghost use Rattle.sre_chars.specs.Tables.{Table};
 ghost use Rattle.sre_engine.specs.Codes.{words_of, uni_of};
-ghost use Rattle.sre_engine.specs.Requests.{string_of, asked_of, code_of};
+ghost use Rattle.sre_engine.specs.FirstSets.{SetsOf};
+ghost use Rattle.sre_engine.specs.Requests.{asked_of, code_of};
+ghost use Rattle.sre_code.specs.Codes.{items_of};
+ghost use Rattle.sre_model.specs.Grammar.{behind_block};
 ghost use Rattle.sre_finder.specs.Kepts.{Suits};
 ghost use Rattle.sre_c.specs.Budgets.{no_limit};
 ghost use Rattle.sre_c.specs.Replies.{told_of, Finds};
-ghost use Rattle.sre_c.specs.Rows.{Writes, SuitsNext};
+ghost use Rattle.sre_c.specs.Rows.{Writes};
 
 use crate::spans::write_spans;
 use crate::status::Status;
 use crate::types::SreWalked;
 use crate::walk::write_rows;
 use sre_engine::engine::{Nobody, Starts};
-use sre_engine::{Request, SearchIter, SreError, State, StrDrive};
-use sre_finder::{Encoding, Haystack, Kept, SpanFinder};
+use sre_engine::{Request, SreError, State, StrDrive, StringCursor};
+use sre_finder::{Encoding, Haystack, Kept, Memory, SpanFinder};
 use std::alloc::Global;
 
 /// The budget of a call without a step limit.
@@ -53,17 +56,17 @@ pub trait Asks<S: StrDrive> {
     fn write(
         &mut self,
         alloc: Global,
-        request: &Request<'_, S>,
+        request: &mut Request<'_, S>,
         width: usize,
         rows: &mut [usize],
         walked: &mut SreWalked,
     ) -> Status
-        requires suits { suits self.old (words_of (code_of request.now)) (uni_of (code_of request.now)) }
+        requires suits { suits self.old (words_of (code_of request.old)) (uni_of (code_of request.old)) }
         requires none { walked.old.count ≡ 0 }
-        ensures rows { Writes result request.now walked.old.steps width walked.new rows.new }
+        ensures rows { Writes result request.old walked.old.steps width walked.new rows.new }
         ensures steps { walked.new.steps ≤ walked.old.steps }
         ensures unlimited { walked.old.steps ≡ no_limit → walked.new.steps ≡ walked.old.steps }
-        ensures suits { suits self.new (words_of (code_of request.now)) (uni_of (code_of request.now)) };
+        ensures suits { suits self.new (words_of (code_of request.old)) (uni_of (code_of request.old)) };
 }
 
 /// The machine alone, for texts of any type.
@@ -92,12 +95,13 @@ impl<S: StrDrive> Asks<S> for Machine {
     fn write(
         &mut self,
         alloc: Global,
-        request: &Request<'_, S>,
+        request: &mut Request<'_, S>,
         width: usize,
         rows: &mut [usize],
         walked: &mut SreWalked,
     ) -> Status {
-        write_by(alloc, request, &mut Nobody, width, rows, walked)
+        let mut memory = Memory::new(alloc);
+        write_rows(request, &mut memory, &mut Nobody, width, rows, walked)
     }
 }
 
@@ -133,7 +137,7 @@ impl<S: Haystack> Asks<S> for Once {
     fn write(
         &mut self,
         alloc: Global,
-        request: &Request<'_, S>,
+        request: &mut Request<'_, S>,
         width: usize,
         rows: &mut [usize],
         walked: &mut SreWalked,
@@ -164,22 +168,33 @@ impl<S: Haystack> Asks<S> for Kept {
         search_by_finder(alloc, self, state, request, steps)
     }
 
-    // Captures of a span, and what the DFAs leave open, cost steps that nothing counts. So within a limit the machine
-    // finds each match, with a prefilter.
     fn write(
         &mut self,
         alloc: Global,
-        request: &Request<'_, S>,
+        request: &mut Request<'_, S>,
         width: usize,
         rows: &mut [usize],
         walked: &mut SreWalked,
     ) -> Status {
-        let memory = self.take_memory();
-        let status = write_by_finder(alloc, self, request, width, rows, walked);
-        if let Some(memory) = memory {
-            self.put_memory(memory);
-        }
+        let Some(mut memory) = memory_in(alloc, self) else {
+            return Machine.write(alloc, request, width, rows, walked);
+        };
+        let status = write_in(alloc, self, &mut *memory, request, width, rows, walked);
+        self.put_memory(memory);
         status
+    }
+}
+
+/// Takes out the memory that is kept, or allocates one. `None` if that fails.
+#[inline(always)]
+pub fn memory_in(alloc: Global, kept: &mut Kept) -> Option<Box<Memory>>
+    ensures suits { (ws : List ℕ) (uni : Table) → Suits ws uni kept.old → Suits ws uni kept.new }
+    ensures sets { (ws : List ℕ) (uni : Table) → Suits ws uni kept.old
+        → IfSome result (λ m. SetsOf (behind_block ws) m.value.sets) }
+{
+    match kept.take_memory() {
+        Some(memory) => Some(memory),
+        None => Box::new(alloc, Memory::new(alloc)).ok(),
     }
 }
 
@@ -191,32 +206,87 @@ fn is_alone<S: StrDrive>(kept: &mut Kept, request: &Request<'_, S>, steps: u64) 
     range(request) <= FEW && steps == NO_LIMIT && kept.is_alone()
 }
 
-// Writes the matches with the DFAs that are kept, or those that it builds.
-fn write_by_finder<S: Haystack>(
+// The prefilter that skips nothing, and counts the runs that failed.
+#[derive(Clone, Copy)]
+struct Failures {
+    runs: u64,
+}
+
+impl<S: StrDrive> Starts<S> for Failures {
+    ghost suits = { λ _ _ _. ⊤ };
+
+    #[inline(always)]
+    fn beyond(&mut self, _req: &Request<'_, S>, from: StringCursor) -> Option<StringCursor> {
+        Some(from)
+    }
+
+    #[inline(always)]
+    fn tells(&self) -> bool {
+        false
+    }
+
+    #[inline(always)]
+    fn note_failed(&mut self) {
+        self.runs = self.runs.wrapping_add(1);
+    }
+}
+
+// Writes the matches with the memory of earlier calls: by the machine alone, or with the DFAs that are kept.
+fn write_in<S: Haystack>(
     alloc: Global,
     kept: &mut Kept,
-    request: &Request<'_, S>,
+    memory: &mut Memory,
+    request: &mut Request<'_, S>,
     width: usize,
     rows: &mut [usize],
     walked: &mut SreWalked,
 ) -> Status
-    requires suits { Suits (words_of (code_of request.now)) (uni_of (code_of request.now)) kept.old }
+    requires suits { Suits (words_of (code_of request.old)) (uni_of (code_of request.old)) kept.old }
+    requires sets { SetsOf (items_of (code_of request.old)) memory.old.sets }
     requires none { walked.old.count ≡ 0 }
-    ensures rows { Writes result request.now walked.old.steps width walked.new rows.new }
+    ensures rows { Writes result request.old walked.old.steps width walked.new rows.new }
     ensures steps { walked.new.steps ≤ walked.old.steps }
     ensures unlimited { walked.old.steps ≡ no_limit → walked.new.steps ≡ walked.old.steps }
-    ensures suits { Suits (words_of (code_of request.now)) (uni_of (code_of request.now)) kept.new }
+    ensures suits { Suits (words_of (code_of request.old)) (uni_of (code_of request.old)) kept.new }
+    ensures sets { SetsOf (items_of (code_of request.old)) memory.new.sets }
 {
-    let mut finder = finder_in(alloc, kept, request);
-    if walked.steps == NO_LIMIT {
-        let (status, built) = write_by_spans(alloc, request, finder, width, rows, walked);
-        *kept = built;
+    if is_alone(kept, request, walked.steps) {
+        let characters = range(request);
+        let mut failures = Failures { runs: 0 };
+        let status = write_rows(request, memory, &mut failures, width, rows, walked);
+        kept.note_alone(failures.runs.saturating_add(1), characters);
         return status;
     }
-    finder.reset();
-    let status = write_by(alloc, request, &mut finder, width, rows, walked);
+    let mut finder = finder_in(alloc, kept, request);
+    let status = write_by_finder(&mut finder, memory, request, width, rows, walked);
     *kept = finder.into_kept();
     status
+}
+
+// Writes the matches with DFAs. Captures of a span, and what the DFAs leave open, cost steps that nothing counts. So
+// within a limit the machine finds each match, with a prefilter.
+fn write_by_finder<S: Haystack>(
+    finder: &mut SpanFinder<'_>,
+    memory: &mut Memory,
+    request: &mut Request<'_, S>,
+    width: usize,
+    rows: &mut [usize],
+    walked: &mut SreWalked,
+) -> Status
+    requires own { finder.old.code ≡ code_of request.old }
+    requires sets { SetsOf (items_of (code_of request.old)) memory.old.sets }
+    requires none { walked.old.count ≡ 0 }
+    ensures rows { Writes result request.old walked.old.steps width walked.new rows.new }
+    ensures steps { walked.new.steps ≤ walked.old.steps }
+    ensures unlimited { walked.old.steps ≡ no_limit → walked.new.steps ≡ walked.old.steps }
+    ensures own { finder.new.code ≡ code_of request.old }
+    ensures sets { SetsOf (items_of (code_of request.old)) memory.new.sets }
+{
+    if walked.steps == NO_LIMIT {
+        return write_spans(finder, request, memory, width, rows, walked);
+    }
+    finder.reset();
+    write_rows(request, memory, finder, width, rows, walked)
 }
 
 // The finder of a request's code with what is kept, which is taken out.
@@ -262,51 +332,4 @@ fn search_by_finder<S: Haystack>(
     let told = finder.search_within(request, state, steps);
     *kept = finder.into_kept();
     told
-}
-
-// Writes the matches by the machine, or by DFAs that find spans once they are built. Also returns what is kept.
-fn write_by_spans<S: Haystack>(
-    alloc: Global,
-    request: &Request<'_, S>,
-    finder: SpanFinder<'_>,
-    width: usize,
-    rows: &mut [usize],
-    walked: &mut SreWalked,
-) -> (Status, Kept)
-    requires own { finder.code ≡ code_of request.now }
-    requires none { walked.old.count ≡ 0 }
-    ensures rows { Writes result.0 request.now walked.old.steps width walked.new rows.new }
-    ensures steps { walked.new.steps ≤ walked.old.steps }
-    ensures unlimited { walked.old.steps ≡ no_limit → walked.new.steps ≡ walked.old.steps }
-    ensures suits { Suits (words_of (code_of request.now)) (uni_of (code_of request.now)) result.1 }
-{
-    let Ok(request) = request.clone() else {
-        unreachable!(); // it takes no memory
-    };
-    let mut walk = finder.walk(request, State::new(alloc));
-    let status = write_spans(&mut walk, width, rows, walked);
-    (status, walk.into_finder().into_kept())
-}
-
-// Writes the matches of a range. The searches skip the starts that the prefilter excludes.
-fn write_by<S: StrDrive, F: Starts<S>>(
-    alloc: Global,
-    request: &Request<'_, S>,
-    starts: &mut F,
-    width: usize,
-    rows: &mut [usize],
-    walked: &mut SreWalked,
-) -> Status
-    requires suits { F.suits starts.old (string_of request.now) (code_of request.now) }
-    requires none { walked.old.count ≡ 0 }
-    ensures rows { Writes result request.now walked.old.steps width walked.new rows.new }
-    ensures steps { walked.new.steps ≤ walked.old.steps }
-    ensures unlimited { walked.old.steps ≡ no_limit → walked.new.steps ≡ walked.old.steps }
-    ensures suits { SuitsNext (F.suits starts.new) request.now }
-{
-    let Ok(request) = request.clone() else {
-        unreachable!(); // it takes no memory
-    };
-    let mut walk = SearchIter::new(request, State::new(alloc));
-    write_rows(&mut walk, starts, width, rows, walked)
 }

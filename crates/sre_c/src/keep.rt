@@ -2,8 +2,6 @@
 
 ghost use Rattle.std.specs.Prelude.{◌≡◌, ◌≤◌, ℕ, List, length, IfSome, None};
 ghost use Rattle.sre_chars.specs.Tables.{Table};
-ghost use Rattle.sre_model.specs.Grammar.{behind_block};
-ghost use Rattle.sre_engine.specs.FirstSets.{SetsOf};
 ghost use Rattle.sre_finder.specs.Kepts.{Suits};
 ghost use Rattle.sre_c.specs.Known.{table_in};
 ghost use Rattle.sre_c.specs.Answered.{Answers};
@@ -11,13 +9,13 @@ ghost use Rattle.sre_c.specs.Walked.{Walks};
 ghost use Rattle.sre_c.specs.Budgets.{no_limit};
 
 use crate::answer::{answer, answer_in};
-use crate::asks::Once;
+use crate::asks::{Once, memory_in};
 use crate::code::SreCode;
 use crate::pattern::SrePattern;
 use crate::status::Status;
 use crate::types::{SreAsked, SreFound, SreWalked};
 use crate::walk::walk;
-use sre_finder::{Encoding, Haystack, Kept, Memory};
+use sre_finder::{Encoding, Haystack, Kept};
 use sre_handle::{KeptSlot, RawBox};
 use std::alloc::Global;
 use std::mem::replace;
@@ -66,19 +64,6 @@ fn put(pattern: &mut SrePattern<'_>, kept: Box<Kept>)
     let slot = KeptSlot::of(RawBox::of(kept));
     replace(&mut pattern.kept, slot).discard();
     pattern.is_kept = true;
-}
-
-// Takes out the memory that is kept, or allocates one. `None` if that fails.
-#[inline(always)]
-fn memory_in(alloc: Global, kept: &mut Kept) -> Option<Box<Memory>>
-    ensures suits { (ws : List ℕ) (uni : Table) → Suits ws uni kept.old → Suits ws uni kept.new }
-    ensures sets { (ws : List ℕ) (uni : Table) → Suits ws uni kept.old
-        → IfSome result (λ m. SetsOf (behind_block ws) m.value.sets) }
-{
-    match kept.take_memory() {
-        Some(memory) => Some(memory),
-        None => Box::new(alloc, Memory::new(alloc)).ok(),
-    }
 }
 
 // `answer`, with what is kept.

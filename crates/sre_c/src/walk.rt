@@ -1,8 +1,9 @@
 //! The iteration over matches, which writes them in rows.
 
-ghost use Rattle.std.specs.Prelude.{◌≡◌, ◌<◌, ◌≤◌, ◌+◌, ◌*◌, ℕ, length, slice_index, false, IfNone};
-ghost use Rattle.sre_engine.specs.Requests.{string_of, start_of, end_of, code_of, must_advance_of};
-ghost use Rattle.sre_engine.specs.Iterators.{request_of, has_ended};
+ghost use Rattle.std.specs.Prelude.{◌≡◌, ◌<◌, ◌≤◌, ◌+◌, ◌*◌, ℕ, length, slice_index, IfNone};
+ghost use Rattle.sre_code.specs.Codes.{items_of};
+ghost use Rattle.sre_engine.specs.FirstSets.{SetsOf};
+ghost use Rattle.sre_engine.specs.Requests.{string_of, start_of, end_of, code_of, must_advance_of, stands_in};
 ghost use Rattle.sre_engine.specs.Answers.{match_shown};
 ghost use Rattle.sre_c.specs.Known.{table_in};
 ghost use Rattle.sre_c.specs.Walked.{index_number, entry_of, begun_of, IsRow, Walks};
@@ -10,14 +11,15 @@ ghost use Rattle.sre_c.specs.Rows.{Searched, WritesNext, WritesRows};
 ghost use Rattle.sre_c.specs.Budgets.{no_limit};
 
 use crate::answer::{mark_number, request};
-use crate::asks::{Asks, NO_LIMIT};
+use crate::asks::{Asks, NO_LIMIT, answered};
 use crate::check;
 use crate::code::SreCode;
 use crate::status::Status;
 use crate::table::table;
 use crate::types::{SreAsked, SreWalked};
-use sre_engine::engine::Starts;
-use sre_engine::{CodeError, LentTable, SearchIter, SreError, State, StrDrive};
+use sre_engine::engine::{Starts, step_admitted, step_limited};
+use sre_engine::{CodeError, LentTable, Request, SreError, State, StrDrive, StringCursor};
+use sre_finder::Memory;
 use std::alloc::Global;
 
 // The last group as a number.
@@ -57,92 +59,114 @@ pub fn write_row(state: &State<Global>, rows: &mut [usize], at: usize, width: us
     }
 }
 
-// Notes where and how the iteration continues.
-fn note_next<S: StrDrive>(walk: &SearchIter<'_, S, Global>, walked: &mut SreWalked)
+/// Notes where and how the iteration continues.
+pub fn note_next<S: StrDrive>(request: &Request<'_, S>, walked: &mut SreWalked)
     ensures next { walked.new ≡ record walked.old {
-      start = start_of (request_of walk.now);
-      must_advance = must_advance_of (request_of walk.now);
+      start = start_of request.now;
+      must_advance = must_advance_of request.now;
     } }
-    ensures inside { start_of (request_of walk.now) ≤ end_of (request_of walk.now) }
+    ensures inside { start_of request.now ≤ end_of request.now }
 {
-    walked.start = walk.req().start();
-    walked.must_advance = walk.req().must_advance();
+    walked.start = request.start();
+    walked.must_advance = request.must_advance();
 }
 
-// The next match within a budget of steps, as `SearchIter::next_within` returns it. The search skips the starts that
-// the prefilter excludes. Without a limit no step is charged.
+// The next match within a budget of steps, which the memory's state shows. The search skips the starts that the
+// prefilter excludes. Without a limit no step is charged.
 fn next_match<S: StrDrive, F: Starts<S>>(
-    walk: &mut SearchIter<'_, S, Global>,
+    request: &mut Request<'_, S>,
+    memory: &mut Memory,
+    cursor: &mut StringCursor,
     starts: &mut F,
     steps: &mut u64,
 ) -> Result<Option<bool>, SreError>
-    requires suits { F.suits starts.old (string_of (request_of walk.old)) (code_of (request_of walk.old)) }
-    ensures suits { F.suits starts.new (string_of (request_of walk.new)) (code_of (request_of walk.new)) }
-    ensures searched { Searched walk.old result walk.new steps.old steps.new }
+    requires stands { stands_in request.old cursor.old (start_of request.old) }
+    requires suits { F.suits starts.old (string_of request.old) (code_of request.old) }
+    requires sets { SetsOf (items_of (code_of request.old)) memory.old.sets }
+    ensures here { stands_in request.new cursor.new (start_of request.new) }
+    ensures suits { F.suits starts.new (string_of request.new) (code_of request.new) }
+    ensures sets { SetsOf (items_of (code_of request.new)) memory.new.sets }
+    ensures searched { Searched request.old result memory.new.state request.new steps.old steps.new }
 {
+    memory.sets.note_step(request);
+    let (state, sets) = (&mut memory.state, &memory.sets);
     if *steps < NO_LIMIT {
-        return walk.next_within_by(steps, starts);
+        return step_limited(request, state, cursor, steps, starts, sets);
     }
-    match walk.next_by(starts) {
-        None => Ok(Some(false)),
-        Some(Ok(())) => Ok(Some(true)),
-        Some(Err(error)) => Err(error),
-    }
+    answered(step_admitted(request, state, cursor, starts, sets))
 }
 
 // Writes the row of the next match, or returns why there is none.
 #[inline(always)]
 fn write_next<S: StrDrive, F: Starts<S>>(
-    walk: &mut SearchIter<'_, S, Global>,
+    request: &mut Request<'_, S>,
+    memory: &mut Memory,
+    cursor: &mut StringCursor,
     starts: &mut F,
     rows: &mut [usize],
     at: usize,
     width: usize,
     walked: &mut SreWalked,
 ) -> Option<Status>
-    requires suits { F.suits starts.old (string_of (request_of walk.old)) (code_of (request_of walk.old)) }
+    requires stands { stands_in request.old cursor.old (start_of request.old) }
+    requires suits { F.suits starts.old (string_of request.old) (code_of request.old) }
+    requires sets { SetsOf (items_of (code_of request.old)) memory.old.sets }
     requires room { at + width ≤ length rows.old }
     requires place { at ≡ walked.old.count * width }
     requires wide { 0 < width }
-    ensures suits { F.suits starts.new (string_of (request_of walk.new)) (code_of (request_of walk.new)) }
+    ensures here { stands_in request.new cursor.new (start_of request.new) }
+    ensures suits { F.suits starts.new (string_of request.new) (code_of request.new) }
+    ensures sets { SetsOf (items_of (code_of request.new)) memory.new.sets }
     ensures count { IfNone result (walked.new.count ≡ walked.old.count + 1) }
-    ensures rows { WritesNext result walk.old walk.new width walked.old walked.new rows.old rows.new }
+    ensures rows { WritesNext result request.old request.new width walked.old walked.new rows.old rows.new }
 {
     walked.steps_before = walked.steps;
-    match next_match(walk, starts, &mut walked.steps) {
+    match next_match(request, memory, cursor, starts, &mut walked.steps) {
         Ok(Some(true)) => {}
         Ok(Some(false)) => return Some(Status::No),
         Ok(None) => return Some(Status::StepLimit),
         Err(SreError::Memory) => return Some(Status::Memory),
     }
-    write_row(walk.state(), rows, at, width);
+    write_row(&memory.state, rows, at, width);
     walked.count += 1;
-    note_next(walk, walked);
+    note_next(request, walked);
     None
 }
 
-/// Writes the remaining matches, row by row, until there is no room for one more row, or no match.
+/// Writes the remaining matches, row by row, until there is no room for one more row, or no match. The searches skip
+/// the starts that the prefilter excludes.
 #[tactic(auto, using(crate::proofs::RowBudgets::none_kept, crate::proofs::RowBudgets::none_behind))]
 pub fn write_rows<S: StrDrive, F: Starts<S>>(
-    walk: &mut SearchIter<'_, S, Global>,
+    request: &mut Request<'_, S>,
+    memory: &mut Memory,
     starts: &mut F,
     width: usize,
     rows: &mut [usize],
     walked: &mut SreWalked,
 ) -> Status
-    requires suits { F.suits starts.old (string_of (request_of walk.old)) (code_of (request_of walk.old)) }
-    requires open { has_ended walk.old ≡ false }
+    requires suits { F.suits starts.old (string_of request.old) (code_of request.old) }
+    requires sets { SetsOf (items_of (code_of request.old)) memory.old.sets }
     requires none { walked.old.count ≡ 0 }
-    ensures rows { WritesRows result (request_of walk.old) (request_of walk.new) walked.old.steps width walked.new
-        rows.new }
+    ensures rows { WritesRows result request.old request.new walked.old.steps width walked.new rows.new }
     ensures steps { walked.new.steps ≤ walked.old.steps }
     ensures unlimited { walked.old.steps ≡ no_limit → walked.new.steps ≡ walked.old.steps }
-    ensures suits { F.suits starts.new (string_of (request_of walk.new)) (code_of (request_of walk.new)) }
+    ensures suits { F.suits starts.new (string_of request.new) (code_of request.new) }
+    ensures sets { SetsOf (items_of (code_of request.new)) memory.new.sets }
 {
     let mut at = 0;
-    note_next(walk, walked);
+    let mut cursor = request.string().create_cursor(request.start());
+    note_next(request, walked);
     'matches: while width > 0 && width <= rows.len() - at {
-        if let Some(status) = write_next(walk, starts, rows, at, width, walked) {
+        if let Some(status) = write_next(
+            request,
+            memory,
+            &mut cursor,
+            starts,
+            rows,
+            at,
+            width,
+            walked,
+        ) {
             return status;
         }
         at += width;
@@ -175,8 +199,8 @@ fn walk_by<'a, S: StrDrive, H: Asks<S>>(
         Err(CodeError::Memory) => return Status::Memory,
         Err(_) => return Status::NoCode,
     };
-    let request = request(text, asked, code);
-    how.write(alloc, &request, width, rows, walked)
+    let mut request = request(text, asked, code);
+    how.write(alloc, &mut request, width, rows, walked)
 }
 
 /// Writes the matches, each in `width` numbers, and how to continue.

@@ -59,6 +59,12 @@ abbrev pub WalksOn : {S : Type 0} {text : Ghosts S} → Request S text → Bool 
 WalksOn r b s next =
     (t : Tree) → Whole (words_of (code_of r)) t → StepsTo (walk (asked_of r) t) b s (walk (asked_of next) t)
 
+-- what a step within a step limit tells, as one that is given up where the limit is exceeded
+abbrev pub given_up : {E : Type 0} → Result (Option Bool) E → Result Bool (Option E)
+given_up (Ok (Some b)) = Ok b
+given_up (Ok None) = Err None
+given_up (Err e) = Err (Some e)
+
 -- whether a match was found within a step limit
 abbrev pub has_found : {E : Type 0} → Result (Option Bool) E → Bool
 has_found (Ok (Some b)) = b

@@ -23,5 +23,5 @@ pub use sre_board::Marks;
 pub use sre_request::Request;
 pub use state::{SreError, State};
 pub use told::{Nobody, Starts};
-pub use walk::{step_admitted, step_by};
+pub use walk::{step_admitted, step_by, step_limited};
 pub use whole_walk::{Found, all_matches, all_matches_by};

@@ -20,11 +20,11 @@ use Rattle.sre_model.specs.WalkBounds.{most_matches}
 use Rattle.sre_model.proofs.Bounds.{Between, ways-bounded}
 use Rattle.sre_model.proofs.FoundLaws.{either, Either, found-least, least-found}
 use Rattle.sre_model.proofs.WalkLaws.{walk-next, walk-end, most_matches-falls}
-use Rattle.sre_code.specs.Codes.{words_of, items_of, uni_of}
+use Rattle.sre_code.specs.Codes.{words_of, items_of, uni_of, hints_of}
+use Rattle.sre_code.proofs.Checked.{code_tree}
 use Rattle.sre_code.specs.declared.code.Code.{Code}
 use Rattle.sre_request.specs.declared.request.Request.{Request}
-use Rattle.sre_request.specs.Requests.{start_of, code_of, must_advance_of}
-use Rattle.sre_request.specs.Requests.{asked_of}
+use Rattle.sre_request.specs.Requests.{start_of, code_of, must_advance_of, asked_of, stands_in}
 use Rattle.sre_engine.specs.Answers.{Shown, match_shown, answer_of}
 use Rattle.sre_engine.specs.Walks.{StepsTo, GoesOn}
 use Rattle.sre_engine.specs.Searches.{WalksOn}
@@ -35,7 +35,7 @@ use Rattle.sre_patterns.specs.Patterns.{view_of}
 use Rattle.sre_patterns.specs.declared.encoding.Encoding.{Encoding}
 use Rattle.sre_automata.specs.Told.{IsBetween}
 use Rattle.sre_finder.specs.Views.{SeenAs}
-use Rattle.sre_finder.specs.Spans.{match_with, Exactly, FindsSpan, GoesOnBehind}
+use Rattle.sre_finder.specs.Spans.{match_with, Exactly, FindsSpan, GoesOnBehind, ShowsStep}
 
 -- a pattern whose matches read so many bytes reads one, where these are some
 pub reads_one : (re : Re) (n : ℕ) → IsMinLen re n → (n ≡ 0 → ⊥) → IsMinLen re 1
@@ -294,6 +294,30 @@ found_behind r start end u advances goes finds is t whole =
     ap (λ a. found a t) (last_same r start end u advances goes)
     ∙ found_again (asked_of r) t (match_with start end some.0) some.1 advances is
     ∙ sym some.1
+
+-- a match that is found from its start on is shown
+shown_there : (b : Bool) (s : Shown) (m : Match) → answer_of b s ≡ Some m → b ≡ true
+shown_there true s m is = refl
+shown_there false s m is = absurd (cc)
+
+pub shown_behind : {S : Type 0} {text : Ghosts S} (r : Request S text) (start end : ℕ) (u : Request S text)
+    (advances b : Bool) (s : Shown) → GoesOnBehind r start end u → FindsSpan r start end
+    → advances ≡ (must_advance_of r && nat_eq start (start_of r))
+    → ((t : Tree) → Whole (words_of (code_of u)) t
+    → answer_of b s ≡ found (record (asked_of u) { start = start; must_advance = advances }) t)
+    → (b ≡ true → stands_in u s.cursor s.cursor.position) → ShowsStep r s u
+shown_behind r start end u advances b s goes finds is answer stands =
+    let answers : (t : Tree) → Whole (words_of (code_of r)) t → answer_of b s ≡ found (asked_of r) t =
+    λ t whole. answer t (subst (λ d. Whole (words_of d) t) (sym goes.pattern_codes) whole)
+    ∙ found_behind r start end u advances goes finds is t whole in
+    let yes : (t : Tree) → Whole (words_of (code_of r)) t → b ≡ true =
+    λ t whole. let some = finds.some t whole in
+    shown_there b s (match_with start end some.0) (answers t whole ∙ some.1) in
+    let tree = code_tree (words_of (code_of r)) (hints_of (code_of r)) (code_of r).checked in
+    record {
+      is = λ t whole. subst (λ c. found (asked_of r) t ≡ answer_of c s) (yes t whole) (sym (answers t whole));
+      stands = stands (yes tree.0 tree.1);
+    }
 
 pub span_falls : {S : Type 0} {text : Ghosts S} (r : Request S text) (start end : ℕ) (u : Request S text)
     → GoesOnBehind r start end u → FindsSpan r start end → IsCode (words_of (code_of r))

@@ -76,9 +76,7 @@ pub record StepsFrom {S : Type 0} {text : Ghosts S} (r : Request S text) (start 
   pub goes_on : GoesOnBehind r start.position (start_of u) u
   pub finds : FindsSpan r start.position (start_of u)
 
--- a state shows the match of a step, which begins at a position
-pub record ShowsStep {S : Type 0} {text : Ghosts S} (r : Request S text) (start : StringCursor) (s : Shown)
-    (u : Request S text) : Type 0 where
-  pub begins : s.start ≡ start.position
+-- a state shows the match of a step, at whose end its cursor stands
+pub record ShowsStep {S : Type 0} {text : Ghosts S} (r : Request S text) (s : Shown) (u : Request S text) : Type 0 where
   pub is : (t : Tree) → Whole (words_of (code_of r)) t → found (asked_of r) t ≡ Some (match_shown s)
   pub stands : stands_in u s.cursor s.cursor.position

@@ -1,6 +1,6 @@
 //! The search by a finder of spans, and the run of the machine that shows a span's match.
 
-ghost use Rattle.std.specs.Prelude.{◌≡◌, ◌≤◌, true, false, IfOk, OnErr, None};
+ghost use Rattle.std.specs.Prelude.{◌≡◌, ◌≤◌, true, false, IfOk, IfSome, OnErr, None};
 ghost use Rattle.sre_growth.specs.Refusal.{Refused};
 ghost use Rattle.sre_model.specs.Tree.{Tree};
 ghost use Rattle.sre_model.specs.Grammar.{Whole};
@@ -8,12 +8,13 @@ ghost use Rattle.sre_model.specs.Marks.{no_marks};
 ghost use Rattle.sre_model.specs.Found.{found};
 ghost use Rattle.sre_code.specs.Codes.{items_of, words_of};
 ghost use Rattle.sre_engine.specs.FirstSets.{SetsOf};
-ghost use Rattle.sre_request.specs.Requests.{end_of, code_of, asked_of, stands_in};
+ghost use Rattle.sre_request.specs.Requests.{string_of, start_of, end_of, code_of, asked_of, stands_in};
 ghost use Rattle.sre_engine.specs.Answers.{answer_of};
 ghost use Rattle.sre_engine.specs.Counts.{KeepsToSteps, runs_of};
 ghost use Rattle.sre_engine.specs.Searches.{Answered};
 ghost use Rattle.sre_engine.specs.Within.{AnsweredWithin};
 ghost use Rattle.sre_finder.specs.Finders.{EndStands};
+ghost use Rattle.sre_finder.specs.Spans.{StepsFrom, ShowsStep, FindsNone};
 
 use crate::haystack::Haystack;
 use crate::span_finder::SpanFinder;
@@ -80,28 +81,69 @@ impl<'c> SpanFinder<'c> {
         }
         self.reset();
         let mut req = req;
-        let (from, must_advance) = (req.start(), req.must_advance());
-        let mut cursor = req.string().create_cursor(from);
+        let mut cursor = req.string().create_cursor(req.start());
         let mut sets = FirstSets::new(state);
-        let step = match self.step(&mut req, state, &mut cursor, &mut sets) {
-            Ok(Some(step)) => step,
+        match self.next_match(&mut req, state, &mut cursor, &mut sets, true) {
+            Ok(Some(_)) => Ok(true),
             Ok(None) => {
                 state.reset(&req, 0); // captures of an earlier search
-                return Ok(false);
+                Ok(false)
             }
             Err(error) => {
                 state.reset(&req, 0);
-                return Err(error);
+                Err(error)
             }
+        }
+    }
+
+    /// One step of an iteration: the next match, from a cursor at the start of the range. Returns a cursor at its
+    /// start, or `None` if there is none. If `shows`, the state then shows the match with its captures.
+    ///
+    /// After a match, the request and the cursor are at its end, and the request must advance exactly if the match was
+    /// empty. Without a match the request is unchanged. `begin_walk` comes before the first step in a text.
+    ///
+    /// # Errors
+    ///
+    /// [`SreError::Memory`] if an allocation failed, maybe after the match was found. Where the request then starts is
+    /// unspecified.
+    #[inline(always)]
+    pub fn next_match<S: Haystack, A: Allocator + Copy>(
+        &mut self,
+        req: &mut Request<'_, S>,
+        state: &mut State<A>,
+        cursor: &mut StringCursor,
+        sets: &mut FirstSets<A>,
+        shows: bool,
+    ) -> Result<Option<StringCursor>, SreError>
+        requires own { self.old.code ≡ code_of req.old }
+        requires sets { SetsOf (items_of (code_of req.old)) sets.old }
+        requires known { EndStands (S.stands (string_of req.old)) self.old.end }
+        requires stands { stands_in req.old cursor.old (start_of req.old) }
+        ensures own { self.new.code ≡ code_of req.new }
+        ensures code { self.new.code ≡ self.old.code }
+        ensures encoding { self.new.encoding ≡ self.old.encoding }
+        ensures sets { SetsOf (items_of (code_of req.new)) sets.new }
+        ensures known { EndStands (S.stands (string_of req.new)) self.new.end }
+        ensures some { IfOk result (λ o. IfSome o (λ start. StepsFrom req.old start req.new)) }
+        ensures shows { shows ≡ true → IfOk result (λ o. IfSome o (λ start. ShowsStep req.old state.new req.new)) }
+        ensures none { IfOk result (λ o. o ≡ None → (req.new ≡ req.old) × FindsNone req.old) }
+        ensures here { stands_in req.new cursor.new (start_of req.new) }
+        ensures refused { OnErr result (Refused A) }
+    {
+        let (from, must_advance) = (req.start(), req.must_advance());
+        let Some(step) = self.step(req, state, cursor, sets)? else {
+            return Ok(None);
         };
-        if step.is_shown {
-            return Ok(true);
+        if step.is_shown || !shows {
+            return Ok(Some(step.start));
         }
         self.note_shown();
+        sets.note_step(req);
         let advances = bars(must_advance, step.start.position(), from);
-        let shown = show_at(&req, state, step.start, advances, &sets)?;
-        Ok(shown)
+        let _shown = show_at(req, state, step.start, advances, sets)?;
+        Ok(Some(step.start))
     }
+
     // `search` by the machine, with the prefilter.
     fn search_by_machine<S: Haystack, A: Allocator + Copy>(
         &mut self,

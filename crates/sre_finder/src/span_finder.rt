@@ -154,8 +154,8 @@ impl<'c> SpanFinder<'c> {
         }
     }
 
-    // Forgets the last text, before an iteration that may show no match.
-    pub(crate) fn begin_walk(&mut self)
+    /// Forgets the last text, before an iteration that may show no match. `walk` does this itself.
+    pub fn begin_walk(&mut self)
         ensures code { self.new.code ≡ self.old.code }
         ensures encoding { self.new.encoding ≡ self.old.encoding }
         ensures end { self.new.end ≡ None }
@@ -242,7 +242,7 @@ impl<'c> SpanFinder<'c> {
         ensures known { EndStands (S.stands (string_of req.new)) self.new.end }
         ensures some { IfOk result (λ o. IfSome o (λ step. StepsFrom req.old step.start req.new)) }
         ensures shows { IfOk result (λ o. IfSome o (λ step.
-            step.is_shown ≡ true → ShowsStep req.old step.start state.new req.new)) }
+            step.is_shown ≡ true → ShowsStep req.old state.new req.new)) }
         ensures none { IfOk result (λ o. o ≡ None → (req.new ≡ req.old) × FindsNone req.old) }
         ensures here { stands_in req.new cursor.new (start_of req.new) }
         ensures err { OnErr result (req.new ≡ req.old) }
@@ -291,7 +291,7 @@ impl<'c> SpanFinder<'c> {
         ensures known { EndStands (S.stands (string_of req.new)) self.new.end }
         ensures some { IfOk result (λ o. IfSome o (λ step. StepsFrom req.old step.start req.new)) }
         ensures shows { IfOk result (λ o. IfSome o (λ step.
-            step.is_shown ≡ true → ShowsStep req.old step.start state.new req.new)) }
+            step.is_shown ≡ true → ShowsStep req.old state.new req.new)) }
         ensures none { IfOk result (λ o. o ≡ None → (req.new ≡ req.old) × FindsNone req.old) }
         ensures here { stands_in req.new cursor.new (start_of req.new) }
         ensures err { OnErr result (req.new ≡ req.old) }

@@ -10,10 +10,8 @@ ghost use Rattle.sre_engine.specs.OneSetsOf.{one_sets_of};
 use crate::engine::first_sets::FirstSets;
 use crate::engine::state::{SreError, State};
 use crate::engine::told::{Nobody, Starts};
-use crate::engine::walk::{step_admitted, step_within};
+use crate::engine::walk::{step_admitted, step_limited};
 use sre_chars::string::{StrDrive, StringCursor};
-use sre_machine::allowance::Allowance;
-use sre_machine::turns::Halt;
 use sre_request::Request;
 use std::alloc::{Allocator, Global};
 
@@ -136,21 +134,18 @@ impl<'a, S: StrDrive, A: Allocator + Copy> SearchIter<'a, S, A> {
             return Ok(Some(false));
         }
         self.sets.note_step(&self.req);
-        let mut allowed = Allowance::Turns(*steps);
         let (req, state, cursor) = (&mut self.req, &mut self.state, &mut self.cursor);
-        let told = step_within(req, state, cursor, &mut allowed, starts, &self.sets);
-        *steps = allowed.left();
-        match told {
-            Ok(true) => Ok(Some(true)),
-            Ok(false) => {
+        match step_limited(req, state, cursor, steps, starts, &self.sets) {
+            Ok(Some(true)) => Ok(Some(true)),
+            Ok(Some(false)) => {
                 self.ended = true;
                 Ok(Some(false))
             }
-            Err(Halt::Refused(refusal)) => {
+            Ok(None) => Ok(None),
+            Err(error) => {
                 self.ended = true;
-                Err(SreError::from(refusal))
+                Err(error)
             }
-            Err(Halt::UsedUp) => Ok(None),
         }
     }
 

@@ -1,14 +1,14 @@
 //! One step of an iteration: the next match, and the request after it.
 
-ghost use Rattle.std.specs.Prelude.{◌≡◌, OnErr};
+ghost use Rattle.std.specs.Prelude.{◌≡◌, ◌≤◌, OnErr};
 ghost use Rattle.sre_code.specs.Codes.{items_of};
-ghost use Rattle.sre_request.specs.Requests.{string_of, start_of, code_of, stands_in};
+ghost use Rattle.sre_request.specs.Requests.{string_of, start_of, code_of, asked_of, stands_in};
 ghost use Rattle.sre_machine.specs.Allowances.{is_limited};
 ghost use Rattle.sre_engine.specs.Answers.{MayTakeMemory};
 ghost use Rattle.sre_engine.specs.Costs.{Charged};
-ghost use Rattle.sre_engine.specs.Counts.{BeginsAgain, runs_of};
+ghost use Rattle.sre_engine.specs.Counts.{BeginsAgain, KeepsToSteps, runs_of};
 ghost use Rattle.sre_engine.specs.FirstSets.{SetsOf};
-ghost use Rattle.sre_engine.specs.Searches.{Answered, Stepped, RunsOnceAnchored};
+ghost use Rattle.sre_engine.specs.Searches.{Answered, Stepped, RunsOnceAnchored, given_up};
 ghost use Rattle.sre_growth.specs.Refusal.{Refused};
 
 use crate::engine::first_sets::FirstSets;
@@ -139,5 +139,43 @@ pub fn step_admitted<S: StrDrive, A: Allocator + Copy, F: Starts<S>>(
         Ok(found) => Ok(found),
         Err(Halt::Refused(refusal)) => Err(SreError::from(refusal)),
         Err(Halt::UsedUp) => unreachable!(),
+    }
+}
+
+/// One step as `step_admitted` takes it, within a budget of steps. Returns `None` if the step limit is exceeded.
+/// `State::match_within` defines a step, and says which budgets suffice for one match.
+///
+/// `steps` then holds the steps that are left. After `None` there are no captures, and the request is unchanged.
+///
+/// # Errors
+///
+/// [`SreError::Memory`] if an allocation fails.
+pub fn step_limited<S: StrDrive, A: Allocator + Copy, F: Starts<S>>(
+    req: &mut Request<'_, S>,
+    state: &mut State<A>,
+    cursor: &mut StringCursor,
+    steps: &mut u64,
+    starts: &mut F,
+    sets: &FirstSets<A>,
+) -> Result<Option<bool>, SreError>
+    requires stands { stands_in req.old cursor.old (start_of req.old) }
+    requires suits { F.suits starts.old (string_of req.old) (code_of req.old) }
+    requires sets { SetsOf (items_of (code_of req.old)) sets.now }
+    ensures suits { F.suits starts.new (string_of req.new) (code_of req.new) }
+    ensures stepped { Stepped req.old (given_up result) state.new req.new }
+    ensures here { stands_in req.new cursor.new (start_of req.new) }
+    ensures refused { OnErr result (Refused A) }
+    ensures steps { KeepsToSteps A (asked_of req.old) (code_of req.old) result (runs_of state.new) steps.old steps.new }
+    ensures anchored { RunsOnceAnchored req.old state.new }
+    ensures again { state.new.restarted ≤ state.new.started }
+    ensures literal { OnErr (given_up result) (MayTakeMemory (code_of req.old)) }
+{
+    let mut allowed = Allowance::Turns(*steps);
+    let told = step_within(req, state, cursor, &mut allowed, starts, sets);
+    *steps = allowed.left();
+    match told {
+        Ok(found) => Ok(Some(found)),
+        Err(Halt::Refused(refusal)) => Err(SreError::from(refusal)),
+        Err(Halt::UsedUp) => Ok(None),
     }
 }

@@ -1,16 +1,23 @@
-use Rattle.std.proofs.Common.{◌≡◌, ◌≤◌, ◌-◌, ◌*◌, length, false}
-use Rattle.sre_finder.specs.SpanIters.{request_of, has_ended}
+use Rattle.std.proofs.Common.{◌≡◌, ◌≤◌, ◌-◌, ◌*◌, length}
+use Rattle.sre_code.specs.Codes.{items_of}
+use Rattle.sre_engine.specs.FirstSets.{SetsOf}
+use Rattle.sre_engine.specs.Requests.{string_of, start_of, code_of, stands_in}
+use Rattle.sre_finder.specs.Finders.{EndStands}
 use Rattle.sre_c.specs.Rows.{IsSoFar}
 use Rattle.sre_c.proofs.spans.write_spans.Given as goal
 
 abbrev pub invariant-matches : goal.invariant-matches
 invariant-matches g l =
-    (has_ended l.walk ≡ false)
-    × IsSoFar (request_of l.fn.walk) (request_of l.walk) l.width l.walked l.rows
+    IsSoFar l.fn.request l.request l.width l.walked l.rows
     × (l.at ≡ l.walked.count * l.width)
     × (l.at ≤ length l.rows)
     × (length l.rows ≡ length l.fn.rows)
     × (l.walked.steps ≡ l.fn.walked.steps)
+    × (l.finder.code ≡ l.fn.finder.code)
+    × (l.finder.code ≡ code_of l.request)
+    × EndStands (g.S.StrDrive.stands (string_of l.request)) l.finder.end
+    × SetsOf (items_of (code_of l.request)) l.memory.sets
+    × stands_in l.request l.cursor (start_of l.request)
 
 abbrev pub decreases-matches : goal.decreases-matches
 decreases-matches g l = length l.rows - l.at

@@ -34,11 +34,7 @@ returns-clause-shows g c = λ _.
     let yes = c.if-not-is_found.false in
     let goes = ok.yes yes in
     let shown = c.step_admitted.new.state in
-    let start = c.skip.new.cursor in
-    let there = g.met.S.StrDrive.stands_at c.string.result start _ c.skip.ensures in
-    let here = g.met.S.StrDrive.stands_at (string_of asked) c.args.cursor.now (start_of asked) c.requires.stands in
     record {
-      begins = omega (arith, there.0, here.0, c.start.ensures, c.position-2.ensures, goes.from);
       is = λ t whole.
           subst (λ b. found (asked_of asked) t ≡ answer_of b shown) yes
           (sym
