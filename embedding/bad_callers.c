@@ -464,7 +464,8 @@ static void no_memory_for_patterns(const uint32_t *words, size_t count) {
   CHECK(!pattern.is_kept && requests > 0);
   for (int is_utf8 = 0; is_utf8 < 2; is_utf8++) {
     long plain = refused_calls(&pattern, is_utf8, false, false);
-    CHECK(plain > 0 && refused_calls(&pattern, is_utf8, true, false) == plain);
+    long first = refused_calls(&pattern, is_utf8, true, false); /* its walk has the memory of the answer before it */
+    CHECK(0 < first && first <= plain);
     CHECK(refused_calls(&pattern, is_utf8, true, true) <= plain);
   }
   is_one = false;
