@@ -256,7 +256,7 @@ static bool may_match(const Pattern *pattern, const Text *text, sre_asked *asked
 
 int engine_match(Pattern *pattern, Text *text, const sre_asked *given, size_t *row) {
   sre_asked narrowed = *given, *asked = &narrowed;
-  /* a call with a step limit goes to the engine as it is: without DFAs both engines of the package charge it alike */
+  /* a call with a step limit goes to the engine as it is: without what is kept both engines charge it alike */
   if (asked->steps == UINT64_MAX && !may_match(pattern, text, asked))
     return 0;
   sre_found found;

@@ -3,10 +3,10 @@ pub mod Telling
 pub mod Budgets
 pub mod RowBudgets
 pub mod Rows
+pub mod SpanRows
 pub mod NextRows
 pub mod Walks
 pub mod Finding
 pub mod Matches
 pub mod Knowing
 pub mod Begun
-pub mod SpanRows

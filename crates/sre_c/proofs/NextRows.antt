@@ -9,7 +9,8 @@ use Rattle.sre_c.specs.declared.status.Status.TheVariants.{No, StepLimit}
 use Rattle.sre_c.specs.declared.types.SreWalked.{SreWalked}
 use Rattle.sre_c.specs.Walked.{IsRow}
 use Rattle.sre_c.specs.Rows.{RowsKeep, Searched, WritesNext}
-use Rattle.sre_c.proofs.Rows.{with_steps, step_written}
+use Rattle.sre_c.proofs.Rows.{with_steps}
+use Rattle.sre_c.proofs.SpanRows.{span_written, shown_written}
 use Rattle.sre_c.proofs.RowBudgets.{one_behind, one_more_kept, rows_ended, rows_limited}
 
 module _ {S : Type 0} {text : Ghosts S} (r next : Request S text) (s : Shown) (width left : ℕ) (w : SreWalked) where
@@ -51,9 +52,9 @@ module _ {S : Type 0} {text : Ghosts S} (r next : Request S text) (s : Shown) (w
       let steps = ap (λ (v : SreWalked). v.steps) noted in
       record {
         each = λ first given before. record {
-          so_far = step_written first r next s width w u old new before.so_far (x.stepped.yes refl) x.stepped.ok
-              (ap (λ (v : SreWalked). v.start) noted) (ap (λ (v : SreWalked). v.must_advance) noted) at place count row
-              same;
+          so_far = span_written first r next at width w u old new before.so_far
+              (shown_written r next s at width old new x.stepped.ok (x.stepped.yes refl) row same)
+              (ap (λ (v : SreWalked). v.start) noted) (ap (λ (v : SreWalked). v.must_advance) noted) place count;
           fewer = omega (arith, steps, before.fewer, x.spent.fewer);
           untaken = λ none. absurd (omega (arith, count, none));
           unlimited = λ none. steps ∙ x.unlimited (before.unlimited none ∙ none) ∙ before.unlimited none;

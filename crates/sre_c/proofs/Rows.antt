@@ -1,22 +1,12 @@
 -- Rows of matches: one more after those that exist, and an iteration that is written up to some request.
-use Rattle.std.proofs.Common.{◌≡◌, ◌∙◌, ◌<◌, ◌+◌, ◌*◌, ℕ, List, [], ◌∷◌, ◌++◌, length, slice_index, nat_eq, true}
-use Rattle.std.proofs.Common.{sym, ap, subst, arith, append_assoc}
-use Rattle.std.proofs.Common.{length-append}
+use Rattle.std.proofs.Common.{◌≡◌, ◌∙◌, ◌<◌, ◌+◌, ◌*◌, ℕ, List, [], ◌∷◌, ◌++◌, length, slice_index, sym, ap, subst}
+use Rattle.std.proofs.Common.{arith, append_assoc, length-append}
 use Rattle.sre_chars.specs.declared.string.StrDrive.{Ghosts}
-use Rattle.sre_model.specs.Grammar.{Whole}
-use Rattle.sre_model.specs.Found.{Asked, Match, walk}
-use Rattle.sre_code.specs.Codes.{words_of}
+use Rattle.sre_model.specs.Found.{Match}
 use Rattle.sre_request.specs.declared.request.Request.{Request}
-use Rattle.sre_engine.specs.Requests.{start_of, code_of, asked_of, must_advance_of}
-use Rattle.sre_engine.specs.Answers.{Shown, match_shown}
-use Rattle.sre_engine.specs.Searches.{WalksOn}
-use Rattle.sre_engine.specs.Walks.{GoesOn}
-use Rattle.sre_c.specs.declared.status.Status.{Status}
-use Rattle.sre_c.specs.declared.status.Status.TheVariants.{No, Yes, StepLimit, Memory, NoCode, NoRoom}
-use Rattle.sre_c.specs.declared.status.Status.TheVariants.{NotUtf8, FaultyTable}
 use Rattle.sre_c.specs.declared.types.SreWalked.{SreWalked}
 use Rattle.sre_c.specs.Walked.{IsRow, AreRows, IsWritten}
-use Rattle.sre_c.specs.Rows.{IsSoFar, WritesRows}
+use Rattle.sre_c.specs.Rows.{IsSoFar}
 
 -- rows stay where their numbers do
 rows_kept : (ms : List Match) (at width : ℕ) (old new : List ℕ)
@@ -70,44 +60,3 @@ so_far_with first next width w rows m n is = record {
   same = is.same;
   inside = is.inside;
 }
-
--- of a walk that is written so far one match more is found
-module _ {S : Type 0} {text : Ghosts S} (first r next : Request S text) (s : Shown) (width : ℕ) (w u : SreWalked)
-    (old new : List ℕ) (before : IsSoFar first r width w old) (goes : GoesOn r s next) (left : WalksOn r true s next)
-    (start : u.start ≡ start_of next) (advance : u.must_advance ≡ must_advance_of next) where
-  asked_then : asked_of next ≡ record (asked_of r) { start = u.start; must_advance = u.must_advance }
-  asked_then =
-      goes.asked
-      ∙ ap (λ p. record (asked_of r) { start = p; must_advance = nat_eq s.cursor.position s.start })
-      (sym (start ∙ ap (λ (a : Asked). a.start) goes.asked))
-      ∙ ap (λ b. record (asked_of r) { start = u.start; must_advance = b })
-      (sym (advance ∙ ap (λ (a : Asked). a.must_advance) goes.asked))
-
-  pub step_written : (place : ℕ) → place ≡ w.count * width → u.count ≡ w.count + 1
-      → IsRow (match_shown s) place width new
-      → ((i : ℕ) → i < place → slice_index new i ≡ slice_index old i) → IsSoFar first next width u new
-  step_written place is more row kept = record {
-    written = λ t whole.
-        one_written (walk (asked_of first) t) (walk (asked_of next) t) (match_shown s) width place w u old new
-        (subst (λ ms. IsWritten (walk (asked_of first) t) ms width w old)
-        (left t (subst (λ code. Whole (words_of code) t) (sym before.code) whole)) (before.written t whole))
-        is more row kept;
-    code = goes.pattern_codes ∙ before.code;
-    same = asked_then ∙ ap (λ (a : Asked). record a { start = u.start; must_advance = u.must_advance }) before.same;
-    inside =
-        let last = ap (λ (a : Asked). a.end) before.same in
-        let at = ap (λ (a : Asked). a.start) goes.asked in
-        omega (arith, start, at, goes.span.inside, last);
-  }
-
--- the next request has the code of the first
-pub same_code : {S : Type 0} {text : Ghosts S} (status : Status) (first next : Request S text) (steps width : ℕ)
-    (w : SreWalked) (rows : List ℕ) → WritesRows status first next steps width w rows → code_of next ≡ code_of first
-same_code No first next steps width w rows x = x.1.code
-same_code NoRoom first next steps width w rows x = x.0.code
-same_code StepLimit first next steps width w rows x = x.0.code
-same_code Memory first next steps width w rows x = x.1.code
-same_code Yes first next steps width w rows x = absurd x
-same_code NoCode first next steps width w rows x = absurd x
-same_code NotUtf8 first next steps width w rows x = absurd x
-same_code FaultyTable first next steps width w rows x = absurd x

@@ -1,5 +1,6 @@
--- Rows of spans: one more after those that exist.
-use Rattle.std.proofs.Common.{◌≡◌, ◌∙◌, ◌+◌, ◌*◌, ℕ, List, [], ◌∷◌, nat_eq, sym, ap, subst, arith}
+-- Rows of an iteration: one more after those that exist, whether DFAs or the machine found its match.
+use Rattle.std.proofs.Common.{◌≡◌, ◌∙◌, ◌<◌, ◌+◌, ◌*◌, ℕ, List, [], ◌∷◌, slice_index, nat_eq, true, Some, refl, sym}
+use Rattle.std.proofs.Common.{ap, subst, arith}
 use Rattle.sre_chars.specs.declared.string.StrDrive.{Ghosts}
 use Rattle.sre_model.specs.Tree.{Tree}
 use Rattle.sre_model.specs.Grammar.{Whole}
@@ -8,9 +9,13 @@ use Rattle.sre_model.proofs.WalkLaws.{walk-next, walk-end}
 use Rattle.sre_code.specs.Codes.{words_of}
 use Rattle.sre_request.specs.declared.request.Request.{Request}
 use Rattle.sre_engine.specs.Requests.{start_of, code_of, asked_of, must_advance_of}
+use Rattle.sre_engine.specs.Answers.{Shown, match_shown}
+use Rattle.sre_engine.specs.Searches.{WalksOn}
+use Rattle.sre_engine.specs.Walks.{GoesOn}
 use Rattle.sre_finder.specs.Spans.{match_with, FindsNone}
+use Rattle.sre_finder.proofs.Spans.{first_found, steps_span}
 use Rattle.sre_c.specs.declared.types.SreWalked.{SreWalked}
-use Rattle.sre_c.specs.Walked.{IsWritten}
+use Rattle.sre_c.specs.Walked.{IsRow, IsWritten}
 use Rattle.sre_c.specs.Rows.{IsSoFar, WritesSpan}
 use Rattle.sre_c.proofs.Rows.{one_written}
 
@@ -40,6 +45,25 @@ module _ {S : Type 0} {text : Ghosts S} (first r next : Request S text) (at widt
     same = asked_then ∙ ap (λ (a : Asked). record a { start = u.start; must_advance = u.must_advance }) before.same;
     inside = omega (arith, start, span.goes_on.inside, ap (λ (a : Asked). a.end) before.same);
   }
+
+-- the machine shows the match that is written
+pub shown_written : {S : Type 0} {text : Ghosts S} (r next : Request S text) (s : Shown) (at width : ℕ)
+    (old new : List ℕ) → WalksOn r true s next → GoesOn r s next → IsRow (match_shown s) at width new
+    → ((i : ℕ) → i < at → slice_index new i ≡ slice_index old i) → WritesSpan r next at width old new
+shown_written r next s at width old new walks goes row before =
+    let span = steps_span r true s next walks refl goes s.start refl in
+    let ends : s.cursor.position ≡ start_of next = sym (ap (λ (a : Asked). a.start) goes.asked) in
+    record {
+      start = s.start;
+      goes_on = span.0;
+      row = λ t whole. (
+        s.marks,
+        first_found (asked_of r) t (match_shown s) (walk (asked_of next) t) (walks t whole)
+            ∙ ap (λ e. Some (match_with s.start e s.marks)) ends,
+        subst (λ e. IsRow (match_with s.start e s.marks) at width new) ends row,
+      );
+      before = before;
+    }
 
 -- none is left
 pub rows_over : {S : Type 0} {text : Ghosts S} (first r : Request S text) (width : ℕ) (w : SreWalked) (rows : List ℕ)

@@ -145,7 +145,9 @@ impl<S: Haystack> Asks<S> for Once {
         if range(request) <= FEW {
             return Machine.write(alloc, request, width, rows, walked);
         }
-        Kept::new(Encoding::Bytes).write(alloc, request, width, rows, walked)
+        let mut kept = Kept::new(Encoding::Bytes);
+        let mut memory = Memory::new(alloc);
+        write_in(alloc, &mut kept, &mut memory, request, width, rows, walked)
     }
 }
 
