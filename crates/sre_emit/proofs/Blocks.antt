@@ -1,36 +1,33 @@
 -- A block before the code words of a tree: its rows, that they are still the tree's, and that its claims are confirmed.
-use Rattle.std.proofs.Common.{ℕ, zero, suc, ◌+◌, ◌*◌, ◌-◌, ◌/◌, ◌%◌, ◌≡◌, ◌<◌, ◌≤◌, Bool, true, false, ◌&&◌, cond}
+use Rattle.std.proofs.Common.{ℕ, zero, suc, ◌+◌, ◌*◌, ◌-◌, ◌/◌, ◌%◌, ◌≡◌, ◌<◌, ◌≤◌, Bool, true, false, cond}
 use Rattle.std.proofs.Common.{nat_eq, nat_lt}
-use Rattle.std.proofs.Common.{nat_le, List, [], ◌∷◌, ◌++◌, length, take, drop, Option, Some, None, is_some}
-use Rattle.std.proofs.Common.{refl, sym, ◌∙◌, ap, subst, arith, length-append, map, ◌≢◌}
+use Rattle.std.proofs.Common.{nat_le, List, [], ◌∷◌, ◌++◌, length, take, drop, Some, is_some}
+use Rattle.std.proofs.Common.{refl, sym, ◌∙◌, ap, subst, arith, length-append, ◌≢◌}
 use Rattle.std.proofs.Math.Seq.{drop-append_seam, take-append_seam}
 use Rattle.std.proofs.lemmas.List.{append_assoc}
+use Rattle.std.proofs.lemmas.Bool.{and_parts}
 use Rattle.std.proofs.lemmas.Bool.Decides.{nat_tests}
 use Rattle.sre_chars.specs.Numbers.{opcode_number}
 use Rattle.sre_chars.specs.declared.constants.SreOpcode.TheVariants as opcode
-use Rattle.sre_model.specs.Tree.{Tree, Empty, Then, Item, Fail, One, At, Mark, Branch, Loop, Run, PossessiveLoop}
-use Rattle.sre_model.specs.Tree.{Atomic, Look, Reference, Exists, ExistsElse, Only, Or, Any, AnyAll, InCategory}
-use Rattle.sre_model.specs.Tree.{Literal, NotLiteral, In, Plain, Ascii, Locale, Unicode}
+use Rattle.sre_model.specs.Tree.{Tree, Empty, Then, One, Mark, Branch, Only, Or, Literal, Plain}
 use Rattle.sre_model.specs.Ways.{unlimited}
 use Rattle.sre_model.specs.Grammar.{has_block, behind_block, fits_block, WholeItems, Whole}
 use Rattle.sre_model.specs.Standing.{AreWords}
 use Rattle.sre_model.specs.Shown.{items, a, b, c, d}
 use Rattle.sre_model.specs.Width.{width}
 use Rattle.sre_model.specs.Claims.{border_length, are_overlaps, has_prefix, prefix_words}
-use Rattle.sre_model.specs.Claims.{overlap_words, behind_adjacent, behind_spread, then_spread, is_at_end, behind_prefix}
+use Rattle.sre_model.specs.Claims.{overlap_words, behind_spread, behind_literals, is_at_end, behind_prefix}
 use Rattle.sre_model.specs.Claims.{confirmed_width, confirmed_prefix, is_literal}
 use Rattle.sre_model.specs.Lawful.{LawfulTree}
 use Rattle.sre_model.specs.Written.{code_words}
 use Rattle.sre_model.proofs.CutOff.{no_block, none_behind, whole_items}
 use Rattle.sre_model.proofs.OneToOne.{code_whole, whole_are}
-use Rattle.sre_emit.specs.declared.part.Part.{Part}
-use Rattle.sre_emit.specs.declared.part.Item as part
-use Rattle.sre_emit.specs.Parts.{tree_of, item_of, in_order}
-use Rattle.sre_emit.specs.Block.{plain, is_mark, one_more, before, leading, spread, has_literals_alone}
+use Rattle.sre_emit.specs.Block.{leading, spread, has_literals_alone}
 use Rattle.sre_emit.specs.Block.{is_all_literals, block_prefix, overlaps_from, block, prefix_part, prefixed}
 use Rattle.sre_emit.specs.Block.{block_words}
 use Rattle.sre_emit.specs.Emitted.{front, Emits}
-use Rattle.sre_emit.proofs.Layers.{tree_is}
+use Rattle.sre_emit.specs.Writing.{Held, Wrote}
+use Rattle.sre_emit.proofs.Written.{wrote_equal, wrote_more}
 
 letter : block_words (items (a ∷ [])) ≡ 14 ∷ 8 ∷ 3 ∷ 1 ∷ unlimited ∷ 1 ∷ 1 ∷ 97 ∷ 0 ∷ []
 letter = refl
@@ -67,116 +64,46 @@ overlaps_are p n (suc k) = rw (nat_same (border_length (take n p)), overlaps_are
 -- there are no others
 pub overlaps_same : (p o : List ℕ) (n : ℕ) → are_overlaps p n o ≡ true → o ≡ overlaps_from p n (length o)
 overlaps_same p [] n e = refl
-overlaps_same p (x ∷ xs) n e = by (nat_eq x (border_length (take n p))) refl e (overlaps_same p xs (n + 1))
-  where
-    by : (b : Bool) → nat_eq x (border_length (take n p)) ≡ b → (b && are_overlaps p (n + 1) xs) ≡ true
-        → (are_overlaps p (n + 1) xs ≡ true → xs ≡ overlaps_from p (n + 1) (length xs))
-        → x ∷ xs ≡ overlaps_from p n (length (x ∷ xs))
-    by false f e rest = absurd (cc)
-    by true f e rest =
-        let first : x ≡ border_length (take n p) = grind (arith, nat_tests) in
-        ap (λ y. y ∷ xs) first ∙ ap (λ l. border_length (take n p) ∷ l) (rest e)
+overlaps_same p (x ∷ xs) n e =
+    let both = and_parts (nat_eq x (border_length (take n p))) (are_overlaps p (n + 1) xs) e in
+    let equal : nat_eq x (border_length (take n p)) ≡ true = both.0 in
+    let first : x ≡ border_length (take n p) = grind (arith, nat_tests) in
+    ap (λ y. y ∷ xs) first ∙ ap (λ l. border_length (take n p) ∷ l) (overlaps_same p xs (n + 1) both.1)
 
 -- What the items begin with
 
-literal_is : (x : Item) (v : ℕ) → plain x ≡ Some v → x ≡ One (Literal Plain v)
-literal_is (One (Literal Plain u)) v e = let same : u ≡ v = cc in ap (λ n. One (Literal Plain n)) same
-literal_is (One (Literal Ascii u)) v e = absurd (cc)
-literal_is (One (Literal Locale u)) v e = absurd (cc)
-literal_is (One (Literal Unicode u)) v e = absurd (cc)
-literal_is (One (NotLiteral f u)) v e = absurd (cc)
-literal_is (One (In f s)) v e = absurd (cc)
-literal_is (One (InCategory k)) v e = absurd (cc)
-literal_is (One Any) v e = absurd (cc)
-literal_is (One AnyAll) v e = absurd (cc)
-literal_is Fail v e = absurd (cc)
-literal_is (At k) v e = absurd (cc)
-literal_is (Mark n) v e = absurd (cc)
-literal_is (Branch ts) v e = absurd (cc)
-literal_is (Loop o low high body) v e = absurd (cc)
-literal_is (Run kind low high t) v e = absurd (cc)
-literal_is (PossessiveLoop low high body) v e = absurd (cc)
-literal_is (Atomic body) v e = absurd (cc)
-literal_is (Look sign back body) v e = absurd (cc)
-literal_is (Reference f g) v e = absurd (cc)
-literal_is (Exists g there) v e = absurd (cc)
-literal_is (ExistsElse g there absent) v e = absurd (cc)
-
 -- a mark leaves what is to come
-spread_past : (x : Item) (rest : Tree) (vs : List ℕ) → is_mark x ≡ true → is_some (behind_spread vs rest) ≡ true
-    → is_some (behind_spread vs (Then x rest)) ≡ true
-spread_past x rest [] e h = refl
-spread_past (Mark n) rest (v ∷ vs) e h = h
-spread_past Fail rest (v ∷ vs) e h = absurd (cc)
-spread_past (One t) rest (v ∷ vs) e h = absurd (cc)
-spread_past (At k) rest (v ∷ vs) e h = absurd (cc)
-spread_past (Branch ts) rest (v ∷ vs) e h = absurd (cc)
-spread_past (Loop o low high body) rest (v ∷ vs) e h = absurd (cc)
-spread_past (Run kind low high t) rest (v ∷ vs) e h = absurd (cc)
-spread_past (PossessiveLoop low high body) rest (v ∷ vs) e h = absurd (cc)
-spread_past (Atomic body) rest (v ∷ vs) e h = absurd (cc)
-spread_past (Look sign back body) rest (v ∷ vs) e h = absurd (cc)
-spread_past (Reference f g) rest (v ∷ vs) e h = absurd (cc)
-spread_past (Exists g there) rest (v ∷ vs) e h = absurd (cc)
-spread_past (ExistsElse g there absent) rest (v ∷ vs) e h = absurd (cc)
+mark_past : (n : ℕ) (rest : Tree) (vs : List ℕ) → is_some (behind_spread vs rest) ≡ true
+    → is_some (behind_spread vs (Then (Mark n) rest)) ≡ true
+mark_past n rest [] h = refl
+mark_past n rest (v ∷ vs) h = h
 
 -- literals are passed, with marks between them
 spread_left : (t : Tree) → is_some (behind_spread (spread t) t) ≡ true
 spread_left Empty = refl
-spread_left (Then x rest) = by (plain x) refl (is_mark x) refl (spread_left rest)
-  where
-    by : (o : Option ℕ) → plain x ≡ o → (m : Bool) → is_mark x ≡ m
-        → is_some (behind_spread (spread rest) rest) ≡ true
-        → is_some (behind_spread (before o m (spread rest)) (Then x rest)) ≡ true
-    by (Some v) e m f h =
-        subst (λ y. is_some (behind_spread (v ∷ spread rest) (Then y rest)) ≡ true) (sym (literal_is x v e))
-        (rw (nat_same v) h)
-    by None e true f h = spread_past x rest (spread rest) f h
-    by None e false f h = refl
-
-abbrev left : Tree → ℕ → List ℕ → Option Tree
-left t k vs = then_spread (drop k vs) (behind_adjacent (take k vs) t)
+spread_left (Then (One (Literal Plain v)) rest) = rw (nat_same v) (spread_left rest)
+spread_left (Then (Mark n) rest) = mark_past n rest (spread rest) (spread_left rest)
+spread_left (Then x rest) = refl
 
 -- the first of them one directly after the other
-adjacent_left : (t : Tree) → is_some (left t (leading t) (spread t)) ≡ true
+adjacent_left : (t : Tree) → is_some (behind_literals (leading t) (spread t) t) ≡ true
 adjacent_left Empty = refl
-adjacent_left (Then x rest) = by (plain x) refl (is_mark x) refl (adjacent_left rest)
-  where
-    by : (o : Option ℕ) → plain x ≡ o → (m : Bool) → is_mark x ≡ m
-        → is_some (left rest (leading rest) (spread rest)) ≡ true
-        → is_some (left (Then x rest) (one_more o (leading rest)) (before o m (spread rest))) ≡ true
-    by (Some v) e m f h =
-        subst (λ y. is_some (left (Then y rest) (suc (leading rest)) (v ∷ spread rest)) ≡ true)
-        (sym (literal_is x v e)) (rw (nat_same v) h)
-    by None e true f h = spread_past x rest (spread rest) f (spread_left rest)
-    by None e false f h = refl
+adjacent_left (Then (One (Literal Plain v)) rest) = rw (nat_same v) (adjacent_left rest)
+adjacent_left (Then (Mark n) rest) = mark_past n rest (spread rest) (spread_left rest)
+adjacent_left (Then x rest) = refl
 
 -- where there is nothing else, none is left, and each stands directly after the one before
 alone_left : (t : Tree) → has_literals_alone t ≡ true
-    → (is_at_end (left t (leading t) (spread t)) ≡ true) × (leading t ≡ length (spread t))
+    → (is_at_end (behind_literals (leading t) (spread t) t) ≡ true) × (leading t ≡ length (spread t))
 alone_left Empty h = (refl, refl)
-alone_left (Then x rest) h = by (plain x) refl h (alone_left rest)
-  where
-    by : (o : Option ℕ) → plain x ≡ o → (is_some o && has_literals_alone rest) ≡ true
-        → (has_literals_alone rest ≡ true
-        → (is_at_end (left rest (leading rest) (spread rest)) ≡ true) × (leading rest ≡ length (spread rest)))
-        → (is_at_end (left (Then x rest) (one_more o (leading rest)) (before o (is_mark x) (spread rest))) ≡ true)
-        × (one_more o (leading rest) ≡ length (before o (is_mark x) (spread rest)))
-    by (Some v) e h more = (
-      subst (λ y. is_at_end (left (Then y rest) (suc (leading rest)) (v ∷ spread rest)) ≡ true)
-          (sym (literal_is x v e)) (rw (nat_same v) (more h).0),
-      ap suc (more h).1,
-    )
-    by None e h more = absurd (cc)
+alone_left (Then (One (Literal Plain v)) rest) h =
+    let more = alone_left rest h in (rw (nat_same v) more.0, ap suc more.1)
+alone_left (Then x rest) h = absurd (cc)
 
 leading_least : (t : Tree) → leading t ≤ length (spread t)
 leading_least Empty = omega arith
-leading_least (Then x rest) = by (plain x) (is_mark x) (leading_least rest)
-  where
-    by : (o : Option ℕ) (m : Bool) → leading rest ≤ length (spread rest)
-        → one_more o (leading rest) ≤ length (before o m (spread rest))
-    by (Some v) m l = omega (arith, l)
-    by None m l = omega arith
+leading_least (Then (One (Literal Plain v)) rest) = omega (arith, leading_least rest)
+leading_least (Then x rest) = omega arith
 
 -- The words of a block
 
@@ -263,7 +190,7 @@ module _ (t : Tree) where
         (code_words t) flagged (omega (arith, least, first)) least (overlaps_long ps 1 (length ps))
         (overlaps_are ps 1 (length ps))
 
-    left_is : behind_prefix words t ≡ left t (leading t) (spread t)
+    left_is : behind_prefix words t ≡ behind_literals (leading t) (spread t) t
     left_is =
         let ps = spread t in
         let read : prefix_words words ≡ ps =
@@ -342,59 +269,53 @@ emits true t h a = with_words t h a
 
 -- Writing a block
 
-tree_of_items : (p : Part) (xs : List part.Item) → xs ≡ p.items.items → in_order (map item_of xs) ≡ tree_of p
-tree_of_items p xs e = ap (λ l. in_order (map item_of l)) e ∙ sym (tree_is p)
-
-some_leading : (p : Part) (xs : List part.Item) (k : ℕ) → xs ≡ p.items.items → k ≡ leading (in_order (map item_of xs))
-    → k ≢ 0 → nat_lt 0 (leading (tree_of p)) ≡ true
-some_leading p xs k e count some =
-    let same : leading (in_order (map item_of xs)) ≡ leading (tree_of p) = ap leading (tree_of_items p xs e) in
-    let first : 0 < leading (tree_of p) = omega (arith, count, same, some) in
-    grind (arith, nat_tests)
+some_leading : (t : Tree) (k : ℕ) → k ≡ leading t → k ≢ 0 → block_words t ≡ prefixed t
+some_leading t k count some =
+    let first : nat_lt 0 (leading t) ≡ true = grind (arith, nat_tests) in
+    ap (λ c. cond c (prefixed t) (block 0 (width t) [])) first
 
 pub some_words : (t : Tree) (k : ℕ) (ws : List ℕ) → k ≡ leading t → k ≢ 0 → ws ≡ spread t → 0 < length ws
 some_words t k ws count some e = omega (arith, count, some, ap length e, leading_least t)
 
 -- one whose skip would be no word
-pub long_block : (p : Part) (xs : List part.Item) (k : ℕ) (ws : List ℕ) → xs ≡ p.items.items
-    → k ≡ leading (in_order (map item_of xs)) → k ≢ 0 → ws ≡ spread (in_order (map item_of xs))
-    → 2147483644 < length ws → AreWords (block_words (tree_of p)) → ⊥
-long_block p xs k ws e count some same long h =
-    let t = tree_of p in
-    let ps : List ℕ = spread t in
-    let others : List ℕ = prefix_part ps (leading t) in
-    let is : block_words t ≡ prefixed t =
-    ap (λ c. cond c (prefixed t) (block 0 (width t) [])) (some_leading p xs k e count some) in
-    let words : AreWords (prefixed t) = subst AreWords is h in
-    let skip_fits : length others + 4 ≤ unlimited = words.fits 1 (length others + 4) refl in
-    let many : length ws ≡ length ps = ap length (same ∙ ap spread (tree_of_items p xs e)) in
+pub long_block : (t : Tree) (k : ℕ) (ws : List ℕ) → k ≡ leading t → k ≢ 0 → ws ≡ spread t → 2147483644 < length ws
+    → AreWords (block_words t) → ⊥
+long_block t k ws count some same long h =
+    let words : AreWords (prefixed t) = subst AreWords (some_leading t k count some) h in
+    let skip_fits : length (prefix_part (spread t) (leading t)) + 4 ≤ unlimited = words.fits 1 _ refl in
     omega (
       arith,
       skip_fits,
-      many,
+      ap length same,
       long,
-      overlaps_long ps 1 (length ps),
-      length-append ps (overlaps_from ps 1 (length ps)),
+      overlaps_long (spread t) 1 (length (spread t)),
+      length-append (spread t) (overlaps_from (spread t) 1 (length (spread t))),
     )
 
 -- one with a prefix
-pub full_block : (p : Part) (xs : List part.Item) (k least flags : ℕ) (b : Bool) (ws os : List ℕ)
-    → xs ≡ p.items.items → k ≡ leading (in_order (map item_of xs)) → k ≢ 0
-    → ws ≡ spread (in_order (map item_of xs)) → are_overlaps ws 1 os ≡ true → length os ≡ length ws
-    → least ≡ width (tree_of p) → flags ≡ cond b 3 1 → b ≡ has_literals_alone (in_order (map item_of xs))
-    → block flags least (length ws ∷ k ∷ (ws ++ os)) ≡ block_words (tree_of p)
-full_block p xs k least flags b ws os e count some same right long w f alone =
-    let t = tree_of p in
-    let is = tree_of_items p xs e in
-    let words : ws ≡ spread t = same ∙ ap spread is in
-    let adjacent : k ≡ leading t = count ∙ ap leading is in
-    let flag : flags ≡ cond (has_literals_alone t) 3 1 =
-    f ∙ ap (λ c. cond c 3 1) (alone ∙ ap has_literals_alone is) in
+pub full_block : (t : Tree) (k least flags : ℕ) (b : Bool) (ws os : List ℕ) → k ≡ leading t → k ≢ 0 → ws ≡ spread t
+    → are_overlaps ws 1 os ≡ true → length os ≡ length ws → least ≡ width t → flags ≡ cond b 3 1
+    → b ≡ has_literals_alone t → block flags least (length ws ∷ k ∷ (ws ++ os)) ≡ block_words t
+full_block t k least flags b ws os count some words right long w f alone =
     let overlaps : os ≡ overlaps_from ws 1 (length ws) =
     overlaps_same ws os 1 right ∙ ap (overlaps_from ws 1) long in
-    ap (λ l. block flags least (length ws ∷ k ∷ (ws ++ l))) overlaps
-    ∙ ap (λ l. block flags least (prefix_part l k)) words
-    ∙ ap (λ n. block flags least (prefix_part (spread t) n)) adjacent
-    ∙ ap (λ n. block flags n (prefix_part (spread t) (leading t))) w
-    ∙ ap (λ n. block n (width t) (prefix_part (spread t) (leading t))) flag
-    ∙ sym (ap (λ c. cond c (prefixed t) (block 0 (width t) [])) (some_leading p xs k e count some))
+    let same : block flags least (length ws ∷ k ∷ (ws ++ os)) ≡ prefixed t = cc in
+    same ∙ sym (some_leading t k count some)
+
+-- a block with a prefix, from the last word to the first
+pub prefix_written : {M : Type 0} (a b c d e f g h : Held) (flags least k n m : ℕ) (ws os : List ℕ)
+    → n ≡ length ws + length os + 6
+    → m ≡ length ws → Wrote M a b os → Wrote M b c ws → Wrote M c d (k ∷ []) → Wrote M d e (m ∷ [])
+    → Wrote M e f (flags ∷ least ∷ unlimited ∷ []) → Wrote M f g (n ∷ []) → Wrote M g h (opcode_number opcode.INFO ∷ [])
+    → Wrote M a h (block flags least (length ws ∷ k ∷ (ws ++ os)))
+prefix_written a b c d e f g h flags least k n m ws os size many p q r s t u v =
+    wrote_equal a h _ _ same
+    (wrote_more a g h _ _ (wrote_more a f g _ _ (wrote_more a e f _ _ (wrote_more a d e _ _
+    (wrote_more a c d _ _ (wrote_more a b c _ _ p q) r) s) t) u) v)
+  where
+    same : opcode_number opcode.INFO ∷ n ∷ flags ∷ least ∷ unlimited ∷ m ∷ k ∷ (ws ++ os)
+        ≡ block flags least (length ws ∷ k ∷ (ws ++ os))
+    same = let skip : n ≡ length (length ws ∷ k ∷ (ws ++ os)) + 4 = omega (arith, size, length-append ws os) in cc
+
+-- what the writing of a block is to know
+pub ruleset block_laws = (long_block, some_words)

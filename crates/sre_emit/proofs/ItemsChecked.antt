@@ -1,19 +1,19 @@
--- What the check of items and parts says, by the checks of what is inside.
-use Rattle.std.proofs.Common.{ℕ, zero, suc, ◌+◌, ◌≡◌, ◌<◌, ◌≤◌, true, List, [], ◌∷◌, map, length}
-use Rattle.std.proofs.Common.{slice_index_or, ⊎_elim, Result, Ok, Err, refl, sym, ◌∙◌, ap, subst, arith}
-use Rattle.std.specs.List.{All, AllWithin}
+-- What the check of items and parts says, and which widths it returns, by the checks of what is inside.
+use Rattle.std.proofs.Common.{ℕ, ◌+◌, ◌≡◌, ◌<◌, ◌≤◌, min, true, false, nat_eq, List, [], ◌∷◌, map, drop, length}
+use Rattle.std.proofs.Common.{slice_index_or, refl, ap, subst, arith}
 use Rattle.std.proofs.lemmas.Bool.{and_parts}
-use Rattle.std.proofs.lemmas.List.{get_or_default}
-use Rattle.std.proofs.Math.Nat.{eq-or-lt_of_le}
+use Rattle.std.proofs.lemmas.Bool.Decides.{nat_tests}
+use Rattle.sre_model.specs.Lawful.{LawfulTree, LawfulTrees}
+use Rattle.sre_model.specs.Width.{width, least_width}
+use Rattle.sre_model.specs.Tree.{Tree, Empty, Then}
 use Rattle.sre_emit.specs.declared.part.Part.{Part}
 use Rattle.sre_emit.specs.declared.part.Item.{Item}
 use Rattle.sre_emit.specs.declared.error.EmitError.{EmitError}
 use Rattle.sre_emit.specs.declared.error.EmitError.TheVariants.{Memory, TooLong, TooDeep, BadPart}
-use Rattle.sre_emit.specs.Parts.{item_of, in_order}
-use Rattle.sre_emit.specs.Parts.{item_has_alternatives, all, depth, item_depth, most, HasTree, HasItemTree}
-use Rattle.sre_model.specs.Lawful.{LawfulTree}
-use Rattle.sre_emit.specs.Checked.{Causes, Checks}
-use Rattle.sre_emit.proofs.Layers.{tree_is, alternatives_are, depth_is}
+use Rattle.sre_emit.specs.Parts.{tree_of, item_of, in_order, has_alternatives, alternatives, all}
+use Rattle.sre_emit.specs.Parts.{HasTree, HasItemTree}
+use Rattle.sre_emit.proofs.Written.{at_place}
+use Rattle.sre_emit.specs.Checked.{Causes, HaveTrees, HaveAlternatives}
 
 -- a cause of something inside
 pub cause_up : (d n : ℕ) (L M : Type 0) → d ≤ n → (M → L) → (e : EmitError) → Causes d L e → Causes n M e
@@ -22,82 +22,73 @@ cause_up d n L M le back TooLong h = h
 cause_up d n L M le back TooDeep h = omega (arith, h, le)
 cause_up d n L M le back BadPart h = λ m. h (back m)
 
--- a check of something inside, beside which all else is in order
-pub check_up : {U : Type 0} (d n : ℕ) (L M : Type 0) → d ≡ n → (L → M) → (M → L) → (r : Result U EmitError)
-    → Checks d L r
-    → Checks n M r
-check_up d n L M e to back (Ok u) h = (omega (arith, e, h.0), to h.1)
-check_up d n L M e to back (Err x) h = cause_up d n L M (omega (arith, e)) back x h
+-- what is left of a list at a place decides on all of it: on its depth m, and on what L says of it
+pub record Left {X : Type 0} (m : List X → ℕ) (L : List X → Type 0) (d : ℕ) (xs : List X) (k : ℕ) : Type 0 where
+  pub least : m (drop k xs) ≤ m xs
+  pub deep : d + m (drop k xs) ≤ 1000 → d + m xs ≤ 1000
+  pub to : L (drop k xs) → L xs
+  pub back : L xs → L (drop k xs)
 
--- lists: the deepest element, and what holds of each
-element_deep : {X : Type 0} (f : X → ℕ) (xs : List X) (k : ℕ) (d : X) → k < length xs
-    → f (slice_index_or xs k d) ≤ most (map f xs)
-element_deep f [] k d l = absurd (omega arith)
-element_deep f (x ∷ xs) zero d l = omega arith
-element_deep f (x ∷ xs) (suc k) d l = omega (arith, element_deep f xs k d (omega (arith, l)))
+-- a cause of the element there
+pub left_cause : {X : Type 0} (f : X → ℕ) (P : X → Type 0) (m : List X → ℕ) (L : List X → Type 0)
+    → ((x : X) (xs : List X) → f x ≤ m (x ∷ xs)) → ((x : X) (xs : List X) → L (x ∷ xs) → P x)
+    → (d : ℕ) (xs : List X) (x : X) (k : ℕ) → k < length xs → x ≡ slice_index_or xs k x → Left m L d xs k
+    → (e : EmitError) → Causes (d + f x) (P x) e → Causes (d + m xs) (L xs) e
+left_cause f P m L deep back d xs x k l same h e c =
+    let here = at_place xs x k (k + 1) refl l same in
+    cause_up _ _ (P x) (L xs) (omega (arith, deep x (drop (k + 1) xs), ap m here, h.least))
+    (λ a. back x (drop (k + 1) xs) (subst L here (h.back a))) e c
 
-each_deep : {X : Type 0} (f : X → ℕ) (P : X → Type 0) (d : ℕ) → d ≤ 1000 → (xs : List X)
-    → All (λ x. (d + f x ≤ 1000) × P x) xs → d + most (map f xs) ≤ 1000
-each_deep f P d le [] h = omega (arith, le)
-each_deep f P d le (x ∷ xs) h =
-    omega (arith, (h 0 x (omega arith)).0, each_deep f P d le xs (λ k y l. h (suc k) y (omega (arith, l))))
+pub first_item : (x : Item) (xs : List Item) → HaveTrees (x ∷ xs) → HasItemTree x
+first_item x xs h = record { alternatives = (and_parts _ _ h.0).0; lawful = h.1.0 }
 
-pub list_checked : {X : Type 0} (f : X → ℕ) (P : X → Type 0) (d : ℕ) (xs : List X) → d ≤ 1000
-    → AllWithin (λ x. (d + f x ≤ 1000) × P x) xs 0 (length xs) → (d + most (map f xs) ≤ 1000) × All P xs
-list_checked f P d xs le h =
-    (each_deep f P d le xs (λ k y l. h k y (omega arith) l), λ k y l. (h k y (omega arith) l).1)
+-- alternatives, perhaps none
+abbrev pub LawfulAll : List Part → Type 0
+LawfulAll [] = Unit {0}
+LawfulAll (p ∷ ps) = LawfulTree (tree_of p) × LawfulAll ps
 
-pub list_cause : {X : Type 0} (f : X → ℕ) (P : X → Type 0) (d : ℕ) (xs : List X) (k : ℕ) (x : X) (e : EmitError)
-    → k < length xs → x ≡ slice_index_or xs k x → Causes (d + f x) (P x) e
-    → Causes (d + most (map f xs)) (All P xs) e
-list_cause f P d xs k x e l same h =
-    cause_up (d + f x) (d + most (map f xs)) (P x) (All P xs)
-    (omega (arith, element_deep f xs k x l, ap f same)) (λ a. subst P (sym same) (a k x l)) e h
+abbrev pub HaveAll : List Part → Type 0
+HaveAll ps = (all (map has_alternatives ps) ≡ true) × LawfulAll ps
 
--- parts
-lawful_each : (xs : List Item) → All HasItemTree xs → LawfulTree (in_order (map item_of xs))
-lawful_each [] h = tt
-lawful_each (x ∷ xs) h = ((h 0 x (omega arith)).lawful, lawful_each xs (λ k d l. h (suc k) d (omega (arith, l))))
+pub first_part : (p : Part) (ps : List Part) → HaveAll (p ∷ ps) → HasTree p
+first_part p ps h = record { alternatives = (and_parts _ _ h.0).0; lawful = h.1.0 }
 
-branches_each : (xs : List Item) → All HasItemTree xs → all (map item_has_alternatives xs) ≡ true
-branches_each [] h = refl
-branches_each (x ∷ xs) h =
-    rw ((h 0 x (omega arith)).alternatives) (branches_each xs (λ k d l. h (suc k) d (omega (arith, l))))
+lawful_some : (p : Part) (ps : List Part) → LawfulAll (p ∷ ps) → LawfulTrees (alternatives (map tree_of (p ∷ ps)))
+lawful_some p [] h = h.0
+lawful_some p (q ∷ ps) h = (h.0, lawful_some q ps h.1)
 
-each_of : (xs : List Item) → LawfulTree (in_order (map item_of xs)) → all (map item_has_alternatives xs) ≡ true
-    → All HasItemTree xs
-each_of [] h e k d l = absurd (omega arith)
-each_of (x ∷ xs) h e zero d l = record { alternatives = (and_parts _ _ e).0; lawful = h.0 }
-each_of (x ∷ xs) h e (suc k) d l = each_of xs h.1 (and_parts _ _ e).1 k d (omega (arith, l))
+lawful_all : (p : Part) (ps : List Part) → LawfulTrees (alternatives (map tree_of (p ∷ ps))) → LawfulAll (p ∷ ps)
+lawful_all p [] h = (h, tt)
+lawful_all p (q ∷ ps) h = (h.0, lawful_all q ps h.1)
 
-pub part_checked : {U : Type 0} (d : ℕ) (p : Part) (r : Result U EmitError)
-    → Checks (d + most (map item_depth p.items.items)) (All HasItemTree p.items.items) r
-    → Checks (d + depth p) (HasTree p) r
-part_checked d p r h =
-    check_up _ _ (All HasItemTree p.items.items) (HasTree p) (ap (λ n. d + n) (sym (depth_is p))) to back r h
-  where
-    to : All HasItemTree p.items.items → HasTree p
-    to a = record {
-      alternatives = alternatives_are p ∙ branches_each p.items.items a;
-      lawful = subst LawfulTree (sym (tree_is p)) (lawful_each p.items.items a);
-    }
+pub some_checked : (ps : List Part) → nat_eq (length ps) 0 ≡ false → HaveAll ps → HaveAlternatives ps
+some_checked [] e h = absurd (cc)
+some_checked (p ∷ ps) e h = (h.0, lawful_some p ps h.1)
 
-    back : HasTree p → All HasItemTree p.items.items
-    back h = each_of p.items.items (subst LawfulTree (tree_is p) h.lawful) (sym (alternatives_are p) ∙ h.alternatives)
+pub all_checked : (ps : List Part) → HaveAlternatives ps → HaveAll ps
+all_checked [] h = (refl, tt)
+all_checked (p ∷ ps) h = (h.0, lawful_all p ps h.1)
 
--- one more element
-pub within_more : {X : Type 0} (P : X → Type 0) (xs : List X) (n : ℕ) (x : X) → x ≡ slice_index_or xs n x
-    → n < length xs
-    → AllWithin P xs 0 n → P x → AllWithin P xs 0 (n + 1)
-within_more {X} P xs n x same l h p k d low high = ⊎_elim (λ (e : k ≡ n). at e) (λ (f : k < n). h k d low f)
-    (eq-or-lt_of_le (omega (arith, high)))
-  where
-    at : k ≡ n → P (slice_index_or xs k d)
-    at e =
-        let f : x ≡ slice_index_or xs k d = same ∙ get_or_default xs n x d l
-        ∙ ap (λ m. slice_index_or xs m d) (sym e) in
-        subst P f p
+-- widths
+pub wide : (t : Tree) → width t ≤ 4294967295
+wide Empty = omega arith
+wide (Then item rest) = omega arith
 
-pub list_checked_past : {X : Type 0} (f : X → ℕ) (P : X → Type 0) (d : ℕ) (xs : List X) (n : ℕ) → d ≤ 1000
-    → length xs ≤ n → AllWithin (λ x. (d + f x ≤ 1000) × P x) xs 0 n → (d + most (map f xs) ≤ 1000) × All P xs
-list_checked_past f P d xs n le past h = list_checked f P d xs le (λ k y low l. h k y low (omega (arith, past, l)))
+-- the width of the items from a place on
+abbrev pub width_from : ℕ → List Item → ℕ
+width_from k xs = width (in_order (map item_of (drop k xs)))
+
+-- the smallest width, where there are parts
+abbrev pub narrowest : List Part → ℕ
+narrowest [] = 4294967295
+narrowest (p ∷ ps) = min (width (tree_of p)) (narrowest ps)
+
+pub narrow : (ps : List Part) → narrowest ps ≤ 4294967295
+narrow [] = omega arith
+narrow (p ∷ ps) = omega (arith, narrow ps)
+
+pub narrowest_is : (ps : List Part) → nat_eq (length ps) 0 ≡ false
+    → narrowest ps ≡ least_width (alternatives (map tree_of ps))
+narrowest_is [] e = absurd (cc)
+narrowest_is (p ∷ []) e = omega (arith, wide (tree_of p))
+narrowest_is (p ∷ q ∷ ps) e = ap (min (width (tree_of p))) (narrowest_is (q ∷ ps) (grind (arith, nat_tests)))

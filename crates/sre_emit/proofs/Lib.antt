@@ -1,11 +1,5 @@
-pub mod Layers
-pub mod PartsChecked
 pub mod ItemsChecked
-pub mod ItemArms
 pub mod Written
-pub mod Branches
 pub mod ItemsWritten
-pub mod Fronts
 pub mod Blocks
 pub mod HandedOut
-pub mod Widths

@@ -1,10 +1,11 @@
-//! The check of a part, before anything is written.
+//! The check of a part before anything is written, and its least width.
 
-ghost use Rattle.std.specs.Prelude.{◌≡◌, ◌+◌, ◌≤◌, ◌<◌, IsTrue, ◌↔◌, All, length};
-ghost use Rattle.std.specs.Prelude.{map};
-ghost use Rattle.sre_emit.specs.Parts.{set_item_of, test_of, depth, item_depth, most, HasTree, HasItemTree};
-ghost use Rattle.sre_model.specs.Lawful.{NumbersBelow, LawfulSetItem, LawfulTest};
-ghost use Rattle.sre_emit.specs.Checked.{Checks, HaveTrees};
+ghost use Rattle.std.specs.Prelude.{◌≡◌, ◌+◌, ◌≤◌, ◌<◌, IsTrue, ◌↔◌, IfOk, length, map};
+ghost use Rattle.sre_emit.specs.Parts.{set_item_of, test_of, tree_of, item_of, in_order, alternatives};
+ghost use Rattle.sre_emit.specs.Parts.{depth, item_depth, HasTree, HasItemTree};
+ghost use Rattle.sre_model.specs.Lawful.{NumbersBelow, LawfulSetItem, LawfulSet, LawfulTest};
+ghost use Rattle.sre_model.specs.Width.{width, item_width, least_width};
+ghost use Rattle.sre_emit.specs.Checked.{Checks, HaveTrees, HaveAlternatives, items_depth, parts_depth};
 
 use crate::error::EmitError;
 use crate::part::{Item, OneChar, Part, SetItem};
@@ -56,17 +57,13 @@ fn check_set_item(item: &SetItem) -> Result<(), EmitError>
             has_eight(bits);
             Ok(())
         }
-        SetItem::Literal(_) => Ok(()),
-        SetItem::Range(..) => Ok(()),
-        SetItem::RangeUniIgnore(..) => Ok(()),
-        SetItem::Category(_) => Ok(()),
-        SetItem::Negate => Ok(()),
+        _ => Ok(()),
     }
 }
 
 /// Checks that the tables of all items of a set are complete.
 fn check_set(set: &[SetItem]) -> Result<(), EmitError>
-    ensures { Checks 0 (All (λ x. LawfulSetItem (set_item_of x)) set.now) result }
+    ensures { Checks 0 (LawfulSet (map set_item_of set.now)) result }
 {
     for item in set {
         check_set_item(item)?;
@@ -80,45 +77,51 @@ fn check_test(test: &OneChar) -> Result<(), EmitError>
 {
     match test {
         OneChar::In { fold: _, set } => check_set(set),
-        OneChar::Any => Ok(()),
-        OneChar::AnyAll => Ok(()),
-        OneChar::Category(_) => Ok(()),
-        OneChar::Literal { .. } => Ok(()),
+        _ => Ok(()),
     }
 }
 
 /// Checks that each item has a tree, and that parts are not nested too deep. The items are inside `inside` items.
+/// Returns their least width in characters, saturated at 4294967295.
 #[cycle(check)]
-fn check_items(items: &[Item], inside: u32) -> Result<(), EmitError>
+#[tactic(auto, using(crate::proofs::ItemsChecked::wide))]
+fn check_items(items: &[Item], inside: u32) -> Result<u32, EmitError>
     requires { inside ≤ 1000 }
-    ensures { Checks (inside + most (map item_depth items.now)) (All HasItemTree items.now) result }
+    ensures checked { Checks (inside + items_depth items.now) (HaveTrees items.now) result }
+    ensures width { IfOk result (λ n. n ≡ width (in_order (map item_of items.now))) }
 {
+    let mut least = 0u32;
     for item in items {
-        check_item(item, inside)?;
+        least = least.saturating_add(check_item(item, inside)?);
     }
-    Ok(())
+    Ok(least)
 }
 
-/// The same for the parts of a branch, which has at least one.
+/// The same for the parts of a branch, which has at least one. Returns the smallest of their least widths.
 #[cycle(check)]
-fn check_parts(parts: &[Part], inside: u32) -> Result<(), EmitError>
+#[tactic(auto, using(crate::proofs::ItemsChecked::narrow))]
+fn check_parts(parts: &[Part], inside: u32) -> Result<u32, EmitError>
     requires { inside ≤ 1000 }
-    ensures { Checks (inside + most (map (λ p. depth p + 1) parts.now)) (HaveTrees parts.now) result }
+    ensures checked { Checks (inside + parts_depth parts.now) (HaveAlternatives parts.now) result }
+    ensures width { IfOk result (λ n. n ≡ least_width (alternatives (map tree_of parts.now))) }
 {
     if parts.is_empty() {
         return Err(EmitError::BadPart);
     }
+    let mut least = 4294967295u32;
     for part in parts {
-        check_part(part, inside + 1)?;
+        least = least.min(check_part(part, inside + 1)?);
     }
-    Ok(())
+    Ok(least)
 }
 
 /// Checks that a part has a tree, and that parts are not nested too deep. The part is inside `inside` items.
+/// Returns its least width in characters, saturated at 4294967295.
 #[cycle(check)]
-pub fn check_part(part: &Part, inside: u32) -> Result<(), EmitError>
+pub fn check_part(part: &Part, inside: u32) -> Result<u32, EmitError>
     requires { inside ≤ 1001 }
-    ensures { Checks (inside + depth part.now) (HasTree part.now) result }
+    ensures checked { Checks (inside + depth part.now) (HasTree part.now) result }
+    ensures width { IfOk result (λ n. n ≡ width (tree_of part.now)) }
 {
     if inside > 1000 {
         return Err(EmitError::TooDeep);
@@ -126,52 +129,39 @@ pub fn check_part(part: &Part, inside: u32) -> Result<(), EmitError>
     check_items(&part.items, inside)
 }
 
-/// Checks that an item has a tree, and that parts are not nested too deep. The item is inside `inside` items.
+/// The same for an item.
 #[cycle(check)]
-fn check_item(item: &Item, inside: u32) -> Result<(), EmitError>
+fn check_item(item: &Item, inside: u32) -> Result<u32, EmitError>
     requires { inside ≤ 1000 }
-    ensures { Checks (inside + item_depth item.now) (HasItemTree item.now) result }
+    ensures checked { Checks (inside + item_depth item.now) (HasItemTree item.now) result }
+    ensures width { IfOk result (λ n. n ≡ item_width (item_of item.now)) }
 {
     match item {
-        Item::Fail => Ok(()),
-        Item::One(test) => check_test(test),
-        Item::At(_) => Ok(()),
-        Item::Mark(_) => Ok(()),
+        Item::Fail | Item::At(_) | Item::Mark(_) | Item::Ref { .. } => Ok(0),
+        Item::One(test) => {
+            check_test(test)?;
+            Ok(1)
+        }
+        Item::Run { min, max, test, .. } => {
+            check_counts(*min, *max)?;
+            check_test(test)?;
+            Ok(*min)
+        }
         Item::Branch(parts) => check_parts(parts, inside),
-        Item::Loop {
-            lazy: _,
-            min,
-            max,
-            body,
-        } => {
-            check_counts(*min, *max)?;
-            check_part(body, inside + 1)
-        }
-        Item::Run {
-            kind: _,
-            min,
-            max,
-            test,
-        } => {
-            check_counts(*min, *max)?;
-            check_test(test)
-        }
-        Item::PossLoop { min, max, body } => {
-            check_counts(*min, *max)?;
-            check_part(body, inside + 1)
-        }
         Item::Atomic(body) => check_part(body, inside + 1),
-        Item::Look {
-            positive: _,
-            back: _,
-            body,
-        } => check_part(body, inside + 1),
-        Item::Ref { .. } => Ok(()),
-        Item::Exists { group: _, yes, no } => {
-            check_part(yes, inside + 1)?;
+        Item::Loop { min, max, body, .. } | Item::PossLoop { min, max, body } => {
+            check_counts(*min, *max)?;
+            Ok(min.saturating_mul(check_part(body, inside + 1)?))
+        }
+        Item::Look { body, .. } => {
+            check_part(body, inside + 1)?;
+            Ok(0)
+        }
+        Item::Exists { yes, no, .. } => {
+            let least = check_part(yes, inside + 1)?;
             match no {
-                Some(no) => check_part(no, inside + 1),
-                None => Ok(()),
+                Some(no) => Ok(least.min(check_part(no, inside + 1)?)),
+                None => Ok(0),
             }
         }
     }

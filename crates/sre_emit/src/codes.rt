@@ -1,12 +1,11 @@
 //! The opcodes of tests, repeats and back-references, by folding or kind.
 
 ghost use Rattle.std.specs.Prelude.{◌≡◌};
-ghost use Rattle.sre_chars.specs.Numbers.{opcode_number, at_number};
 ghost use Rattle.sre_model.specs.Grammar as grammar;
 ghost use Rattle.sre_emit.specs.Parts.{fold_of, kind_of, order_of, sign_of};
 
 use crate::part::{Fold, RunKind};
-use sre_chars::constants::{SreAtCode, SreOpcode};
+use sre_chars::constants::SreOpcode;
 
 pub fn literal_opcode(fold: Fold) -> SreOpcode
     ensures { result ≡ grammar.literal_opcode (fold_of fold) }
@@ -80,18 +79,4 @@ pub fn look_opcode(positive: bool) -> SreOpcode
     } else {
         SreOpcode::ASSERT_NOT
     }
-}
-
-/// The number of an opcode.
-pub fn number(code: SreOpcode) -> u32
-    ensures { result ≡ opcode_number code }
-{
-    code as u32
-}
-
-/// The number of a position code.
-pub fn position(code: SreAtCode) -> u32
-    ensures { result ≡ at_number code }
-{
-    code as u32
 }

@@ -2,6 +2,7 @@
 
 ghost use Rattle.std.specs.Prelude.{◌≡◌, IfOk, IfErr, true};
 ghost use Rattle.sre_model.specs.Written.{code_words};
+ghost use Rattle.sre_model.specs.Width.{width};
 ghost use Rattle.sre_emit.specs.Parts.{tree_of, has_alternatives};
 ghost use Rattle.sre_emit.specs.Emitted.{front, Emitted, Cause};
 ghost use Rattle.sre_emit.specs.Writing.{Wrote};
@@ -26,12 +27,12 @@ impl<A: Allocator> Writer<A> {
 
 impl<A: Allocator + Copy> Writer<A> {
     // Writes the INFO block of a part, if it is wanted.
-    #[tactic(auto, using(crate::proofs::Written::wrote_nothing))]
-    fn put_front(&mut self, alloc: A, part: &Part, with_block: bool)
+    fn put_front(&mut self, alloc: A, part: &Part, least: u32, with_block: bool)
+        requires { least ≡ width (tree_of part.now) }
         ensures { Wrote A self.old self.new (front with_block (tree_of part.now)) }
     {
         if with_block {
-            self.put_block(alloc, part);
+            self.put_block(alloc, &part.items, least);
         }
     }
 }
@@ -68,9 +69,9 @@ pub fn emit_in<A: Allocator + Copy>(
     ensures emitted { IfOk result (λ words. Emitted part.now with_block words.items) }
     ensures cause { IfErr result (Cause A part.now with_block) }
 {
-    check_part(part, 0)?;
+    let least = check_part(part, 0)?;
     let mut writer = Writer::new(alloc);
     writer.put_code(part);
-    writer.put_front(alloc, part, with_block);
+    writer.put_front(alloc, part, least, with_block);
     writer.finish()
 }

@@ -8,7 +8,6 @@ mod emission;
 pub mod error;
 mod items;
 pub mod part;
-mod width;
 mod writer;
 
 pub use emission::{emit, emit_in};

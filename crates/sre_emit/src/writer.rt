@@ -48,7 +48,7 @@ impl<A: Allocator> Writer<A> {
     }
 
     /// Writes a word, unless the writer has failed.
-    #[tactic(auto, using(crate::proofs::Written::word_laws))]
+    #[tactic(auto, using(crate::proofs::Written::one_word))]
     pub fn put(&mut self, word: u32)
         ensures { Wrote A self.old self.new (word ∷ []) }
     {
@@ -71,7 +71,7 @@ impl<A: Allocator> Writer<A> {
     }
 
     /// Writes a count. It fails with `TooLong` above 4294967295.
-    #[tactic(auto, using(crate::proofs::Written::count_laws))]
+    #[tactic(auto, using(crate::proofs::Written::long_word))]
     pub fn put_count(&mut self, count: usize)
         ensures { Wrote A self.old self.new (count ∷ []) }
     {
@@ -96,7 +96,6 @@ impl<A: Allocator> Writer<A> {
     }
 
     /// Writes words.
-    #[tactic(auto, using(crate::proofs::Written::wrote_all))]
     pub fn put_all(&mut self, words: &[u32])
         ensures { Wrote A self.old self.new words.now }
     {
@@ -108,7 +107,6 @@ impl<A: Allocator> Writer<A> {
     }
 
     /// Writes block numbers, four a word.
-    #[tactic(auto, using(crate::proofs::Written::wrote_packed))]
     fn put_numbers(&mut self, numbers: &[u8])
         ensures { Wrote A self.old self.new (packed numbers.now) }
     {
@@ -121,7 +119,6 @@ impl<A: Allocator> Writer<A> {
     }
 
     /// Writes an item of a set.
-    #[tactic(auto, using(crate::proofs::Written::wrote_more))]
     fn put_set_item(&mut self, item: &SetItem)
         ensures { Wrote A self.old self.new (set_item_words (set_item_of item.now)) }
     {
@@ -149,7 +146,6 @@ impl<A: Allocator> Writer<A> {
     }
 
     /// Writes the items of a set.
-    #[tactic(auto, using(crate::proofs::Written::wrote_set))]
     pub fn put_set(&mut self, set: &[SetItem])
         ensures { Wrote A self.old self.new (set_words (map set_item_of set.now)) }
     {

@@ -1,9 +1,12 @@
-use Rattle.std.proofs.Common.{◌-◌, length}
-use Rattle.sre_emit.proofs.Fronts.{Leads}
+use Rattle.std.proofs.Common.{◌≡◌, ◌+◌, drop, map}
+use Rattle.sre_emit.specs.Parts.{item_of, in_order}
+use Rattle.sre_emit.specs.Block.{leading, has_literals_alone}
 use Rattle.sre_emit.proofs.block.leading.Given as goal
 
-abbrev pub invariant-items : goal.invariant-items
-invariant-items l = Leads l.items l.at
-
-abbrev pub decreases-items : goal.decreases-items
-decreases-items l = length l.items - l.at
+abbrev pub invariant-loop-item : goal.invariant-loop-item
+invariant-loop-item l =
+    (l.count ≡ l.item-index)
+    × (leading (in_order (map item_of l.items))
+    ≡ l.count + leading (in_order (map item_of (drop l.item-index l.items))))
+    × (has_literals_alone (in_order (map item_of l.items))
+    ≡ has_literals_alone (in_order (map item_of (drop l.item-index l.items))))

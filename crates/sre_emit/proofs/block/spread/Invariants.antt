@@ -1,9 +1,9 @@
-use Rattle.std.proofs.Common.{◌-◌, length}
-use Rattle.sre_emit.proofs.Fronts.{Spreads}
+use Rattle.std.proofs.Common.{◌≡◌, ◌++◌, drop, map}
+use Rattle.sre_emit.specs.Parts.{item_of, in_order}
+use Rattle.sre_emit.specs.Block.{spread}
 use Rattle.sre_emit.proofs.block.spread.Given as goal
 
-abbrev pub invariant-items : goal.invariant-items
-invariant-items g l = Spreads l.items l.at l.words.items
-
-abbrev pub decreases-items : goal.decreases-items
-decreases-items g l = length l.items - l.at
+abbrev pub invariant-loop-item : goal.invariant-loop-item
+invariant-loop-item g l =
+    spread (in_order (map item_of l.items))
+    ≡ l.words.items ++ spread (in_order (map item_of (drop l.item-index l.items)))

@@ -1,12 +1,15 @@
-use Rattle.std.proofs.Common.{◌+◌, ◌≤◌}
-use Rattle.std.specs.List.{AllWithin}
-use Rattle.sre_emit.specs.Parts.{depth, item_depth, HasTree, HasItemTree}
+use Rattle.std.proofs.Common.{◌≡◌, ◌≤◌, ◌+◌, min, drop}
+use Rattle.sre_model.specs.Width.{capped}
+use Rattle.sre_emit.specs.Checked.{HaveTrees, items_depth, parts_depth}
+use Rattle.sre_emit.proofs.ItemsChecked.{Left, HaveAll, width_from, narrowest}
 use Rattle.sre_emit.proofs.check.+check.Given as goal
 
 abbrev pub invariant-check_items-loop-item : goal.invariant-check_items-loop-item
 invariant-check_items-loop-item l =
-    AllWithin (λ x. (l.inside + item_depth x ≤ 1000) × HasItemTree x) l.items 0 l.item-index
+    Left items_depth HaveTrees l.inside l.items l.item-index
+    × (capped (l.least + width_from l.item-index l.items) ≡ width_from 0 l.items) × (l.least ≤ 4294967295)
 
 abbrev pub invariant-check_parts-loop-part : goal.invariant-check_parts-loop-part
 invariant-check_parts-loop-part l =
-    AllWithin (λ p. (l.inside + (depth p + 1) ≤ 1000) × HasTree p) l.parts 0 l.part-index
+    Left parts_depth HaveAll l.inside l.parts l.part-index
+    × (min l.least (narrowest (drop l.part-index l.parts)) ≡ narrowest l.parts) × (l.least ≤ 4294967295)

@@ -1,7 +1,8 @@
-use Rattle.std.specs.List.{AllWithin}
+use Rattle.std.proofs.Common.{◌↔◌, drop, map}
 use Rattle.sre_emit.specs.Parts.{set_item_of}
-use Rattle.sre_model.specs.Lawful.{LawfulSetItem}
+use Rattle.sre_model.specs.Lawful.{LawfulSet}
 use Rattle.sre_emit.proofs.check.check_set.Given as goal
 
 abbrev pub invariant-loop-item : goal.invariant-loop-item
-invariant-loop-item l = AllWithin (λ x. LawfulSetItem (set_item_of x)) l.set 0 l.item-index
+invariant-loop-item l =
+    LawfulSet (map set_item_of (drop l.item-index l.set)) ↔ LawfulSet (map set_item_of l.set)

@@ -1,5 +1,5 @@
 use Rattle.std.proofs.Common.{arith}
-use Rattle.sre_emit.proofs.Fronts.{prefix_written}
+use Rattle.sre_emit.proofs.Blocks.{prefix_written}
 use Rattle.sre_emit.proofs.writer.Writer.put_prefix.Goals as goal
 
 pub returns : goal.returns

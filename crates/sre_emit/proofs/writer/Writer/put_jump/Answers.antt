@@ -1,5 +1,0 @@
-use Rattle.sre_emit.proofs.Written.{wrote_more}
-use Rattle.sre_emit.proofs.writer.Writer.put_jump.Goals as goal
-
-pub returns : goal.returns
-returns g c = wrote_more _ _ _ _ _ c.put_count.ensures c.put.ensures
