@@ -5,38 +5,45 @@ use Rattle.std.proofs.lemmas.Bool.{cases_lt}
 use Rattle.regex_hir.specs.Re.{Re, byte_in, alt}
 use Rattle.sre_chars.specs.Tables.{Table}
 use Rattle.sre_chars.specs.declared.constants.SreOpcode.TheVariants as opcode
-use Rattle.sre_model.specs.Tree.{Tree, Trees, Only, Or, Branch}
+use Rattle.sre_model.specs.Tree.{Tree, Trees, Only, Or}
 use Rattle.sre_model.specs.Roles.{ToBranch}
 use Rattle.sre_model.specs.Grammar.{Word, skip, Reads, ReadsBranch}
 use Rattle.sre_model.proofs.Words.{word_of, word_within, word_past, same_word}
 use Rattle.sre_model.proofs.Places.{alternative_long}
 use Rattle.sre_model.proofs.Families.{role_here, is_branch}
-use Rattle.sre_shape.specs.Covers.{View, Covers, CoversItem, CoversBranch}
-use Rattle.sre_shape.proofs.Composed.{covers-branch, covers-only, covers-or, covers-wider}
-use Rattle.sre_patterns.specs.Patterns.{alt_onto, CoversItemAt, CoversItemsAt, HasItems, HasBranch}
+use Rattle.sre_code.specs.Codes.{uni_of}
+use Rattle.sre_shape.specs.Covers.{View}
+use Rattle.sre_patterns.specs.declared.task.Task.{Task}
+use Rattle.sre_patterns.specs.Patterns.{view_of, alt_onto, AtItem, AtItems, HasItems, HasBranch}
+use Rattle.sre_patterns.specs.Purposes.{Serves, ServesItem}
 use Rattle.sre_patterns.proofs.Items.{items-to}
-use Rattle.sre_patterns.proofs.Onto.{alt-last, alt-first}
+use Rattle.sre_patterns.proofs.Onto.{alt-last}
+use Rattle.sre_patterns.proofs.Serving.{ServesBranchFor, serves-branch, serves-last, serves-or}
 
-module _ (V : View) (table : Table) (ws : List ℕ) where
-  -- some alternatives are left
-  pub record Open (at : ℕ) (parts : List Re) (j : ℕ) (ts : Trees) : Type 0 where
-    pub rest : Trees
-    pub reads : ReadsBranch ws at j rest
-    pub covers : (b : Re) → CoversBranch V table b rest → CoversBranch V table (alt_onto parts b) ts
+module _ (s : Task) (ws : List ℕ) where
+  abbrev V : View
+  V = view_of s.encoding
 
-  -- none is
-  pub record Closed (at : ℕ) (parts : List Re) (j : ℕ) (ts : Trees) : Type 0 where
-    pub zero : Word ws at 0
-    pub ends : j ≡ at + 1
-    pub covers : (b : Re) → CoversBranch V table (alt_onto parts b) ts
+  abbrev table : Table
+  table = uni_of s.code
+
+  abbrev B : Re → Trees → Type 0
+  B = ServesBranchFor s.purpose V table
+
+  -- what is left: some alternatives, or the zero behind the last one
+  abbrev pub Rest : ℕ → ℕ → Type 0
+  Rest at j = ((us : Trees) × ReadsBranch ws at j us) ⊎ (Word ws at 0 × (j ≡ at + 1))
+
+  abbrev pub EndsIn : (at j : ℕ) → Rest at j → Re → Type 0
+  EndsIn at j (inl left) b = B b left.0
+  EndsIn at j (inr none) b = b ≡ byte_in []
 
   pub record BranchSoFar (start at : ℕ) (parts : List Re) : Type 0 where
-    pub each : (j : ℕ) (ts : Trees) → ReadsBranch ws start j ts → Open at parts j ts ⊎ Closed at parts j ts
+    pub each : (j : ℕ) (ts : Trees) → ReadsBranch ws start j ts
+        → (r : Rest at j) × ((b : Re) → EndsIn at j r b → B (alt_onto parts b) ts)
 
-  pub record BranchRead (i : ℕ) : Type 0 where
-    pub end : ℕ
-    pub trees : Trees
-    pub reads : ReadsBranch ws (i + 1) end trees
+  pub branch-begun : (start : ℕ) → BranchSoFar start start []
+  branch-begun start = record { each = λ j ts r. (inl (ts, r), λ b k. k) }
 
   -- the word at an alternative is there
   pub length-there : (at j : ℕ) (ts : Trees) → ReadsBranch ws at j ts → at < length ws
@@ -45,88 +52,83 @@ module _ (V : View) (table : Table) (ws : List ℕ) where
       (cases_lt at (length ws))
 
   pub word-there : (i at : ℕ) (parts : List Re) → HasBranch ws i → BranchSoFar (i + 1) at parts → at < length ws
-  word-there i at parts h so = go (so.each h.end h.trees h.reads.1)
+  word-there i at parts h so = go (so.each h.end h.trees h.reads.1).0
     where
-      go : Open at parts h.end h.trees ⊎ Closed at parts h.end h.trees → at < length ws
-      go (inl o) = length-there at h.end o.rest o.reads
-      go (inr c) = word_within ws at 0 c.zero
+      go : Rest at h.end → at < length ws
+      go (inl left) = length-there at h.end left.0 left.1
+      go (inr none) = word_within ws at 0 none.0
+
+  first-of : (at j : ℕ) (ts : Trees) → ReadsBranch ws at j ts → (t : Tree) × Reads ws (at + 1) (skip ws at - 2) t
+  first-of at j (Only t) r = (t, r.0)
+  first-of at j (Or t ts) r = (t, r.0)
 
   -- what stands in an alternative
-  pub record AlternativeRead (at : ℕ) : Type 0 where
-    pub items : HasItems ws (at + 1) (skip ws at - 2)
-    pub long : at + 3 ≤ skip ws at
+  pub record AlternativeRead (at v : ℕ) : Type 0 where
+    pub items : HasItems ws (at + 1) (at + v - 2)
+    pub long : 3 ≤ v
+    pub there : at < length ws
 
   pub alternative-read : (i at v : ℕ) (parts : List Re) → HasBranch ws i → BranchSoFar (i + 1) at parts → Word ws at v
-      → v ≢ 0 → AlternativeRead at
-  alternative-read i at v parts h so w some = go (so.each h.end h.trees h.reads.1)
-    where
-      first : (ts : Trees) → ReadsBranch ws at h.end ts → AlternativeRead at
-      first (Only t) r =
-          record {
-            items = items-to ws (at + 1) (skip ws at - 2) (skip ws at - 2) t r.0 refl;
-            long = alternative_long ws at h.end (Only t) r;
-          }
-      first (Or t ts) r =
-          record {
-            items = items-to ws (at + 1) (skip ws at - 2) (skip ws at - 2) t r.0 refl;
-            long = alternative_long ws at h.end (Or t ts) r;
-          }
-
-      go : Open at parts h.end h.trees ⊎ Closed at parts h.end h.trees → AlternativeRead at
-      go (inl o) = first o.rest o.reads
-      go (inr c) = absurd (some (same_word ws at v 0 w c.zero))
-
-  -- one more alternative
-  pub alternative : (start at v u : ℕ) (parts after : List Re) (re : Re) → BranchSoFar start at parts → Word ws at v
-      → v ≢ 0 → CoversItemsAt V table ws (at + 1) (at + v - 2) re u → after ≡ parts ++ re ∷ []
-      → BranchSoFar start (at + v) after
-  alternative start at v u parts after re so w some c same = record { each = λ j ts r. go j ts (so.each j ts r) }
+      → v ≢ 0 → AlternativeRead at v
+  alternative-read i at v parts h so w some = go (so.each h.end h.trees h.reads.1).0
     where
       to : skip ws at ≡ at + v
       to = ap (λ n. at + n) (word_of ws at v w)
 
-      body : (t : Tree) → Reads ws (at + 1) (skip ws at - 2) t → Covers V table re t
+      go : Rest at h.end → AlternativeRead at v
+      go (inl left) =
+          let first = first-of at h.end left.0 left.1 in
+          record {
+            items = items-to ws (at + 1) (skip ws at - 2) (at + v - 2) first.0 first.1 (ap (λ n. n - 2) to);
+            long = omega (arith, alternative_long ws at h.end left.0 left.1, to);
+            there = word_within ws at v w;
+          }
+      go (inr none) = absurd (some (same_word ws at v 0 w none.0))
+
+  -- one more alternative
+  pub alternative : (start at v e : ℕ) (parts after : List Re) (re : Re) → BranchSoFar start at parts → Word ws at v
+      → v ≢ 0 → AtItems ws (at + 1) (at + v - 2) e (Serves s re) → after ≡ parts ++ re ∷ []
+      → BranchSoFar start (at + v) after
+  alternative start at v e parts after re so w some c same = record {
+    each = λ j ts r.
+        let left = so.each j ts r in
+        let next = step j left.0 in
+        (next.0, λ b k. subst (λ z. B z ts) (moved b) (left.1 (alt re b) (next.1 b k)));
+  }
+    where
+      to : skip ws at ≡ at + v
+      to = ap (λ n. at + n) (word_of ws at v w)
+
+      body : (t : Tree) → Reads ws (at + 1) (skip ws at - 2) t → Serves s re t
       body t r = (c (skip ws at - 2) t r (omega (arith, to), inl (ap (λ n. n - 2) to))).1
 
-      onto : (b : Re) (ts : Trees) → CoversBranch V table (alt_onto parts (alt re b)) ts
-          → CoversBranch V table (alt_onto after b) ts
-      onto b ts k =
-          subst (λ z. CoversBranch V table z ts) (sym (alt-last parts re b) ∙ ap (λ l. alt_onto l b) (sym same)) k
+      moved : (b : Re) → alt_onto parts (alt re b) ≡ alt_onto after b
+      moved b = sym (alt-last parts re b) ∙ ap (λ l. alt_onto l b) (sym same)
 
-      rest-of : (j : ℕ) (ts us : Trees) → ReadsBranch ws at j us
-          → ((b : Re) → CoversBranch V table b us → CoversBranch V table (alt_onto parts b) ts)
-          → Open (at + v) after j ts ⊎ Closed (at + v) after j ts
-      rest-of j ts (Only t) r k = inr (record {
-        zero = subst (λ n. Word ws n 0) to r.2;
-        ends = r.3 ∙ ap (λ n. n + 1) to;
-        covers = λ b. onto b ts (k (alt re b)
-            (covers-only V table (alt re b) t (covers-wider V table re (alt re b) t (alt-first re b) (body t r.0))));
-      })
-      rest-of j ts (Or t us) r k = inl (record {
-        rest = us;
-        reads = subst (λ n. ReadsBranch ws n j us) to r.2;
-        covers = λ b d. onto b ts (k (alt re b) (covers-or V table re b t us (body t r.0) d));
-      })
-
-      go : (j : ℕ) (ts : Trees) → Open at parts j ts ⊎ Closed at parts j ts
-          → Open (at + v) after j ts ⊎ Closed (at + v) after j ts
-      go j ts (inl o) = rest-of j ts o.rest o.reads o.covers
-      go j ts (inr k) = absurd (some (same_word ws at v 0 w k.zero))
+      step : (j : ℕ) (r : Rest at j)
+          → (n : Rest (at + v) j) × ((b : Re) → EndsIn (at + v) j n b → EndsIn at j r (alt re b))
+      step j (inl (Only t, r)) = (
+        inr (subst (λ n. Word ws n 0) to r.2, r.3 ∙ ap (λ n. n + 1) to),
+        λ b is. subst (λ z. B (alt re z) (Only t)) (sym is) (serves-last V table s.purpose re t (body t r.0)),
+      )
+      step j (inl (Or t us, r)) = (
+        inl (us, subst (λ n. ReadsBranch ws n j us) to r.2),
+        λ b k. serves-or V table s.purpose re b t us (body t r.0) k,
+      )
+      step j (inr none) = absurd (some (same_word ws at v 0 w none.0))
 
   -- behind the last one
   pub branches : (i at : ℕ) (parts : List Re) (whole : Re) → HasBranch ws i → BranchSoFar (i + 1) at parts
-      → Word ws at 0
-      → whole ≡ alt_onto parts (byte_in []) → CoversItemAt V table ws i whole (at + 1)
+      → Word ws at 0 → whole ≡ alt_onto parts (byte_in []) → AtItem ws i (at + 1) (ServesItem s whole)
   branches i at parts whole h so w is j x r =
       let f = is_branch ws i j x (role_here ws i opcode.BRANCH ToBranch h.reads.0 refl) r in
-      let k = go j f.0 (so.each j f.0 f.2.1) in (
+      let left = so.each j f.0 f.2.1 in
+      let k = go j left.0 in (
         k.0,
-        subst (CoversItem V table whole) (sym f.1)
-            (subst (λ z. CoversItem V table z (Branch f.0)) (sym is)
-            (covers-branch V table (alt_onto parts (byte_in [])) f.0 k.1)),
+        subst (ServesItem s whole) (sym f.1) (serves-branch V table s.purpose whole f.0
+            (subst (λ z. B z f.0) (sym is) (left.1 (byte_in []) k.1))),
       )
     where
-      go : (j : ℕ) (ts : Trees) → Open at parts j ts ⊎ Closed at parts j ts
-          → (at + 1 ≡ j) × CoversBranch V table (alt_onto parts (byte_in [])) ts
-      go j ts (inl o) = absurd (omega (arith, alternative_long ws at j o.rest o.reads, word_of ws at 0 w))
-      go j ts (inr c) = (sym c.ends, c.covers (byte_in []))
+      go : (j : ℕ) (r : Rest at j) → (at + 1 ≡ j) × EndsIn at j r (byte_in [])
+      go j (inl left) = absurd (omega (arith, alternative_long ws at j left.0 left.1, word_of ws at 0 w))
+      go j (inr none) = (sym none.1, refl)

@@ -6,14 +6,18 @@ use Rattle.regex_hir.specs.Re.{Re, empty, alt}
 use Rattle.sre_chars.specs.Tables.{Table}
 use Rattle.sre_model.specs.Tree.{Tree, Item, Exists, ExistsElse}
 use Rattle.sre_model.specs.Roles.{ToCheckGroup}
-use Rattle.sre_model.specs.Grammar.{word, skip, item_opcode, ReadsItem}
+use Rattle.sre_model.specs.Grammar.{word, skip, item_opcode, Reads, ReadsItem}
 use Rattle.sre_model.proofs.Words.{word_past}
 use Rattle.sre_model.proofs.Families.{role_here, is_exists}
 use Rattle.sre_model.proofs.Places.{reads_within}
-use Rattle.sre_shape.specs.Covers.{View, CoversItem, IsWider}
+use Rattle.sre_code.specs.Codes.{uni_of}
+use Rattle.sre_shape.specs.Covers.{View, Covers, IsWider}
 use Rattle.sre_shape.proofs.Composed.{covers-exists, covers-either, item-wider}
-use Rattle.sre_patterns.specs.Patterns.{CoversItemAt, CoversItemsAt, HasItems, HasCondition}
+use Rattle.sre_patterns.specs.declared.task.Task.{Task}
+use Rattle.sre_patterns.specs.Patterns.{view_of, AtItem, AtItems, HasItems, HasCondition}
+use Rattle.sre_patterns.specs.Purposes.{Serves, ServesItem, OnlyCovers}
 use Rattle.sre_patterns.proofs.Items.{items-to}
+use Rattle.sre_patterns.proofs.Serving.{covered, serves-covered}
 
 -- a word that a sum needs is there
 word-needed : (ws : List ℕ) (q n : ℕ) → n < word ws q → q < length ws
@@ -56,65 +60,81 @@ module _ (ws : List ℕ) (i : ℕ) where
             within = word-needed ws (i + 2) 1 (omega arith);
           }
 
+module _ (s : Task) (ws : List ℕ) (i : ℕ) (h : HasCondition ws i) (only : OnlyCovers s.purpose) (at : ℕ)
+    (to : at ≡ behind ws i) (re : Re) (stop : ℕ) (c : AtItems ws (i + 3) at stop (Serves s re)) where
+  abbrev V : View
+  V = view_of s.encoding
+
+  abbrev table : Table
+  table = uni_of s.code
+
+  -- the only part ends where the item does
+  plain : (j g : ℕ) (a : Tree) → ReadsItem ws i j (Exists g a) → (stop ≡ at) × (at ≡ j) × Covers V table re a
+  plain j g a r =
+      let o = r.1 in
+      let same : at ≡ j = to ∙ sym o.1 in
+      let k = c j a o.2 (omega (arith, same), inl (sym same)) in
+      (k.0 ∙ sym same, same, covered V table s.purpose re a only k.1)
+
+  -- the first part ends at the JUMP to the second one
+  forked : (j g : ℕ) (a b : Tree) → ReadsItem ws i j (ExistsElse g a b)
+      → (stop + 2 ≡ at) × (j ≡ skip ws (stop + 1)) × Reads ws at j b × Covers V table re a
+  forked j g a b r =
+      let o = r.1 in
+      let order = reads_within a ws (i + 3) (behind ws i - 2) o.1 in
+      let k = c (behind ws i - 2) a o.1 (omega (arith, to), inr o.2.0) in (
+        omega (arith, k.0, to, order),
+        o.2.1 ∙ ap (λ n. skip ws (n + 1)) (sym k.0),
+        subst (λ n. Reads ws n j b) (sym to) o.3,
+        covered V table s.purpose re a only k.1,
+      )
+
+  pub without : (whole : Re) → stop ≡ at → IsWider (alt re empty) whole → AtItem ws i at (ServesItem s whole)
+  without whole is wider j x r = go (one-of ws i h j x r)
+    where
+      go : OneOf ws i j x → (at ≡ j) × ServesItem s whole x
+      go (inl f) =
+          let k = plain j f.0 f.1 f.3 in (
+            k.1,
+            subst (ServesItem s whole) (sym f.2)
+                (serves-covered V table s.purpose whole (Exists f.0 f.1) only
+                (item-wider V table (alt re empty) whole (Exists f.0 f.1) wider
+                (covers-exists V table re f.0 f.1 k.2))),
+          )
+      go (inr f) = absurd (omega (arith, (forked j f.0 f.1 f.2 f.4).0, is))
+
   -- what stands behind a JUMP
-  pub record ElseRead (stop : ℕ) : Type 0 where
-    pub items : HasItems ws behind (skip ws (stop + 1))
+  pub record ElseRead : Type 0 where
+    pub items : HasItems ws at (skip ws (stop + 1))
     pub within : stop + 1 < length ws
 
-  module _ (V : View) (table : Table) (h : HasCondition ws i) (re : Re) (stop : ℕ)
-      (c : CoversItemsAt V table ws (i + 3) behind re stop) where
-    pub without : (whole : Re) → stop ≡ behind → IsWider (alt re empty) whole → CoversItemAt V table ws i whole behind
-    without whole at wider j x r = go (one-of h j x r)
-      where
-        go : OneOf j x → (behind ≡ j) × CoversItem V table whole x
-        go (inl f) =
-            let o = f.3.1 in
-            let k = c j f.1 o.2 (omega (arith, o.1), inl o.1) in (
-              sym o.1,
-              subst (CoversItem V table whole) (sym f.2)
-                  (item-wider V table (alt re empty) whole (Exists f.0 f.1) wider
-                  (covers-exists V table re f.0 f.1 k.1)),
-            )
-        go (inr f) =
-            let o = f.4.1 in
-            let order = reads_within f.1 ws (i + 3) (behind - 2) o.1 in
-            let k = c (behind - 2) f.1 o.1 (omega arith, inr o.2.0) in
-            absurd (omega (arith, k.0, at, order))
+  pub else-read : stop ≢ at → ElseRead
+  else-read other = go (one-of ws i h h.end h.item h.reads)
+    where
+      go : OneOf ws i h.end h.item → ElseRead
+      go (inl f) = absurd (other (plain h.end f.0 f.1 f.3).0)
+      go (inr f) =
+          let k = forked h.end f.0 f.1 f.2 f.4 in
+          let later = reads_within f.2 ws at h.end k.2 in
+          record {
+            items = items-to ws at h.end (skip ws (stop + 1)) f.2 k.2 k.1;
+            within = word-needed ws (stop + 1) 0 (omega (arith, later, k.1, k.0));
+          }
 
-    pub else-read : stop ≢ behind → ElseRead stop
-    else-read other = go (one-of h h.end h.item h.reads)
-      where
-        go : OneOf h.end h.item → ElseRead stop
-        go (inl f) =
-            let o = f.3.1 in
-            absurd (other ((c h.end f.1 o.2 (omega (arith, o.1), inl o.1)).0 ∙ o.1))
-        go (inr f) =
-            let o = f.4.1 in
-            let order = reads_within f.1 ws (i + 3) (behind - 2) o.1 in
-            let is : stop ≡ behind - 2 = (c (behind - 2) f.1 o.1 (omega arith, inr o.2.0)).0 in
-            let to : h.end ≡ skip ws (stop + 1) = o.2.1 ∙ ap (λ n. skip ws (n + 1)) (sym is) in
-            let later = reads_within f.2 ws behind h.end o.3 in
-            record {
-              items = items-to ws behind h.end (skip ws (stop + 1)) f.2 o.3 to;
-              within = word-needed ws (stop + 1) 0 (omega (arith, later, to, is, order));
-            }
-
-    pub with-else : (other whole : Re) (u e : ℕ) → stop ≢ behind → e ≡ skip ws (stop + 1)
-        → CoversItemsAt V table ws behind e other u → IsWider (alt re other) whole → CoversItemAt V table ws i whole e
-    with-else other whole u e apart ends d wider j x r = go (one-of h j x r)
-      where
-        go : OneOf j x → (e ≡ j) × CoversItem V table whole x
-        go (inl f) =
-            let o = f.3.1 in
-            absurd (apart ((c j f.1 o.2 (omega (arith, o.1), inl o.1)).0 ∙ o.1))
-        go (inr f) =
-            let o = f.4.1 in
-            let order = reads_within f.1 ws (i + 3) (behind - 2) o.1 in
-            let k = c (behind - 2) f.1 o.1 (omega arith, inr o.2.0) in
-            let to : e ≡ j = ends ∙ ap (λ n. skip ws (n + 1)) k.0 ∙ sym o.2.1 in
-            let l = d j f.2 o.3 (omega (arith, to), inl (sym to)) in (
-              to,
-              subst (CoversItem V table whole) (sym f.3)
-                  (item-wider V table (alt re other) whole (ExistsElse f.0 f.1 f.2) wider
-                  (covers-either V table re other f.0 f.1 f.2 k.1 l.1)),
-            )
+  pub with-else : (other whole : Re) (v e : ℕ) → stop ≢ at → e ≡ skip ws (stop + 1)
+      → AtItems ws at e v (Serves s other) → IsWider (alt re other) whole
+      → AtItem ws i e (ServesItem s whole)
+  with-else other whole v e apart ends d wider j x r = go (one-of ws i h j x r)
+    where
+      go : OneOf ws i j x → (e ≡ j) × ServesItem s whole x
+      go (inl f) = absurd (apart (plain j f.0 f.1 f.3).0)
+      go (inr f) =
+          let k = forked j f.0 f.1 f.2 f.4 in
+          let same : e ≡ j = ends ∙ sym k.1 in
+          let l = d j f.2 k.2 (omega (arith, same), inl (sym same)) in (
+            same,
+            subst (ServesItem s whole) (sym f.3)
+                (serves-covered V table s.purpose whole (ExistsElse f.0 f.1 f.2) only
+                (item-wider V table (alt re other) whole (ExistsElse f.0 f.1 f.2) wider
+                (covers-either V table re other f.0 f.1 f.2 k.3 (covered V table s.purpose other f.2 only l.1)))),
+          )

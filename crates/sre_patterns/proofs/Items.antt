@@ -1,34 +1,54 @@
--- What is read at an address, by its opcode.
-use Rattle.std.proofs.Common.{◌≡◌, ℕ, ◌+◌, ◌-◌, ◌<◌, ◌≤◌, ◌⊎◌, Bool, List, length, refl, sym, ap, ◌∙◌, subst, inl, inr}
-use Rattle.std.proofs.Common.{arith, None}
-use Rattle.regex_hir.specs.Re.{Re, empty}
-use Rattle.regex_hir.specs.Meaning.{repeat}
-use Rattle.sre_chars.specs.Tables.{Table}
+-- What is read at an address, by its opcode: the item has a property if all items of this form have it.
+use Rattle.std.proofs.Common.{◌≡◌, ℕ, ◌+◌, ◌-◌, ◌<◌, ◌≤◌, ◌⊎◌, List, length, refl, sym, ap, ◌∙◌, subst, inl, inr}
+use Rattle.std.proofs.Common.{arith, Option, Some, None}
 use Rattle.sre_chars.specs.declared.constants.SreOpcode.{SreOpcode}
 use Rattle.sre_chars.specs.declared.constants.SreOpcode.TheVariants as opcode
 use Rattle.sre_chars.specs.declared.constants.SreAtCode.{SreAtCode}
 use Rattle.sre_chars.specs.Numbers.{at_number}
-use Rattle.sre_model.specs.Tree.{Tree, Item, At, Loop, PossessiveLoop, Test, AnyAll, RunKind, Sign, GreedyRun, LazyRun}
-use Rattle.sre_model.specs.Tree.{PossessiveRun, Positive, Negative}
+use Rattle.sre_model.specs.Tree.{Tree, Item, Fail, One, At, Mark, Loop, Run, PossessiveLoop, Atomic, Look}
+use Rattle.sre_model.specs.Tree.{Reference, Test, Order, RunKind, Sign, Fold, GreedyRun, LazyRun, PossessiveRun}
+use Rattle.sre_model.specs.Tree.{Positive, Negative}
 use Rattle.sre_model.specs.Roles.{role, ToFail, ToCheckPosition, ToMark, ToRun, ToRepeat, ToRepeatPossessively}
 use Rattle.sre_model.specs.Roles.{ToGroupAtomically, ToLook, ToRefer}
-use Rattle.sre_model.specs.Grammar.{Word, skip, Opcode, item_opcode, Reads, run_opcode}
+use Rattle.sre_model.specs.Grammar.{Word, skip, Opcode, item_opcode, until_opcode, Reads, ReadsItem, run_opcode}
 use Rattle.sre_model.specs.Standing.{HasTest, TestStands}
-use Rattle.sre_model.specs.Ways.{unlimited}
 use Rattle.sre_model.proofs.Families.{run_role, role_here, test_here, is_fail, is_one, is_at, is_mark, is_loop, is_run}
 use Rattle.sre_model.proofs.Families.{is_possessive, is_atomic, is_look, is_reference}
 use Rattle.sre_model.proofs.Words.{same_word, same_at, opcode_within, word_within}
 use Rattle.sre_model.proofs.Places.{reads_within}
-use Rattle.sre_shape.specs.Repeated.{repeated}
-use Rattle.sre_shape.specs.Covers.{Covers, View, CoversItem, CoversTest}
-use Rattle.sre_shape.proofs.Composed.{covers-run, covers-loop, covers-possessive, covers-atomic, covers-fail}
-use Rattle.sre_shape.proofs.Composed.{covers-mark, covers-look, covers-reference, covers-one}
-use Rattle.sre_patterns.specs.Patterns.{CoversItemsAt, CoversItemAt, CoversTestAt, HasItem, HasItems, HasRun, HasAtomic}
-use Rattle.sre_patterns.specs.Patterns.{HasLoop}
+use Rattle.sre_patterns.specs.Patterns.{AtItem, HasItem, HasItems, HasRun, HasAtomic, HasLoop}
 
 -- items whose end is known
 pub items-to : (ws : List ℕ) (i j e : ℕ) (t : Tree) → Reads ws i j t → j ≡ e → HasItems ws i e
 items-to ws i j e t r same = record { stop = j; tree = t; reads = r; stops = (omega arith, inl same) }
+
+-- a loop, which is possessive where it has no order, and how its body ends
+abbrev pub loop_of : Option Order → ℕ → ℕ → Tree → Item
+loop_of (Some o) = Loop o
+loop_of None = PossessiveLoop
+
+abbrev pub end_of : Option Order → SreOpcode
+end_of (Some o) = until_opcode o
+end_of None = opcode.SUCCESS
+
+-- such a loop is read at an address
+abbrev LoopAt : List ℕ → ℕ → ℕ → Item → Type 0
+LoopAt ws i j x =
+    (k : Option Order) × (low : ℕ) × (high : ℕ) × (body : Tree) × (x ≡ loop_of k low high body)
+    × Word ws (i + 2) low × Word ws (i + 3) high × (low ≤ high) × Reads ws (i + 4) (skip ws (i + 1)) body
+    × Opcode ws (skip ws (i + 1)) (end_of k) × (j ≡ skip ws (i + 1) + 1)
+
+loop-at : (ws : List ℕ) (i : ℕ) (h : HasLoop ws i) (j : ℕ) (x : Item) → ReadsItem ws i j x → LoopAt ws i j x
+loop-at ws i h j x r = go h.is
+  where
+    go : (role (item_opcode h.item) ≡ ToRepeat) ⊎ (role (item_opcode h.item) ≡ ToRepeatPossessively)
+        → LoopAt ws i j x
+    go (inl e) =
+        let f = is_loop ws i j x (role_here ws i (item_opcode h.item) ToRepeat h.reads.0 e) r in
+        let o = f.5.1 in (Some f.0, f.1, f.2, f.3, f.4, o.0, o.1, o.2, o.3, o.4, o.5)
+    go (inr e) =
+        let f = is_possessive ws i j x (role_here ws i (item_opcode h.item) ToRepeatPossessively h.reads.0 e) r in
+        let o = f.4.1 in (None, f.0, f.1, f.2, f.3, o.0, o.1, o.2, o.3, o.4, o.5)
 
 -- what stands in a loop
 pub record LoopRead (ws : List ℕ) (i : ℕ) : Type 0 where
@@ -38,27 +58,14 @@ pub record LoopRead (ws : List ℕ) (i : ℕ) : Type 0 where
   pub counts : i + 3 < length ws
 
 pub loop-read : (ws : List ℕ) (i : ℕ) → HasLoop ws i → LoopRead ws i
-loop-read ws i h = go h.is
-  where
-    go : (role (item_opcode h.item) ≡ ToRepeat) ⊎ (role (item_opcode h.item) ≡ ToRepeatPossessively) → LoopRead ws i
-    go (inl e) =
-        let f = is_loop ws i h.end h.item (role_here ws i (item_opcode h.item) ToRepeat h.reads.0 e) h.reads in
-        record {
-          body = f.3;
-          reads = f.5.1.3;
-          until = opcode_within ws (skip ws (i + 1)) _ f.5.1.4;
-          counts = word_within ws (i + 3) f.2 f.5.1.1;
-        }
-    go (inr e) =
-        let f =
-        is_possessive ws i h.end h.item (role_here ws i (item_opcode h.item) ToRepeatPossessively h.reads.0 e) h.reads
-        in
-        record {
-          body = f.2;
-          reads = f.4.1.3;
-          until = opcode_within ws (skip ws (i + 1)) opcode.SUCCESS f.4.1.4;
-          counts = word_within ws (i + 3) f.1 f.4.1.1;
-        }
+loop-read ws i h =
+    let f = loop-at ws i h h.end h.item h.reads in
+    record {
+      body = f.3;
+      reads = f.8;
+      until = opcode_within ws (skip ws (i + 1)) (end_of f.0) f.9;
+      counts = word_within ws (i + 3) f.2 f.6;
+    }
 
 -- what stands in a body that is not entered again
 pub record AtomicRead (ws : List ℕ) (i : ℕ) : Type 0 where
@@ -99,124 +106,80 @@ refers o (inr (inr (inl e))) = ap role e
 refers o (inr (inr (inr e))) = ap role e
 
 pub has-run : (ws : List ℕ) (i : ℕ) (h : HasItem ws i) (o : SreOpcode) → Opcode ws i o
-    → (k : RunKind) → role o ≡ ToRun k → HasRun ws i
+    → (k : RunKind) → role o ≡ ToRun k → HasRun ws i o
 has-run ws i h o w k is =
     let f = is_run ws i h.end h.item (role_here ws i o (ToRun k) w is) h.reads in
-    record { end = h.end; kind = k; low = f.0; high = f.1; test = f.2; reads = f.4 }
+    record { end = h.end; kind = k; is = is; low = f.0; high = f.1; test = f.2; reads = f.4 }
 
-module _ (V : View) (table : Table) (ws : List ℕ) (i : ℕ) where
-  pub fails : (re : Re) → Opcode ws i opcode.FAILURE → CoversItemAt V table ws i re (i + 1)
-  fails re o j x r =
+module _ (P : Item → Type 0) (ws : List ℕ) (i : ℕ) where
+  pub fails : Opcode ws i opcode.FAILURE → P Fail → AtItem ws i (i + 1) P
+  fails o p j x r =
       let f = is_fail ws i j x (role_here ws i opcode.FAILURE ToFail o refl) r in
-      (sym f.1.1, subst (CoversItem V table re) (sym f.0) (covers-fail V table re))
+      (sym f.1.1, subst P (sym f.0) p)
 
-  pub marks : Opcode ws i opcode.MARK → CoversItemAt V table ws i empty (i + 2)
-  marks o j x r =
+  pub marks : Opcode ws i opcode.MARK → ((n : ℕ) → P (Mark n)) → AtItem ws i (i + 2) P
+  marks o p j x r =
       let f = is_mark ws i j x (role_here ws i opcode.MARK ToMark o refl) r in
-      (sym f.2.1.1, subst (CoversItem V table empty) (sym f.1) (covers-mark V table f.0))
+      (sym f.2.1.1, subst P (sym f.1) (p f.0))
 
-  pub looks : (sign : Sign) (o : SreOpcode) (e : ℕ) → Opcode ws i o → role o ≡ ToLook sign
-      → e ≡ skip ws (i + 1) → CoversItemAt V table ws i empty e
-  looks sign o e there is ends j x r =
-      let f = is_look ws i j x (role_here ws i o (ToLook sign) there is) r in (
-        ends ∙ sym f.3.1.0,
-        subst (CoversItem V table empty) (sym f.2) (covers-look V table sign f.0 f.1),
-      )
-
-  -- where a test stands no other item does
-  pub one_item : (re : Re) (e : ℕ) → HasTest ws i
-      → CoversTestAt V table ws i re → ((j : ℕ) (t : Test) → TestStands ws i j t → e ≡ j)
-      → CoversItemAt V table ws i re e
-  one_item re e h c ends j x r =
-      let f = is_one ws i j x (test_here ws i h.test h.stands.code) r in
-      let stands : TestStands ws i j f.0 = record { code = f.2.0; operands = f.2.1 } in (
-        ends j f.0 stands,
-        subst (CoversItem V table re) (sym f.1) (covers-one V table re f.0 (c j f.0 stands)),
-      )
-
-  pub positions : (re : Re) (a : SreAtCode) → Opcode ws i opcode.AT → Word ws (i + 1) (at_number a)
-      → CoversItem V table re (At a) → CoversItemAt V table ws i re (i + 2)
-  positions re a o w c j x r =
+  pub positions : (a : SreAtCode) → Opcode ws i opcode.AT → Word ws (i + 1) (at_number a) → P (At a)
+      → AtItem ws i (i + 2) P
+  positions a o w p j x r =
       let f = is_at ws i j x (role_here ws i opcode.AT ToCheckPosition o refl) r in
       let same : a ≡ f.0 = same_at ws (i + 1) a f.0 w f.2.1.0 in
-      (sym f.2.1.1, subst (CoversItem V table re) (ap (λ z. At z) same ∙ sym f.1) c)
+      (sym f.2.1.1, subst P (ap (λ z. At z) same ∙ sym f.1) p)
 
-  pub references : (greedy : _) (re : Re) (o : SreOpcode) → Opcode ws i o → role o ≡ ToRefer
-      → CoversTest V table re AnyAll
-      → CoversItemAt V table ws i (repeat 0 None greedy re) (i + 2)
-  references greedy re o there is c j x r =
-      let f = is_reference ws i j x (role_here ws i o ToRefer there is) r in (
-        sym f.3.1.1,
-        subst (CoversItem V table (repeat 0 None greedy re)) (sym f.2)
-            (covers-reference V table greedy re f.0 f.1 c),
-      )
+  -- where a test stands no other item does
+  pub one_item : (e : ℕ) → HasTest ws i → ((j : ℕ) (t : Test) → TestStands ws i j t → e ≡ j)
+      → ((j : ℕ) (t : Test) → TestStands ws i j t → P (One t)) → AtItem ws i e P
+  one_item e h ends p j x r =
+      let f = is_one ws i j x (test_here ws i h.test h.stands.code) r in
+      let stands : TestStands ws i j f.0 = record { code = f.2.0; operands = f.2.1 } in
+      (ends j f.0 stands, subst P (sym f.1) (p j f.0 stands))
 
-  pub runs : (h : HasRun ws i) (kept low high : ℕ) (greedy : Bool) (re whole : Re) (e : ℕ) → kept < unlimited
-      → e ≡ skip ws (i + 1) → Word ws (i + 2) low → Word ws (i + 3) high
-      → CoversTestAt V table ws (i + 4) re → whole ≡ repeated kept low high greedy re
-      → CoversItemAt V table ws i whole e
-  runs h kept low high greedy re whole e few ends wl wh c is j x r =
-      let f = is_run ws i j x (role_here ws i (run_opcode h.kind) (ToRun h.kind) h.reads.0 (run_role h.kind)) r in
-      let o = f.4.1 in
-      let el : f.0 ≡ low = same_word ws (i + 2) f.0 low o.1 wl in
-      let eh : f.1 ≡ high = same_word ws (i + 3) f.1 high o.2 wh in
-      let stands : TestStands ws (i + 4) (j - 1) f.2 = record { code = o.4; operands = o.5 } in
-      let P : ℕ → Type 0 = λ a. CoversItem V table (repeated kept a high greedy re) x in
-      let Q : ℕ → Type 0 = λ b. CoversItem V table (repeated kept f.0 b greedy re) x in (
-        ends ∙ sym o.0,
-        subst (λ z. CoversItem V table z x) (sym is)
-            (subst P el (subst Q eh
-            (subst (CoversItem V table (repeated kept f.0 f.1 greedy re)) (sym f.3)
-            (covers-run V table kept f.0 f.1 greedy re h.kind f.2 few (c (j - 1) f.2 stands))))),
-      )
+  pub looks : (sign : Sign) (o : SreOpcode) (e : ℕ) → Opcode ws i o → role o ≡ ToLook sign → e ≡ skip ws (i + 1)
+      → ((back : ℕ) (body : Tree) → P (Look sign back body)) → AtItem ws i e P
+  looks sign o e there is ends p j x r =
+      let f = is_look ws i j x (role_here ws i o (ToLook sign) there is) r in
+      (ends ∙ sym f.3.1.0, subst P (sym f.2) (p f.0 f.1))
 
-  pub loops : (h : HasLoop ws i) (kept low high : ℕ) (greedy : Bool) (re whole : Re) (until u e : ℕ) → kept < unlimited
-      → until ≡ skip ws (i + 1) → e ≡ until + 1 → Word ws (i + 2) low → Word ws (i + 3) high
-      → CoversItemsAt V table ws (i + 4) until re u → whole ≡ repeated kept low high greedy re
-      → CoversItemAt V table ws i whole e
-  loops h kept low high greedy re whole until u e few at ends wl wh c is j x r =
-      go h.is
-    where
-      to : skip ws (i + 1) ≡ until
-      to = sym at
+  pub references : (o : SreOpcode) → Opcode ws i o → role o ≡ ToRefer → ((f : Fold) (g : ℕ) → P (Reference f g))
+      → AtItem ws i (i + 2) P
+  references o there is p j x r =
+      let f = is_reference ws i j x (role_here ws i o ToRefer there is) r in
+      (sym f.3.1.1, subst P (sym f.2) (p f.0 f.1))
 
-      body : (b : Tree) → Reads ws (i + 4) (skip ws (i + 1)) b → Covers V table re b
-      body b reads = (c (skip ws (i + 1)) b reads (omega (arith, to), inl to)).1
-
-      finish : (a b : ℕ) (y : Item) → Word ws (i + 2) a → Word ws (i + 3) b → x ≡ y
-          → CoversItem V table (repeated kept a b greedy re) y → CoversItem V table whole x
-      finish a b y wa wb same k =
-          let P : ℕ → Type 0 = λ n. CoversItem V table (repeated kept n high greedy re) y in
-          let Q : ℕ → Type 0 = λ n. CoversItem V table (repeated kept a n greedy re) y in
-          subst (CoversItem V table whole) (sym same)
-          (subst (λ z. CoversItem V table z y) (sym is)
-          (subst P (same_word ws (i + 2) a low wa wl) (subst Q (same_word ws (i + 3) b high wb wh) k)))
-
-      go : (role (item_opcode h.item) ≡ ToRepeat) ⊎ (role (item_opcode h.item) ≡ ToRepeatPossessively)
-          → (e ≡ j) × CoversItem V table whole x
-      go (inl k) =
-          let f = is_loop ws i j x (role_here ws i (item_opcode h.item) ToRepeat h.reads.0 k) r in
-          let o = f.5.1 in (
-            ends ∙ ap (λ n. n + 1) (sym to) ∙ sym o.5,
-            finish f.1 f.2 (Loop f.0 f.1 f.2 f.3) o.0 o.1 f.4
-                (covers-loop V table kept f.1 f.2 greedy re f.0 f.3 few (body f.3 o.3)),
-          )
-      go (inr k) =
-          let f = is_possessive ws i j x (role_here ws i (item_opcode h.item) ToRepeatPossessively h.reads.0 k) r in
-          let o = f.4.1 in (
-            ends ∙ ap (λ n. n + 1) (sym to) ∙ sym o.5,
-            finish f.0 f.1 (PossessiveLoop f.0 f.1 f.2) o.0 o.1 f.3
-                (covers-possessive V table kept f.0 f.1 greedy re f.2 few (body f.2 o.3)),
-          )
-
-  pub atomics : (h : HasAtomic ws i) (re : Re) (u e : ℕ) → e ≡ skip ws (i + 1)
-      → CoversItemsAt V table ws (i + 2) (e - 1) re u → CoversItemAt V table ws i re e
-  atomics h re u e ends c j x r =
+  pub atomics : (h : HasAtomic ws i) (e : ℕ) → e ≡ skip ws (i + 1)
+      → ((body : Tree) → Reads ws (i + 2) (e - 1) body → P (Atomic body)) → AtItem ws i e P
+  atomics h e ends p j x r =
       let f = is_atomic ws i j x (role_here ws i opcode.ATOMIC_GROUP ToGroupAtomically h.reads.0 refl) r in
       let o = f.2.1 in
-      let same : e ≡ j = ends ∙ sym o.0 in (
-        same,
-        subst (CoversItem V table re) (sym f.1)
-            (covers-atomic V table re f.0 (c (j - 1) f.0 o.1
-            (omega (arith, same), inl (ap (λ n. n - 1) (sym same)))).1),
-      )
+      let same : e ≡ j = ends ∙ sym o.0 in
+      (same, subst P (sym f.1) (p f.0 (subst (λ n. Reads ws (i + 2) (n - 1) f.0) (sym same) o.1)))
+
+  module _ (low high : ℕ) (wl : Word ws (i + 2) low) (wh : Word ws (i + 3) high) where
+    pub runs : (o : SreOpcode) (h : HasRun ws i o) (e : ℕ) → e ≡ skip ws (i + 1)
+        → (low ≤ high → (n : ℕ) (t : Test) → TestStands ws (i + 4) n t → P (Run h.kind low high t)) → AtItem ws i e P
+    runs o h e ends p j x r =
+        let k = h.kind in
+        let f = is_run ws i j x (role_here ws i (run_opcode k) (ToRun k) h.reads.0 (run_role k)) r in
+        let o = f.4.1 in
+        let el : f.0 ≡ low = same_word ws (i + 2) f.0 low o.1 wl in
+        let eh : f.1 ≡ high = same_word ws (i + 3) f.1 high o.2 wh in
+        let stands : TestStands ws (i + 4) (j - 1) f.2 = record { code = o.4; operands = o.5 } in
+        let same : Run k low high f.2 ≡ x =
+        ap (λ n. Run k n high f.2) (sym el) ∙ ap (λ n. Run k f.0 n f.2) (sym eh) ∙ sym f.3 in
+        (ends ∙ sym o.0, subst P same (p (omega (arith, o.3, el, eh)) (j - 1) f.2 stands))
+
+    pub loops : (h : HasLoop ws i) (until e : ℕ) → until ≡ skip ws (i + 1) → e ≡ until + 1
+        → (low ≤ high → (k : Option Order) (body : Tree) → Reads ws (i + 4) until body → Opcode ws until (end_of k)
+        → P (loop_of k low high body)) → AtItem ws i e P
+    loops h until e at ends p j x r =
+        let f = loop-at ws i h j x r in
+        let el : f.1 ≡ low = same_word ws (i + 2) f.1 low f.5 wl in
+        let eh : f.2 ≡ high = same_word ws (i + 3) f.2 high f.6 wh in
+        let same : loop_of f.0 low high f.3 ≡ x =
+        ap (λ n. loop_of f.0 n high f.3) (sym el) ∙ ap (λ n. loop_of f.0 f.1 n f.3) (sym eh) ∙ sym f.4 in
+        let body = subst (λ n. Reads ws (i + 4) n f.3) (sym at) f.8 in
+        let closed = subst (λ n. Opcode ws n (end_of f.0)) (sym at) f.9 in
+        (ends ∙ ap (λ n. n + 1) at ∙ sym f.10, subst P same (p (omega (arith, f.7, el, eh)) f.0 f.3 body closed))

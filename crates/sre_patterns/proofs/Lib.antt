@@ -1,12 +1,10 @@
 pub mod SidesSeen
 pub mod Onto
+pub mod Serving
 pub mod Tests
 pub mod Items
 pub mod Sequences
 pub mod Branches
 pub mod Conditions
-pub mod FrontItems
 pub mod SettledTests
-pub mod OrderedTests
-pub mod OrderedItems
-pub mod OrderedBranches
+pub mod ExactTests

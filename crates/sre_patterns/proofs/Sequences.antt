@@ -1,38 +1,33 @@
 -- Items one after the other: what is read so far, and what is left.
-use Rattle.std.proofs.Common.{◌≡◌, ℕ, ◌<◌, ◌≤◌, ◌⊎◌, List, [], length, refl, sym, subst, inl, inr, arith}
+use Rattle.std.proofs.Common.{◌≡◌, ℕ, ◌<◌, ◌≤◌, ◌⊎◌, List, length, refl, sym, subst, inl, inr, arith}
 use Rattle.regex_hir.specs.Re.{Re, empty, cat}
-use Rattle.sre_chars.specs.Tables.{Table}
 use Rattle.sre_chars.specs.declared.constants.SreOpcode.TheVariants as opcode
 use Rattle.sre_model.specs.Tree.{Tree, Empty, Then, Item}
 use Rattle.sre_model.specs.Grammar.{Word, Opcode, Reads, ReadsItem}
 use Rattle.sre_model.proofs.Words.{opcode_moved, opcode_within, same_word}
 use Rattle.sre_model.proofs.Families.{no_item}
 use Rattle.sre_model.proofs.Places.{reads_within, operands_past}
-use Rattle.sre_shape.specs.Covers.{View, Covers, IsWider}
-use Rattle.sre_shape.proofs.Composed.{covers-empty, covers-then, covers-wider}
-use Rattle.sre_patterns.specs.Patterns.{cat_onto, HasItems, HasItem, CoversItemsAt, CoversItemAt, Stops}
+use Rattle.sre_patterns.specs.Patterns.{cat_onto, HasItems, HasItem, AtItems, AtItem, Stops}
 
 pub no-jump : (ws : List ℕ) (i v : ℕ) → Word ws i v → (v ≡ 15 → ⊥) → Opcode ws i opcode.JUMP → ⊥
 no-jump ws i v w other o = other (same_word ws i v 15 w o)
 
 -- an item has words
-pub item-long : (V : View) (table : Table) (ws : List ℕ) (place behind : ℕ) (re : Re) → HasItem ws place
-    → CoversItemAt V table ws place re behind → place < behind
-item-long V table ws place behind re h c =
+pub item-long : (ws : List ℕ) (place behind : ℕ) (P : Item → Type 0) → HasItem ws place → AtItem ws place behind P
+    → place < behind
+item-long ws place behind P h c =
     omega (arith, (c h.end h.item h.reads).0, operands_past h.item ws place h.end h.reads.1)
 
-module _ (V : View) (table : Table) (ws : List ℕ) (start end : ℕ) where
-  -- the items from start on are those that the patterns cover, and then those from place on
+-- a relation between patterns and trees, such as that one covers the other
+module _ (T : Re → Tree → Type 0) (ws : List ℕ) (start end : ℕ) where
+  -- the items from start on are those of the patterns, and then those from place on
   pub record Left (place : ℕ) (parts : List Re) (j : ℕ) (t : Tree) : Type 0 where
     pub rest : Tree
     pub reads : Reads ws place j rest
-    pub covers : (b : Re) → Covers V table b rest → Covers V table (cat_onto parts b) t
+    pub holds : (b : Re) → T b rest → T (cat_onto parts b) t
 
   pub record SoFar (place : ℕ) (parts : List Re) : Type 0 where
     pub each : (j : ℕ) (t : Tree) → Reads ws start j t → Stops ws j end → Left place parts j t
-
-  pub begun : SoFar start []
-  begun = record { each = λ j t r s. record { rest = t; reads = r; covers = λ b c. c } }
 
   -- where neither the end nor a JUMP is, an item is
   pub record Next (place j : ℕ) (u : Tree) : Type 0 where
@@ -78,10 +73,12 @@ module _ (V : View) (table : Table) (ws : List ℕ) (start end : ℕ) where
       record { end = n.behind; item = n.item; reads = n.reads }
 
   -- one more item
-  pub more : (place behind : ℕ) (parts after : List Re) (re : Re) → SoFar place parts → place < end
-      → (Opcode ws place opcode.JUMP → ⊥) → CoversItemAt V table ws place re behind
-      → ((b : Re) → IsWider (cat_onto parts (cat re b)) (cat_onto after b)) → SoFar behind after
-  more place behind parts after re so before none c wider = record {
+  pub more : (I : Item → Type 0) (place behind : ℕ) (parts after : List Re) (re : Re)
+      → ((b : Re) (x : Item) (rest : Tree) → I x → T b rest → T (cat re b) (Then x rest))
+      → ((b : Re) (t : Tree) → T (cat_onto parts (cat re b)) t → T (cat_onto after b) t)
+      → SoFar place parts → place < end → (Opcode ws place opcode.JUMP → ⊥) → AtItem ws place behind I
+      → SoFar behind after
+  more I place behind parts after re join onto so before none c = record {
     each = λ j t r s.
         let left = so.each j t r s in
         let n = next place j left.rest left.reads s before none in
@@ -89,23 +86,19 @@ module _ (V : View) (table : Table) (ws : List ℕ) (start end : ℕ) where
         record {
           rest = n.rest;
           reads = subst (λ k. Reads ws k j n.rest) (sym x.0) n.more;
-          covers = λ b d.
-              covers-wider V table (cat_onto parts (cat re b)) (cat_onto after b) t (wider b)
-              (left.covers (cat re b)
-              (subst (Covers V table (cat re b)) (sym n.is) (covers-then V table re b n.item n.rest x.1 d)));
+          holds = λ b d.
+              onto b t (left.holds (cat re b) (subst (T (cat re b)) (sym n.is) (join b n.item n.rest x.1 d)));
         };
   }
 
   -- at the end, or at a JUMP, nothing is left
-  pub ended : (place : ℕ) (parts : List Re) (re : Re) → SoFar place parts → (end ≤ place) ⊎ Opcode ws place opcode.JUMP
-      → IsWider (cat_onto parts empty) re → CoversItemsAt V table ws start end re place
-  ended place parts re so at wider j t r s =
+  pub ended : (place : ℕ) (parts : List Re) (re : Re) → T empty Empty
+      → ((t : Tree) → T (cat_onto parts empty) t → T re t)
+      → SoFar place parts → (end ≤ place) ⊎ Opcode ws place opcode.JUMP → AtItems ws start end place (T re)
+  ended place parts re none onto so at j t r s =
       let left = so.each j t r s in
-      let nothing = go left.rest left.reads s at in (
-        nothing.1,
-        covers-wider V table (cat_onto parts empty) re t wider
-            (left.covers empty (subst (Covers V table empty) (sym nothing.0) (covers-empty V table))),
-      )
+      let nothing = go left.rest left.reads s at in
+      (nothing.1, onto t (left.holds empty (subst (T empty) (sym nothing.0) none)))
     where
       go : (u : Tree) → Reads ws place j u → Stops ws j end → (end ≤ place) ⊎ Opcode ws place opcode.JUMP
           → (u ≡ Empty) × (place ≡ j)

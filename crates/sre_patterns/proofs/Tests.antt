@@ -1,12 +1,13 @@
 -- Classes of what a test takes.
 use Rattle.std.proofs.Common.{◌≡◌, ℕ, ◌+◌, ◌≤◌, Bool, true, false, ◌||◌, List, [], ◌∷◌, ◌++◌, refl, sym, ap, ◌∙◌}
-use Rattle.std.proofs.Common.{inl, inr, arith, true≢false, drop, get_or, suc}
+use Rattle.std.proofs.Common.{inl, inr, arith, drop, get_or, suc}
 use Rattle.std.proofs.lemmas.Bool.{cases_lt}
 use Rattle.std.proofs.lemmas.Bool.Decides.{nat_tests}
 use Rattle.std.specs.Char.{IsScalar}
 use Rattle.std.proofs.Math.Seq.{drop-cons}
 use Rattle.std.proofs.lemmas.Option.{get_or_from_slice_get, slice_get_within}
 use Rattle.regex_class.specs.Ranges.{in_range, in_ranges, HasExactly}
+use Rattle.regex_class.proofs.RangesLemmas.{in_ranges-push}
 use Rattle.regex_hir.specs.Re.{byte_in, char_in, literal}
 use Rattle.regex_hir.proofs.TextLemmas.{has_bytes_at_from}
 use Rattle.sre_chars.specs.Tables.{Table}
@@ -29,25 +30,12 @@ pub range-has : (low high c : ℕ) → low ≤ c → c ≤ high → in_range (lo
 unfolding in_range
 range-has low high c l h = grind (arith, nat_tests)
 
-pub kept : (xs ys : List (ℕ × ℕ)) (c : ℕ) → in_ranges xs c ≡ true → in_ranges (xs ++ ys) c ≡ true
-unfolding in_ranges
-kept [] ys c h = absurd (true≢false (sym h))
-kept (x ∷ xs) ys c h = by_test (in_range x c) h (kept xs ys c)
-  where
-    by_test : (b : Bool) → (b || in_ranges xs c) ≡ true → (in_ranges xs c ≡ true → in_ranges (xs ++ ys) c ≡ true)
-        → (b || in_ranges (xs ++ ys) c) ≡ true
-    by_test true h ih = refl
-    by_test false h ih = ih h
-
 pub added : (xs : List (ℕ × ℕ)) (low high c : ℕ) → low ≤ c → c ≤ high → in_ranges (xs ++ (low, high) ∷ []) c ≡ true
-unfolding in_ranges
-added [] low high c l h = rw (range-has low high c l h) refl
-added (x ∷ xs) low high c l h = by_test (in_range x c) (added xs low high c l h)
+added xs low high c l h = in_ranges-push xs (low, high) c ∙ rw (range-has low high c l h) (or-true (in_ranges xs c))
   where
-    by_test : (b : Bool) → in_ranges (xs ++ (low, high) ∷ []) c ≡ true
-        → (b || in_ranges (xs ++ (low, high) ∷ []) c) ≡ true
-    by_test true h = refl
-    by_test false h = h
+    or-true : (x : Bool) → (x || true) ≡ true
+    or-true true = refl
+    or-true false = refl
 
 pub bytes-class : (bound : ℕ) (table : Table) (t : Test) (xs ranges : List (ℕ × ℕ)) → bound ≤ 256
     → HasBelow bound (holds table t) xs → HasExactly ranges (in_ranges xs)
@@ -66,7 +54,7 @@ utf8-class table t xs ranges h e =
 pub below-on : (test : ℕ → Bool) (xs : List (ℕ × ℕ)) (from last : ℕ) → HasBelow from test xs
     → HasBelow (last + 1) test (xs ++ (from, last) ∷ [])
 below-on test xs from last h c l k = elim (cases_lt c from) [
-  | (inl below) ↦ kept xs ((from, last) ∷ []) c (h c below k)
+  | (inl below) ↦ in_ranges-push xs (from, last) c ∙ rw (h c below k) refl
   | (inr at) ↦ added xs from last c at (omega (arith, l))
 ]
 

@@ -1,3 +1,3 @@
 pub mod Patterns
-pub mod Ordered
+pub mod Purposes
 pub mod Settling

@@ -3,13 +3,14 @@ use Rattle.std.specs.Prelude.{ℕ, ◌≡◌, ◌<◌, ◌≤◌, ◌⊎◌, Boo
 use Rattle.regex_class.specs.Ranges.{in_ranges}
 use Rattle.regex_hir.specs.Re.{Re, cat, alt}
 use Rattle.sre_chars.specs.Tables.{Table}
+use Rattle.sre_chars.specs.declared.constants.SreOpcode.{SreOpcode}
 use Rattle.sre_chars.specs.declared.constants.SreOpcode.TheVariants as opcode
 use Rattle.sre_chars.specs.declared.constants.SreAtCode.{SreAtCode}
 use Rattle.sre_model.specs.Tree.{Tree, Item, Branch, Run, Atomic, Trees, Test, RunKind}
-use Rattle.sre_model.specs.Roles.{role, ToRepeat, ToRepeatPossessively, ToCheckGroup}
+use Rattle.sre_model.specs.Roles.{role, ToRun, ToRepeat, ToRepeatPossessively, ToCheckGroup}
 use Rattle.sre_model.specs.Grammar.{Opcode, item_opcode, Reads, ReadsItem}
 use Rattle.sre_model.specs.Standing.{TestStands}
-use Rattle.sre_shape.specs.Covers.{View, InBytes, InUtf8, Covers, CoversItem, CoversTest, CoversStart}
+use Rattle.sre_shape.specs.Covers.{View, InBytes, InUtf8, CoversStart}
 use Rattle.sre_shape.specs.Looks.{in_ascii}
 use Rattle.sre_patterns.specs.declared.encoding.Encoding as encoding_type
 use Rattle.sre_patterns.specs.declared.encoding.Encoding.TheVariants as encoding
@@ -43,9 +44,9 @@ HasBelow bound test ranges = (c : ℕ) → c < bound → test c ≡ true → in_
 abbrev pub HasJust : ℕ → (ℕ → Bool) → List (ℕ × ℕ) → Type 0
 HasJust bound test ranges = (c : ℕ) → in_ranges ranges c ≡ (nat_lt c bound && test c)
 
--- the pattern covers each test that is read at a place
-abbrev pub CoversTestAt : View → Table → List ℕ → ℕ → Re → Type 0
-CoversTestAt V table ws i re = (j : ℕ) (t : Test) → TestStands ws i j t → CoversTest V table re t
+-- each test that is read at a place has a property
+abbrev pub AtTest : List ℕ → ℕ → (Test → Type 0) → Type 0
+AtTest ws i P = (j : ℕ) (t : Test) → TestStands ws i j t → P t
 
 -- items may end there: at an end, or at a JUMP before it
 abbrev pub Stops : List ℕ → ℕ → ℕ → Type 0
@@ -64,19 +65,19 @@ pub record HasItem (ws : List ℕ) (i : ℕ) : Type 0 where
   pub item : Item
   pub reads : ReadsItem ws i end item
 
--- the pattern covers all items that are read from i on, which end at e
-abbrev pub CoversItemsAt : View → Table → List ℕ → ℕ → ℕ → Re → ℕ → Type 0
-CoversItemsAt V table ws i end re e =
-    (j : ℕ) (t : Tree) → Reads ws i j t → Stops ws j end → (e ≡ j) × Covers V table re t
+-- the items that are read from i on end at e, and have a property
+abbrev pub AtItems : List ℕ → ℕ → ℕ → ℕ → (Tree → Type 0) → Type 0
+AtItems ws i end e P = (j : ℕ) (t : Tree) → Reads ws i j t → Stops ws j end → (e ≡ j) × P t
 
--- the pattern covers the item that is read at i, which ends at e
-abbrev pub CoversItemAt : View → Table → List ℕ → ℕ → Re → ℕ → Type 0
-CoversItemAt V table ws i re e = (j : ℕ) (x : Item) → ReadsItem ws i j x → (e ≡ j) × CoversItem V table re x
+-- the item that is read at i ends at e, and has a property
+abbrev pub AtItem : List ℕ → ℕ → ℕ → (Item → Type 0) → Type 0
+AtItem ws i e P = (j : ℕ) (x : Item) → ReadsItem ws i j x → (e ≡ j) × P x
 
 -- an item of a certain form stands at i
-pub record HasRun (ws : List ℕ) (i : ℕ) : Type 0 where
+pub record HasRun (ws : List ℕ) (i : ℕ) (o : SreOpcode) : Type 0 where
   pub end : ℕ
   pub kind : RunKind
+  pub is : role o ≡ ToRun kind
   pub low : ℕ
   pub high : ℕ
   pub test : Test

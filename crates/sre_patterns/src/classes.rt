@@ -10,11 +10,14 @@ ghost use Rattle.sre_code.specs.Codes.{items_of, uni_of};
 ghost use Rattle.sre_shape.specs.Covers.{CoversTest};
 ghost use Rattle.sre_model.specs.Characters.{holds};
 ghost use Rattle.sre_chars.specs.Tables.{Table};
-ghost use Rattle.sre_patterns.specs.Patterns.{view_of, CoversTestAt, HasBelow, HasJust};
+ghost use Rattle.sre_patterns.specs.Patterns.{view_of, AtTest, HasBelow, HasJust};
+ghost use Rattle.sre_patterns.specs.Purposes.{ServesTest, HasFor};
 ghost use Rattle.sre_patterns.specs.Settling.{SettledFrom};
 
 use crate::encoding::Encoding;
+use crate::fault::Fault;
 use crate::settled::settled_from;
+use crate::task::{Purpose, Task};
 use crate::words::{operand, test_opcode};
 use regex_class::Class;
 use regex_hir::Hir;
@@ -24,31 +27,35 @@ use sre_reading::one_character::{takes, test_end};
 use sre_request::Request;
 use std::alloc::{AllocError, Global};
 
-/// The number of characters: one more than the greatest.
-pub(crate) const CHARACTERS: u32 = 0x11_0000;
+// Ranges of characters, each with its last one.
+type Ranges = Vec<(u32, u32)>;
+
+// The number of characters: one more than the greatest.
+const CHARACTERS: u32 = 0x11_0000;
 
 // Each character below takes at most two bytes in UTF-8. Each is tested where a table decides.
 const NEAR: u32 = 0x800;
 
-/// A pattern that covers the test at an address: the bytes of a literal, or a class.
-pub(crate) fn pattern_of(
-    alloc: Global,
-    code: &Code<'_>,
-    encoding: Encoding,
-    place: usize,
-) -> Result<Hir, AllocError>
-    requires { HasTest (items_of code.now) place }
-    ensures { IfOk result (λ h.
-        CoversTestAt (view_of encoding) (uni_of code.now) (items_of code.now) place (meaning h)) }
+// Up to which character each result of a test is computed to try match paths in order. Unicode's white space is below.
+const FAR: u32 = 0x4000;
+
+/// The pattern of the test at an address: the bytes of a literal, or a class. To try match paths in order, it is a
+/// class of exactly the characters that the test accepts, if these are known.
+pub(crate) fn pattern_of(task: &Task<'_>, place: usize) -> Result<Hir, Fault>
+    requires { HasTest (items_of task.now.code) place }
+    ensures { IfOk result (λ h. AtTest (items_of task.now.code) place (ServesTest task.now (meaning h))) }
 {
-    let opcode = test_opcode(code, place);
+    let opcode = test_opcode(&task.code, place);
     let SreOpcode::LITERAL = opcode else {
-        return class_of(alloc, code, encoding, place, opcode);
+        return class_of(task, place, opcode);
     };
-    let value = operand(code, place, 1);
-    match literal_of(alloc, encoding, value)? {
+    let Purpose::Cover { lazy: _ } = task.purpose else {
+        return class_of(task, place, opcode);
+    };
+    let value = operand(&task.code, place, 1);
+    match literal_of(task.alloc, task.encoding, value)? {
         Some(hir) => Ok(hir),
-        None => class_of(alloc, code, encoding, place, opcode),
+        None => class_of(task, place, opcode),
     }
 }
 
@@ -88,53 +95,64 @@ fn literal_character(alloc: Global, value: u32) -> Result<Option<Hir>, AllocErro
     Ok(Some(Hir::Literal(text.into_bytes())))
 }
 
-// A class that covers the test at an address.
-fn class_of(
-    alloc: Global,
-    code: &Code<'_>,
-    encoding: Encoding,
-    place: usize,
-    opcode: SreOpcode,
-) -> Result<Hir, AllocError>
-    requires code { Opcode (items_of code.now) place opcode }
-    requires stands { HasTest (items_of code.now) place }
-    ensures { IfOk result (λ h.
-        CoversTestAt (view_of encoding) (uni_of code.now) (items_of code.now) place (meaning h)) }
+// The class of the test at an address.
+fn class_of(task: &Task<'_>, place: usize, opcode: SreOpcode) -> Result<Hir, Fault>
+    requires code { Opcode (items_of task.now.code) place opcode }
+    requires stands { HasTest (items_of task.now.code) place }
+    ensures { IfOk result (λ h. AtTest (items_of task.now.code) place (ServesTest task.now (meaning h))) }
 {
-    match encoding {
+    match task.encoding {
         Encoding::Bytes => {
-            let ranges = taken_below(alloc, code, place, opcode, 256)?;
+            let ranges = taken_at(task, place, opcode, 256)?;
             Ok(Hir::Bytes(Class::new(ranges)?))
         }
         Encoding::Ascii => {
-            let ranges = taken_below(alloc, code, place, opcode, 128)?;
+            let ranges = taken_at(task, place, opcode, 128)?;
             Ok(Hir::Bytes(Class::new(ranges)?))
         }
         Encoding::Utf8 => {
-            let ranges = characters_of(alloc, code, place, opcode)?;
+            let ranges = ranges_of(task, place, opcode)?;
             Ok(Hir::Chars(Class::new(ranges)?))
         }
     }
 }
 
-// The characters that the test at an address accepts, as ranges. From `NEAR` on it may be all characters.
-fn characters_of(
-    alloc: Global,
-    code: &Code<'_>,
-    place: usize,
-    opcode: SreOpcode,
-) -> Result<Vec<(u32, u32)>, AllocError>
-    requires code { Opcode (items_of code.now) place opcode }
-    requires stands { HasTest (items_of code.now) place }
-    ensures { IfOk result (λ r. (j : ℕ) (t : Test) → TestStands (items_of code.now) place j t
-        → HasBelow 1114112 (holds (uni_of code.now) t) r.items) }
+// The characters that the test at an address accepts, as ranges. To try match paths in order they are exact, if the
+// test's results are constant from `FAR` on.
+fn ranges_of(task: &Task<'_>, place: usize, opcode: SreOpcode) -> Result<Ranges, Fault>
+    requires code { Opcode (items_of task.now.code) place opcode }
+    requires stands { HasTest (items_of task.now.code) place }
+    ensures { IfOk result (λ r. AtTest (items_of task.now.code) place
+        (λ t. HasFor task.now.purpose 1114112 (holds (uni_of task.now.code) t) r.items)) }
 {
-    if let Some(from) = settled_from(code, place, opcode) {
+    let Purpose::InOrder = task.purpose else {
+        return Ok(characters_of(task, place, opcode)?);
+    };
+    if opcode == SreOpcode::LITERAL {
+        return Ok(taken_at(task, place, opcode, CHARACTERS)?);
+    }
+    let Some(from) = settled_from(&task.code, place, opcode) else {
+        return Err(Fault::OutOfOrder);
+    };
+    if from > FAR {
+        return Err(Fault::OutOfOrder);
+    }
+    Ok(taken_and_on(task, place, opcode, from)?)
+}
+
+// The characters that the test at an address accepts, as ranges. From `NEAR` on it may be all characters.
+fn characters_of(task: &Task<'_>, place: usize, opcode: SreOpcode) -> Result<Ranges, AllocError>
+    requires code { Opcode (items_of task.now.code) place opcode }
+    requires stands { HasTest (items_of task.now.code) place }
+    ensures { IfOk result (λ r. AtTest (items_of task.now.code) place
+        (λ t. HasBelow 1114112 (holds (uni_of task.now.code) t) r.items)) }
+{
+    if let Some(from) = settled_from(&task.code, place, opcode) {
         if from <= NEAR {
-            return Ok(taken_and_on(alloc, code, place, opcode, from)?);
+            return Ok(taken_and_on(task, place, opcode, from)?);
         }
     }
-    let mut ranges = taken_below(alloc, code, place, opcode, NEAR)?;
+    let mut ranges = taken_below(task, place, opcode, NEAR)?;
     ranges.push((NEAR, CHARACTERS - 1))?;
     Ok(ranges)
 }
@@ -150,44 +168,64 @@ fn is_taken(code: &Code<'_>, place: usize, opcode: SreOpcode, character: u32) ->
     takes(&req, place, opcode, character)
 }
 
-/// The characters that the test at an address accepts. Its results are constant from the character `from` on.
-pub(crate) fn taken_and_on(
-    alloc: Global,
-    code: &Code<'_>,
+// The characters that the test at an address accepts. Its results are constant from the character `from` on.
+fn taken_and_on(
+    task: &Task<'_>,
     place: usize,
     opcode: SreOpcode,
     from: u32,
-) -> Result<Vec<(u32, u32)>, AllocError>
-    requires code { Opcode (items_of code.now) place opcode }
-    requires stands { HasTest (items_of code.now) place }
+) -> Result<Ranges, AllocError>
+    requires code { Opcode (items_of task.now.code) place opcode }
+    requires stands { HasTest (items_of task.now.code) place }
     requires inside { from < 1114112 }
-    requires settled { (j : ℕ) (t : Test) → TestStands (items_of code.now) place j t
-        → SettledFrom from (holds (uni_of code.now) t) }
-    ensures { IfOk result (λ r. (j : ℕ) (t : Test) → TestStands (items_of code.now) place j t
-        → HasJust 1114112 (holds (uni_of code.now) t) r.items) }
+    requires settled { AtTest (items_of task.now.code) place (λ t. SettledFrom from (holds (uni_of task.now.code) t)) }
+    ensures { IfOk result (λ r. AtTest (items_of task.now.code) place
+        (λ t. HasJust 1114112 (holds (uni_of task.now.code) t) r.items)) }
 {
-    let mut ranges = taken_below(alloc, code, place, opcode, from)?;
-    if is_taken(code, place, opcode, from) {
+    let mut ranges = taken_below(task, place, opcode, from)?;
+    if is_taken(&task.code, place, opcode, from) {
         ranges.push((from, CHARACTERS - 1))?;
     }
     Ok(ranges)
 }
 
-/// The numbers below a bound that the test at an address accepts, each as a range.
-pub(crate) fn taken_below(
-    alloc: Global,
-    code: &Code<'_>,
+// The numbers below a bound that the test at an address accepts, each as a range.
+fn taken_at(
+    task: &Task<'_>,
     place: usize,
     opcode: SreOpcode,
     bound: u32,
-) -> Result<Vec<(u32, u32)>, AllocError>
-    requires code { Opcode (items_of code.now) place opcode }
-    requires stands { HasTest (items_of code.now) place }
-    ensures { IfOk result (λ r. (j : ℕ) (t : Test) → TestStands (items_of code.now) place j t
-        → HasJust bound (holds (uni_of code.now) t) r.items) }
+) -> Result<Ranges, AllocError>
+    requires code { Opcode (items_of task.now.code) place opcode }
+    requires stands { HasTest (items_of task.now.code) place }
+    ensures { IfOk result (λ r. AtTest (items_of task.now.code) place
+        (λ t. HasJust bound (holds (uni_of task.now.code) t) r.items)) }
 {
-    let req = Request::new(b"".as_slice(), 0, 0, *code, false);
-    let mut ranges: Vec<(u32, u32)> = Vec::new(alloc);
+    let SreOpcode::LITERAL = opcode else {
+        return taken_below(task, place, opcode, bound);
+    };
+    let value = operand(&task.code, place, 1);
+    let mut ranges: Ranges = Vec::new(task.alloc);
+    if value < bound {
+        ranges.push((value, value))?;
+    }
+    Ok(ranges)
+}
+
+// The numbers below a bound that the test at an address accepts, each as a range. Each number is tested.
+fn taken_below(
+    task: &Task<'_>,
+    place: usize,
+    opcode: SreOpcode,
+    bound: u32,
+) -> Result<Ranges, AllocError>
+    requires code { Opcode (items_of task.now.code) place opcode }
+    requires stands { HasTest (items_of task.now.code) place }
+    ensures { IfOk result (λ r. AtTest (items_of task.now.code) place
+        (λ t. HasJust bound (holds (uni_of task.now.code) t) r.items)) }
+{
+    let req = Request::new(b"".as_slice(), 0, 0, task.code, false);
+    let mut ranges: Ranges = Vec::new(task.alloc);
     for character in 0..bound {
         if takes(&req, place, opcode, character) {
             ranges.push((character, character))?;

@@ -5,16 +5,23 @@ ghost use Rattle.regex_hir.specs.Re.{Re, cat, alt, empty, literal};
 ghost use Rattle.regex_hir.specs.Meaning.{meaning};
 ghost use Rattle.sre_shape.specs.Covers.{IsWider};
 ghost use Rattle.sre_patterns.specs.Patterns.{cat_onto};
+ghost use Rattle.sre_patterns.specs.Purposes.{Replaces};
 
+use crate::task::Purpose;
 use regex_hir::Hir;
 use std::alloc::{AllocError, Global};
 
-/// Appends a pattern to a sequence. An empty pattern is omitted, and adjacent literals are merged.
-pub(crate) fn add(parts: &mut Vec<Hir>, hir: Hir) -> Result<(), AllocError>
+/// Appends a pattern to a sequence. If the order of match paths does not matter, an empty pattern is omitted, and
+/// adjacent literals are merged.
+pub(crate) fn add(purpose: Purpose, parts: &mut Vec<Hir>, hir: Hir) -> Result<(), AllocError>
     ensures { OnOk result ((b : Re)
-        → IsWider (cat_onto (map meaning parts.old.items) (cat (meaning hir) b))
+        → Replaces purpose (cat_onto (map meaning parts.old.items) (cat (meaning hir) b))
         (cat_onto (map meaning parts.new.items) b)) }
 {
+    let Purpose::Cover { lazy: _ } = purpose else {
+        parts.push(hir)?;
+        return Ok(());
+    };
     match hir {
         Hir::Empty => Ok(()),
         Hir::Literal(bytes) => Ok(add_literal(parts, bytes)?),
@@ -50,9 +57,12 @@ fn add_literal(parts: &mut Vec<Hir>, bytes: Vec<u8>) -> Result<(), AllocError>
 }
 
 /// The concatenation of all parts.
-pub(crate) fn joined(mut parts: Vec<Hir>) -> Hir
-    ensures { IsWider (cat_onto (map meaning parts.items) empty) (meaning result) }
+pub(crate) fn joined(purpose: Purpose, mut parts: Vec<Hir>) -> Hir
+    ensures { Replaces purpose (cat_onto (map meaning parts.items) empty) (meaning result) }
 {
+    let Purpose::Cover { lazy: _ } = purpose else {
+        return Hir::Concat(parts);
+    };
     if parts.len() > 1 {
         return Hir::Concat(parts);
     }

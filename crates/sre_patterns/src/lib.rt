@@ -11,15 +11,14 @@
 mod classes;
 mod encoding;
 mod fault;
-mod in_order;
 mod joining;
 mod positions;
 mod repeats;
 mod settled;
+mod task;
 mod translate;
 mod words;
 
 pub use encoding::Encoding;
-pub use in_order::ways_of;
 pub use repeats::KEPT;
-pub use translate::{DEPTH, hir_of, starts_of};
+pub use translate::{DEPTH, hir_of, starts_of, ways_of};

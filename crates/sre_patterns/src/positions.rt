@@ -3,8 +3,10 @@
 ghost use Rattle.std.specs.Prelude.{◌≡◌};
 ghost use Rattle.sre_shape.specs.Looks as looks;
 ghost use Rattle.sre_patterns.specs.Patterns as patterns;
+ghost use Rattle.sre_patterns.specs.Purposes as purposes;
 
 use crate::encoding::Encoding;
+use crate::task::Purpose;
 use regex_hir::Look;
 use sre_chars::constants::SreAtCode;
 
@@ -22,8 +24,18 @@ pub(crate) fn position_in(code: SreAtCode, encoding: Encoding) -> SreAtCode
     }
 }
 
-/// An assertion that holds wherever the position does. `None` if a Unicode table decides what a word character is.
-pub(crate) fn look_of(code: SreAtCode) -> Option<Look>
+/// An assertion for the position: of a pattern that tries match paths in order, one that holds exactly there.
+pub(crate) fn look_for(purpose: Purpose, code: SreAtCode) -> Option<Look>
+    ensures { result ≡ purposes.look_for purpose code }
+{
+    match purpose {
+        Purpose::Cover { lazy: _ } => look_of(code),
+        Purpose::InOrder => exact_look(code),
+    }
+}
+
+// An assertion that holds wherever the position does. `None` if a Unicode table decides what a word character is.
+fn look_of(code: SreAtCode) -> Option<Look>
     ensures { result ≡ looks.look_of code }
 {
     match code {
@@ -37,9 +49,9 @@ pub(crate) fn look_of(code: SreAtCode) -> Option<Look>
     }
 }
 
-/// An assertion that holds exactly where the position does. `None` if there is none, or if a Unicode table decides what
-/// a word character is.
-pub(crate) fn exact_look(code: SreAtCode) -> Option<Look>
+// An assertion that holds exactly where the position does. `None` if there is none, or if a Unicode table decides what
+// a word character is.
+fn exact_look(code: SreAtCode) -> Option<Look>
     ensures { result ≡ looks.exact_look code }
 {
     match code {

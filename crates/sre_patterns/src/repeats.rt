@@ -1,42 +1,109 @@
 //! Repetitions, whose counts are exact up to a limit.
 
-ghost use Rattle.std.specs.Prelude.{◌≡◌, IfOk, true, None};
+ghost use Rattle.std.specs.Prelude.{◌≡◌, ◌≤◌, ◌+◌, ◌<◌, ◌^◌, IfOk, length, true, None};
+ghost use Rattle.regex_hir.specs.Matches.{IsMinLen};
 ghost use Rattle.regex_hir.specs.Meaning.{meaning, repeat};
+ghost use Rattle.sre_model.specs.Grammar.{Word};
+ghost use Rattle.sre_code.specs.Codes.{items_of};
+ghost use Rattle.sre_shape.specs.Exact.{AreKept};
 ghost use Rattle.sre_shape.specs.Repeated as repetitions;
+ghost use Rattle.sre_patterns.specs.Purposes.{WhenInOrder, RunsSo, LoopsSo};
 
+use crate::fault::Fault;
+use crate::task::{Purpose, Task, only_covers};
+use crate::words::{operand, word};
 use regex_hir::Hir;
+use sre_chars::constants::SreOpcode;
 use std::alloc::{AllocError, Global};
 
 /// The greatest count in a pattern. A greater minimum is lowered to it. If a count is greater, the maximum is dropped.
 pub const KEPT: u32 = 1000;
 
-/// Which iterations of a repetition are tried first.
+/// How often a repetition iterates.
 #[derive(Clone, Copy)]
-pub(crate) enum Order {
-    /// The same as in the bytecode.
-    AsWritten,
-    /// The fewest, which suffices to find starts.
-    Lazy,
+pub(crate) struct Counts {
+    pub(crate) low: u32,
+    pub(crate) high: u32,
 }
 
-/// Whether a repetition in a pattern is greedy, if the one in the bytecode is `as_written`.
-pub(crate) fn is_greedy(order: Order, as_written: bool) -> bool {
-    match order {
-        Order::AsWritten => as_written,
-        Order::Lazy => false,
+/// The counts of the repetition at an address. They must be within `KEPT` for a pattern that tries paths in order.
+pub(crate) fn counts_at(task: &Task<'_>, place: usize) -> Result<Counts, Fault>
+    requires { place + 3 < length (items_of task.now.code) }
+    ensures low { IfOk result (λ c. Word (items_of task.now.code) (place + 2) c.low) }
+    ensures high { IfOk result (λ c. Word (items_of task.now.code) (place + 3) c.high) }
+    ensures kept { IfOk result (λ c. WhenInOrder task.now.purpose (c.low ≤ c.high → AreKept KEPT c.low c.high)) }
+{
+    let low = operand(&task.code, place, 2);
+    let high = operand(&task.code, place, 3);
+    let Purpose::InOrder = task.purpose else {
+        return Ok(Counts { low, high });
+    };
+    if low > KEPT || (high > KEPT && high != u32::MAX) {
+        return Err(Fault::OutOfOrder);
     }
+    Ok(Counts { low, high })
+}
+
+/// Whether a pattern can iterate this one. To try match paths in order, each of its matches must read a byte.
+pub(crate) fn iterates(purpose: Purpose, hir: &Hir) -> bool
+    ensures { result ≡ true → WhenInOrder purpose (IsMinLen (meaning hir.now) 1) }
+{
+    match purpose {
+        Purpose::Cover { lazy: _ } => true,
+        Purpose::InOrder => hir.min_len() != 0,
+    }
+}
+
+// Whether a repetition in a pattern is greedy, if the one in the bytecode is `as_written`.
+fn is_greedy(purpose: Purpose, as_written: bool) -> bool
+    ensures { WhenInOrder purpose (result ≡ as_written) }
+{
+    match purpose {
+        Purpose::Cover { lazy } => as_written && !lazy,
+        Purpose::InOrder => as_written,
+    }
+}
+
+/// Whether the single-character repeat of an opcode is greedy in a pattern. No pattern tries a possessive one in order.
+pub(crate) fn greedy_run(purpose: Purpose, opcode: SreOpcode) -> Result<bool, Fault>
+    ensures { IfOk result (λ greedy. WhenInOrder purpose (RunsSo opcode greedy)) }
+{
+    match opcode {
+        SreOpcode::REPEAT_ONE => Ok(is_greedy(purpose, true)),
+        SreOpcode::MIN_REPEAT_ONE => Ok(is_greedy(purpose, false)),
+        _ => {
+            only_covers(purpose)?;
+            Ok(is_greedy(purpose, true))
+        }
+    }
+}
+
+/// Whether the loop whose body ends at the address `until` is greedy in a pattern. No pattern tries a possessive one in
+/// order.
+pub(crate) fn greedy_loop(task: &Task<'_>, until: usize) -> Result<bool, Fault>
+    requires { until < length (items_of task.now.code) }
+    ensures greedy { IfOk result (λ g. WhenInOrder task.now.purpose (LoopsSo (items_of task.now.code) until g)) }
+    ensures room { until + 2 ^ 33 < 2 ^ 64 }
+{
+    let end = word(&task.code, until);
+    if end == SreOpcode::SUCCESS as u32 {
+        only_covers(task.purpose)?;
+        return Ok(is_greedy(task.purpose, true));
+    }
+    Ok(is_greedy(task.purpose, end != SreOpcode::MIN_UNTIL as u32))
 }
 
 /// The repetition of a pattern, with counts limited by `KEPT`.
 pub(crate) fn repeated(
     alloc: Global,
-    low: u32,
-    high: u32,
+    counts: Counts,
     greedy: bool,
     sub: Hir,
 ) -> Result<Hir, AllocError>
-    ensures { IfOk result (λ h. meaning h ≡ repetitions.repeated KEPT low high greedy (meaning sub)) }
+    ensures { IfOk result (λ h.
+        meaning h ≡ repetitions.repeated KEPT counts.low counts.high greedy (meaning sub)) }
 {
+    let Counts { low, high } = counts;
     let max = if low > KEPT || high > KEPT {
         None
     } else {

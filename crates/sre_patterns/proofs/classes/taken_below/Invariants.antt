@@ -7,5 +7,5 @@ use Rattle.sre_patterns.specs.Patterns.{HasJust}
 use Rattle.sre_patterns.proofs.classes.taken_below.Given as goal
 
 abbrev pub invariant-loop-character : goal.invariant-loop-character
-invariant-loop-character l = (j : ℕ) (t : Test) → TestStands (items_of l.code) l.place j t
-    → HasJust l.character (holds (uni_of l.code) t) l.ranges.items
+invariant-loop-character l = (j : ℕ) (t : Test) → TestStands (items_of l.task.code) l.place j t
+    → HasJust l.character (holds (uni_of l.task.code) t) l.ranges.items

@@ -1,7 +1,7 @@
 use Rattle.std.proofs.Common.{◌+◌, ◌*◌, ◌-◌, length, map}
 use Rattle.regex_hir.specs.Meaning.{meaning}
-use Rattle.sre_code.specs.Codes.{items_of, uni_of}
-use Rattle.sre_patterns.specs.Patterns.{view_of}
+use Rattle.sre_code.specs.Codes.{items_of}
+use Rattle.sre_patterns.specs.Purposes.{Serves}
 use Rattle.sre_patterns.proofs.Branches.{BranchSoFar}
 use Rattle.sre_patterns.proofs.Sequences.{SoFar}
 use Rattle.sre_patterns.proofs.translate.+items.Given as goal
@@ -27,14 +27,14 @@ decreases-condition l = l.depth * 3 + 2
 
 abbrev pub invariant-sequence-each : goal.invariant-sequence-each
 invariant-sequence-each l =
-    SoFar (view_of l.encoding) (uni_of l.code) (items_of l.code) l.start l.end l.place (map meaning l.parts.items)
+    SoFar (Serves l.task) (items_of l.task.code) l.start l.end l.place (map meaning l.parts.items)
 
 abbrev pub decreases-sequence-each : goal.decreases-sequence-each
 decreases-sequence-each l = l.end - l.place
 
 abbrev pub decreases-branch-alternative : goal.decreases-branch-alternative
-decreases-branch-alternative l = length (items_of l.code) - l.at
+decreases-branch-alternative l = length (items_of l.task.code) - l.at
 
 abbrev pub invariant-branch-alternative : goal.invariant-branch-alternative
 invariant-branch-alternative l =
-    BranchSoFar (view_of l.encoding) (uni_of l.code) (items_of l.code) (l.place + 1) l.at (map meaning l.all.items)
+    BranchSoFar l.task (items_of l.task.code) (l.place + 1) l.at (map meaning l.all.items)

@@ -4,16 +4,16 @@ use Rattle.sre_model.specs.Characters.{holds}
 use Rattle.sre_code.specs.Codes.{items_of, uni_of}
 use Rattle.sre_patterns.specs.Patterns.{HasJust}
 use Rattle.sre_patterns.proofs.Tests.{plain-literal}
-use Rattle.sre_patterns.proofs.OrderedTests.{just-literal, just-no_literal}
-use Rattle.sre_patterns.proofs.in_order.taken_at.Goals.{then-value-bound+in_ok-push, else-value-bound}
-use Rattle.sre_patterns.proofs.in_order.taken_at.Goals as goal
+use Rattle.sre_patterns.proofs.ExactTests.{just-literal, just-no_literal}
+use Rattle.sre_patterns.proofs.classes.taken_at.Goals.{then-value-bound+in_ok-push, else-value-bound}
+use Rattle.sre_patterns.proofs.classes.taken_at.Goals as goal
 
 pub returns : goal.returns
 returns c j t s =
-    let ws = items_of c.args.code.now in
-    let table = uni_of c.args.code.now in
+    let ws = items_of c.args.task.now.code in
+    let table = uni_of c.args.task.now.code in
     let v = c.operand-value.result in
-    let code = subst (Opcode ws c.args.place) c.in-LITERAL.is c.test_opcode-opcode.ensures in
+    let code = subst (Opcode ws c.args.place) c.in-LITERAL.is c.requires.code in
     let is = plain-literal ws c.args.place j v t code c.operand-value.ensures.word s in
     subst (λ u. HasJust c.args.bound (holds table u) c.if-value-bound.ranges.items) (sym is)
     (elim c.if-value-bound.branch [

@@ -1,0 +1,10 @@
+use Rattle.std.proofs.Common.{arith}
+use Rattle.std.proofs.lemmas.Bool.Decides.{nat_tests}
+use Rattle.regex_hir.specs.Meaning.{meaning}
+use Rattle.regex_hir.proofs.MatchesLemmas.{IsMinLen-le}
+use Rattle.sre_patterns.proofs.repeats.iterates.Goals as goal
+
+pub returns-in-InOrder : goal.returns-in-InOrder
+returns-in-InOrder c some =
+    rw c.in-InOrder.is
+    (IsMinLen-le (meaning c.args.hir.now) 1 c.min_len.result (grind (arith, nat_tests)) c.min_len.ensures.bound)

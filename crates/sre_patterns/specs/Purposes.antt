@@ -1,0 +1,75 @@
+-- What a pattern does for a tree, by its purpose.
+use Rattle.std.specs.Prelude.{⊤, ℕ, ◌≡◌, Bool, List, Option}
+use Rattle.regex_hir.specs.Re.{Re}
+use Rattle.regex_hir.specs.declared.look.Look.{Look}
+use Rattle.sre_chars.specs.Tables.{Table}
+use Rattle.sre_chars.specs.declared.constants.SreAtCode.{SreAtCode}
+use Rattle.sre_chars.specs.declared.constants.SreOpcode.{SreOpcode}
+use Rattle.sre_chars.specs.declared.constants.SreOpcode.TheVariants as opcode
+use Rattle.sre_model.specs.Tree.{Tree, Item, Test, Order}
+use Rattle.sre_model.specs.Roles.{role, ToRun}
+use Rattle.sre_model.specs.Grammar.{Opcode, until_opcode}
+use Rattle.sre_code.specs.Codes.{uni_of}
+use Rattle.sre_shape.specs.Covers.{View, IsWider, Covers, CoversItem, CoversTest}
+use Rattle.sre_shape.specs.Exact.{ExactTree, ExactItem, ExactTest}
+use Rattle.sre_shape.specs.Looks.{look_of, exact_look}
+use Rattle.sre_shape.specs.Repeated.{is_greedy, kind_of}
+use Rattle.sre_patterns.specs.declared.task.Purpose.{Purpose}
+use Rattle.sre_patterns.specs.declared.task.Purpose.TheVariants as purpose
+use Rattle.sre_patterns.specs.declared.task.Task.{Task}
+use Rattle.sre_patterns.specs.Patterns.{view_of, HasBelow, HasJust}
+
+-- it tries the match paths in their order where that is the purpose, or else it covers them
+abbrev pub ServesFor : Purpose → View → Table → Re → Tree → Type 0
+ServesFor purpose.InOrder = ExactTree
+ServesFor u = Covers
+
+abbrev pub ServesItemFor : Purpose → View → Table → Re → Item → Type 0
+ServesItemFor purpose.InOrder = ExactItem
+ServesItemFor u = CoversItem
+
+abbrev pub ServesTestFor : Purpose → View → Table → Re → Test → Type 0
+ServesTestFor purpose.InOrder = ExactTest
+ServesTestFor u = CoversTest
+
+-- it does what a task asks for
+abbrev pub Serves : Task → Re → Tree → Type 0
+Serves s = ServesFor s.purpose (view_of s.encoding) (uni_of s.code)
+
+abbrev pub ServesItem : Task → Re → Item → Type 0
+ServesItem s = ServesItemFor s.purpose (view_of s.encoding) (uni_of s.code)
+
+abbrev pub ServesTest : Task → Re → Test → Type 0
+ServesTest s = ServesTestFor s.purpose (view_of s.encoding) (uni_of s.code)
+
+-- the ranges that a class needs: those of just the numbers that pass, or of more
+abbrev pub HasFor : Purpose → ℕ → (ℕ → Bool) → List (ℕ × ℕ) → Type 0
+HasFor purpose.InOrder = HasJust
+HasFor u = HasBelow
+
+-- whatever the first pattern serves, the second one does too
+abbrev pub Replaces : Purpose → Re → Re → Type 0
+Replaces purpose.InOrder a b = a ≡ b
+Replaces u a b = IsWider a b
+
+-- the assertion for a position
+abbrev pub look_for : Purpose → SreAtCode → Option Look
+look_for purpose.InOrder a = exact_look a
+look_for u a = look_of a
+
+-- what is known where match paths are tried in order
+abbrev pub WhenInOrder : Purpose → Type 0 → Type 0
+WhenInOrder purpose.InOrder P = P
+WhenInOrder u P = ⊤
+
+abbrev pub OnlyCovers : Purpose → Type 0
+OnlyCovers u = WhenInOrder u ⊥
+
+-- the runs of an opcode are not possessive, and so greedy
+abbrev pub RunsSo : SreOpcode → Bool → Type 0
+RunsSo o greedy = (order : Order) × (role o ≡ ToRun (kind_of order)) × (is_greedy order ≡ greedy)
+
+-- the loop that ends at an address is not possessive, and so greedy
+pub record LoopsSo (ws : List ℕ) (until : ℕ) (greedy : Bool) : Type 0 where
+  pub order : (o : Order) → Opcode ws until (until_opcode o) → is_greedy o ≡ greedy
+  pub reenters : Opcode ws until opcode.SUCCESS → ⊥
