@@ -16,8 +16,7 @@ use Rattle.sre_engine.specs.Iterators.{request_of, shown_of, left_of, most_items
 use Rattle.sre_engine.specs.declared.engine.search_iter.SearchIter.{SearchIter}
 use Rattle.sre_recipes.specs.declared.bounds.Bounds.{Bounds}
 use Rattle.sre_recipes.specs.Bounded.{first_of, AreLeft}
-use Rattle.sre_recipes.proofs.Steps.{walk_step}
-use Rattle.sre_recipes.specs.Limits.{is_spent, one_less, Goes, Takes, Stops, SpendsOn}
+use Rattle.sre_recipes.specs.Limits.{is_spent, one_less, Goes, Takes, SpendsOn}
 
 -- where no step is taken, all are left
 pub left_all : (steps : Option ℕ) → AreLeft steps steps
@@ -121,20 +120,3 @@ takes_one it next before between after wanted goes most used steps = record {
   going = used ∙ goes.going;
   spends = subst (SpendsOn it next before.steps) (sym steps) goes.spends;
 }
-
--- a match comes off what is wanted of a walk whose words are still those that were asked for
-pub taken_step : {S A : Type 0} {text : Ghosts S} (it next : SearchIter S A text) (before after : Bounds)
-    (words : List ℕ) (t : Tree)
-    → Gives it next → Takes it next before after → words_of (code_of (request_of it)) ≡ words → Whole words t
-    → first_of before.most (left_of it t) ≡ match_shown (shown_of next) ∷ first_of after.most (left_of next t)
-taken_step it next before after words t gives takes same whole =
-    ap (first_of before.most) (walk_step it next words t gives same whole)
-    ∙ one_taken before.most (match_shown (shown_of next)) (left_of next t) takes.wanted
-    ∙ ap (λ (n : Option ℕ). match_shown (shown_of next) ∷ first_of n (left_of next t)) (sym takes.most)
-
--- and none is left
-pub stopped : {S A : Type 0} {text : Ghosts S} (it : SearchIter S A text) (before after : Bounds) (words : List ℕ)
-    (t : Tree)
-    → Stops it before after → after.limit_exceeded ≡ false → words_of (code_of (request_of it)) ≡ words → Whole words t
-    → first_of before.most (left_of it t) ≡ []
-stopped it before after words t stops going same whole = stops.none going t (subst (λ ws. Whole ws t) (sym same) whole)

@@ -128,38 +128,44 @@ followed_more : {A : Type 0} (a : Asked) (code : Code) (m : Match) (most steps b
     → is_spent most ≡ false → m.end ≤ a.end → most_matches (asked_after a m) < most_matches a
     → ((t : Tree) → Whole (words_of code) t → walk a t ≡ m ∷ walk (asked_after a m) t)
     → Spends A a code (m.start + 1) m.end (Some true) steps between
-    → Followed A (asked_after a m) code (one_less most) between after → Followed A a code most steps after
-followed_more a code m most steps between after wanted inside falls step spends rest = record {
-  taken = m ∷ rest.taken;
-  first = λ t whole.
-      let told = rest.first t whole in (
-        told.0,
-        ap (first_of most) (step t whole)
-            ∙ one_taken most m (walk (asked_after a m) t) wanted
-            ∙ ap (λ (ms : List Match). m ∷ ms) told.1,
-        told.2,
-      );
-  fewer = rest.fewer ∙ less_more most (length rest.taken);
-  spent = (between, spends, rest.spent);
-  enough = λ ample exceeded.
-      elim (ample_after _ a code m (m.start + 1) m.end most steps between wanted inside falls spends ample) [
-        | inl refused ↦ refused
-        | inr left ↦ rest.enough left exceeded
-      ];
-}
+    → (rest : Followed A (asked_after a m) code (one_less most) between after)
+    → (all : Followed A a code most steps after) × (all.taken ≡ m ∷ rest.taken)
+followed_more {A} a code m most steps between after wanted inside falls step spends rest =
+    let all : Followed A a code most steps after = record {
+      taken = m ∷ rest.taken;
+      first = λ t whole.
+          let told = rest.first t whole in (
+            told.0,
+            ap (first_of most) (step t whole)
+                ∙ one_taken most m (walk (asked_after a m) t) wanted
+                ∙ ap (λ (ms : List Match). m ∷ ms) told.1,
+            told.2,
+          );
+      fewer = rest.fewer ∙ less_more most (length rest.taken);
+      spent = (between, spends, rest.spent);
+      enough = λ ample exceeded.
+          elim (ample_after _ a code m (m.start + 1) m.end most steps between wanted inside falls spends ample) [
+            | inl refused ↦ refused
+            | inr left ↦ rest.enough left exceeded
+          ];
+    } in (all, refl)
 
 -- so a walk that goes on behind a match has been followed from before it
 pub follow_on : {S A : Type 0} {text : Ghosts S} (it next : SearchIter S A text) (before between after : Bounds)
-    → Gives it next → Takes it next before between → FollowedRest next between after → FollowedRest it before after
+    → Gives it next → Takes it next before between → (rest : FollowedRest next between after)
+    → (all : FollowedRest it before after) × (all.taken ≡ match_shown (shown_of next) ∷ rest.taken)
 follow_on {A = A} it next before between after gives takes rest =
     let a = asked_of (request_of it) in
     let code = code_of (request_of it) in
     let m = match_shown (shown_of next) in
-    let here : Followed A (asked_after a m) code (one_less before.most) between.steps after =
-    subst (λ (n : Option ℕ). Followed A (asked_after a m) code n between.steps after) takes.most
-    (subst (λ (b : Asked). Followed A b code between.most between.steps after) gives.request.asked
-    (subst (λ (d : Code). Followed A (asked_of (request_of next)) d between.most between.steps after)
-    gives.request.pattern_codes rest)) in
+    let Here = λ (b : Asked) (d : Code) (n : Option ℕ).
+    (r : Followed A b d n between.steps after) × (r.taken ≡ rest.taken) in
+    let here : Here (asked_after a m) code (one_less before.most) =
+    subst (Here (asked_after a m) code) takes.most
+    (subst (λ (b : Asked). Here b code between.most) gives.request.asked
+    (subst (λ (d : Code). Here (asked_of (request_of next)) d between.most) gives.request.pattern_codes
+    (rest, refl))) in
+    let all =
     followed_more a code m before.most before.steps between.steps after takes.wanted gives.request.span.inside
     (falls_by it next gives)
     (λ t whole.
@@ -167,22 +173,23 @@ follow_on {A = A} it next before between after gives takes rest =
     ∙ gives.first t whole
     ∙ ap (λ (ms : List Match). m ∷ ms)
     (all_left next t gives.after ∙ ap (λ (b : Asked). walk b t) gives.request.asked))
-    takes.spends here
+    takes.spends here.0 in (all.0, all.1 ∙ ap (λ (ms : List Match). m ∷ ms) here.1)
 
 -- and a walk that stops is followed to its end
 pub follow_end : {S A : Type 0} {text : Ghosts S} (it : SearchIter S A text) (before after : Bounds)
-    → Stops it before after → has_ended it ≡ false → FollowedRest it before after
-follow_end {A = A} it before after stops begun = record {
-  taken = [];
-  first = λ t whole. (
-    first_of before.most (walk (asked_of (request_of it)) t),
-    refl,
-    λ going. ap (first_of before.most) (sym (all_left it t begun)) ∙ stops.none going t whole,
-  );
-  fewer = stops.most ∙ sym (less_none before.most);
-  spent = stops.spends begun;
-  enough = λ ample exceeded.
-      let spends = rw exceeded at stops.spends begun in
-      last_ample _ (asked_of (request_of it)) (code_of (request_of it)) before.most before.steps after.steps
-      (stops.wanted exceeded) spends ample;
-}
+    → Stops it before after → has_ended it ≡ false → (all : FollowedRest it before after) × (all.taken ≡ [])
+follow_end {A = A} it before after stops begun =
+    let all : FollowedRest it before after = record {
+      taken = [];
+      first = λ t whole. (
+        first_of before.most (walk (asked_of (request_of it)) t),
+        refl,
+        λ going. ap (first_of before.most) (sym (all_left it t begun)) ∙ stops.none going t whole,
+      );
+      fewer = stops.most ∙ sym (less_none before.most);
+      spent = stops.spends begun;
+      enough = λ ample exceeded.
+          let spends = rw exceeded at stops.spends begun in
+          last_ample _ (asked_of (request_of it)) (code_of (request_of it)) before.most before.steps after.steps
+          (stops.wanted exceeded) spends ample;
+    } in (all, refl)

@@ -19,9 +19,10 @@ use Rattle.sre_finder.specs.declared.span_iter.Span.{Span}
 use Rattle.sre_finder.specs.declared.span_iter.SpanIter.{SpanIter}
 use Rattle.sre_finder.specs.SpanIters.{request_of, shown_of, has_ended, left_of, last_asked, GivesSpan}
 use Rattle.sre_finder.specs.Spans.{match_with}
-use Rattle.sre_recipes.specs.Nexts.{ShowsNext}
+use Rattle.sre_recipes.specs.Nexts.{FindsNext}
 use Rattle.sre_recipes.specs.Patterns.{rest_of}
-use Rattle.sre_recipes.specs.Spans.{StandsAt}
+use Rattle.sre_recipes.specs.Spans.{IsSpan, StandsAt}
+use Rattle.sre_recipes.proofs.Steps.{is_found, is_shown}
 
 -- what stays in an iteration over a text
 pub record Stays {S A : Type 0} {text : Ghosts S} (it : SpanIter S A text) (whole : S) (code : Code) (stop : ℕ)
@@ -31,22 +32,14 @@ pub record Stays {S A : Type 0} {text : Ghosts S} (it : SpanIter S A text) (whol
   pub end : end_of (request_of it) ≡ stop
   pub begun : has_ended it ≡ false
 
-pub stays_on : {S A : Type 0} {text : Ghosts S} (it next : SpanIter S A text) (span : Span) (whole : S) (code : Code)
-    (stop : ℕ) → GivesSpan it span next → Stays it whole code stop → Stays next whole code stop
-stays_on it next span whole code stop gives stays = record {
-  string = gives.request.string ∙ stays.string;
-  own = gives.request.pattern_codes ∙ stays.own;
-  end = ap (λ (a : Asked). a.end) gives.request.asked ∙ stays.end;
-  begun = gives.after;
-}
-
-pub stays_shown : {S A : Type 0} {text : Ghosts S} (it next : SpanIter S A text) (whole : S) (code : Code) (stop : ℕ)
-    → ShowsNext it next → Stays it whole code stop → Stays next whole code stop
-stays_shown it next whole code stop shows stays = record {
-  string = shows.string ∙ stays.string;
-  own = shows.code ∙ stays.own;
-  end = shows.end ∙ stays.end;
-  begun = shows.after;
+pub stays_on : {S A : Type 0} {text : Ghosts S} (captures : Bool) (it : SpanIter S A text) (start end : StringCursor)
+    (next : SpanIter S A text) (whole : S) (code : Code) (stop : ℕ)
+    → FindsNext captures it start end next → Stays it whole code stop → Stays next whole code stop
+stays_on captures it start end next whole code stop finds stays = record {
+  string = finds.string ∙ stays.string;
+  own = finds.code ∙ stays.own;
+  end = finds.ends ∙ stays.end;
+  begun = finds.after;
 }
 
 -- a cursor stands where a span's text begins, and the span lies behind it
@@ -56,39 +49,49 @@ pub record Behind (stands : StringCursor → ℕ → Type 0) (count : ℕ) (curs
   pub forward : span.start ≤ span.end
   pub inside : span.end ≤ count
 
-pub is_behind : {S A : Type 0} {text : Ghosts S} (it next : SpanIter S A text) (span : Span) (whole : S) (code : Code)
-    (stop : ℕ) (cursor : StringCursor)
-    → GivesSpan it span next → Stays it whole code stop
-    → StandsAt (text.stands whole) cursor (start_of (request_of it))
+pub is_behind : {S A : Type 0} {text : Ghosts S} (it next : SpanIter S A text) (span : Span) (whole : S)
+    (cursor : StringCursor)
+    → GivesSpan it span next → whole ≡ string_of (request_of it)
+    → StandsAt (text.stands (string_of (request_of it))) cursor (start_of (request_of it))
     → Behind (text.stands whole) (length (text.text whole)) cursor span
-is_behind {text = text} it next span whole code stop cursor gives stays at =
+is_behind {text = text} it next span whole cursor gives same at =
     let r = request_of it in
     let window : end_of r ≤ length (text.text whole) =
-    subst (λ s. end_of r ≤ length (text.text s)) stays.string r.in_window.0.1 in
+    subst (λ s. end_of r ≤ length (text.text s)) (sym same) r.in_window.0.1 in
     record {
-      at = at.there;
+      at = subst (λ s. text.stands s cursor cursor.position) (sym same) at.there;
       behind = omega (arith, at.at, gives.request.from);
       forward = gives.request.forward;
       inside = omega (arith, gives.request.inside, window);
     }
 
--- a cursor at a match's end stands where the walk goes on
-pub behind_span : {S A : Type 0} {text : Ghosts S} (it next : SpanIter S A text) (span : Span) (whole : S)
-    (cursor : StringCursor)
-    → GivesSpan it span next → text.stands whole cursor cursor.position → cursor.position ≡ span.end
-    → StandsAt (text.stands whole) cursor (start_of (request_of next))
-behind_span it next span whole cursor gives there at = record {
-  there = there;
-  at = at ∙ sym (ap (λ (a : Asked). a.start) gives.request.asked);
+-- a match is found between two cursors behind it
+pub finds_behind : {S A : Type 0} {text : Ghosts S} (it next : SpanIter S A text) (span : Span) (whole : S)
+    (start end : StringCursor)
+    → GivesSpan it span next → whole ≡ string_of (request_of it)
+    → StandsAt (text.stands whole) start span.start → StandsAt (text.stands whole) end span.end
+    → FindsNext false it start end next
+finds_behind {text = text} it next span whole start end gives same from to = record {
+  after = gives.after;
+  first = λ t tree.
+      let first = gives.first t tree in (
+        match_with span.start span.end first.0,
+        record { starts = sym from.at; ends = sym to.at; shown = λ e. absurd (cc) },
+        first.1,
+      );
+  found = record {
+    from = subst (λ s. text.stands s start start.position) same from.there;
+    to = subst (λ s. text.stands s end end.position) same to.there;
+    forward = omega (arith, from.at, to.at, gives.request.forward);
+    shown = λ e. absurd (cc);
+  };
+  from = omega (arith, from.at, gives.request.from);
+  starts = ap (λ (a : Asked). a.start) gives.request.asked ∙ sym to.at;
+  inside = omega (arith, to.at, gives.request.inside);
+  ends = ap (λ (a : Asked). a.end) gives.request.asked;
+  string = gives.request.string;
+  code = gives.request.pattern_codes;
 }
-
--- a match comes off a walk whose code is still the one that was asked for
-pub span_step : {S A : Type 0} {text : Ghosts S} (it next : SpanIter S A text) (span : Span) (code : Code) (t : Tree)
-    → GivesSpan it span next → code_of (request_of it) ≡ code → Whole (words_of code) t
-    → (m : Match) × (m.start ≡ span.start) × (m.end ≡ span.end) × (left_of it t ≡ m ∷ left_of next t)
-span_step it next span code t gives same whole =
-    let first = gives.first t (subst (λ (d : Code). Whole (words_of d) t) (sym same) whole) in
-    (match_with span.start span.end first.0, refl, refl, first.1)
 
 -- an iteration that has just begun has all matches of its range left
 all_left : {S A : Type 0} {text : Ghosts S} (it : SpanIter S A text) (t : Tree) → has_ended it ≡ false
@@ -137,28 +140,28 @@ module _ {S A : Type 0} {text : Ghosts S} (it mid next : SpanIter S A text) (spa
   never_false none =
       let one = given tree.0 tree.1 in never_none b (shown_of next) one.0 none one.4
 
-  pub shows_next : b ≡ true
-      → (b ≡ true → stands_in (request_of mid) (shown_of next).cursor (shown_of next).cursor.position)
-      → ShowsNext it next
-  shows_next some stands =
+  pub finds_shown : b ≡ true → (start end : StringCursor)
+      → IsSpan (text.stands (string_of (request_of it))) (shown_of next) start end → FindsNext true it start end next
+  finds_shown some start end shown =
       let one = given tree.0 tree.1 in
       let is : match_shown (shown_of next) ≡ one.0 = answered b (shown_of next) one.0 some one.4 in
-      let start : (shown_of next).start ≡ span.start = ap (λ (m : Match). m.start) is ∙ one.1 in
-      let end : (shown_of next).cursor.position ≡ span.end = ap (λ (m : Match). m.end) is ∙ one.2 in
+      let starts : start.position ≡ span.start = shown.begins ∙ ap (λ (m : Match). m.start) is ∙ one.1 in
+      let ends : end.position ≡ span.end = shown.ends ∙ ap (λ (m : Match). m.end) is ∙ one.2 in
+      let stands = text.stands (string_of (request_of it)) in
       record {
         after = ended ∙ gives.after;
         first = λ t whole.
-            let mine = given t whole in
-            mine.3
-            ∙ ap (λ (m : Match). m ∷ left_of next t) (sym (answered b (shown_of next) mine.0 some mine.4));
-        stands =
-            subst (λ (s : S). text.stands s (shown_of next).cursor (shown_of next).cursor.position)
-            gives.request.string (stands some);
-        from = omega (arith, start, gives.request.from);
-        forward = omega (arith, start, end, gives.request.forward);
-        start =
-            ap start_of request ∙ ap (λ (a : Asked). a.start) gives.request.asked ∙ sym end;
-        end = ap end_of request ∙ ap (λ (a : Asked). a.end) gives.request.asked;
+            let mine = given t whole in (
+              match_shown (shown_of next),
+              is_shown true stands (shown_of next) start end shown,
+              mine.3
+                  ∙ ap (λ (m : Match). m ∷ left_of next t) (sym (answered b (shown_of next) mine.0 some mine.4)),
+            );
+        found = is_found true stands (shown_of next) start end shown;
+        from = omega (arith, starts, gives.request.from);
+        starts = ap start_of request ∙ ap (λ (a : Asked). a.start) gives.request.asked ∙ sym ends;
+        inside = omega (arith, ends, gives.request.inside);
+        ends = ap end_of request ∙ ap (λ (a : Asked). a.end) gives.request.asked;
         string = ap string_of request ∙ gives.request.string;
         code = ap code_of request ∙ gives.request.pattern_codes;
       }

@@ -1,6 +1,5 @@
 -- What a step over a match leaves to come, and where it is.
-use Rattle.std.proofs.Common.{◌≡◌, ◌≤◌, ℕ, List, ◌∷◌, ap, sym, ◌∙◌, subst}
-use Rattle.std.specs.List.{slice_range}
+use Rattle.std.proofs.Common.{◌≡◌, ◌≤◌, ℕ, List, ◌∷◌, length, Bool, refl, ap, sym, ◌∙◌, subst, arith}
 use Rattle.sre_chars.specs.declared.string.StrDrive.{Ghosts}
 use Rattle.sre_chars.specs.declared.string.StringCursor.{StringCursor}
 use Rattle.sre_engine.specs.Tree.{Tree}
@@ -11,8 +10,7 @@ use Rattle.sre_engine.specs.Requests.{string_of, start_of, end_of, code_of}
 use Rattle.sre_engine.specs.Answers.{Shown, match_shown}
 use Rattle.sre_engine.specs.Iterators.{request_of, shown_of, left_of, Gives}
 use Rattle.sre_engine.specs.declared.engine.search_iter.SearchIter.{SearchIter}
-use Rattle.sre_recipes.specs.Slices.{slice_of}
-use Rattle.sre_recipes.specs.Spans.{IsSpan, StandsAt}
+use Rattle.sre_recipes.specs.Spans.{IsSpan, StandsAt, IsFound, Shows}
 
 -- what is asked behind a match starts at its end, in the same window
 pub next_start : {S A : Type 0} {text : Ghosts S} {it next : SearchIter S A text} → Gives it next
@@ -37,6 +35,15 @@ pub record Kept {S A : Type 0} {text : Ghosts S} (it : SearchIter S A text) (who
   pub end : end_of (request_of it) ≡ stop
   pub inside : start_of (request_of it) ≤ stop
 
+pub kept_first : {S A : Type 0} {text : Ghosts S} (it : SearchIter S A text) (r : _)
+    → request_of it ≡ r → Kept it (string_of r) (words_of (code_of r)) (end_of r)
+kept_first {S} {A} {text} it r same = record {
+  string = ap string_of same;
+  words = ap (λ q. words_of (code_of q)) same;
+  end = ap end_of same;
+  inside = subst (λ q. start_of q ≤ end_of r) (sym same) r.in_window.0.0;
+}
+
 pub kept_on : {S A : Type 0} {text : Ghosts S} (it next : SearchIter S A text) (whole : S) (code : List ℕ) (stop : ℕ)
     → Gives it next → Kept it whole code stop → Kept next whole code stop
 kept_on it next whole code stop gives kept =
@@ -48,18 +55,29 @@ kept_on it next whole code stop gives kept =
       inside = rw (next_start gives) inside;
     }
 
--- the text from a match's start to its end
-pub span_slice : (stands : StringCursor → ℕ → Type 0) (text : List ℕ) (s : Shown) (start end : StringCursor)
-    → IsSpan stands s start end → slice_range text start.position end.position ≡ slice_of text (match_shown s)
-span_slice stands text s start end span =
-    ap (λ p. slice_range text p end.position) span.begins ∙ ap (slice_range text s.start) span.ends
+-- a cursor stands at a position as its text says
+pub stands_there : {S : Type 0} (text : Ghosts S)
+    → ((s : S) (c : StringCursor) (p : ℕ) → text.stands s c p → (c.position ≡ p) × (p ≤ length (text.text s)))
+    → (s : S) (c : StringCursor) (p : ℕ) → text.stands s c p → StandsAt (text.stands s) c p
+stands_there text at s c p there = record {
+  there = subst (λ q. text.stands s c q) (sym (at s c p there).0) there;
+  at = (at s c p there).0;
+}
 
--- at a match's end the walk goes on
-pub walk_on : {S A : Type 0} {text : Ghosts S} (it next : SearchIter S A text)
-    (whole : S) (last start end : StringCursor) → string_of (request_of it) ≡ whole → Gives it next
-    → IsSpan (text.stands (string_of (request_of it))) (shown_of next) start end → last ≡ end
-    → StandsAt (text.stands whole) last (start_of (request_of next))
-walk_on {S} {A} {text} it next whole last start end same gives span is = record {
-  there = rw is (subst (λ (x : S). text.stands x end end.position) same span.to);
-  at = ap (λ (c : StringCursor). c.position) is ∙ span.ends ∙ sym (next_start gives);
+-- the match that an iteration comes to is found between the cursors of its span, with its captures or without
+pub is_found : (captures : Bool) (stands : StringCursor → ℕ → Type 0) (s : Shown) (start end : StringCursor)
+    → IsSpan stands s start end → IsFound stands captures s start end
+is_found captures stands s start end span = record {
+  from = span.from;
+  to = span.to;
+  forward = omega (arith, span.begins, span.ends, span.forward);
+  shown = λ _. span;
+}
+
+pub is_shown : (captures : Bool) (stands : StringCursor → ℕ → Type 0) (s : Shown) (start end : StringCursor)
+    → IsSpan stands s start end → Shows captures s start end (match_shown s)
+is_shown captures stands s start end span = record {
+  starts = sym span.begins;
+  ends = sym span.ends;
+  shown = λ _. refl;
 }

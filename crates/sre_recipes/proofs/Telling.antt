@@ -1,12 +1,15 @@
 -- What a call within bounds tells of what its iteration took of them.
-use Rattle.std.proofs.Common.{◌≡◌, ◌+◌, ℕ, List, [], ◌∷◌, Bool, true, false, cond, Option, Some, None, IfSome}
-use Rattle.std.proofs.Common.{IsSome, is_none, Result, Ok, Err, IfOk, inl, inr, refl, sym, ap, ◌∙◌, subst}
+use Rattle.std.proofs.Common.{◌≡◌, ◌+◌, ℕ, List, [], ◌∷◌, ◌++◌, Bool, true, false, not, Option, Some, None, inl, inr}
+use Rattle.std.proofs.Common.{refl, sym, ap, ◌∙◌, subst}
+use Rattle.std.proofs.lemmas.List.{append-nil}
 use Rattle.sre_code.specs.declared.code.Code.{Code}
 use Rattle.sre_code.proofs.Checked.{code_tree}
 use Rattle.sre_engine.specs.Codes.{words_of, hints_of}
-use Rattle.sre_engine.specs.Found.{Asked, Match, asked_after}
+use Rattle.sre_engine.specs.Found.{Asked, Match, asked_after, walk}
+use Rattle.sre_engine.specs.Grammar.{Whole}
+use Rattle.sre_engine.specs.Tree.{Tree}
 use Rattle.sre_recipes.specs.declared.bounds.Bounds.{Bounds}
-use Rattle.sre_recipes.specs.Bounded.{AreLeft, Outlast}
+use Rattle.sre_recipes.specs.Bounded.{first_of, AreLeft, Outlast}
 use Rattle.sre_recipes.specs.Followed.{Spends, AllSpend, Followed}
 use Rattle.sre_recipes.proofs.Bounding.{left_all, left_on}
 use Rattle.sre_recipes.proofs.Outlasting.{never_exceeded}
@@ -36,14 +39,24 @@ all_used M a code [] (Some given) None spends = absurd spends
 all_used M a code [] (Some given) (Some left) spends = ap Some (spends.keeps.used refl)
 all_used M a code (m ∷ ms) given left spends = all_used M (asked_after a m) code ms spends.0 left spends.2
 
--- what a call tells of its bounds: nothing if the step limit was exceeded
-pub record Tells {X : Type 0} (a : Asked) (code : Code) (steps : Option ℕ) (after : Bounds) (told : Option X) : Type 0
-  where
-    pub used : told ≡ None → after.steps ≡ Some 0
-    pub left : AreLeft steps after.steps
-    pub lasts : Outlast a code steps → IsSome told
-    pub unlimited : steps ≡ None → IsSome told
-    pub exceeded : after.limit_exceeded ≡ is_none told
+-- what is told of bounds: whether all was gathered, as it is unless the step limit was exceeded
+pub record Tells (a : Asked) (code : Code) (steps : Option ℕ) (after : Bounds) (complete : Bool) : Type 0 where
+  pub used : complete ≡ false → after.steps ≡ Some 0
+  pub left : AreLeft steps after.steps
+  pub lasts : Outlast a code steps → complete ≡ true
+  pub unlimited : steps ≡ None → complete ≡ true
+
+exceeds_unless : (b : Bool) → not b ≡ false → b ≡ true
+exceeds_unless true e = refl
+exceeds_unless false e = absurd (cc)
+
+goes_if : (b : Bool) → not b ≡ true → b ≡ false
+goes_if true e = absurd (cc)
+goes_if false e = refl
+
+pub twice_not : (b : Bool) → b ≡ not (not b)
+twice_not true = refl
+twice_not false = refl
 
 module _ {M : Type 0} {a : Asked} {code : Code} {most steps : Option ℕ} {after : Bounds}
     (followed : Followed M a code most steps after) where
@@ -61,43 +74,20 @@ module _ {M : Type 0} {a : Asked} {code : Code} {most steps : Option ℕ} {after
           absurd
           (never_exceeded M a code tree.0 most followed.taken first.0 steps after.steps first.1 (exceeds e) lasts)
 
-  pub unlimited : steps ≡ None → after.limit_exceeded ≡ false
-  unlimited none = within (subst (Outlast a code) (sym none) tt)
-
-  pub tells : {X : Type 0} (x : X) {told : Option X} → told ≡ cond after.limit_exceeded None (Some x)
-      → Tells a code steps after told
-  tells {X} x {told} is = record {
-    used = λ none.
-        all_used M a code followed.taken steps after.steps (exceeds (exceeded ∙ ap is_none none));
+  pub tells : Tells a code steps after (not after.limit_exceeded)
+  tells = record {
+    used = λ e. all_used M a code followed.taken steps after.steps (exceeds (exceeds_unless after.limit_exceeded e));
     left = all_left M a code followed.taken after.limit_exceeded steps after.steps followed.spent;
-    lasts = λ lasts. some (within lasts);
-    unlimited = λ none. some (unlimited none);
-    exceeded = exceeded;
+    lasts = λ lasts. ap not (within lasts);
+    unlimited = λ none. ap not (within (subst (Outlast a code) (sym none) tt));
   }
-    where
-      at : (b : Bool) → after.limit_exceeded ≡ b → told ≡ cond b None (Some x)
-      at b e = is ∙ ap (λ (c : Bool). cond c None (Some x)) e
 
-      some : after.limit_exceeded ≡ false → IsSome told
-      some e = subst IsSome (sym (at false e)) refl
-
-      by_test : (b : Bool) → after.limit_exceeded ≡ b → after.limit_exceeded ≡ is_none told
-      by_test true e = e ∙ sym (ap is_none (at true e))
-      by_test false e = e ∙ sym (ap is_none (at false e))
-
-      exceeded : after.limit_exceeded ≡ is_none told
-      exceeded = by_test after.limit_exceeded refl
-
--- and what it returns is what was made where the step limit was not exceeded
-pub told_if : {X : Type 0} (exceeded : Bool) (x : X) (told : Option X) (P : X → Type 0)
-    → told ≡ cond exceeded None (Some x) → (exceeded ≡ false → P x) → IfSome told P
-told_if true x told P is made = subst (λ (o : Option _). IfSome o P) (sym is) tt
-told_if false x told P is made = subst (λ (o : Option _). IfSome o P) (sym is) (made refl)
-
--- without a step limit it is not exceeded
-pub ok_unlimited : (M : Type 0) (a : Asked) (code : Code) (most steps : Option ℕ) (after : Bounds) {X E : Type 0}
-    (result : Result X E) (P : X → Type 0)
-    → steps ≡ None → IfOk result (λ _. Followed M a code most steps after)
-    → IfOk result (λ x. after.limit_exceeded ≡ false → P x) → IfOk result P
-ok_unlimited M a code most steps after (Ok x) P none followed made = made (unlimited followed none)
-ok_unlimited M a code most steps after (Err e) P none followed made = tt
+  -- where it was not exceeded, all matches that are wanted were taken
+  pub all_taken : (t : Tree) → Whole (words_of code) t → not after.limit_exceeded ≡ true
+      → followed.taken ≡ first_of most (walk a t)
+  all_taken t whole e =
+      let first = followed.first t whole in
+      sym
+      (first.1
+      ∙ ap (λ (ms : List Match). followed.taken ++ ms) (first.2 (goes_if after.limit_exceeded e))
+      ∙ append-nil followed.taken)

@@ -1,6 +1,6 @@
 //! Limits of a recipe: a number of matches, or a number of steps.
 
-ghost use Rattle.std.specs.Prelude.{◌≡◌, ◌<◌, false, cond, None, Some, IfOk, IfSome, OnErr, MatchOption, IsSome};
+ghost use Rattle.std.specs.Prelude.{◌≡◌, ◌<◌, false, None, Some, IfOk, IfSome, OnErr, MatchOption, IsSome};
 ghost use Rattle.sre_engine.specs.Requests.{string_of};
 ghost use Rattle.sre_engine.specs.Iterators.{request_of, shown_of, Gives, IsOver, most_items};
 ghost use Rattle.sre_growth.specs.Refusal.{Refused};
@@ -151,15 +151,4 @@ pub(crate) fn next_bounded<S: StrDrive, A: Allocator + Copy>(
     };
     bounds.most = one_less(bounds.most);
     Ok(Some(span))
-}
-
-// What a call within bounds returns: nothing if the step limit was exceeded.
-pub(crate) fn unless_exceeded<T: Drop>(bounds: &Bounds, told: T) -> Option<T>
-    ensures { result ≡ cond bounds.now.limit_exceeded None (Some told) }
-{
-    if bounds.limit_exceeded {
-        None
-    } else {
-        Some(told)
-    }
 }

@@ -1,6 +1,6 @@
 //! The text of one match, and the texts of all matches.
 
-ghost use Rattle.std.specs.Prelude.{◌≡◌, ◌≤◌, ◌++◌, ◌∷◌, [], true, false, None, Some, map, slice_range};
+ghost use Rattle.std.specs.Prelude.{⊤, ◌≡◌, ◌≤◌, ◌++◌, true, false, None, Some, map, slice_range};
 ghost use Rattle.std.specs.Prelude.{is_none, is_some, IsSome, IfSome, IfOk, OnErr};
 ghost use Rattle.sre_engine.specs.Tree.{Tree};
 ghost use Rattle.sre_engine.specs.Grammar.{Whole};
@@ -9,18 +9,17 @@ ghost use Rattle.sre_engine.specs.Found.{matched, found, walk};
 ghost use Rattle.sre_engine.specs.Codes.{words_of};
 ghost use Rattle.sre_engine.specs.Requests.{string_of, start_of, end_of, code_of, asked_of, stands_in};
 ghost use Rattle.sre_engine.specs.Answers.{answer_of, Spans};
-ghost use Rattle.sre_engine.specs.Iterators.{request_of, left_of, has_ended};
 ghost use Rattle.sre_growth.specs.Refusal.{Refused};
 ghost use Rattle.sre_recipes.specs.Slices.{slice_of, to_the_end};
-ghost use Rattle.sre_recipes.specs.Limits.{FollowedRest};
 ghost use Rattle.sre_recipes.specs.Bounded.{first_of, AreLeft, Outlast};
 ghost use Rattle.sre_recipes.specs.Followed.{Followed};
 
-use crate::bounds::{Bounds, next_bounded, unless_exceeded};
+use crate::bounds::Bounds;
+use crate::collects::{Collects, collect, complete};
 use crate::slice::matched_text;
 use crate::span::Span;
 use crate::texts::Text;
-use sre_engine::{Request, SearchIter, SreError, State, StrDrive};
+use sre_engine::{Request, SreError, State, StrDrive};
 use std::alloc::Allocator;
 
 // The same request by value, as the engine's calls take it. It allocates nothing.
@@ -33,65 +32,34 @@ pub(crate) fn copied<'a, S: StrDrive>(req: &Request<'a, S>) -> Request<'a, S>
     req
 }
 
-// Appends the text of a match.
-fn add_text<S: Text, A: Allocator>(
-    all: &mut Vec<S, A>,
-    text: S,
-    span: &Span,
-) -> Result<(), SreError>
-    requires start { S.stands text span.now.start span.now.start.position }
-    requires end { S.stands text span.now.end span.now.end.position }
-    requires forward { span.now.start.position ≤ span.now.end.position }
-    ensures ok { IfOk result (λ _. map S.text all.new.items
-        ≡ map S.text all.old.items
-        ++ slice_range (S.text text) span.now.start.position span.now.end.position ∷ []) }
-    ensures refused { OnErr result (Refused A) }
-{
-    sre_growth::push(all, text.between(&span.start, &span.end))?;
-    Ok(())
+// The texts of matches.
+#[derive(Drop)]
+struct Texts<S, A: Allocator> {
+    all: Vec<S, A>,
 }
 
-// Appends the texts of the remaining matches of an iteration.
-fn add_texts<S: Text, A: Allocator + Copy>(
-    walk: &mut SearchIter<'_, S, A>,
-    bounds: &mut Bounds,
-    all: &mut Vec<S, A>,
-) -> Result<(), SreError>
-    requires going { bounds.old.limit_exceeded ≡ false }
-    requires begun { has_ended walk.old ≡ false }
-    ensures ok { (t : Tree) → Whole (words_of (code_of (request_of walk.old))) t → IfOk result (λ _.
-        bounds.new.limit_exceeded ≡ false → map S.text all.new.items
-        ≡ map S.text all.old.items
-        ++ map (slice_of (S.text (string_of (request_of walk.old))))
-        (first_of bounds.old.most (left_of walk.old t))) }
-    ensures followed { IfOk result (λ _. FollowedRest walk.old bounds.old bounds.new) }
-    ensures refused { OnErr result (Refused A) }
-{
-    let text = walk.req().string();
-    'walk: while let Some(span) = next_bounded(walk, bounds)? {
-        add_text(all, text, &span)?;
+impl<S: Text, A: Allocator + Copy> Collects<S, A> for Texts<S, A> {
+    ghost captures = { false };
+
+    ghost waits = { λ text p texts. ⊤ };
+
+    ghost gathers = { λ text stop before ms after. map S.text after.all.items
+        ≡ map S.text before.all.items ++ map (slice_of (S.text text)) ms };
+
+    ghost trusts = { ⊤ };
+
+    fn reads_captures(&self) -> bool {
+        false
     }
-    Ok(())
-}
 
-// Appends the texts of all matches.
-fn add_all_texts<S: Text, A: Allocator + Copy>(
-    alloc: A,
-    req: &Request<'_, S>,
-    bounds: &mut Bounds,
-    all: &mut Vec<S, A>,
-) -> Result<(), SreError>
-    ensures ok { (t : Tree) → Whole (words_of (code_of req.now)) t → IfOk result (λ _.
-        bounds.new.limit_exceeded ≡ false → map S.text all.new.items
-        ≡ map S.text all.old.items
-        ++ map (slice_of (S.text (string_of req.now))) (first_of bounds.old.most (walk (asked_of req.now) t))) }
-    ensures followed { IfOk result (λ _.
-        Followed A (asked_of req.now) (code_of req.now) bounds.old.most bounds.old.steps bounds.new) }
-    ensures refused { OnErr result (Refused A) }
-{
-    bounds.limit_exceeded = false;
-    let mut walk = SearchIter::new(copied(req), State::new(alloc));
-    add_texts(&mut walk, bounds, all)
+    fn add(&mut self, text: S, _state: &State<A>, span: &Span) -> Result<(), SreError> {
+        sre_growth::push(&mut self.all, text.between(&span.start, &span.end))?;
+        Ok(())
+    }
+
+    fn finish(&mut self, _text: S, _stop: usize) -> Result<(), SreError> {
+        Ok(())
+    }
 }
 
 /// Returns the texts of all matches in the range, in order, as Python's `findall` does for a pattern without groups.
@@ -115,10 +83,8 @@ pub fn find_all<S: Text, A: Allocator + Copy>(
         ≡ map (slice_of (S.text (string_of req.now))) (walk (asked_of req.now) t)) }
     ensures refused { OnErr result (Refused A) }
 {
-    let mut all = Vec::new(alloc);
     let mut bounds = Bounds::none();
-    add_all_texts(alloc, req, &mut bounds, &mut all)?;
-    Ok(all)
+    Ok(complete(find_bounded(alloc, req, &mut bounds)?))
 }
 
 /// `find_all` within bounds: returns the texts of the first `bounds.most` matches, or `None` if the step limit is
@@ -153,9 +119,14 @@ pub fn find_bounded<S: Text, A: Allocator + Copy>(
         Followed A (asked_of req.now) (code_of req.now) bounds.old.most bounds.old.steps bounds.new) }
     ensures refused { OnErr result (Refused A) }
 {
-    let mut all = Vec::new(alloc);
-    add_all_texts(alloc, req, bounds, &mut all)?;
-    Ok(unless_exceeded(bounds, all))
+    let mut texts = Texts {
+        all: Vec::new(alloc),
+    };
+    if collect(alloc, req, bounds, &mut texts)? {
+        Ok(Some(texts.all))
+    } else {
+        Ok(None)
+    }
 }
 
 // The text of the state's match if one was found.

@@ -1,6 +1,6 @@
 //! Matches with the texts of their groups.
 
-ghost use Rattle.std.specs.Prelude.{◌≡◌, ◌≤◌, ◌+◌, ◌^◌, ◌++◌, ◌∷◌, [], true, false, None, Some, length, map};
+ghost use Rattle.std.specs.Prelude.{⊤, ◌≡◌, ◌≤◌, ◌+◌, ◌^◌, ◌++◌, true, None, length, map};
 ghost use Rattle.std.specs.Prelude.{slice_index_or, is_none, is_some, IfOk, IfSome, OnErr, IsSome};
 ghost use Rattle.std.specs.List.{range_with_len};
 ghost use Rattle.std.specs.Option.{option_map};
@@ -11,19 +11,19 @@ ghost use Rattle.sre_engine.specs.Found.{matched, found, walk};
 ghost use Rattle.sre_engine.specs.Codes.{words_of};
 ghost use Rattle.sre_engine.specs.Requests.{string_of, code_of, asked_of};
 ghost use Rattle.sre_engine.specs.Answers.{match_shown, answer_of};
-ghost use Rattle.sre_engine.specs.Iterators.{request_of, left_of, has_ended};
 ghost use Rattle.sre_growth.specs.Refusal.{Refused};
 ghost use Rattle.sre_recipes.specs.Slices.{numbered_group, captured};
 ghost use Rattle.sre_recipes.specs.Captured.{captures_shown};
-ghost use Rattle.sre_recipes.specs.Limits.{FollowedRest};
 ghost use Rattle.sre_recipes.specs.Bounded.{first_of, AreLeft, Outlast};
 ghost use Rattle.sre_recipes.specs.Followed.{Followed};
 
-use crate::bounds::{Bounds, next_bounded, unless_exceeded};
-use crate::find::{copied, match_text, search_text};
+use crate::bounds::Bounds;
+use crate::collects::{Collects, collect, complete};
+use crate::find::{match_text, search_text};
 use crate::slice::group_text;
+use crate::span::Span;
 use crate::texts::Text;
-use sre_engine::{Request, SearchIter, SreError, State};
+use sre_engine::{Request, SreError, State};
 use std::alloc::Allocator;
 
 /// A match with its groups. They are numbered as in Python: 0 is the match and 1 the first group.
@@ -170,65 +170,36 @@ pub fn match_captures<S: Text, A: Allocator + Copy>(
     captures_if(alloc, found.is_some(), req.string(), state)
 }
 
-// Appends the state's match with its groups.
-fn add_captures<S: Text, A: Allocator + Copy>(
+// Matches with their groups.
+#[derive(Drop)]
+struct AllCaptures<S, A: Allocator> {
     alloc: A,
-    all: &mut Vec<CapturesOf<S, A>, A>,
-    text: S,
-    state: &State<A>,
-) -> Result<(), SreError>
-    requires { S.stands text state.now.cursor state.now.cursor.position }
-    ensures ok { IfOk result (λ _. map (captures_shown S.text) all.new.items
-        ≡ map (captures_shown S.text) all.old.items ++ captured (S.text text) (match_shown state.now) ∷ []) }
-    ensures refused { OnErr result (Refused A) }
-{
-    let captures = shown_captures(alloc, text, state)?;
-    sre_growth::push(all, captures)?;
-    Ok(())
+    all: Vec<CapturesOf<S, A>, A>,
 }
 
-// Appends the remaining matches of an iteration, with their groups.
-fn add_each<S: Text, A: Allocator + Copy>(
-    alloc: A,
-    walk: &mut SearchIter<'_, S, A>,
-    bounds: &mut Bounds,
-    all: &mut Vec<CapturesOf<S, A>, A>,
-) -> Result<(), SreError>
-    requires going { bounds.old.limit_exceeded ≡ false }
-    requires begun { has_ended walk.old ≡ false }
-    ensures ok { (t : Tree) → Whole (words_of (code_of (request_of walk.old))) t → IfOk result (λ _.
-        bounds.new.limit_exceeded ≡ false → map (captures_shown S.text) all.new.items
-        ≡ map (captures_shown S.text) all.old.items
-        ++ map (captured (S.text (string_of (request_of walk.old))))
-        (first_of bounds.old.most (left_of walk.old t))) }
-    ensures followed { IfOk result (λ _. FollowedRest walk.old bounds.old bounds.new) }
-    ensures refused { OnErr result (Refused A) }
-{
-    let text = walk.req().string();
-    'walk: while let Some(span) = next_bounded(walk, bounds)? {
-        add_captures(alloc, all, text, walk.state())?;
+impl<S: Text, A: Allocator + Copy> Collects<S, A> for AllCaptures<S, A> {
+    ghost captures = { true };
+
+    ghost waits = { λ text p c. ⊤ };
+
+    ghost gathers = { λ text stop before ms after. map (captures_shown S.text) after.all.items
+        ≡ map (captures_shown S.text) before.all.items ++ map (captured (S.text text)) ms };
+
+    ghost trusts = { ⊤ };
+
+    fn reads_captures(&self) -> bool {
+        true
     }
-    Ok(())
-}
 
-// Appends the matches of a range, with their groups.
-fn add_all_captures<S: Text, A: Allocator + Copy>(
-    alloc: A,
-    req: &Request<'_, S>,
-    bounds: &mut Bounds,
-    all: &mut Vec<CapturesOf<S, A>, A>,
-) -> Result<(), SreError>
-    ensures ok { (t : Tree) → Whole (words_of (code_of req.now)) t → IfOk result (λ _.
-        bounds.new.limit_exceeded ≡ false → map (captures_shown S.text) all.new.items
-        ≡ map (captures_shown S.text) all.old.items
-        ++ map (captured (S.text (string_of req.now))) (first_of bounds.old.most (walk (asked_of req.now) t))) }
-    ensures followed { IfOk result (λ _.
-        Followed A (asked_of req.now) (code_of req.now) bounds.old.most bounds.old.steps bounds.new) }
-    ensures refused { OnErr result (Refused A) }
-{
-    bounds.limit_exceeded = false;
-    let mut walk = SearchIter::new(copied(req), State::new(alloc));
-    add_each(alloc, &mut walk, bounds, all)
+    fn add(&mut self, text: S, state: &State<A>, _span: &Span) -> Result<(), SreError> {
+        let captures = shown_captures(self.alloc, text, state)?;
+        sre_growth::push(&mut self.all, captures)?;
+        Ok(())
+    }
+
+    fn finish(&mut self, _text: S, _stop: usize) -> Result<(), SreError> {
+        Ok(())
+    }
 }
 
 /// Returns all matches in the range with their groups, in order, as Python's `finditer` does.
@@ -254,10 +225,8 @@ pub fn all_captures<S: Text, A: Allocator + Copy>(
         ≡ map (captured (S.text (string_of req.now))) (walk (asked_of req.now) t)) }
     ensures refused { OnErr result (Refused A) }
 {
-    let mut all = Vec::new(alloc);
     let mut bounds = Bounds::none();
-    add_all_captures(alloc, req, &mut bounds, &mut all)?;
-    Ok(all)
+    Ok(complete(captures_bounded(alloc, req, &mut bounds)?))
 }
 
 /// `all_captures` within bounds: returns the first `bounds.most` matches, or `None` if the step limit is exceeded.
@@ -282,7 +251,13 @@ pub fn captures_bounded<S: Text, A: Allocator + Copy>(
         Followed A (asked_of req.now) (code_of req.now) bounds.old.most bounds.old.steps bounds.new) }
     ensures refused { OnErr result (Refused A) }
 {
-    let mut all = Vec::new(alloc);
-    add_all_captures(alloc, req, bounds, &mut all)?;
-    Ok(unless_exceeded(bounds, all))
+    let mut captures = AllCaptures {
+        alloc,
+        all: Vec::new(alloc),
+    };
+    if collect(alloc, req, bounds, &mut captures)? {
+        Ok(Some(captures.all))
+    } else {
+        Ok(None)
+    }
 }

@@ -3,15 +3,14 @@
 ghost use Rattle.std.specs.Prelude.{◌≡◌, ◌<◌, ◌++◌, map, nat_eq, IfOk, OnErr, MatchOption, IsSome};
 ghost use Rattle.sre_engine.specs.Tree.{Tree};
 ghost use Rattle.sre_engine.specs.Grammar.{Whole};
-ghost use Rattle.sre_engine.specs.Found.{walk};
 ghost use Rattle.sre_engine.specs.Codes.{words_of};
 ghost use Rattle.sre_engine.specs.Requests.{string_of, start_of, code_of, asked_of};
 ghost use Rattle.sre_engine.specs.Answers.{match_shown};
-ghost use Rattle.sre_engine.specs.Iterators.{request_of, shown_of, left_of, most_items};
+ghost use Rattle.sre_engine.specs.Iterators.{request_of, shown_of, most_items};
 ghost use Rattle.sre_growth.specs.Refusal.{Refused};
 ghost use Rattle.sre_recipes.specs.Lexed.{token_matches, reached, lexeme_of, lexeme_shown};
 ghost use Rattle.sre_recipes.specs.Spans.{IsSpan, StandsAt};
-ghost use Rattle.sre_recipes.specs.Adjoining.{adjoining, unless_empty, Adjoins, NoneAdjoins};
+ghost use Rattle.sre_recipes.specs.Adjoining.{unless_empty, Adjoins, NoneAdjoins};
 
 use crate::find::copied;
 use crate::span::{Span, next_span};
@@ -102,50 +101,6 @@ fn add_token<S: Text, A: Allocator + Copy>(
     Ok(())
 }
 
-// Appends tokens until the iteration ends or a match does not begin where the previous one ended.
-fn add_tokens<S: Text, A: Allocator + Copy>(
-    walk: &mut SearchIter<'_, S, A>,
-    all: &mut TokensOf<S, A>,
-) -> Result<(), SreError>
-    requires { StandsAt (S.stands (string_of (request_of walk.old))) all.old.end (start_of (request_of walk.old)) }
-    ensures ok { (t : Tree) → Whole (words_of (code_of (request_of walk.old))) t → IfOk result (λ _.
-        map (lexeme_shown S.text) all.new.tokens.items
-        ≡ map (lexeme_shown S.text) all.old.tokens.items
-        ++ map (lexeme_of (S.text (string_of (request_of walk.old))))
-        (adjoining (start_of (request_of walk.old)) (left_of walk.old t))) }
-    ensures end { (t : Tree) → Whole (words_of (code_of (request_of walk.old))) t → IfOk result (λ _.
-        StandsAt (S.stands (string_of (request_of walk.old))) all.new.end
-        (reached (start_of (request_of walk.old)) (adjoining (start_of (request_of walk.old)) (left_of walk.old t)))) }
-    ensures refused { OnErr result (Refused A) }
-{
-    let text = walk.req().string();
-    'walk: while let Some(span) = next_adjoining(walk, &all.end)? {
-        add_token(all, text, walk.state(), &span)?;
-    }
-    Ok(())
-}
-
-// Appends the tokens at the start of a range.
-fn add_all_tokens<S: Text, A: Allocator + Copy>(
-    alloc: A,
-    req: Request<'_, S>,
-    all: &mut TokensOf<S, A>,
-) -> Result<(), SreError>
-    requires { StandsAt (S.stands (string_of req)) all.old.end (start_of req) }
-    ensures ok { (t : Tree) → Whole (words_of (code_of req.entry)) t → IfOk result (λ _.
-        map (lexeme_shown S.text) all.new.tokens.items
-        ≡ map (lexeme_shown S.text) all.old.tokens.items
-        ++ map (lexeme_of (S.text (string_of req.entry)))
-        (adjoining (start_of req.entry) (walk (asked_of req.entry) t))) }
-    ensures end { (t : Tree) → Whole (words_of (code_of req.entry)) t → IfOk result (λ _.
-        StandsAt (S.stands (string_of req.entry)) all.new.end
-        (reached (start_of req.entry) (adjoining (start_of req.entry) (walk (asked_of req.entry) t)))) }
-    ensures refused { OnErr result (Refused A) }
-{
-    let mut walk = SearchIter::new(req, State::new(alloc));
-    add_tokens(&mut walk, all)
-}
-
 /// Returns the tokens at the start of the range. Each is the first match path that is not empty at the position where
 /// the previous token ends. `end` is the first position at which no token begins. It is the end of the range exactly if
 /// the tokens cover the range.
@@ -168,10 +123,14 @@ pub fn tokens_of<S: Text, A: Allocator + Copy>(
         (reached (start_of req.now) (token_matches (asked_of req.now) t))) }
     ensures refused { OnErr result (Refused A) }
 {
+    let text = req.string();
     let mut all = TokensOf {
         tokens: Vec::new(alloc),
-        end: req.string().create_cursor(req.start()),
+        end: text.create_cursor(req.start()),
     };
-    add_all_tokens(alloc, copied(req), &mut all)?;
+    let mut walk = SearchIter::new(copied(req), State::new(alloc));
+    'walk: while let Some(span) = next_adjoining(&mut walk, &all.end)? {
+        add_token(&mut all, text, walk.state(), &span)?;
+    }
     Ok(all)
 }

@@ -19,6 +19,7 @@
 #![tactic(auto)]
 
 mod bounds;
+mod collects;
 mod compute;
 mod divide;
 mod every;

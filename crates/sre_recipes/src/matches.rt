@@ -6,12 +6,12 @@ ghost use Rattle.std.specs.Option.{option_map};
 ghost use Rattle.sre_engine.specs.Answers.{match_shown, answer_of};
 ghost use Rattle.sre_growth.specs.Refusal.{Refused};
 ghost use Rattle.sre_recipes.specs.Matches.{match_seen, placed, placed_match, placed_marks, placed_group};
-ghost use Rattle.sre_recipes.specs.Matches.{placed_groups};
-ghost use Rattle.sre_recipes.specs.Matches.{groups_seen};
+ghost use Rattle.sre_recipes.specs.Matches.{placed_groups, groups_seen};
+ghost use Rattle.sre_recipes.specs.Spans.{IsSpan};
 
 use crate::groups::CapturesOf;
 use crate::slice::moved_to;
-use crate::span::{back_to, span_of};
+use crate::span::{Span, back_to, span_of};
 use crate::texts::Text;
 use sre_engine::{SreError, State, StringCursor};
 use sre_finder::Haystack;
@@ -132,15 +132,15 @@ fn marked_match<S: Text + Haystack>(
 fn group_match<S: Text + Haystack>(
     text: S,
     state: &State<Global>,
+    span: &Span,
     number: usize,
 ) -> Option<Match<S>>
-    requires stands { S.stands text state.now.cursor state.now.cursor.position }
-    requires forward { state.now.start ≤ state.now.cursor.position }
+    requires { IsSpan (S.stands text) state.now span.now.start span.now.end }
     ensures { option_map (match_seen S.text) result
         ≡ placed_group (S.text text) (S.place text) (match_shown state.now) number }
 {
     if number == 0 {
-        Some(whole_match(text, state))
+        Some(match_between(text, &span.start, &span.end))
     } else {
         marked_match(text, state, number - 1)
     }
@@ -151,10 +151,10 @@ fn add_group_matches<S: Text + Haystack>(
     groups: &mut Vec<Option<Match<S>>>,
     text: S,
     state: &State<Global>,
+    span: &Span,
     several: usize,
 ) -> Result<(), SreError>
-    requires stands { S.stands text state.now.cursor state.now.cursor.position }
-    requires forward { state.now.start ≤ state.now.cursor.position }
+    requires { IsSpan (S.stands text) state.now span.now.start span.now.end }
     ensures ok { IfOk result (λ _. map (option_map (match_seen S.text)) groups.new.items
         ≡ map (option_map (match_seen S.text)) groups.old.items
         ++ map (placed_group (S.text text) (S.place text) (match_shown state.now)) (range_with_len 0 several)) }
@@ -162,7 +162,7 @@ fn add_group_matches<S: Text + Haystack>(
 {
     let mut count = 0;
     'group: while count < several {
-        sre_growth::push(groups, group_match(text, state, count))?;
+        sre_growth::push(groups, group_match(text, state, span, count))?;
         count += 1;
     }
     Ok(())
@@ -173,15 +173,15 @@ pub(crate) fn match_groups<S: Text + Haystack>(
     alloc: Global,
     text: S,
     state: &State<Global>,
+    span: &Span,
 ) -> Result<CapturesOf<Match<S>, Global>, SreError>
-    requires stands { S.stands text state.now.cursor state.now.cursor.position }
-    requires forward { state.now.start ≤ state.now.cursor.position }
+    requires { IsSpan (S.stands text) state.now span.now.start span.now.end }
     ensures ok { IfOk result (λ all. groups_seen S.text all
         ≡ placed_groups (S.text text) (S.place text) (match_shown state.now)) }
     ensures refused { OnErr result (Refused Global) }
 {
     let mut groups = Vec::new(alloc);
     let several = state.marks().raw().len() / 2 + 1;
-    add_group_matches(&mut groups, text, state, several)?;
+    add_group_matches(&mut groups, text, state, span, several)?;
     Ok(CapturesOf { groups })
 }

@@ -20,10 +20,13 @@ ghost use Rattle.sre_recipes.specs.Templates.{written, replaced};
 ghost use Rattle.sre_recipes.specs.Matches.{match_seen, placed_match, placed_groups, groups_seen};
 ghost use Rattle.sre_recipes.specs.Patterns.{search_of, rest_of, FirstFrom};
 
-use crate::every::{add_captures, add_matches, add_pieces, append_replaced};
+use crate::collects::Collects;
+use crate::divide::Pieces;
+use crate::every::{Grouped, Matched, collect_spans};
 use crate::groups::CapturesOf;
 use crate::matches::{Match, match_groups, match_if};
-use crate::replace::PieceOf;
+use crate::replace::{Expanded, PieceOf};
+use crate::span::span_of;
 use crate::texts::{Rewritten, Text};
 use sre_engine::{
     Code, CodeError, OwnedCode, Request, SreError, State, StrDrive, StringCursor, UniTable,
@@ -227,7 +230,7 @@ impl Pattern {
         ensures uni { self.new.table ≡ self.old.table }
     {
         if self.search_from(text, 0)? {
-            Ok(Some(match_groups(self.alloc, text, &self.state)?))
+            Ok(Some(match_groups(self.alloc, text, &self.state, &span_of(text, &self.state))?))
         } else {
             Ok(None)
         }
@@ -247,13 +250,11 @@ impl Pattern {
         ensures words { self.new.words ≡ self.old.words }
         ensures uni { self.new.table ≡ self.old.table }
     {
-        let mut all = Vec::new(self.alloc);
-        let request = Request::whole(text, self.code.code());
-        let mut walk = walk_kept(self.alloc, request, &mut self.kept);
-        let added = add_matches(&mut walk, &mut all);
-        self.kept = walk.into_finder().into_kept();
-        added?;
-        Ok(all)
+        let mut matches = Matched {
+            all: Vec::new(self.alloc),
+        };
+        self.collect(text, &mut matches)?;
+        Ok(matches.all)
     }
 
     /// Returns all matches of a text with their groups.
@@ -272,13 +273,12 @@ impl Pattern {
         ensures words { self.new.words ≡ self.old.words }
         ensures uni { self.new.table ≡ self.old.table }
     {
-        let mut all = Vec::new(self.alloc);
-        let request = Request::whole(text, self.code.code());
-        let mut walk = walk_kept(self.alloc, request, &mut self.kept);
-        let added = add_captures(self.alloc, &mut walk, &mut all);
-        self.kept = walk.into_finder().into_kept();
-        added?;
-        Ok(all)
+        let mut captures = Grouped {
+            alloc: self.alloc,
+            all: Vec::new(self.alloc),
+        };
+        self.collect(text, &mut captures)?;
+        Ok(captures.all)
     }
 
     /// Returns the pieces of a text between its matches. There is one piece more than there are matches, and pieces can
@@ -301,13 +301,12 @@ impl Pattern {
         ensures words { self.new.words ≡ self.old.words }
         ensures uni { self.new.table ≡ self.old.table }
     {
-        let mut pieces = Vec::new(self.alloc);
-        let request = Request::whole(text, self.code.code());
-        let mut walk = walk_kept(self.alloc, request, &mut self.kept);
-        let added = add_pieces(&mut walk, &mut pieces);
-        self.kept = walk.into_finder().into_kept();
-        added?;
-        Ok(pieces)
+        let mut all = Pieces {
+            pieces: Vec::new(self.alloc),
+            last: text.create_cursor(0),
+        };
+        self.collect(text, &mut all)?;
+        Ok(all.pieces)
     }
 
     /// Returns a text with each match replaced by the expansion of a template: a `String` for a `&str`, and a
@@ -335,13 +334,34 @@ impl Pattern {
         ensures words { self.new.words ≡ self.old.words }
         ensures uni { self.new.table ≡ self.old.table }
     {
-        let mut output = Vec::new(self.alloc);
+        let mut new = Expanded {
+            template,
+            last: text.create_cursor(0),
+            output: Vec::new(self.alloc),
+        };
+        self.collect(text, &mut new)?;
+        Ok(S::from_output(new.output))
+    }
+
+    // Gathers something of each match of a text.
+    fn collect<S: Text + Haystack, C: Collects<S, Global>>(
+        &mut self,
+        text: S,
+        all: &mut C,
+    ) -> Result<(), SreError>
+        requires { (p : ℕ) → C.waits text p all.old }
+        ensures ok { (t : Tree) → Whole self.old.words t → IfOk result (λ _. C.gathers text (length (S.text text))
+            all.old (walk (rest_of (S.text text) self.old.table 0) t) all.new) }
+        ensures waits { IfOk result (λ _. C.waits text (length (S.text text)) all.new) }
+        ensures refused { C.trusts → OnErr result (Refused Global) }
+        ensures words { self.new.words ≡ self.old.words }
+        ensures uni { self.new.table ≡ self.old.table }
+    {
         let request = Request::whole(text, self.code.code());
         let mut walk = walk_kept(self.alloc, request, &mut self.kept);
-        let added = append_replaced(&mut walk, template, &mut output);
+        let collected = collect_spans(&mut walk, all);
         self.kept = walk.into_finder().into_kept();
-        added?;
-        Ok(S::from_output(output))
+        collected
     }
 
     // Searches a text from a position to its end.

@@ -1,6 +1,6 @@
 //! Replacement of all matches by a template.
 
-ghost use Rattle.std.specs.Prelude.{◌≡◌, ◌≤◌, ◌++◌, false, None, Some, slice_range};
+ghost use Rattle.std.specs.Prelude.{⊤, ◌≡◌, ◌++◌, true, None, Some};
 ghost use Rattle.std.specs.Prelude.{is_none, IfOk, IfSome, IsSome, OnErr};
 ghost use Rattle.std.specs.Str.{chars};
 ghost use Rattle.std.specs.String.{string_bytes};
@@ -10,20 +10,18 @@ ghost use Rattle.sre_engine.specs.Found.{walk};
 ghost use Rattle.sre_engine.specs.Codes.{words_of};
 ghost use Rattle.sre_engine.specs.Requests.{string_of, start_of, end_of, code_of, asked_of};
 ghost use Rattle.sre_engine.specs.Answers.{match_shown};
-ghost use Rattle.sre_engine.specs.Iterators.{request_of, left_of, has_ended};
 ghost use Rattle.sre_growth.specs.Refusal.{Refused};
-ghost use Rattle.sre_recipes.specs.Spans.{IsSpan};
+ghost use Rattle.sre_recipes.specs.Spans.{IsSpan, StandsBy};
 ghost use Rattle.sre_recipes.specs.Templates.{piece_of, written, replaced};
-ghost use Rattle.sre_recipes.specs.Limits.{FollowedRest};
 ghost use Rattle.sre_recipes.specs.Bounded.{first_of, AreLeft, Outlast};
 ghost use Rattle.sre_recipes.specs.Followed.{Followed};
 
-use crate::bounds::{Bounds, next_bounded, unless_exceeded};
-use crate::find::copied;
+use crate::bounds::Bounds;
+use crate::collects::{Collects, collect, complete};
 use crate::slice::{group_text, up_to};
 use crate::span::Span;
 use crate::texts::Text;
-use sre_engine::{Request, SearchIter, SreError, State, StrDrive, StringCursor};
+use sre_engine::{Request, SreError, State, StrDrive, StringCursor};
 use std::alloc::Allocator;
 
 /// A piece of a replacement template.
@@ -102,125 +100,40 @@ fn append_replacement<S: Text, A: Allocator + Copy>(
     Ok(())
 }
 
-// Appends the text from a cursor to a match, then the expansion of the template. Moves the cursor to the match's end.
-pub(crate) fn append_match<S: Text, A: Allocator + Copy>(
-    output: &mut Vec<u8, A>,
-    text: S,
-    last: &mut StringCursor,
-    state: &State<A>,
-    span: &Span,
-    template: &[PieceOf<S>],
-) -> Result<(), SreError>
-    requires last { S.stands text last.old last.old.position }
-    requires forward { last.old.position ≤ state.now.start }
-    requires span { IsSpan (S.stands text) state.now span.now.start span.now.end }
-    requires written { S.IsText output.old.items }
-    ensures ok { IfOk result (λ _.
-        S.characters output.new.items
-        ≡ (S.characters output.old.items ++ slice_range (S.text text) last.old.position state.now.start)
-        ++ written S.text (S.text text) template.now (match_shown state.now)) }
-    ensures written { IfOk result (λ _. S.IsText output.new.items) }
-    ensures last { IfOk result (λ _. last.new ≡ span.now.end) }
-    ensures refused { OnErr result (Refused A) }
-{
-    text.between(last, &span.start).append_to(output)?;
-    append_replacement(output, text, state, span, template)?;
-    *last = span.end;
-    Ok(())
+// A text in which matches are replaced by the expansion of a template, and the cursor at the end of the last match.
+#[derive(Drop)]
+pub(crate) struct Expanded<'t, S, A: Allocator> {
+    pub(crate) template: &'t [PieceOf<S>],
+    pub(crate) last: StringCursor,
+    pub(crate) output: Vec<u8, A>,
 }
 
-// Appends the remaining range, with each remaining match of an iteration replaced.
-fn append_replaced<S: Text, A: Allocator + Copy>(
-    walk: &mut SearchIter<'_, S, A>,
-    bounds: &mut Bounds,
-    template: &[PieceOf<S>],
-    output: &mut Vec<u8, A>,
-) -> Result<(), SreError>
-    requires going { bounds.old.limit_exceeded ≡ false }
-    requires begun { has_ended walk.old ≡ false }
-    requires written { S.IsText output.old.items }
-    ensures ok { (t : Tree) → Whole (words_of (code_of (request_of walk.old))) t → IfOk result (λ _.
-        bounds.new.limit_exceeded ≡ false → S.characters output.new.items
-        ≡ S.characters output.old.items
-        ++ replaced (S.text (string_of (request_of walk.old)))
-        (written S.text (S.text (string_of (request_of walk.old))) template.now) (start_of (request_of walk.old))
-        (end_of (request_of walk.old)) (first_of bounds.old.most (left_of walk.old t))) }
-    ensures written { IfOk result (λ _. S.IsText output.new.items) }
-    ensures followed { IfOk result (λ _. FollowedRest walk.old bounds.old bounds.new) }
-    ensures refused { OnErr result (Refused A) }
-{
-    let (text, stop) = (walk.req().string(), walk.req().end());
-    let mut last = text.create_cursor(walk.req().start());
-    'walk: while let Some(span) = next_bounded(walk, bounds)? {
-        append_match(output, text, &mut last, walk.state(), &span, template)?;
+impl<'t, S: Text, A: Allocator + Copy> Collects<S, A> for Expanded<'t, S, A> {
+    ghost captures = { true };
+
+    ghost waits = { λ text p c. StandsBy (S.stands text) c.last p × S.IsText c.output.items };
+
+    ghost gathers = { λ text stop before ms after. S.characters after.output.items
+        ≡ S.characters before.output.items ++ replaced (S.text text)
+        (written S.text (S.text text) before.template.now) before.last.position stop ms };
+
+    ghost trusts = { ⊤ };
+
+    fn reads_captures(&self) -> bool {
+        true
     }
-    up_to(text, &last, stop).append_to(output)?;
-    Ok(())
-}
 
-// Appends the text of a range, with each match replaced.
-fn append_all<S: Text, A: Allocator + Copy>(
-    alloc: A,
-    req: &Request<'_, S>,
-    bounds: &mut Bounds,
-    template: &[PieceOf<S>],
-    output: &mut Vec<u8, A>,
-) -> Result<(), SreError>
-    requires { S.IsText output.old.items }
-    ensures ok { (t : Tree) → Whole (words_of (code_of req.now)) t → IfOk result (λ _.
-        bounds.new.limit_exceeded ≡ false → S.characters output.new.items
-        ≡ S.characters output.old.items
-        ++ replaced (S.text (string_of req.now)) (written S.text (S.text (string_of req.now)) template.now)
-        (start_of req.now) (end_of req.now) (first_of bounds.old.most (walk (asked_of req.now) t))) }
-    ensures written { IfOk result (λ _. S.IsText output.new.items) }
-    ensures followed { IfOk result (λ _.
-        Followed A (asked_of req.now) (code_of req.now) bounds.old.most bounds.old.steps bounds.new) }
-    ensures refused { OnErr result (Refused A) }
-{
-    bounds.limit_exceeded = false;
-    let mut walk = SearchIter::new(copied(req), State::new(alloc));
-    append_replaced(&mut walk, bounds, template, output)
-}
+    fn add(&mut self, text: S, state: &State<A>, span: &Span) -> Result<(), SreError> {
+        text.between(&self.last, &span.start)
+            .append_to(&mut self.output)?;
+        append_replacement(&mut self.output, text, state, span, self.template)?;
+        self.last = span.end;
+        Ok(())
+    }
 
-// The text of a range of a `&str`, with each match replaced.
-fn replaced_text<'t, A: Allocator + Copy>(
-    alloc: A,
-    req: &Request<'_, &'t str>,
-    bounds: &mut Bounds,
-    template: &[Piece<'t>],
-) -> Result<String<A>, SreError>
-    ensures ok { (t : Tree) → Whole (words_of (code_of req.now)) t → IfOk result (λ new.
-        bounds.new.limit_exceeded ≡ false → chars (string_bytes new)
-        ≡ replaced (chars (string_of req.now).now)
-        (written (λ s. chars s.now) (chars (string_of req.now).now) template.now)
-        (start_of req.now) (end_of req.now) (first_of bounds.old.most (walk (asked_of req.now) t))) }
-    ensures followed { IfOk result (λ _.
-        Followed A (asked_of req.now) (code_of req.now) bounds.old.most bounds.old.steps bounds.new) }
-    ensures refused { OnErr result (Refused A) }
-{
-    let mut output = Vec::new(alloc);
-    append_all(alloc, req, bounds, template, &mut output)?;
-    Ok(String::from_utf8(output).unwrap())
-}
-
-// The same for bytes.
-fn replaced_bytes<'t, A: Allocator + Copy>(
-    alloc: A,
-    req: &Request<'_, &'t [u8]>,
-    bounds: &mut Bounds,
-    template: &[PieceOf<&'t [u8]>],
-) -> Result<Vec<u8, A>, SreError>
-    ensures ok { (t : Tree) → Whole (words_of (code_of req.now)) t → IfOk result (λ new.
-        bounds.new.limit_exceeded ≡ false → new.items
-        ≡ replaced (string_of req.now).now (written (λ s. s.now) (string_of req.now).now template.now)
-        (start_of req.now) (end_of req.now) (first_of bounds.old.most (walk (asked_of req.now) t))) }
-    ensures followed { IfOk result (λ _.
-        Followed A (asked_of req.now) (code_of req.now) bounds.old.most bounds.old.steps bounds.new) }
-    ensures refused { OnErr result (Refused A) }
-{
-    let mut output = Vec::new(alloc);
-    append_all(alloc, req, bounds, template, &mut output)?;
-    Ok(output)
+    fn finish(&mut self, text: S, stop: usize) -> Result<(), SreError> {
+        up_to(text, &self.last, stop).append_to(&mut self.output)
+    }
 }
 
 /// Returns the text of the range with each match replaced by the expansion of a template, as Python's `sub` does. Empty
@@ -250,7 +163,7 @@ pub fn replace_all<A: Allocator + Copy>(
     ensures refused { OnErr result (Refused A) }
 {
     let mut bounds = Bounds::none();
-    replaced_text(alloc, req, &mut bounds, &*template)
+    Ok(complete(replace_bounded(alloc, req, &mut bounds, template)?))
 }
 
 /// `replace_all` within bounds: replaces only the first `bounds.most` matches, as Python's `sub` does with `count`.
@@ -288,8 +201,16 @@ pub fn replace_bounded<A: Allocator + Copy>(
         Followed A (asked_of req.now) (code_of req.now) bounds.old.most bounds.old.steps bounds.new) }
     ensures refused { OnErr result (Refused A) }
 {
-    let new = replaced_text(alloc, req, bounds, &*template)?;
-    Ok(unless_exceeded(bounds, new))
+    let mut new = Expanded {
+        template,
+        last: req.string().create_cursor(req.start()),
+        output: Vec::new(alloc),
+    };
+    if collect(alloc, req, bounds, &mut new)? {
+        Ok(Some(String::from_utf8(new.output).unwrap()))
+    } else {
+        Ok(None)
+    }
 }
 
 /// `replace_all` for bytes.
@@ -318,7 +239,7 @@ pub fn replace_all_bytes<A: Allocator + Copy>(
     ensures refused { OnErr result (Refused A) }
 {
     let mut bounds = Bounds::none();
-    replaced_bytes(alloc, req, &mut bounds, &*template)
+    Ok(complete(replace_bounded_bytes(alloc, req, &mut bounds, template)?))
 }
 
 /// `replace_bounded` for bytes.
@@ -345,6 +266,14 @@ pub fn replace_bounded_bytes<A: Allocator + Copy>(
         Followed A (asked_of req.now) (code_of req.now) bounds.old.most bounds.old.steps bounds.new) }
     ensures refused { OnErr result (Refused A) }
 {
-    let new = replaced_bytes(alloc, req, bounds, &*template)?;
-    Ok(unless_exceeded(bounds, new))
+    let mut new = Expanded {
+        template,
+        last: req.string().create_cursor(req.start()),
+        output: Vec::new(alloc),
+    };
+    if collect(alloc, req, bounds, &mut new)? {
+        Ok(Some(new.output))
+    } else {
+        Ok(None)
+    }
 }

@@ -4,7 +4,7 @@ ghost use Rattle.std.specs.Prelude.{◌≡◌, ◌+◌, ◌<◌, ◌≤◌, leng
 ghost use Rattle.sre_engine.specs.Requests.{string_of};
 ghost use Rattle.sre_engine.specs.Iterators.{request_of, shown_of, IsOver, Gives, most_items};
 ghost use Rattle.sre_growth.specs.Refusal.{Refused};
-ghost use Rattle.sre_recipes.specs.Spans.{IsSpan};
+ghost use Rattle.sre_recipes.specs.Spans.{IsSpan, StandsAt};
 
 use sre_engine::{SearchIter, SreError, State, StrDrive, StringCursor};
 use std::alloc::Allocator;
@@ -38,6 +38,25 @@ pub(crate) fn on_by<S: StrDrive>(text: S, from: &StringCursor, several: usize) -
     let mut cursor = *from;
     text.skip(&mut cursor, several);
     cursor
+}
+
+// The span between two positions at or behind a cursor.
+pub(crate) fn span_behind<S: StrDrive>(
+    text: S,
+    cursor: &StringCursor,
+    from: usize,
+    to: usize,
+) -> Span
+    requires at { S.stands text cursor.now cursor.now.position }
+    requires behind { cursor.now.position ≤ from }
+    requires forward { from ≤ to }
+    requires inside { to ≤ length (S.text text) }
+    ensures start { StandsAt (S.stands text) result.start from }
+    ensures end { StandsAt (S.stands text) result.end to }
+{
+    let start = on_by(text, cursor, from - cursor.position());
+    let end = on_by(text, &start, to - from);
+    Span { start, end }
 }
 
 // The span of the state's match. The start is reached backwards from the end.

@@ -1,18 +1,11 @@
-use Rattle.sre_recipes.proofs.Telling.{tells, told_if}
+use Rattle.std.proofs.Common.{ap, ◌∙◌}
+use Rattle.std.specs.Str.{chars}
+use Rattle.std.proofs.lemmas.Str.{chars-nil}
 use Rattle.sre_recipes.proofs.replace.replace_bounded.Goals as goal
 
-pub returns : goal.returns
-returns g c =
-    let followed = c.in_ok-new.ensures.followed in
-    let is = c.unless_exceeded.ensures in
-    let tells = tells followed c.in_ok-new.new is in
-    record {
-      ok = λ t tree. told_if _ c.in_ok-new.new _ _ is (λ going. c.in_ok-new.ensures.ok t tree going);
-      used = tells.used;
-      steps = tells.left;
-      lasts = tells.lasts;
-      unlimited = tells.unlimited;
-      exceeded = tells.exceeded;
-      followed = followed;
-      refused = tt;
-    }
+pub returns-then-branch-clause-ok : goal.returns-then-branch-clause-ok
+returns-then-branch-clause-ok g c = λ t tree.
+    let made = rw c.unwrap.ensures at c.from_utf8.ensures.ok in
+    let at = c.create_cursor.ensures.0 ∙ c.start.ensures.value in
+    ap (λ v. chars v.items) made
+    ∙ rw (c.new.ensures.items, chars-nil, at) at c.in_ok-collect.ensures.ok t tree c.if-branch.true

@@ -1,0 +1,27 @@
+use Rattle.std.proofs.Common.{◌≡◌, ◌≤◌, ℕ, false}
+use Rattle.sre_engine.specs.Codes.{words_of}
+use Rattle.sre_engine.specs.Requests.{string_of, end_of, start_of, code_of, asked_of}
+use Rattle.sre_engine.specs.Iterators.{request_of, has_ended, most_items}
+use Rattle.sre_recipes.specs.declared.bounds.Bounds.{Bounds}
+use Rattle.sre_recipes.specs.Followed.{Followed}
+use Rattle.sre_recipes.specs.Limits.{FollowedRest}
+use Rattle.sre_recipes.proofs.Steps.{Kept}
+use Rattle.sre_recipes.proofs.collects.collect.Given as goal
+
+abbrev pub invariant-walk : goal.invariant-walk
+invariant-walk g l =
+    let asked = l.req in
+    let gathers = g.C.Collects.gathers (string_of asked) (end_of asked) in
+    record {
+      kept : Kept l.walk (string_of asked) (words_of (code_of asked)) (end_of asked);
+      waits : (p : ℕ) → start_of (request_of l.walk) ≤ p → g.C.Collects.waits (string_of asked) p l.all;
+      going : l.bounds.limit_exceeded ≡ false;
+      begun : has_ended l.walk ≡ false;
+      gathered : (after : Bounds) (rest : FollowedRest l.walk l.bounds after) (last : g.row.C.Denot)
+          → gathers l.all rest.taken last
+          → (all : Followed g.row.A.Denot (asked_of asked) (code_of asked) l.fn.bounds.most l.fn.bounds.steps after)
+          × gathers l.fn.all all.taken last;
+    }
+
+abbrev pub decreases-walk : goal.decreases-walk
+decreases-walk g l = most_items l.walk

@@ -1,7 +1,0 @@
-use Rattle.sre_recipes.proofs.Telling.{unlimited}
-use Rattle.sre_recipes.proofs.divide.split_groups.Goals as goal
-
-pub returns-clause-ok : goal.returns-clause-ok
-returns-clause-ok g c = λ t tree.
-    let going = unlimited c.in_ok-add_all_with_groups.ensures.followed c.none-bounds.ensures.steps in
-    rw (c.new-pieces.ensures.items, c.none-bounds.ensures.most) at c.in_ok-add_all_with_groups.ensures.ok t tree going

@@ -1,7 +1,0 @@
-use Rattle.sre_recipes.proofs.Telling.{ok_unlimited}
-use Rattle.sre_recipes.proofs.replace.replace_all_bytes.Goals as goal
-
-pub returns-clause-ok : goal.returns-clause-ok
-returns-clause-ok g c = λ t tree.
-    ok_unlimited _ _ _ _ _ _ c.replaced_bytes.result _ c.none-bounds.ensures.steps c.replaced_bytes.ensures.followed
-    (rw c.none-bounds.ensures.most at c.replaced_bytes.ensures.ok t tree)
