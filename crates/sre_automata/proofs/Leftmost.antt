@@ -6,7 +6,8 @@ use Rattle.std.proofs.lemmas.Bool.{cases_lt}
 use Rattle.std.proofs.lemmas.List.Elements.{All-from_get_or}
 use Rattle.regex_hir.specs.Re.{Re, Trace, accept, attempt}
 use Rattle.regex_hir.specs.Find.{Match, find}
-use Rattle.regex_hir.proofs.FindLemmas.{none_of_first_between, first_between_cong, first_between_skip, first_between_here}
+use Rattle.regex_hir.proofs.FindLemmas.{none_of_first_between, first_between_cong, first_between_skip}
+use Rattle.regex_hir.proofs.FindLemmas.{first_between_here}
 use Rattle.regex_nfa.specs.Run.{run, find_in}
 use Rattle.regex_nfa.specs.Paths.{Accepts}
 use Rattle.regex_nfa.specs.declared.nfa.Nfa.{Nfa}

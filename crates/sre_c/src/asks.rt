@@ -1,6 +1,6 @@
 //! How a text is searched: by the machine, and with DFAs where the text's type allows it.
 
-ghost use Rattle.std.specs.Prelude.{◌≡◌, ◌≤◌, ⊤, ℕ, List, true, None, IfSome};
+ghost use Rattle.std.specs.Prelude.{◌≡◌, ◌≤◌, ⊤, ℕ, List, true, IfSome};
 ghost use Rattle.sre_chars.specs.Tables.{Table};
 ghost use Rattle.sre_engine.specs.Codes.{words_of, uni_of};
 ghost use Rattle.sre_engine.specs.FirstSets.{SetsOf};
@@ -18,7 +18,7 @@ use crate::types::SreWalked;
 use crate::walk::write_rows;
 use sre_engine::engine::{Nobody, Starts};
 use sre_engine::{Request, SreError, State, StrDrive, StringCursor};
-use sre_finder::{Encoding, Haystack, Kept, Memory, SpanFinder};
+use sre_finder::{Encoding, FEW_CHARACTERS, Haystack, Kept, Memory};
 use std::alloc::Global;
 
 /// The budget of a call without a step limit.
@@ -105,9 +105,6 @@ impl<S: StrDrive> Asks<S> for Machine {
     }
 }
 
-/// Within one call over so few characters, the machine cannot spend as much as DFAs cost.
-const FEW: usize = 128;
-
 // How many characters a range has.
 #[inline(always)]
 fn range<S: StrDrive>(request: &Request<'_, S>) -> usize {
@@ -128,10 +125,11 @@ impl<S: Haystack> Asks<S> for Once {
         request: &Request<'_, S>,
         steps: &mut u64,
     ) -> Result<Option<bool>, SreError> {
-        if range(request) <= FEW {
+        if range(request) <= FEW_CHARACTERS {
             return Machine.search(alloc, state, request, steps);
         }
-        Kept::new(Encoding::Bytes).search(alloc, state, request, steps)
+        let mut kept = Kept::new(Encoding::Bytes);
+        Asks::search(&mut kept, alloc, state, request, steps)
     }
 
     fn write(
@@ -142,7 +140,7 @@ impl<S: Haystack> Asks<S> for Once {
         rows: &mut [usize],
         walked: &mut SreWalked,
     ) -> Status {
-        if range(request) <= FEW {
+        if range(request) <= FEW_CHARACTERS {
             return Machine.write(alloc, request, width, rows, walked);
         }
         let mut kept = Kept::new(Encoding::Bytes);
@@ -162,12 +160,13 @@ impl<S: Haystack> Asks<S> for Kept {
         request: &Request<'_, S>,
         steps: &mut u64,
     ) -> Result<Option<bool>, SreError> {
-        if is_alone(self, request, *steps) {
-            let told = Machine.search(alloc, state, request, steps);
-            self.note_alone(state.started(), range(request));
-            return told;
+        let Ok(request) = request.clone() else {
+            unreachable!(); // it takes no memory
+        };
+        if *steps == NO_LIMIT {
+            return answered(self.search(alloc, request, state));
         }
-        search_by_finder(alloc, self, state, request, steps)
+        self.search_within(alloc, request, state, steps)
     }
 
     fn write(
@@ -205,7 +204,7 @@ pub fn memory_in(alloc: Global, kept: &mut Kept) -> Option<Box<Memory>>
 fn is_alone<S: StrDrive>(kept: &mut Kept, request: &Request<'_, S>, steps: u64) -> bool
     ensures suits { (ws : List ℕ) (uni : Table) → Suits ws uni kept.old → Suits ws uni kept.new }
 {
-    range(request) <= FEW && steps == NO_LIMIT && kept.is_alone()
+    range(request) <= FEW_CHARACTERS && steps == NO_LIMIT && kept.is_alone()
 }
 
 // The prefilter that skips nothing, and counts the runs that failed.
@@ -233,7 +232,8 @@ impl<S: StrDrive> Starts<S> for Failures {
     }
 }
 
-// Writes the matches with the memory of earlier calls: by the machine alone, or with the DFAs that are kept.
+// Writes the matches with the memory of earlier calls: by the machine alone, or with the DFAs that are kept. Within a
+// limit the machine finds each match, with a prefilter.
 fn write_in<S: Haystack>(
     alloc: Global,
     kept: &mut Kept,
@@ -259,79 +259,14 @@ fn write_in<S: Haystack>(
         kept.note_alone(failures.runs.saturating_add(1), characters);
         return status;
     }
-    let mut finder = finder_in(alloc, kept, request);
-    let status = write_by_finder(&mut finder, memory, request, width, rows, walked);
+    let encoding = request.string().encoding(request.end());
+    if walked.steps < NO_LIMIT {
+        // captures of a span, and what DFAs leave open, cost steps that nothing counts
+        kept.begin(alloc, encoding);
+        return write_rows(request, memory, kept, width, rows, walked);
+    }
+    let mut finder = kept.take(alloc, request.pattern_codes(), encoding);
+    let status = write_spans(&mut finder, request, memory, width, rows, walked);
     *kept = finder.into_kept();
     status
-}
-
-// Writes the matches with DFAs. Captures of a span, and what the DFAs leave open, cost steps that nothing counts. So
-// within a limit the machine finds each match, with a prefilter.
-fn write_by_finder<S: Haystack>(
-    finder: &mut SpanFinder<'_>,
-    memory: &mut Memory,
-    request: &mut Request<'_, S>,
-    width: usize,
-    rows: &mut [usize],
-    walked: &mut SreWalked,
-) -> Status
-    requires own { finder.old.code ≡ code_of request.old }
-    requires sets { SetsOf (items_of (code_of request.old)) memory.old.sets }
-    requires none { walked.old.count ≡ 0 }
-    ensures rows { Writes result request.old walked.old.steps width walked.new rows.new }
-    ensures steps { walked.new.steps ≤ walked.old.steps }
-    ensures unlimited { walked.old.steps ≡ no_limit → walked.new.steps ≡ walked.old.steps }
-    ensures own { finder.new.code ≡ code_of request.old }
-    ensures sets { SetsOf (items_of (code_of request.old)) memory.new.sets }
-{
-    if walked.steps == NO_LIMIT {
-        return write_spans(finder, request, memory, width, rows, walked);
-    }
-    finder.reset();
-    write_rows(request, memory, finder, width, rows, walked)
-}
-
-// The finder of a request's code with what is kept, which is taken out.
-#[inline(always)]
-fn finder_in<'a, S: Haystack>(
-    alloc: Global,
-    kept: &mut Kept,
-    request: &Request<'a, S>,
-) -> SpanFinder<'a>
-    requires suits { Suits (words_of (code_of request.now)) (uni_of (code_of request.now)) kept.old }
-    ensures own { result.code ≡ code_of request.now }
-    ensures end { result.end ≡ None }
-    ensures suits { Suits (words_of (code_of request.now)) (uni_of (code_of request.now)) kept.new }
-{
-    let encoding = request.string().encoding(request.end());
-    kept.take(alloc, request.pattern_codes(), encoding)
-}
-
-// Searches with the DFAs that are kept, or those that it builds. Not inlined, since its large frame is cleared at each
-// call.
-#[inline(never)]
-fn search_by_finder<S: Haystack>(
-    alloc: Global,
-    kept: &mut Kept,
-    state: &mut State<Global>,
-    request: &Request<'_, S>,
-    steps: &mut u64,
-) -> Result<Option<bool>, SreError>
-    requires suits { Suits (words_of (code_of request.now)) (uni_of (code_of request.now)) kept.old }
-    ensures finds { Finds (words_of (code_of request.now)) (asked_of request.now) true result state.new steps.old
-        steps.new }
-    ensures suits { Suits (words_of (code_of request.now)) (uni_of (code_of request.now)) kept.new }
-{
-    let mut finder = finder_in(alloc, kept, request);
-    let Ok(request) = request.clone() else {
-        unreachable!(); // it takes no memory
-    };
-    if *steps == NO_LIMIT {
-        let found = finder.search(request, state);
-        *kept = finder.into_kept();
-        return answered(found);
-    }
-    let told = finder.search_within(request, state, steps);
-    *kept = finder.into_kept();
-    told
 }

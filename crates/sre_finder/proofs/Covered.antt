@@ -1,10 +1,11 @@
 -- What a pattern that covers a code implies for its matches.
 use Rattle.std.proofs.Common.{◌≡◌, ◌≤◌, ◌<◌, ◌+◌, ℕ, List, [], length, Option, Some, None, IfSome, refl, ap, sym}
-use Rattle.std.proofs.Common.{subst, arith}
+use Rattle.std.proofs.Common.{subst, ◌∙◌, arith}
 use Rattle.regex_hir.specs.Re.{Re}
 use Rattle.regex_hir.specs.Matches.{Matches}
 use Rattle.regex_hir.specs.Meaning.{meaning}
 use Rattle.regex_hir.specs.declared.hir.Hir.{Hir}
+use Rattle.sre_chars.specs.Tables.{Table}
 use Rattle.sre_chars.specs.declared.string.StringCursor.{StringCursor}
 use Rattle.sre_model.specs.Tree.{Tree}
 use Rattle.sre_model.specs.Grammar.{WholeItems, behind_block}
@@ -19,8 +20,12 @@ use Rattle.sre_patterns.specs.Patterns.{view_of}
 use Rattle.sre_patterns.specs.declared.encoding.Encoding.{Encoding}
 use Rattle.sre_automata.specs.Told.{NoneLeft, NoneUpTo}
 use Rattle.sre_engine.specs.Starts.{NoneBetween}
+use Rattle.sre_engine.specs.FirstSets.{SetsOf}
 use Rattle.sre_finder.specs.Views.{SeenAs}
-use Rattle.sre_finder.specs.Finders.{Covering, CoveringAny, EndStands, NoneLeftOfAny}
+use Rattle.sre_finder.specs.Finders.{Covering, CoveringAny, Filters, SamePatterns, EndStands, NoneLeftOfAny}
+use Rattle.sre_finder.specs.Kepts.{Suits}
+use Rattle.sre_finder.specs.declared.kept.Kept.{Kept}
+use Rattle.sre_finder.specs.declared.prefilter.Prefilter.{Prefilter}
 use Rattle.sre_finder.specs.Spans.{ExactlyAny}
 
 module _ (encoding : Encoding) (a : Asked) (t : Tree) (re : Re) (place : ℕ → ℕ) (hay : List ℕ)
@@ -80,15 +85,6 @@ exactly_moved encoding code other (Some hir) e f x = record {
       (x.exact t (subst (λ ws. WholeItems ws t) (same_items code other e) whole));
 }
 
--- what covers a code covers it under another name
-pub covers_same : (encoding other : Encoding) (code own : Code) (pattern : Re) → Covering encoding code pattern
-    → encoding ≡ other → code ≡ own → (t : Tree) → WholeItems (items_of own) t
-    → CoversStart (view_of other) (uni_of own) pattern t
-covers_same encoding other code own pattern c e f t whole =
-    subst (λ k. CoversStart (view_of k) (uni_of own) pattern t) e
-    (subst (λ d. CoversStart (view_of encoding) (uni_of d) pattern t) f
-    (c.covers t (subst (λ d. WholeItems (items_of d) t) (sym f) whole)))
-
 -- a window's end stands in a text in one way
 pub end_once : (stands : StringCursor → ℕ → Type 0) → ((c : StringCursor) (p : ℕ) → IsProp (stands c p))
     → (o : Option StringCursor) → IsProp (EndStands stands o)
@@ -96,12 +92,45 @@ end_once stands once None = λ x y. refl
 end_once stands once (Some end) = once end end.position
 
 -- where no match is left of a pattern that covers a code, none of the code is
-pub none_left_of_any : (encoding : Encoding) (code own : Code) (o : Option Hir) → CoveringAny encoding code o
-    → code ≡ own → (a : Asked) → a.table ≡ uni_of own → (t : Tree) → WholeItems (items_of own) t → (place : ℕ → ℕ)
-    → (hay : List ℕ) → SeenAs encoding a.text place a.end hay → (p : ℕ) → NoneLeftOfAny hay o (place p)
-    → NoneBetween a t p (a.end + 1)
-none_left_of_any encoding code own None covering same a table t whole place hay seen p left = absurd left
-none_left_of_any encoding code own (Some hir) covering same a table t whole place hay seen p left =
-    let covers = covers_same encoding encoding code own (meaning hir) covering refl same t whole in
+pub none_left_of_any : (encoding : Encoding) (code : Code) (o : Option Hir) → CoveringAny encoding code o → (a : Asked)
+    → a.table ≡ uni_of code → (t : Tree) → WholeItems (items_of code) t → (place : ℕ → ℕ) → (hay : List ℕ)
+    → SeenAs encoding a.text place a.end hay → (p : ℕ) → NoneLeftOfAny hay o (place p) → NoneBetween a t p (a.end + 1)
+none_left_of_any encoding code None covering a table t whole place hay seen p left = absurd left
+none_left_of_any encoding code (Some hir) covering a table t whole place hay seen p left =
     no_start_left encoding a t (meaning hir) place hay
-    (subst (λ u. CoversStart (view_of encoding) u (meaning hir) t) (sym table) covers) seen p left
+    (subst (λ u. CoversStart (view_of encoding) u (meaning hir) t) (sym table) (covering.covers t whole)) seen p left
+
+-- the same patterns cover the same code
+pub filters_same : (code : Code) (old new : Prefilter) → SamePatterns old new → Filters code old → Filters code new
+filters_same code old new same filters = (
+  subst (λ o. CoveringAny new.encoding code o) (sym same.seeker)
+      (subst (λ e. CoveringAny e code old.seeker) (sym same.encoding) filters.0),
+  subst (λ o. CoveringAny new.encoding code o) (sym same.whole)
+      (subst (λ e. CoveringAny e code old.whole) (sym same.encoding) filters.1),
+)
+
+-- what is kept suits the same codes as long as its patterns and its memory are the same
+pub suits_same : (ws : List ℕ) (uni : Table) (old new : Kept) → SamePatterns old.starts new.starts
+    → new.spans.encoding ≡ old.spans.encoding → new.spans.exact ≡ old.spans.exact → new.memory ≡ old.memory
+    → Suits ws uni old → Suits ws uni new
+suits_same ws uni old new same e x m suits = record {
+  starts = λ code w u. (filters_same code old.starts new.starts same (suits.starts code w u, suits.whole code w u)).0;
+  whole = λ code w u. (filters_same code old.starts new.starts same (suits.starts code w u, suits.whole code w u)).1;
+  exact = λ code w u.
+      subst (λ o. ExactlyAny new.spans.encoding code o) (sym x)
+      (subst (λ k. ExactlyAny k code old.spans.exact) (sym e) (suits.exact code w u));
+  serves = subst (λ o. IfSome o (λ m. SetsOf (behind_block ws) m.value.sets)) (sym m) suits.serves;
+}
+
+-- what a prefilter has for a code suits each code of its words and its table
+module _ (ws : List ℕ) (uni : Table) (code : Code) (words : words_of code ≡ ws) (table : uni_of code ≡ uni) where
+  pub filters_kept : (kept : Kept) (starts : Prefilter) → Suits ws uni kept → Filters code starts
+      → Suits ws uni (record kept { starts = starts })
+  filters_kept kept starts suits filters = record {
+    starts = λ other w u.
+        covering_moved starts.encoding code other starts.seeker (w ∙ sym words) (u ∙ sym table) filters.0;
+    whole = λ other w u.
+        covering_moved starts.encoding code other starts.whole (w ∙ sym words) (u ∙ sym table) filters.1;
+    exact = suits.exact;
+    serves = suits.serves;
+  }

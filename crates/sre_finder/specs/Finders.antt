@@ -1,6 +1,6 @@
 -- What a finder knows of its code.
 -- Definitions for the contracts of this crate.
-use Rattle.std.specs.Prelude.{⊤, ℕ, List, Option, Some, None}
+use Rattle.std.specs.Prelude.{◌≡◌, ⊤, ℕ, List, Option, Some, None}
 use Rattle.regex_hir.specs.Re.{Re}
 use Rattle.regex_hir.specs.Meaning.{meaning}
 use Rattle.regex_hir.specs.declared.hir.Hir.{Hir}
@@ -13,6 +13,7 @@ use Rattle.sre_shape.specs.Covers.{CoversStart}
 use Rattle.sre_patterns.specs.Patterns.{view_of}
 use Rattle.sre_automata.specs.Told.{NoneLeft}
 use Rattle.sre_patterns.specs.declared.encoding.Encoding.{Encoding}
+use Rattle.sre_finder.specs.declared.prefilter.Prefilter.{Prefilter}
 
 -- a pattern covers each start of a code's tree
 pub record Covering (encoding : Encoding) (code : Code) (pattern : Re) : Type 0 where
@@ -22,6 +23,16 @@ pub record Covering (encoding : Encoding) (code : Code) (pattern : Re) : Type 0 
 abbrev pub CoveringAny : Encoding → Code → Option Hir → Type 0
 CoveringAny encoding code None = ⊤
 CoveringAny encoding code (Some hir) = Covering encoding code (meaning hir)
+
+-- the patterns of a prefilter cover a code
+abbrev pub Filters : Code → Prefilter → Type 0
+Filters code p = CoveringAny p.encoding code p.seeker × CoveringAny p.encoding code p.whole
+
+-- the patterns of a prefilter are those that it had, of the same encoding
+pub record SamePatterns (old new : Prefilter) : Type 0 where
+  pub encoding : new.encoding ≡ old.encoding
+  pub seeker : new.seeker ≡ old.seeker
+  pub whole : new.whole ≡ old.whole
 
 -- there is a pattern of which no match is left
 abbrev pub NoneLeftOfAny : List ℕ → Option Hir → ℕ → Type 0

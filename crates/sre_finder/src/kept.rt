@@ -7,8 +7,8 @@ ghost use Rattle.sre_code.specs.Codes.{words_of, uni_of};
 ghost use Rattle.sre_engine.specs.FirstSets.{SetsOf, no_sets};
 ghost use Rattle.sre_finder.specs.Kepts.{Suits, encoding_beside};
 
-use crate::finder::Parts;
 use crate::pace::{Alone, Debt, Reads};
+use crate::prefilter::Prefilter;
 use crate::span_finder::SpanFinder;
 use sre_automata::Seeker;
 use sre_code::Code;
@@ -21,7 +21,7 @@ use std::mem::replace;
 /// that is kept for many texts owns its code and this, and takes a [`SpanFinder`] out for each text.
 #[derive(Drop)]
 pub struct Kept {
-    pub(crate) starts: Parts,
+    pub(crate) starts: Prefilter,
     pub(crate) spans: Spans,
     pub(crate) memory: Option<Box<Memory>>,
 }
@@ -57,6 +57,18 @@ pub(crate) struct Spans {
     pub(crate) alone: Alone,
 }
 
+impl Spans {
+    // Records how many runs and characters a search took that found no span by DFAs.
+    #[inline(always)]
+    pub(crate) fn note_search(&mut self, runs: u64, characters: usize)
+        ensures encoding { self.new.encoding ≡ self.old.encoding }
+        ensures exact { self.new.exact ≡ self.old.exact }
+    {
+        self.debt.pay(runs, characters);
+        self.alone.note_search(runs);
+    }
+}
+
 // In which encoding a text is read, beside others that were read in one.
 #[inline(always)]
 fn encoding_beside(before: Encoding, encoding: Encoding) -> Encoding
@@ -76,7 +88,7 @@ impl Kept {
         ensures suits { (ws : List ℕ) (uni : Table) → Suits ws uni result }
     {
         Kept {
-            starts: Parts::new(encoding),
+            starts: Prefilter::new(encoding),
             spans: Spans {
                 encoding,
                 exact: None,
@@ -121,9 +133,8 @@ impl Kept {
     // Whether it was tried to build DFAs, and there are none.
     #[inline(always)]
     fn has_no_dfas(&self) -> bool {
-        let (starts, spans) = (&self.starts, &self.spans);
-        let has_none = starts.is_read && starts.seeker.is_none() && starts.whole.is_none();
-        spans.is_made && spans.exact.is_none() && has_none
+        let spans = &self.spans;
+        spans.is_made && spans.exact.is_none() && self.starts.has_no_patterns()
     }
 
     /// Records how many runs and characters a search by the machine alone took.
@@ -131,8 +142,31 @@ impl Kept {
     pub fn note_alone(&mut self, runs: u64, characters: usize)
         ensures suits { (ws : List ℕ) (uni : Table) → Suits ws uni self.old → Suits ws uni self.new }
     {
+        self.starts.pay(runs, characters);
         self.spans.debt.pay(runs, characters);
         self.spans.alone.note_runs(runs);
+    }
+
+    /// Begins a text that is read in an encoding, in which this is then the prefilter. DFAs that read another encoding
+    /// are dropped, as `take` drops them, and so is memory that is kept beside them.
+    #[inline(always)]
+    pub fn begin(&mut self, alloc: Global, encoding: Encoding)
+        ensures suits { (ws : List ℕ) (uni : Table) → Suits ws uni self.old → Suits ws uni self.new }
+        ensures end { self.new.starts.end ≡ None }
+    {
+        let encoding = encoding_beside(self.spans.encoding, encoding);
+        if self.spans.encoding != encoding {
+            self.restart(encoding);
+        }
+        self.starts.begin(alloc);
+    }
+
+    // Not inlined, since few calls need it, and what it moves is large.
+    #[inline(never)]
+    fn restart(&mut self, encoding: Encoding)
+        ensures suits { (ws : List ℕ) (uni : Table) → Suits ws uni self.new }
+    {
+        *self = Kept::new(encoding);
     }
 
     /// Takes out what is kept, and returns the finder of a code with it, for a text that is read in an encoding. DFAs
@@ -169,8 +203,12 @@ impl Kept {
             spans,
             memory: _,
         } = self;
+        let mut starts = starts;
+        starts.begin(alloc);
         SpanFinder {
-            finder: starts.into_finder(alloc, code),
+            alloc,
+            code,
+            starts,
             spans,
             reads: Reads::new(),
             is_new: true,

@@ -51,6 +51,9 @@ const LOOKING: u32 = 7 << 12;
 /// Number of runs in a step up to which the machine is probably faster than a DFA and the run that shows its span.
 const FEW: u64 = 2;
 
+/// Over so few characters, one call of the machine costs less than building DFAs.
+pub const FEW_CHARACTERS: usize = 128;
+
 /// Limit on a balance of steps: a step whose first start failed adds 2, any other step subtracts 1.
 const FAILING: u32 = 4;
 
@@ -185,6 +188,14 @@ impl Alone {
         }
     }
 
+    /// Records how many runs a search with a prefilter took. After few, the machine alone searches the next ranges.
+    #[inline(always)]
+    pub(crate) fn note_search(&mut self, runs: u64) {
+        if runs <= FEW {
+            self.note_shown();
+        }
+    }
+
     /// Returns whether the machine finds the next match alone.
     #[inline(always)]
     pub(crate) fn is_alone(&mut self) -> bool {
@@ -245,6 +256,12 @@ impl Pace {
     /// The DFAs are built when they are first run.
     pub(crate) fn hurry(&mut self) {
         self.debt = Debt::none();
+    }
+
+    /// Pays for what the machine has spent without a prefilter.
+    #[inline(always)]
+    pub(crate) fn pay(&mut self, runs: u64, characters: usize) {
+        self.debt.pay(runs, characters);
     }
 
     /// Begins another text.

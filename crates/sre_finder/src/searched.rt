@@ -1,12 +1,13 @@
 //! The search by a finder of spans, and the run of the machine that shows a span's match.
 
-ghost use Rattle.std.specs.Prelude.{◌≡◌, ◌≤◌, true, false, IfOk, IfSome, OnErr, None};
+ghost use Rattle.std.specs.Prelude.{◌≡◌, ◌≤◌, ℕ, List, true, false, IfOk, IfSome, OnErr, None};
+ghost use Rattle.sre_chars.specs.Tables.{Table};
 ghost use Rattle.sre_growth.specs.Refusal.{Refused};
 ghost use Rattle.sre_model.specs.Tree.{Tree};
 ghost use Rattle.sre_model.specs.Grammar.{Whole};
 ghost use Rattle.sre_model.specs.Marks.{no_marks};
 ghost use Rattle.sre_model.specs.Found.{found};
-ghost use Rattle.sre_code.specs.Codes.{items_of, words_of};
+ghost use Rattle.sre_code.specs.Codes.{items_of, words_of, uni_of};
 ghost use Rattle.sre_engine.specs.FirstSets.{SetsOf};
 ghost use Rattle.sre_request.specs.Requests.{string_of, start_of, end_of, code_of, asked_of, stands_in};
 ghost use Rattle.sre_engine.specs.Answers.{answer_of};
@@ -14,15 +15,18 @@ ghost use Rattle.sre_engine.specs.Counts.{KeepsToSteps, runs_of};
 ghost use Rattle.sre_engine.specs.Searches.{Answered};
 ghost use Rattle.sre_engine.specs.Within.{AnsweredWithin};
 ghost use Rattle.sre_finder.specs.Finders.{EndStands};
+ghost use Rattle.sre_finder.specs.Kepts.{Suits};
 ghost use Rattle.sre_finder.specs.Spans.{StepsFrom, ShowsStep, FindsNone};
 
 use crate::haystack::Haystack;
+use crate::kept::Kept;
+use crate::pace::FEW_CHARACTERS;
 use crate::span_finder::SpanFinder;
 use crate::span_iter::bars;
 use sre_chars::string::{StrDrive, StringCursor};
 use sre_engine::engine::{FirstSets, Nobody, SreError, Starts, State, step_admitted};
 use sre_request::Request;
-use std::alloc::Allocator;
+use std::alloc::{Allocator, Global};
 
 // Makes the state show the first match of a request that starts at a cursor, by the machine.
 pub(crate) fn show_at<S: StrDrive, A: Allocator + Copy>(
@@ -100,7 +104,8 @@ impl<'c> SpanFinder<'c> {
     /// start, or `None` if there is none. If `shows`, the state then shows the match with its captures.
     ///
     /// After a match, the request and the cursor are at its end, and the request must advance exactly if the match was
-    /// empty. Without a match the request is unchanged. `begin_walk` comes before the first step in a text.
+    /// empty. Without a match the request is unchanged, and what the state shows is unspecified. `begin_walk` comes
+    /// before the first step in a text.
     ///
     /// # Errors
     ///
@@ -157,7 +162,8 @@ impl<'c> SpanFinder<'c> {
         ensures encoding { self.new.encoding ≡ self.old.encoding }
     {
         let (start, end) = (req.start(), req.end());
-        let found = self.finder.search(req, state);
+        self.starts.reset();
+        let found = state.search_by(req, &mut self.starts);
         let reached = match found {
             Ok(true) => state.cursor().position(),
             _ => end,
@@ -187,7 +193,104 @@ impl<'c> SpanFinder<'c> {
         ensures code { self.new.code ≡ self.old.code }
         ensures encoding { self.new.encoding ≡ self.old.encoding }
     {
-        self.finder.search_within(req, state, steps)
+        self.starts.reset();
+        state.search_within_by(req, steps, &mut self.starts)
+    }
+}
+
+impl Kept {
+    /// Searches the range, and returns whether there is a match, which the state then shows. It skips starts that the
+    /// prefilter excludes. The machine alone searches a short range as long as it is probably faster. Without a match
+    /// the state has no captures. What it counts is unspecified.
+    ///
+    /// # Errors
+    ///
+    /// [`SreError::Memory`] if an allocation failed.
+    pub fn search<S: Haystack, A: Allocator + Copy>(
+        &mut self,
+        alloc: Global,
+        req: Request<'_, S>,
+        state: &mut State<A>,
+    ) -> Result<bool, SreError>
+        requires { Suits (words_of (code_of req)) (uni_of (code_of req)) self.old }
+        ensures answer { (t : Tree) → Whole (words_of (code_of req.entry)) t
+            → IfOk result (λ b. answer_of b state.new ≡ found (asked_of req.entry) t) }
+        ensures cursor { IfOk result
+            (λ b. b ≡ true → stands_in req.entry state.new.cursor state.new.cursor.position) }
+        ensures no { IfOk result (λ b. b ≡ false → state.new.marks ≡ no_marks) }
+        ensures err { OnErr result (state.new.marks ≡ no_marks) }
+        ensures refused { OnErr result (Refused A) }
+        ensures suits { Suits (words_of (code_of req.entry)) (uni_of (code_of req.entry)) self.new }
+    {
+        let (start, end) = (req.start(), req.end());
+        let characters = end.saturating_sub(start);
+        if self.is_alone_in(characters) {
+            let found = state.search_by(req, &mut Nobody);
+            self.note_alone(state.started(), characters);
+            return found;
+        }
+        self.begin(alloc, req.string().encoding(end));
+        let found = state.search_by(req, self);
+        let reached = match found {
+            Ok(true) => state.cursor().position(),
+            _ => end,
+        };
+        self.spans
+            .note_search(state.started(), reached.saturating_sub(start));
+        found
+    }
+
+    // Whether the machine alone is to search a range of so many characters.
+    #[inline(always)]
+    fn is_alone_in(&mut self, characters: usize) -> bool
+        ensures suits { (ws : List ℕ) (uni : Table) → Suits ws uni self.old → Suits ws uni self.new }
+    {
+        characters <= FEW_CHARACTERS && self.is_alone()
+    }
+
+    /// Searches the range within a budget of steps, as `State::search_within` does. It skips starts that the prefilter
+    /// excludes, and `steps` then holds the steps that are left. The prefilter charges none.
+    ///
+    /// # Errors
+    ///
+    /// [`SreError::Memory`] if an allocation failed. Never if a confirmed prefix is the whole code.
+    pub fn search_within<S: Haystack, A: Allocator + Copy>(
+        &mut self,
+        alloc: Global,
+        req: Request<'_, S>,
+        state: &mut State<A>,
+        steps: &mut u64,
+    ) -> Result<Option<bool>, SreError>
+        requires { Suits (words_of (code_of req)) (uni_of (code_of req)) self.old }
+        ensures answers { AnsweredWithin req.entry result state.new }
+        ensures steps { KeepsToSteps A (asked_of req.entry) (code_of req.entry) result (runs_of state.new) steps.old
+            steps.new }
+        ensures refused { OnErr result (Refused A) }
+        ensures suits { Suits (words_of (code_of req.entry)) (uni_of (code_of req.entry)) self.new }
+    {
+        self.begin(alloc, req.string().encoding(req.end()));
+        state.search_within_by(req, steps, self)
+    }
+}
+
+/// What is kept excludes starts by its prefilter.
+impl<S: Haystack> Starts<S> for Kept {
+    ghost suits = { λ kept string code. Suits (words_of code) (uni_of code) kept
+        × EndStands (S.stands string) kept.starts.end };
+
+    #[inline(always)]
+    fn beyond(&mut self, req: &Request<'_, S>, from: StringCursor) -> Option<StringCursor> {
+        self.starts.beyond(req, from)
+    }
+
+    #[inline(always)]
+    fn tells(&self) -> bool {
+        Starts::<S>::tells(&self.starts)
+    }
+
+    #[inline(always)]
+    fn note_failed(&mut self) {
+        self.starts.fail();
     }
 }
 
@@ -197,16 +300,16 @@ impl<'c, S: Haystack> Starts<S> for SpanFinder<'c> {
 
     #[inline(always)]
     fn beyond(&mut self, req: &Request<'_, S>, from: StringCursor) -> Option<StringCursor> {
-        self.finder.beyond(req, from)
+        self.starts.beyond(req, from)
     }
 
     #[inline(always)]
     fn tells(&self) -> bool {
-        Starts::<S>::tells(&self.finder)
+        Starts::<S>::tells(&self.starts)
     }
 
     #[inline(always)]
     fn note_failed(&mut self) {
-        self.finder.fail();
+        self.starts.fail();
     }
 }

@@ -11,10 +11,10 @@ ghost use Rattle.sre_finder.specs.Finders.{EndStands};
 ghost use Rattle.sre_finder.specs.Kepts.{Suits};
 ghost use Rattle.sre_finder.specs.Spans.{ExactlyAny, Knows, Between, StepsFrom, ShowsStep, FindsNone};
 
-use crate::finder::{Finder, SIZE_LIMIT};
 use crate::haystack::Haystack;
 use crate::kept::{Kept, Spans};
 use crate::pace::{Debt, Reads, is_anchored};
+use crate::prefilter::{Prefilter, SIZE_LIMIT};
 use sre_automata::{FirstMatch, Seeker};
 use sre_chars::string::{StrDrive, StringCursor};
 use sre_code::Code;
@@ -41,10 +41,13 @@ enum Known {
     Unknown,
 }
 
-/// DFAs that find the spans of a code's matches. If the code has no such DFAs, a [`Finder`], which only skips starts.
+/// DFAs that find the spans of a code's matches. If the code has no such DFAs, a [`Finder`](crate::Finder), which only
+/// skips starts.
 #[derive(Drop)]
 pub struct SpanFinder<'c> {
-    pub(crate) finder: Finder<'c>,
+    pub(crate) alloc: Global,
+    pub(crate) code: Code<'c>,
+    pub(crate) starts: Prefilter,
     pub(crate) spans: Spans,
     // how much its DFAs have read of this text
     pub(crate) reads: Reads,
@@ -53,14 +56,14 @@ pub struct SpanFinder<'c> {
 }
 
 impl<'c> Model for SpanFinder<'c> {
-    ghost use Rattle.sre_finder.specs.Finders.{FinderValue};
+    ghost use Rattle.sre_finder.specs.Finders.{FinderValue, Filters};
     ghost use Rattle.sre_finder.specs.Spans.{ExactlyAny};
 
     ghost Value = { FinderValue };
 
-    ghost view = { λ f. record { code = f.finder.code; encoding = f.spans.encoding; end = f.finder.end } };
+    ghost view = { λ f. record { code = f.code; encoding = f.spans.encoding; end = f.starts.end } };
 
-    ghost invariant = { λ f. ExactlyAny f.spans.encoding f.finder.code f.spans.exact };
+    ghost invariant = { λ f. Filters f.code f.starts × ExactlyAny f.spans.encoding f.code f.spans.exact };
 }
 
 impl<'c> SpanFinder<'c> {
@@ -68,7 +71,8 @@ impl<'c> SpanFinder<'c> {
     /// `Encoding::Utf8` for a `str`, and `Encoding::Ascii` for a `str` that is ASCII up to the end of the range. In any
     /// other text the machine finds each span.
     ///
-    /// The call never fails. If no DFAs find spans, it is a [`Finder`] of the code, which may have no DFAs either.
+    /// The call never fails. If no DFAs find spans, it is a [`Finder`](crate::Finder) of the code, which may have no DFAs
+    /// either.
     pub fn new(alloc: Global, code: Code<'c>, encoding: Encoding) -> SpanFinder<'c>
         ensures code { result.code ≡ code.entry }
         ensures encoding { result.encoding ≡ encoding }
@@ -97,14 +101,13 @@ impl<'c> SpanFinder<'c> {
         ensures encoding { self.new.encoding ≡ self.old.encoding }
         ensures end { self.new.end ≡ self.old.end }
     {
-        let (alloc, code) = (self.finder.alloc(), self.finder.code());
         self.spans.debt = Debt::none();
         self.spans.is_made = true;
-        self.spans.exact = exact_of(alloc, code, self.spans.encoding);
+        self.spans.exact = exact_of(self.alloc, self.code, self.spans.encoding);
         if self.spans.exact.is_none() {
-            self.finder.hurry();
+            self.starts.hurry();
         } else {
-            self.finder.know();
+            self.starts.know(self.code);
         }
     }
 
@@ -123,13 +126,15 @@ impl<'c> SpanFinder<'c> {
         ensures suits { Suits (words_of self.entry.code) (uni_of self.entry.code) result }
     {
         let SpanFinder {
-            finder,
+            alloc: _,
+            code: _,
+            starts,
             spans,
             reads: _,
             is_new: _,
         } = self;
         Kept {
-            starts: finder.into_parts(),
+            starts,
             spans,
             memory: None,
         }
@@ -146,7 +151,7 @@ impl<'c> SpanFinder<'c> {
         ensures encoding { self.new.encoding ≡ self.old.encoding }
         ensures end { self.new.end ≡ None }
     {
-        self.finder.reset();
+        self.starts.reset();
         self.reads = Reads::new();
         self.is_new = true;
         if let Some(exact) = &mut self.spans.exact {
@@ -202,7 +207,7 @@ impl<'c> SpanFinder<'c> {
         if self.spans.exact.is_none() || req.match_all() {
             return Known::Unknown;
         }
-        let end = self.finder.end_in(req, from);
+        let end = self.starts.end_in(req, from);
         let text = req.string();
         let Some(hay) = text.hay(self.spans.encoding, end) else {
             return Known::Unknown;
@@ -251,7 +256,7 @@ impl<'c> SpanFinder<'c> {
     {
         let from = *cursor;
         sets.note_step(req);
-        let is_found = step_admitted(req, state, cursor, &mut self.finder, sets)?;
+        let is_found = step_admitted(req, state, cursor, &mut self.starts, sets)?;
         let reached = if is_found {
             cursor.position()
         } else {
@@ -309,7 +314,7 @@ impl<'c> SpanFinder<'c> {
         }
         // a missing literal is found before DFAs read the text
         let is_first = replace(&mut self.is_new, false);
-        if is_first && self.finder.lacks_literal(req, *cursor) {
+        if is_first && self.starts.lacks_literal(req, *cursor) {
             return Ok(None);
         }
         match self.known(req, *cursor) {

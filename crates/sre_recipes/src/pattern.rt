@@ -382,7 +382,7 @@ impl Pattern {
     }
 }
 
-// Searches the range of a request of the code to which the DFAs belong. They are put back.
+// Searches the range of a request of the code to which the DFAs belong.
 fn search_kept<S: Haystack>(
     alloc: Global,
     request: Request<'_, S>,
@@ -400,11 +400,7 @@ fn search_kept<S: Haystack>(
     ensures refused { OnErr result (Refused Global) }
     ensures suits { Suits (words_of (code_of request.entry)) (uni_of (code_of request.entry)) kept.new }
 {
-    let encoding = request.string().encoding(request.end());
-    let mut finder = kept.take(alloc, request.pattern_codes(), encoding);
-    let found = finder.search(request, state);
-    *kept = finder.into_kept();
-    found
+    kept.search(alloc, request, state)
 }
 
 // An iteration over a request's matches, with the DFAs of its code. They are taken out.

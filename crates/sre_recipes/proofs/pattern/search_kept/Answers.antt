@@ -4,5 +4,5 @@ use Rattle.sre_recipes.proofs.pattern.search_kept.Goals as goal
 
 pub returns-clause-forward : goal.returns-clause-forward
 returns-clause-forward g c =
-    found_forward (asked_of c.args.request) (code_of c.args.request) c.search-found.result c.search-found.new.state
-    c.search-found.ensures.answer
+    found_forward (asked_of c.args.request) (code_of c.args.request) c.search.result c.search.new.state
+    c.search.ensures.answer

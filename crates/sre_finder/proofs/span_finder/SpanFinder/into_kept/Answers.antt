@@ -6,17 +6,16 @@ use Rattle.sre_finder.proofs.span_finder.SpanFinder.into_kept.Goals as goal
 pub returns-clause-suits : goal.returns-clause-suits
 returns-clause-suits c =
     let f = c.self.inside in
-    let parts = c.into_parts.result in
-    let own : c.args.self.code ≡ f.finder.code = search rules in
+    let own : c.args.self.code ≡ f.code = search rules in
     record {
       starts = λ code words uni.
-          covering_moved parts.encoding f.finder.code code parts.seeker (words ∙ ap words_of own)
-          (uni ∙ ap uni_of own) c.into_parts.ensures.starts;
+          covering_moved f.starts.encoding f.code code f.starts.seeker (words ∙ ap words_of own) (uni ∙ ap uni_of own)
+          c.self.invariant.0.0;
       whole = λ code words uni.
-          covering_moved parts.encoding f.finder.code code parts.whole (words ∙ ap words_of own)
-          (uni ∙ ap uni_of own) c.into_parts.ensures.whole;
+          covering_moved f.starts.encoding f.code code f.starts.whole (words ∙ ap words_of own) (uni ∙ ap uni_of own)
+          c.self.invariant.0.1;
       exact = λ code words uni.
-          exactly_moved f.spans.encoding f.finder.code code f.spans.exact (words ∙ ap words_of own)
-          (uni ∙ ap uni_of own) c.self.invariant;
+          exactly_moved f.spans.encoding f.code code f.spans.exact (words ∙ ap words_of own) (uni ∙ ap uni_of own)
+          c.self.invariant.1;
       serves = tt;
     }

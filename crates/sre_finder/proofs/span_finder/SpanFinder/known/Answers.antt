@@ -37,18 +37,18 @@ cursor_up_to-requires-clause-behind g c =
     let place = g.S.Haystack.place text in
     let encoding = c.self.inside.spans.encoding in
     let pattern = meaning c.in-Some-exact.exact in
-    let own : Exactly encoding c.self.inside.finder.code pattern = rw c.in-Some-exact.is at c.self.invariant in
+    let own : Exactly encoding c.self.inside.code pattern = rw c.in-Some-exact.is at c.self.invariant.1 in
     let seen = subst (λ n. SeenAs encoding a.text place n hay) c.end_in-end.ensures.end
     (subst (λ l. SeenAs encoding l place c.end_in-end.result.position hay)
     (ap g.S.StrDrive.text c.string-text.ensures) c.in-Some.ensures) in
     let here = (g.met.S.StrDrive.stands_at (string_of asked) c.args.from (start_of asked) c.requires.stands).0 in
-    let code : c.self.inside.finder.code ≡ code_of asked = search rules in
+    let code : c.self.inside.code ≡ code_of asked = search rules in
     let all : a.match_all ≡ false = search rules in
     let start : c.place_of-place.result ≡ place a.start = c.place_of-place.ensures ∙ ap place here in
     let is = subst (λ n. IsBetween hay pattern n c.in-Between.first c.in-Between.last) start
     (c.in-Between.ensures.finds) in
     let tree = tree_of (items_of (code_of asked)) in
-    let x = exact_same encoding c.self.inside.finder.code (code_of asked) pattern own code tree
+    let x = exact_same encoding c.self.inside.code (code_of asked) pattern own code tree
     (whole_of asked.pattern_codes) in
     let there = first_reached encoding a pattern place hay own.reads all asked.in_window.0.0 seen tree x
     c.in-Between.first c.in-Between.last is c.args.from.position c.cursor_up_to-start.result.position
@@ -69,19 +69,19 @@ returns-clause-knows g c =
     let place = g.S.Haystack.place text in
     let encoding = c.self.inside.spans.encoding in
     let pattern = meaning c.in-Some-exact.exact in
-    let own : Exactly encoding c.self.inside.finder.code pattern = rw c.in-Some-exact.is at c.self.invariant in
+    let own : Exactly encoding c.self.inside.code pattern = rw c.in-Some-exact.is at c.self.invariant.1 in
     let seen = subst (λ n. SeenAs encoding a.text place n hay) c.end_in-end.ensures.end
     (subst (λ l. SeenAs encoding l place c.end_in-end.result.position hay)
     (ap g.S.StrDrive.text c.string-text.ensures) c.in-Some.ensures) in
     let here = (g.met.S.StrDrive.stands_at (string_of asked) c.args.from (start_of asked) c.requires.stands).0 in
-    let code : c.self.inside.finder.code ≡ code_of asked = search rules in
+    let code : c.self.inside.code ≡ code_of asked = search rules in
     let all : a.match_all ≡ false = search rules in
     let start : c.place_of-place.result ≡ place a.start = c.place_of-place.ensures ∙ ap place here in
     let told = subst (λ n. FindsFirst hay pattern n c.first_match.result) start
     (c.first_match.ensures.finds) in
     let window : a.start ≤ a.end = asked.in_window.0.0 in
     let tries = λ (t : Tree) (whole : Whole (words_of (code_of asked)) t).
-    exact_same encoding c.self.inside.finder.code (code_of asked) pattern own code t
+    exact_same encoding c.self.inside.code (code_of asked) pattern own code t
     (items_whole asked.pattern_codes t whole) in
     elim c.match-first_match.branch [
       | in-Nothing w ↦
@@ -95,7 +95,7 @@ returns-clause-knows g c =
           let is : IsBetween hay pattern (place a.start) w.in-Between.first w.in-Between.last =
           rw w.in-Between.is at told in
           let tree = tree_of (items_of (code_of asked)) in
-          let x = exact_same encoding c.self.inside.finder.code (code_of asked) pattern own code tree
+          let x = exact_same encoding c.self.inside.code (code_of asked) pattern own code tree
           (whole_of asked.pattern_codes) in
           let first = w.cursor_up_to-start.result in
           let last = w.cursor_up_to.result in

@@ -3,7 +3,7 @@ use Rattle.sre_code.specs.Codes.{uni_of}
 use Rattle.sre_patterns.specs.Patterns.{view_of}
 use Rattle.sre_shape.proofs.Fronts.{start-covers}
 use Rattle.sre_finder.proofs.Covered.{covering}
-use Rattle.sre_finder.proofs.finder.whole_of.Goals as goal
+use Rattle.sre_finder.proofs.prefilter.whole_of.Goals as goal
 
 pub returns : goal.returns
 returns c =

@@ -1,5 +1,5 @@
 use Rattle.sre_finder.proofs.Covered.{covering}
-use Rattle.sre_finder.proofs.finder.seeker_of.Goals as goal
+use Rattle.sre_finder.proofs.prefilter.seeker_of.Goals as goal
 
 pub returns : goal.returns
 returns c =
