@@ -71,8 +71,8 @@ impl<'c> SpanFinder<'c> {
     /// `Encoding::Utf8` for a `str`, and `Encoding::Ascii` for a `str` that is ASCII up to the end of the range. In any
     /// other text the machine finds each span.
     ///
-    /// The call never fails. If no DFAs find spans, it is a [`Finder`](crate::Finder) of the code, which may have no DFAs
-    /// either.
+    /// The call never fails. If no DFAs find spans, it is a [`Finder`](crate::Finder) of the code, which may have no
+    /// DFAs either.
     pub fn new(alloc: Global, code: Code<'c>, encoding: Encoding) -> SpanFinder<'c>
         ensures code { result.code ≡ code.entry }
         ensures encoding { result.encoding ≡ encoding }

@@ -13,7 +13,7 @@ use Rattle.sre_engine.specs.Found.{Asked, Match, found, walk}
 use Rattle.sre_engine.specs.Codes.{words_of, hints_of}
 use Rattle.sre_code.proofs.Checked.{code_tree}
 use Rattle.sre_model.proofs.FoundLaws.{found-is}
-use Rattle.sre_engine.specs.Requests.{string_of, start_of, end_of, code_of, asked_of, stands_in}
+use Rattle.sre_engine.specs.Requests.{string_of, start_of, end_of, code_of, asked_of}
 use Rattle.sre_engine.specs.Answers.{Shown, match_shown, answer_of}
 use Rattle.sre_finder.specs.declared.span_iter.Span.{Span}
 use Rattle.sre_finder.specs.declared.span_iter.SpanIter.{SpanIter}
@@ -103,11 +103,6 @@ answered : (b : Bool) (s : Shown) (m : Match) → b ≡ true → answer_of b s �
 answered true s m found_one is = cc
 answered false s m found_one is = absurd (cc)
 
--- the answer is one, where there is a match
-never_none : (b : Bool) (s : Shown) (m : Match) → b ≡ false → answer_of b s ≡ Some m → ⊥
-never_none true s m none is = cc
-never_none false s m none is = cc
-
 -- after a step over a span the state is made to show its match
 module _ {S A : Type 0} {text : Ghosts S} (it mid next : SpanIter S A text) (span : Span) (b : Bool)
     (gives : GivesSpan it span mid) (request : request_of next ≡ request_of mid)
@@ -135,10 +130,6 @@ module _ {S A : Type 0} {text : Ghosts S} (it mid next : SpanIter S A text) (spa
   tree =
       let own = code_of (request_of it) in
       let is = code_tree (words_of own) (hints_of own) own.checked in (is.0, is.1)
-
-  pub never_false : b ≡ false → ⊥
-  never_false none =
-      let one = given tree.0 tree.1 in never_none b (shown_of next) one.0 none one.4
 
   pub finds_shown : b ≡ true → (start end : StringCursor)
       → IsSpan (text.stands (string_of (request_of it))) (shown_of next) start end → FindsNext true it start end next

@@ -1,7 +1,7 @@
-use Rattle.std.proofs.Common.{◌≡◌, ◌≤◌, ℕ, List, refl, sym, ap, ◌∙◌, subst, arith}
+use Rattle.std.proofs.Common.{◌≤◌, List, refl, sym, ◌∙◌, subst, arith}
 use Rattle.sre_engine.specs.Codes.{words_of}
 use Rattle.sre_engine.specs.Found.{Match}
-use Rattle.sre_engine.specs.Requests.{string_of, start_of, end_of, code_of, asked_of}
+use Rattle.sre_engine.specs.Requests.{string_of, start_of, end_of, code_of}
 use Rattle.sre_engine.specs.Iterators.{request_of, shown_of}
 use Rattle.sre_engine.specs.Answers.{match_shown}
 use Rattle.sre_recipes.specs.Spans.{IsSpan}

@@ -1,8 +1,7 @@
-use Rattle.std.proofs.Common.{◌≡◌, ◌≤◌, ℕ, List, sym, ap, ◌∙◌, subst, arith}
+use Rattle.std.proofs.Common.{List, sym, ap, ◌∙◌, subst, arith}
 use Rattle.sre_engine.specs.Found.{Match}
-use Rattle.sre_engine.specs.Requests.{string_of, start_of, end_of, code_of}
-use Rattle.sre_finder.specs.SpanIters.{request_of, shown_of, left_of}
-use Rattle.sre_recipes.specs.Spans.{StandsAt}
+use Rattle.sre_engine.specs.Requests.{string_of, end_of, code_of}
+use Rattle.sre_finder.specs.SpanIters.{request_of, left_of}
 use Rattle.sre_recipes.proofs.Passing.{stays_on}
 use Rattle.sre_recipes.proofs.every.collect_spans.Goals as goal
 

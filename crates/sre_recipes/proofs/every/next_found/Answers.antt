@@ -1,4 +1,4 @@
-use Rattle.std.proofs.Common.{◌≡◌, ℕ, Ok, ap, ◌∙◌}
+use Rattle.std.proofs.Common.{ℕ, Ok, ap, ◌∙◌}
 use Rattle.sre_engine.specs.Requests.{string_of, code_of}
 use Rattle.sre_finder.specs.SpanIters.{request_of, shown_of, last_asked}
 use Rattle.sre_recipes.specs.Spans.{IsSpan}

@@ -1,12 +1,11 @@
-use Rattle.std.proofs.Common.{◌≡◌, ◌≤◌, ◌++◌, ℕ, map, ap, sym, ◌∙◌, subst}
+use Rattle.std.proofs.Common.{◌≡◌, ◌++◌, ℕ, map, ap, sym, ◌∙◌, subst}
 use Rattle.sre_engine.specs.Tree.{Tree}
 use Rattle.sre_engine.specs.Codes.{words_of}
 use Rattle.sre_engine.specs.Requests.{string_of, start_of, end_of, code_of, asked_of}
-use Rattle.sre_engine.specs.Answers.{Shown, match_shown}
+use Rattle.sre_engine.specs.Answers.{match_shown}
 use Rattle.sre_engine.specs.Iterators.{request_of, shown_of, left_of}
 use Rattle.sre_recipes.specs.Lexed.{token_matches, reached, lexeme_of, lexeme_shown}
 use Rattle.sre_recipes.specs.Adjoining.{adjoining, unless_empty}
-use Rattle.sre_recipes.specs.Spans.{StandsAt}
 use Rattle.sre_recipes.proofs.Adjoining.{walk_tokens}
 use Rattle.sre_recipes.proofs.Begun.{all_left}
 use Rattle.sre_recipes.proofs.Steps.{walk_step, kept_first, kept_on, next_start, stands_there}
@@ -85,5 +84,7 @@ walk-init g c =
           (λ tokens. map (lexeme_shown g.S.StrDrive.text) tokens ++ map lexeme (adjoining start (left_of it t)))
           c.new.ensures.items
           ∙ ap (map lexeme) (tokens t);
-      end = λ t tree. ap (reached start) (tokens t) ∙ ap (λ (p : ℕ). reached p (token_matches (asked_of asked) t)) (ap start_of same);
+      end = λ t tree.
+          let matches = token_matches (asked_of asked) t in
+          ap (reached start) (tokens t) ∙ ap (λ (p : ℕ). reached p matches) (ap start_of same);
     }

@@ -8,4 +8,5 @@ invariant_of-result c =
     let code = c.args.code in
     let filters : Filters code c.args.self.starts =
     (c.requires.starts code refl refl, c.requires.whole code refl refl) in
-    (filters_same code c.args.self.starts c.begin.new.self c.begin.ensures.same filters, c.requires.exact code refl refl)
+    let begun = filters_same code c.args.self.starts c.begin.new.self c.begin.ensures.same filters in
+    (begun, c.requires.exact code refl refl)
