@@ -1,6 +1,7 @@
 -- Where the first code words leave no match path.
-use Rattle.std.proofs.Common.{◌≡◌, ℕ, zero, suc, ◌+◌, ◌-◌, ◌<◌, Bool, true, false, List, [], length, nat_lt}
+use Rattle.std.proofs.Common.{◌≡◌, ℕ, zero, suc, ◌+◌, ◌-◌, ◌<◌, Bool, true, false, cond, List, [], length, nat_lt}
 use Rattle.std.proofs.Common.{nat_le, ◌⊎◌, inl, inr, refl, sym, ap, ◌∙◌, subst, arith, true≢false}
+use Rattle.std.specs.List.{flat_map}
 use Rattle.std.proofs.lemmas.Bool.{cases_lt}
 use Rattle.std.proofs.lemmas.Bool.Decides.{nat_tests}
 use Rattle.sre_chars.specs.Numbers.{at_number}
@@ -9,7 +10,7 @@ use Rattle.sre_chars.specs.declared.constants.SreOpcode.TheVariants as opcode
 use Rattle.sre_chars.specs.declared.constants.SreAtCode.{SreAtCode}
 use Rattle.sre_model.specs.Tree.{Tree, Empty, Then, Item, One, At, Mark, Branch, Loop, Run, PossessiveLoop, Atomic}
 use Rattle.sre_model.specs.Tree.{Look, Test}
-use Rattle.sre_model.specs.Tree.{Trees, Only, Or, Order, Greedy, Lazy, RunKind, GreedyRun, LazyRun, PossessiveRun}
+use Rattle.sre_model.specs.Tree.{Trees, Only, Or, RunKind, GreedyRun, LazyRun, PossessiveRun}
 use Rattle.sre_model.specs.Tree.{Positive}
 use Rattle.sre_model.specs.Marks.{Marks, set_mark}
 use Rattle.sre_model.specs.Subject.{Subject, passes, holds_at}
@@ -18,14 +19,16 @@ use Rattle.sre_model.specs.Grammar.{Reads, ReadsBranch, Operands, ReadsItem, Who
 use Rattle.sre_model.specs.Roles.{Role, ToTest, role, ToCheckPosition, ToMark, ToBranch, ToRun, ToRepeat}
 use Rattle.sre_model.specs.Roles.{ToRepeatPossessively}
 use Rattle.sre_model.specs.Roles.{ToGroupAtomically, ToLook, TestKind, begins_test}
-use Rattle.sre_model.specs.Ways.{ways, most_from, longest_run}
+use Rattle.sre_model.specs.Ways.{Way, Body, first, here, most_from, longest_run, run_ways, within, least, ways}
+use Rattle.sre_model.specs.Ways.{item_ways}
 use Rattle.sre_model.specs.Standing.{HasTest}
 use Rattle.sre_model.specs.FirstCharacters.{NoWay, NoneOf, NotPassed, is_end, TreeStands, HasTree, HasAlternatives}
 use Rattle.sre_model.specs.FirstCharacters.{Leads}
 use Rattle.sre_model.proofs.Words.{same_word, same_opcode, same_at, word_within, opcode_within}
-use Rattle.sre_model.proofs.Longest.{run_has}
-use Rattle.sre_model.proofs.Families.{HasRole, is_branch, is_one, is_at, is_mark, is_loop, is_run, is_possessive}
-use Rattle.sre_model.proofs.Families.{is_atomic, is_look, role_here, some_test}
+use Rattle.sre_model.proofs.Longest.{run_none}
+use Rattle.sre_model.proofs.LoopCases.{cond-same}
+use Rattle.sre_model.proofs.Families.{HasRole, until_role, is_branch, is_one, is_at, is_mark, is_loop, is_run}
+use Rattle.sre_model.proofs.Families.{is_possessive, is_atomic, is_look, role_here, some_test}
 
 -- Which opcodes begin what is looked at
 
@@ -33,73 +36,37 @@ pub some_test_here : (ws : List ℕ) (i : ℕ) (o : SreOpcode) → Opcode ws i o
     → (kind : TestKind) × HasRole ws i (ToTest kind)
 some_test_here ws i o w e = let k = some_test o e in (k.0, role_here ws i o (ToTest k.0) w k.1)
 
--- Where a tree has no way, by its first item
-
-one_none : (s : Subject) (t : Test) (rest : Tree) (p : ℕ) → passes s t p ≡ false → NoWay s (Then (One t) rest) p
-one_none s t rest p e = record { none = λ m. rw e refl }
-
-at_none : (s : Subject) (a : SreAtCode) (rest : Tree) (p : ℕ) → holds_at s a p ≡ false → NoWay s (Then (At a) rest) p
-at_none s a rest p e = record { none = λ m. rw e refl }
-
--- where a position code holds, what follows is left
+-- what follows an item is left, where the item reads nothing
 at_passed : (s : Subject) (a : SreAtCode) (rest : Tree) (p : ℕ) → NoWay s rest p → NoWay s (Then (At a) rest) p
-at_passed s a rest p w = record { none = λ m. by_code m (holds_at s a p) refl }
+at_passed s a rest p w = record { none = λ m. by_code m (holds_at s a p) }
   where
-    by_code : (m : Marks) (b : Bool) → holds_at s a p ≡ b → ways s (Then (At a) rest) p m ≡ []
-    by_code m true e = rw (e, w.none m) refl
-    by_code m false e = rw e refl
+    by_code : (m : Marks) (b : Bool) → flat_map (λ v. ways s rest v.stop v.marks) (cond b (here p m) []) ≡ []
+    by_code m true = rw (w.none m) refl
+    by_code m false = refl
 
-mark_none : (s : Subject) (n : ℕ) (rest : Tree) (p : ℕ) → NoWay s rest p → NoWay s (Then (Mark n) rest) p
-mark_none s n rest p w = record { none = λ m. rw (w.none (set_mark m n p)) refl }
+mark_passed : (s : Subject) (n : ℕ) (rest : Tree) (p : ℕ) → NoWay s rest p → NoWay s (Then (Mark n) rest) p
+mark_passed s n rest p w = record { none = λ m. rw (w.none (set_mark m n p)) refl }
 
 -- a run that owes a character
-run_none : (s : Subject) (kind : RunKind) (low high : ℕ) (t : Test) (rest : Tree) (p : ℕ) → 0 < low
-    → passes s t p ≡ false → NoWay s (Then (Run kind low high t) rest) p
-run_none s kind low high t rest p l e = record { none = λ m. by_kind kind m }
+run_barred : (s : Subject) (kind : RunKind) (low high : ℕ) (t : Test) (p : ℕ) (m : Marks) → 0 < low
+    → passes s t p ≡ false → run_ways s kind low high t p m ≡ []
+run_barred s kind low high t p m l e = by_kind kind
   where
     none : longest_run s t high p ≡ 0
-    none =
-        run_has s t (most_from s high p) p 0 (omega arith) (λ c k. absurd (omega (arith, k)))
-        (λ _. let here : p + 0 ≡ p = omega arith in rw here e)
+    none = run_none s t (most_from s high p) p e
 
-    by_kind : (k : RunKind) (m : Marks) → ways s (Then (Run k low high t) rest) p m ≡ []
-    by_kind GreedyRun m = let owed : 0 + 1 - low ≡ 0 = omega (arith, l) in rw (none, owed) refl
-    by_kind LazyRun m = let owed : 0 + 1 - low ≡ 0 = omega (arith, l) in rw (none, owed) refl
-    by_kind PossessiveRun m =
-        let owed : nat_le low 0 ≡ false = grind (arith, nat_tests, l) in
-        rw (none, owed) refl
+    by_kind : (k : RunKind) → run_ways s k low high t p m ≡ []
+    by_kind GreedyRun = let owed : 0 + 1 - low ≡ 0 = omega (arith, l) in rw (none, owed) refl
+    by_kind LazyRun = let owed : 0 + 1 - low ≡ 0 = omega (arith, l) in rw (none, owed) refl
+    by_kind PossessiveRun = let owed : nat_le low 0 ≡ false = grind (arith, nat_tests, l) in rw (none, owed) refl
 
--- loops that owe a body
-loop_none : (s : Subject) (o : Order) (low high : ℕ) (body rest : Tree) (p : ℕ) → 0 < low → NoWay s body p
-    → NoWay s (Then (Loop o low high body) rest) p
-loop_none s o zero high body rest p l w = absurd (omega (arith, l))
-loop_none s o (suc owed) high body rest p l w = record { none = λ m. rw (w.none m) refl }
-
-possessive_none : (s : Subject) (low high : ℕ) (body rest : Tree) (p : ℕ) → 0 < low → NoWay s body p
-    → NoWay s (Then (PossessiveLoop low high body) rest) p
-possessive_none s zero high body rest p l w = absurd (omega (arith, l))
-possessive_none s (suc owed) high body rest p l w = record { none = λ m. rw (w.none m) refl }
-
-atomic_none : (s : Subject) (body rest : Tree) (p : ℕ) → NoWay s body p → NoWay s (Then (Atomic body) rest) p
-atomic_none s body rest p w = record { none = λ m. rw (w.none m) refl }
-
--- a look whose body begins before the text, or has no way
-look_near : (s : Subject) (back : ℕ) (body rest : Tree) (p : ℕ) → p < back
-    → NoWay s (Then (Look Positive back body) rest) p
-look_near s back body rest p l =
-    let e : nat_lt p back ≡ true = grind (arith, nat_tests) in record { none = λ m. rw e refl }
-
-look_none : (s : Subject) (back : ℕ) (body rest : Tree) (p : ℕ) → NoWay s body (p - back)
-    → NoWay s (Then (Look Positive back body) rest) p
-look_none s back body rest p w = record { none = λ m. by_start m (nat_lt p back) refl }
-  where
-    by_start : (m : Marks) (b : Bool) → nat_lt p back ≡ b → ways s (Then (Look Positive back body) rest) p m ≡ []
-    by_start m true e = rw e refl
-    by_start m false e = rw (e, w.none m) refl
+-- a loop that owes a body
+least_barred : (s : Subject) (body rest : Body) (low p : ℕ) (m : Marks) → 0 < low → body p m ≡ []
+    → least s body rest low p m ≡ []
+least_barred s body rest zero p m l e = absurd (omega (arith, l))
+least_barred s body rest (suc owed) p m l e = rw e refl
 
 -- alternatives, each of which has no way
-branch_none : (s : Subject) (ts : Trees) (rest : Tree) (p : ℕ) → NoneOf s ts p → NoWay s (Then (Branch ts) rest) p
-branch_none s ts rest p w = record { none = λ m. rw (w.none m) refl }
 
 pub only_none : (s : Subject) (t : Tree) (p : ℕ) → NoWay s t p → NoneOf s (Only t) p
 only_none s t p w = record { none = λ m. w.none m }
@@ -149,35 +116,36 @@ module _ (ws : List ℕ) (t : Tree) (i : ℕ) (x : TreeStands ws i t) where
       by_tree (Then item rest) r = opcode_within ws i (item_opcode item) r.1.0
 
   -- the item with which the tree begins
-  record Begins : Type 0 where
+  pub record Begins : Type 0 where
     pub item : Item
     pub rest : Tree
     pub after : ℕ
     pub here : ReadsItem ws i after item
-    pub behind : TreeStands ws after rest
-    pub none : (s : Subject) (p : ℕ) → NoWay s (Then item rest) p → NoWay s t p
+    pub reads : Reads ws after x.end rest
+    pub same : t ≡ Then item rest
 
-  begins : (k : Role) → is_end k ≡ false → HasRole ws i k → Begins
-  begins k other h = by_tree t x.reads (λ s p w. w)
+  -- a tree whose first opcode ends none begins with an item
+  pub begins : (k : Role) → is_end k ≡ false → HasRole ws i k → Begins
+  begins k other h = by_tree t x.reads refl
     where
-      by_tree : (u : Tree) → Reads ws i x.end u → ((s : Subject) (p : ℕ) → NoWay s u p → NoWay s t p) → Begins
-      by_tree Empty e none =
+      by_tree : (u : Tree) → Reads ws i x.end u → t ≡ u → Begins
+      by_tree Empty e is =
           let there : Opcode ws i x.code = subst (λ j. Opcode ws j x.code) (sym e) x.there in
           let same : h.code ≡ x.code = same_opcode ws i h.code x.code h.there there in
           absurd (true≢false (sym x.ends ∙ ap is_end (sym (ap role same) ∙ h.begins) ∙ other))
-      by_tree (Then item rest) r none = record {
-        item = item;
-        rest = rest;
-        after = r.0;
-        here = r.1;
-        behind = stands_up_to ws r.0 x.end rest x.code r.2 x.there x.ends;
-        none = none;
-      }
+      by_tree (Then item rest) r is =
+          record { item = item; rest = rest; after = r.0; here = r.1; reads = r.2; same = is }
 
   -- where that item is another form of it
   none_as : (b : Begins) (item : Item) (s : Subject) (p : ℕ) → b.item ≡ item → NoWay s (Then item b.rest) p
       → NoWay s t p
-  none_as b item s p same w = b.none s p (subst (λ y. NoWay s (Then y b.rest) p) (sym same) w)
+  none_as b item s p same w =
+      subst (λ u. NoWay s u p) (sym (b.same ∙ ap (λ y. Then y b.rest) same)) w
+
+  -- and has no way itself
+  barred : (b : Begins) (item : Item) (s : Subject) (p : ℕ) → b.item ≡ item
+      → ((m : Marks) → item_ways s item p m ≡ []) → NoWay s t p
+  barred b item s p same e = none_as b item s p same (record { none = λ m. rw (e m) refl })
 
   -- on behind it, or inside
   leads_to : (k back : ℕ) (u : Tree) → TreeStands ws k u → ((s : Subject) (p : ℕ) → p < back → NoWay s t p)
@@ -192,7 +160,9 @@ module _ (ws : List ℕ) (t : Tree) (i : ℕ) (x : TreeStands ws i t) where
 
   leads_behind : (b : Begins) (k : ℕ) → b.after ≡ k → ((s : Subject) (p : ℕ) → NoWay s b.rest p → NoWay s t p)
       → Leads ws t k 0
-  leads_behind b k e none = leads_inside k b.rest (subst (λ n. TreeStands ws n b.rest) e b.behind) none
+  leads_behind b k e none =
+      leads_inside k b.rest
+      (stands_up_to ws k x.end b.rest x.code (subst (λ n. Reads ws n x.end b.rest) e b.reads) x.there x.ends) none
 
   -- a test
   pub test_there : {kind : TestKind} → HasRole ws i (ToTest kind) → HasTest ws i
@@ -206,8 +176,8 @@ module _ (ws : List ℕ) (t : Tree) (i : ℕ) (x : TreeStands ws i t) where
   test_bars {kind} h s p fails =
       let b : Begins = begins (ToTest kind) refl h in
       let is = is_one ws i b.after b.item h b.here in
-      none_as b (One is.0) s p is.1
-      (one_none s is.0 b.rest p (fails.each b.after is.0 (record { code = is.2.0; operands = is.2.1 })))
+      let none : passes s is.0 p ≡ false = fails.each b.after is.0 (record { code = is.2.0; operands = is.2.1 }) in
+      barred b (One is.0) s p is.1 (λ m. rw none refl)
 
   -- a run of a test that owes a character
   pub run_operand : {kind : RunKind} → HasRole ws i (ToRun kind) → i + 2 < length ws
@@ -230,8 +200,8 @@ module _ (ws : List ℕ) (t : Tree) (i : ℕ) (x : TreeStands ws i t) where
       let is = is_run ws i b.after b.item h b.here in
       let operands = is.4.1 in
       let same : is.0 ≡ low = same_word ws (i + 2) is.0 low operands.1 w in
-      none_as b (Run kind is.0 is.1 is.2) s p is.3
-      (run_none s kind is.0 is.1 is.2 b.rest p (omega (arith, same, owed))
+      barred b (Run kind is.0 is.1 is.2) s p is.3
+      (λ m. run_barred s kind is.0 is.1 is.2 p m (omega (arith, same, owed))
       (fails.each (b.after - 1) is.2 (record { code = operands.4; operands = operands.5 })))
 
   -- BRANCH: its alternatives
@@ -246,7 +216,7 @@ module _ (ws : List ℕ) (t : Tree) (i : ℕ) (x : TreeStands ws i t) where
   branch_bars h s p each =
       let b : Begins = begins ToBranch refl h in
       let is = is_branch ws i b.after b.item h b.here in
-      none_as b (Branch is.0) s p is.1 (branch_none s is.0 b.rest p (each b.after is.0 is.2.1))
+      barred b (Branch is.0) s p is.1 (λ m. (each b.after is.0 is.2.1).none m)
 
   -- AT: where its code does not hold, and on behind it
   pub at_operand : HasRole ws i ToCheckPosition → i + 1 < length ws
@@ -261,7 +231,7 @@ module _ (ws : List ℕ) (t : Tree) (i : ℕ) (x : TreeStands ws i t) where
       let b : Begins = begins ToCheckPosition refl h in
       let is = is_at ws i b.after b.item h b.here in
       let same : is.0 ≡ a = same_at ws (i + 1) is.0 a is.2.1.0 w in
-      none_as b (At a) s p (is.1 ∙ ap At same) (at_none s a b.rest p fails)
+      barred b (At a) s p (is.1 ∙ ap At same) (λ m. rw fails refl)
 
   pub at_leads : HasRole ws i ToCheckPosition → Leads ws t (i + 2) 0
   at_leads h =
@@ -274,7 +244,7 @@ module _ (ws : List ℕ) (t : Tree) (i : ℕ) (x : TreeStands ws i t) where
   mark_leads h =
       let b : Begins = begins ToMark refl h in
       let is = is_mark ws i b.after b.item h b.here in
-      leads_behind b (i + 2) is.2.1.1 (λ s p w. none_as b (Mark is.0) s p is.1 (mark_none s is.0 b.rest p w))
+      leads_behind b (i + 2) is.2.1.1 (λ s p w. none_as b (Mark is.0) s p is.1 (mark_passed s is.0 b.rest p w))
 
   -- ATOMIC_GROUP: on inside
   pub atomic_leads : HasRole ws i ToGroupAtomically → Leads ws t (i + 2) 0
@@ -282,58 +252,50 @@ module _ (ws : List ℕ) (t : Tree) (i : ℕ) (x : TreeStands ws i t) where
       let b : Begins = begins ToGroupAtomically refl h in
       let is = is_atomic ws i b.after b.item h b.here in
       leads_inside (i + 2) is.0 (stands_up_to ws (i + 2) (b.after - 1) is.0 opcode.SUCCESS is.2.1.1 is.2.1.2 refl)
-      (λ s p w. none_as b (Atomic is.0) s p is.1 (atomic_none s is.0 b.rest p w))
+      (λ s p w. barred b (Atomic is.0) s p is.1 (λ m. rw (w.none m) refl))
 
   -- loops that owe a body: on inside
-  loop_operand : HasRole ws i ToRepeat → i + 2 < length ws
-  loop_operand h =
+  record Repeats : Type 0 where
+    pub low : ℕ
+    pub body : Tree
+    pub there : Word ws (i + 2) low
+    pub stands : TreeStands ws (i + 4) body
+    pub none : (s : Subject) (p : ℕ) → 0 < low → NoWay s body p → NoWay s t p
+
+  repeats : HasRole ws i ToRepeat ⊎ HasRole ws i ToRepeatPossessively → Repeats
+  repeats (inl h) =
       let b : Begins = begins ToRepeat refl h in
       let is = is_loop ws i b.after b.item h b.here in
-      word_within ws (i + 2) is.1 is.5.1.0
-
-  loop_leads : (low : ℕ) → HasRole ws i ToRepeat → Word ws (i + 2) low → 0 < low → Leads ws t (i + 4) 0
-  loop_leads low h w owed =
-      let b : Begins = begins ToRepeat refl h in
-      let is = is_loop ws i b.after b.item h b.here in
-      let operands = is.5.1 in
-      let same : is.1 ≡ low = same_word ws (i + 2) is.1 low operands.0 w in
-      leads_inside (i + 4) is.3
-      (stands_up_to ws (i + 4) (skip ws (i + 1)) is.3 (until_opcode is.0) operands.3 operands.4 (until_ends is.0))
-      (λ s p v.
-      none_as b (Loop is.0 is.1 is.2 is.3) s p is.4
-      (loop_none s is.0 is.1 is.2 is.3 b.rest p (omega (arith, same, owed)) v))
-    where
-      until_ends : (o : Order) → is_end (role (until_opcode o)) ≡ true
-      until_ends Greedy = refl
-      until_ends Lazy = refl
-
-  possessive_operand : HasRole ws i ToRepeatPossessively → i + 2 < length ws
-  possessive_operand h =
+      record {
+        low = is.1;
+        body = is.3;
+        there = is.5.1.0;
+        stands = stands_up_to ws (i + 4) (skip ws (i + 1)) is.3 (until_opcode is.0) is.5.1.3 is.5.1.4
+            (ap is_end (until_role is.0));
+        none = λ s p l v. barred b (Loop is.0 is.1 is.2 is.3) s p is.4
+            (λ m. least_barred s (ways s is.3) _ is.1 p m l (v.none m));
+      }
+  repeats (inr h) =
       let b : Begins = begins ToRepeatPossessively refl h in
       let is = is_possessive ws i b.after b.item h b.here in
-      word_within ws (i + 2) is.0 is.4.1.0
-
-  possessive_leads : (low : ℕ) → HasRole ws i ToRepeatPossessively → Word ws (i + 2) low → 0 < low
-      → Leads ws t (i + 4) 0
-  possessive_leads low h w owed =
-      let b : Begins = begins ToRepeatPossessively refl h in
-      let is = is_possessive ws i b.after b.item h b.here in
-      let operands = is.4.1 in
-      let same : is.0 ≡ low = same_word ws (i + 2) is.0 low operands.0 w in
-      leads_inside (i + 4) is.2
-      (stands_up_to ws (i + 4) (skip ws (i + 1)) is.2 opcode.SUCCESS operands.3 operands.4 refl)
-      (λ s p v.
-      none_as b (PossessiveLoop is.0 is.1 is.2) s p is.3
-      (possessive_none s is.0 is.1 is.2 b.rest p (omega (arith, same, owed)) v))
+      record {
+        low = is.0;
+        body = is.2;
+        there = is.4.1.0;
+        stands = stands_up_to ws (i + 4) (skip ws (i + 1)) is.2 opcode.SUCCESS is.4.1.3 is.4.1.4 refl;
+        none = λ s p l v. barred b (PossessiveLoop is.0 is.1 is.2) s p is.3
+            (λ m. least_barred s (λ q k. first (within s q (ways s is.2 q k))) _ is.0 p m l (rw (v.none m) refl));
+      }
 
   pub body_operand : HasRole ws i ToRepeat ⊎ HasRole ws i ToRepeatPossessively → i + 2 < length ws
-  body_operand (inl h) = loop_operand h
-  body_operand (inr h) = possessive_operand h
+  body_operand h = let is : Repeats = repeats h in word_within ws (i + 2) is.low is.there
 
   pub body_leads : (low : ℕ) → HasRole ws i ToRepeat ⊎ HasRole ws i ToRepeatPossessively → Word ws (i + 2) low → 0 < low
       → Leads ws t (i + 4) 0
-  body_leads low (inl h) w owed = loop_leads low h w owed
-  body_leads low (inr h) w owed = possessive_leads low h w owed
+  body_leads low h w owed =
+      let is : Repeats = repeats h in
+      let same : is.low ≡ low = same_word ws (i + 2) is.low low is.there w in
+      leads_inside (i + 4) is.body is.stands (λ s p v. is.none s p (omega (arith, same, owed)) v)
 
   -- a positive look: on inside, further back
   positive_look : Opcode ws i opcode.ASSERT
@@ -356,8 +318,10 @@ module _ (ws : List ℕ) (t : Tree) (i : ℕ) (x : TreeStands ws i t) where
       let is_item : b.item ≡ Look Positive back is.2 = is.3 ∙ ap (λ n. Look Positive n is.2) same in
       leads_to (i + 3) back is.2
       (stands_up_to ws (i + 3) (b.after - 1) is.2 opcode.SUCCESS is.4.2 is.4.3 refl)
-      (λ s p less. none_as b (Look Positive back is.2) s p is_item (look_near s back is.2 b.rest p less))
-      (λ s p v. none_as b (Look Positive back is.2) s p is_item (look_none s back is.2 b.rest p v))
+      (λ s p less. let near : nat_lt p back ≡ true = grind (arith, nat_tests) in
+      barred b (Look Positive back is.2) s p is_item (λ m. rw near refl))
+      (λ s p v. barred b (Look Positive back is.2) s p is_item
+      (λ m. rw (v.none m) (cond-same {X = List Way} (nat_lt p back) [])))
 
 -- The place that the words of a start lead to
 module _ (ws : List ℕ) (start i far : ℕ) (l : (t : Tree) → TreeStands ws start t → Leads ws t i far) where

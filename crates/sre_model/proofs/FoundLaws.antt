@@ -1,5 +1,5 @@
 -- The match that is found is that of the least start, and lies in the range.
-use Rattle.std.proofs.Common.{◌≡◌, ◌≤◌, ◌<◌, ◌+◌, ◌-◌, ℕ, zero, suc, List, [], ◌∷◌, Bool, true, false, cond, nat_le}
+use Rattle.std.proofs.Common.{◌≡◌, ◌≤◌, ◌<◌, ◌+◌, ◌-◌, ℕ, zero, suc, List, [], ◌∷◌, Bool, true, false, cond}
 use Rattle.std.proofs.Common.{nat_lt, nat_eq, Option, Some, None, refl, sym, ap, ◌∙◌, subst, arith, ◌⊎◌, inl, inr}
 use Rattle.std.specs.List.{filter}
 use Rattle.std.proofs.lemmas.Bool.Decides.{nat_tests}
@@ -82,59 +82,45 @@ after_none a t s n r none later l k = by_place (nat_eq s r) refl
     by_place true y = let is : s ≡ r = grind (arith, nat_tests) in subst (λ q. at_start a t q ≡ None) is none
     by_place false y = later r (grind (arith, nat_tests)) k
 
-found_from-least : (n : ℕ) (a : Asked) (t : Tree) (s : ℕ) (m : Match) → s + n ≤ a.end + 1 → found_from n a t s ≡ Some m
-    → IsLeast a t s m
-found_from-least zero a t s m h e = absurd (cc)
-found_from-least (suc n) a t s m h e =
-    by_match (either (at_start a t s)) (found_from-least n a t (s + 1) m (omega arith))
+-- what the search of n starts from s on tells
+abbrev Tells : Asked → Tree → ℕ → ℕ → Option Match → Type 0
+Tells a t n s None = (r : ℕ) → s ≤ r → r < s + n → at_start a t r ≡ None
+Tells a t n s (Some m) = IsLeast a t s m
+
+found_from-tells : (n : ℕ) (a : Asked) (t : Tree) (s : ℕ) → n ≤ a.end + 1 - s → Tells a t n s (found_from n a t s)
+found_from-tells zero a t s h = λ r l k. absurd (omega arith)
+found_from-tells (suc n) a t s h =
+    by_match (at_start a t s) refl (found_from n a t (s + 1)) (found_from-tells n a t (s + 1) (omega arith))
   where
-    by_match : Either (at_start a t s) → (found_from n a t (s + 1) ≡ Some m → IsLeast a t (s + 1) m) → IsLeast a t s m
-    by_match (inl none) later =
-        let rest = later (rw (none, found_from) at e) in
+    by_match : (o : Option Match) → at_start a t s ≡ o → (x : Option Match) → Tells a t n (s + 1) x
+        → Tells a t (suc n) s (elim o [ (Some m) ↦ Some m | None ↦ x ])
+    by_match None none None later = λ r l k.
+        after_none a t s (s + suc n) r none (λ q i j. later q i (omega arith)) l k
+    by_match None none (Some m) later = record {
+      from = omega (arith, later.from);
+      to = later.to;
+      here = later.here;
+      least = λ r l k. after_none a t s m.start r none later.least l k;
+    }
+    by_match (Some m) some x later =
+        let start : m.start ≡ s = (at_start-is a t s m (omega arith) some).start in
         record {
-          from = omega (arith, rest.from);
-          to = rest.to;
-          here = rest.here;
-          least = λ r l k. after_none a t s m.start r none rest.least l k;
-        }
-    by_match (inr (x, some)) later =
-        let same : Some x ≡ Some m = rw (some, found_from) at e in
-        let is : x ≡ m = cc in
-        let at_s : at_start a t s ≡ Some m = some ∙ same in
-        let start : m.start ≡ s = (at_start-is a t s m (omega arith) at_s).start in
-        record {
-          from = omega arith;
-          to = omega arith;
-          here = subst (λ q. at_start a t q ≡ Some m) (sym start) at_s;
-          least = λ r l k. absurd (omega arith);
+          from = omega (arith, start);
+          to = omega (arith, start);
+          here = subst (λ q. at_start a t q ≡ Some m) (sym start) some;
+          least = λ r l k. absurd (omega (arith, start, l, k));
         }
 
-found_from-none : (n : ℕ) (a : Asked) (t : Tree) (s : ℕ) → found_from n a t s ≡ None → (r : ℕ) → s ≤ r → r < s + n
-    → at_start a t r ≡ None
-found_from-none zero a t s e r l k = absurd (omega arith)
-found_from-none (suc n) a t s e r l k = by_match (either (at_start a t s)) (found_from-none n a t (s + 1))
-  where
-    by_match : Either (at_start a t s)
-        → (found_from n a t (s + 1) ≡ None → (r : ℕ) → s + 1 ≤ r → r < (s + 1) + n → at_start a t r ≡ None)
-        → at_start a t r ≡ None
-    by_match (inl none) later =
-        after_none a t s (s + suc n) r none (λ q l k. later (rw (none, found_from) at e) q l (omega arith)) l k
-    by_match (inr (x, some)) later = let never : Some x ≡ None = rw (some, found_from) at e in absurd (cc)
+found-tells : (a : Asked) (t : Tree) → Tells a t (a.end + 1 - a.start) a.start (found a t)
+found-tells a t = found_from-tells (a.end + 1 - a.start) a t a.start (omega arith)
 
 -- what is found is the match of the least start in the window
 pub found-least : (a : Asked) (t : Tree) (m : Match) → found a t ≡ Some m → IsLeast a t a.start m
-found-least a t m e = by_window (nat_le a.start (a.end + 1)) refl
-  where
-    by_window : (c : Bool) → nat_le a.start (a.end + 1) ≡ c → IsLeast a t a.start m
-    by_window true y = found_from-least (a.end + 1 - a.start) a t a.start m (grind (arith, nat_tests)) e
-    by_window false n =
-        let none : a.end + 1 - a.start ≡ 0 = grind (arith, nat_tests) in
-        let never : None ≡ Some m = rw none at e in
-        absurd (cc)
+found-least a t m e = subst (Tells a t (a.end + 1 - a.start) a.start) e (found-tells a t)
 
 -- where nothing is found no start in the window has a match
 pub found-none : (a : Asked) (t : Tree) → found a t ≡ None → (s : ℕ) → a.start ≤ s → s ≤ a.end → at_start a t s ≡ None
-found-none a t e s l k = found_from-none (a.end + 1 - a.start) a t a.start e s l (omega arith)
+found-none a t e s l k = subst (Tells a t (a.end + 1 - a.start) a.start) e (found-tells a t) s l (omega arith)
 
 -- of two matches of the least start none comes before the other
 not_before : (a : Asked) (t : Tree) (s : ℕ) (m x : Match) → IsLeast a t s m → IsLeast a t s x → m.start ≤ x.start

@@ -1,5 +1,5 @@
 -- Starts inside the repeat that a tree begins with have no match where the repeat's own start has none.
-use Rattle.std.proofs.Common.{◌≡◌, ◌≤◌, ◌<◌, ◌+◌, ◌-◌, ℕ, zero, suc, List, [], ◌∷◌, ◌++◌, Bool, true, false, cond}
+use Rattle.std.proofs.Common.{◌≡◌, ◌≤◌, ◌<◌, ◌+◌, ◌-◌, ℕ, zero, suc, List, [], ◌∷◌, ◌++◌, Bool, true, false}
 use Rattle.std.proofs.Common.{map, nat_le, nat_lt, Option, Some, None, refl, sym, ap, subst, arith}
 use Rattle.std.specs.List.{flat_map, AllByRecursion}
 use Rattle.std.proofs.lemmas.Bool.Decides.{nat_tests}
@@ -13,6 +13,7 @@ use Rattle.sre_model.specs.Found.{Asked, Match, subject_of, is_accepted, first_a
 use Rattle.sre_model.specs.LeadingRuns.{front_passes, front_length, NoneEnds, RunLeads}
 use Rattle.sre_model.proofs.Each.{each-flat_map, each-map}
 use Rattle.sre_model.proofs.MarksApart.{SameStops, ways-apart}
+use Rattle.sre_model.proofs.Along.{IsCount, counts_each}
 use Rattle.sre_model.proofs.Longest.{run_passes, run_stopped, run_inside, run_has}
 
 -- Lists
@@ -40,17 +41,7 @@ each_of_map Q f (x ∷ xs) h = (h.0, each_of_map Q f xs h.1)
 
 -- Counts
 
--- c is one of a run's counts, where k is the longest
-abbrev IsCount : RunKind → ℕ → ℕ → ℕ → Type 0
-IsCount PossessiveRun low k c = (low ≤ k) × (c ≡ k)
-IsCount kind low k c = (low ≤ c) × (c ≤ k)
-
 module _ (P : ℕ → Type 0) where
-  falling_each : (low n : ℕ) → ((c : ℕ) → low ≤ c → c < low + n → P c) → AllByRecursion P (falling low n)
-  falling_each low zero h = tt
-  falling_each low (suc n) h =
-      (h (low + n) (omega arith) (omega arith), falling_each low n (λ c l k. h c l (omega arith)))
-
   each_falling : (low n c : ℕ) → AllByRecursion P (falling low n) → low ≤ c → c < low + n → P c
   each_falling low zero c h l k = absurd (omega arith)
   each_falling low (suc n) c h l k = by_place (nat_lt c (low + n)) refl (λ k. each_falling low n c h.1 l k)
@@ -58,11 +49,6 @@ module _ (P : ℕ → Type 0) where
       by_place : (b : Bool) → nat_lt c (low + n) ≡ b → (c < low + n → P c) → P c
       by_place true y later = later (grind (arith, nat_tests))
       by_place false y later = let is : low + n ≡ c = grind (arith, nat_tests) in subst P is h.0
-
-  rising_each : (low n : ℕ) → ((c : ℕ) → low ≤ c → c < low + n → P c) → AllByRecursion P (rising low n)
-  rising_each low zero h = tt
-  rising_each low (suc n) h =
-      (h low (omega arith) (omega arith), rising_each (low + 1) n (λ c l k. h c (omega arith) (omega arith)))
 
   each_rising : (low n c : ℕ) → AllByRecursion P (rising low n) → low ≤ c → c < low + n → P c
   each_rising low zero c h l k = absurd (omega arith)
@@ -73,29 +59,17 @@ module _ (P : ℕ → Type 0) where
       by_place true y later = later (grind (arith, nat_tests))
       by_place false y later = let is : low ≡ c = grind (arith, nat_tests) in subst P is h.0
 
-  counts_each : (kind : RunKind) (low k : ℕ) → ((c : ℕ) → IsCount kind low k c → P c)
-      → AllByRecursion P (counts kind low k)
-  counts_each GreedyRun low k h = falling_each low (k + 1 - low) (λ c l n. h c (l, omega arith))
-  counts_each LazyRun low k h = rising_each low (k + 1 - low) (λ c l n. h c (l, omega arith))
-  counts_each PossessiveRun low k h = by_test (nat_le low k) refl
-    where
-      by_test : (b : Bool) → nat_le low k ≡ b → AllByRecursion P (cond b (k ∷ []) [])
-      by_test true y = (h k (grind (arith, nat_tests), refl), tt)
-      by_test false n = tt
-
   each_count : (kind : RunKind) (low k c : ℕ) → AllByRecursion P (counts kind low k) → IsCount kind low k c → P c
   each_count GreedyRun low k c h i = each_falling low (k + 1 - low) c h i.0 (omega (arith, i.0, i.1))
   each_count LazyRun low k c h i = each_rising low (k + 1 - low) c h i.0 (omega (arith, i.0, i.1))
   each_count PossessiveRun low k c h i =
       let yes_ : nat_le low k ≡ true = grind (arith, nat_tests, i.0) in
       let first : AllByRecursion P (k ∷ []) = rw yes_ at h in
-      subst P (sym i.1) first.0
+      subst P (sym (i.2 refl)) first.0
 
 -- a count from d characters later is one of the run's own
 count_later : (kind : RunKind) (low k d c : ℕ) → d ≤ k → IsCount kind low (k - d) c → IsCount kind low k (d + c)
-count_later GreedyRun low k d c l i = (omega (arith, i.0), omega (arith, i.1))
-count_later LazyRun low k d c l i = (omega (arith, i.0), omega (arith, i.1))
-count_later PossessiveRun low k d c l i = (omega (arith, i.0), omega (arith, i.1))
+count_later kind low k d c l i = (omega (arith, i.0), omega (arith, l, i.1), λ e. omega (arith, l, i.2 e))
 
 -- Runs
 

@@ -1,20 +1,22 @@
 -- Which code words begin with a repeat.
-use Rattle.std.proofs.Common.{◌≡◌, ◌≢◌, ℕ, ◌+◌, ◌-◌, ◌<◌, ◌⊎◌, inl, inr, List, length, Option, Some, None, refl, false}
-use Rattle.std.proofs.Common.{sym, ap, ◌∙◌, subst, arith, true, true≢false}
+use Rattle.std.proofs.Common.{◌≡◌, ℕ, ◌+◌, ◌-◌, ◌<◌, ◌⊎◌, inl, inr, List, length, Option, Some, None, refl, false}
+use Rattle.std.proofs.Common.{sym, ap, ◌∙◌, subst, arith, true}
 use Rattle.std.proofs.lemmas.Bool.{or_parts}
 use Rattle.sre_chars.specs.declared.constants.SreOpcode.{SreOpcode}
 use Rattle.sre_chars.specs.declared.constants.SreOpcode.TheVariants as opcode
-use Rattle.sre_model.specs.Tree.{Tree, Empty, Then, Item, One, Mark, Run, Test, RunKind, GreedyRun, LazyRun}
+use Rattle.sre_model.specs.Tree.{Tree, Then, Item, One, Mark, Run, Test, RunKind, GreedyRun, LazyRun}
 use Rattle.sre_model.specs.Tree.{PossessiveRun}
 use Rattle.sre_model.specs.References.{refers, by_references}
 use Rattle.sre_model.specs.Folding.{of_item}
 use Rattle.sre_model.specs.Ways.{unlimited}
-use Rattle.sre_model.specs.Grammar.{Word, Opcode, item_opcode, Reads, ReadsItem, WholeItems}
-use Rattle.sre_model.specs.Roles.{role, ToEnd, ToRun, begins_test, ToTest}
+use Rattle.sre_model.specs.Grammar.{Word, Opcode, Reads, ReadsItem, WholeItems}
+use Rattle.sre_model.specs.Roles.{Role, role, ToRun, begins_test, ToTest, ToMark}
 use Rattle.sre_model.specs.Standing.{TestStands, HasTest}
 use Rattle.sre_model.specs.LeadingRuns.{RunLeads, FrontStands, RunStands}
-use Rattle.sre_model.proofs.Words.{same_word, same_opcode, word_within, opcode_within}
-use Rattle.sre_model.proofs.Families.{is_one, is_mark, is_run, role_here, some_test}
+use Rattle.sre_model.specs.FirstCharacters.{TreeStands, is_end}
+use Rattle.sre_model.proofs.Words.{same_word, word_within}
+use Rattle.sre_model.proofs.FirstCharacters.{Begins, begins, tree_within}
+use Rattle.sre_model.proofs.Families.{HasRole, is_one, is_mark, is_run, role_here, some_test}
 use Rattle.sre_model.proofs.Places.{test_past}
 use Rattle.sre_model.proofs.LeadingRuns.{run_leads, front_leads, mark_leads}
 
@@ -46,49 +48,27 @@ whole_ahead ws t w = record {
   apart = λ r. r;
 }
 
--- the same, where what is left begins with an item
-record ItemAhead (ws : List ℕ) (whole : Tree) (i : ℕ) (first : Option ℕ) : Type 0 where
-  pub item : Item
-  pub rest : Tree
-  pub after : ℕ
-  pub end : ℕ
-  pub front : Option Test
-  pub here : ReadsItem ws i after item
-  pub behind : Reads ws after end rest
-  pub ends : Opcode ws end opcode.SUCCESS
-  pub before : FrontStands ws first front
-  pub leads : LeadsOn front (Then item rest) whole
-  pub apart : refers whole ≡ false → refers rest ≡ false
-
 module _ (ws : List ℕ) (t : Tree) (i : ℕ) (first : Option ℕ) (a : RunAhead ws t i first) where
-  pub ahead_within : i < length ws
-  ahead_within = by_tree a.left a.reads
-    where
-      by_tree : (x : Tree) → Reads ws i a.end x → i < length ws
-      by_tree Empty e = opcode_within ws i opcode.SUCCESS (subst (λ k. Opcode ws k opcode.SUCCESS) (sym e) a.ends)
-      by_tree (Then item rest) r = opcode_within ws i (item_opcode item) r.1.0
+  abbrev there : TreeStands ws i a.left
+  there = record { end = a.end; reads = a.reads; code = opcode.SUCCESS; there = a.ends; ends = refl }
 
-  item_ahead : (o : SreOpcode) → o ≢ opcode.SUCCESS → Opcode ws i o → ItemAhead ws t i first
-  item_ahead o other w = by_tree a.left a.reads a.leads a.apart
-    where
-      by_tree : (x : Tree) → Reads ws i a.end x → LeadsOn a.front x t → (refers t ≡ false → refers x ≡ false)
-          → ItemAhead ws t i first
-      by_tree Empty e leads apart =
-          let end_ : Opcode ws i opcode.SUCCESS = subst (λ k. Opcode ws k opcode.SUCCESS) (sym e) a.ends in
-          absurd (other (same_opcode ws i o opcode.SUCCESS w end_))
-      by_tree (Then item rest) r leads apart = record {
-        item = item;
-        rest = rest;
-        after = r.0;
-        end = a.end;
-        front = a.front;
-        here = r.1;
-        behind = r.2;
-        ends = a.ends;
-        before = a.before;
-        leads = leads;
-        apart = λ none. (or_parts (of_item by_references item) (refers rest) (apart none)).1;
-      }
+  pub ahead_within : i < length ws
+  ahead_within = tree_within ws i (record { tree = a.left; stands = there })
+
+  -- where what is left begins with an item
+  abbrev Ahead : Type 0
+  Ahead = Begins ws a.left i there
+
+  ahead : (k : Role) → is_end k ≡ false → HasRole ws i k → Ahead
+  ahead = begins ws a.left i there
+
+  leads_with : (b : Ahead) (x : Item) → b.item ≡ x → LeadsOn a.front (Then x b.rest) t
+  leads_with b x e = subst (λ u. LeadsOn a.front u t) (b.same ∙ ap (λ y. Then y b.rest) e) a.leads
+
+  apart_behind : (b : Ahead) → refers t ≡ false → refers b.rest ≡ false
+  apart_behind b none =
+      (or_parts (of_item by_references b.item) (refers b.rest)
+      (subst (λ u. refers u ≡ false) b.same (a.apart none))).1
 
 -- Runs
 
@@ -100,12 +80,6 @@ run_is_run o (inl e) = (GreedyRun, ap role e)
 run_is_run o (inr (inl e)) = (LazyRun, ap role e)
 run_is_run o (inr (inr e)) = (PossessiveRun, ap role e)
 
-run_no_end : (o : SreOpcode) → IsRunOpcode o → o ≢ opcode.SUCCESS
-run_no_end o run e =
-    let is = run_is_run o run in
-    let never : ToRun is.0 ≡ ToEnd = sym is.1 ∙ ap role e in
-    cc
-
 -- a run that leads what is left leads the whole
 run_first : (front : Option Test) (left whole : Tree) (test : Test) → LeadsOn front left whole
     → RunLeads left None test → RunLeads whole front test
@@ -114,15 +88,18 @@ run_first (Some x) left whole test on l = on test l
 
 module _ (ws : List ℕ) (t : Tree) (i : ℕ) (first : Option ℕ) (o : SreOpcode) (a : RunAhead ws t i first)
     (run : IsRunOpcode o) (w : Opcode ws i o) where
-  abbrev here : ItemAhead ws t i first
-  here = item_ahead ws t i first a o (run_no_end o run) w
-
   abbrev kind : RunKind
   kind = (run_is_run o run).0
 
-  abbrev is : (low : ℕ) × (high : ℕ) × (test : Test) × (here.item ≡ Run kind low high test)
-      × ReadsItem ws i here.after (Run kind low high test)
-  is = is_run ws i here.after here.item (role_here ws i o (ToRun kind) w (run_is_run o run).1) here.here
+  here : HasRole ws i (ToRun kind)
+  here = role_here ws i o (ToRun kind) w (run_is_run o run).1
+
+  abbrev b : Ahead ws t i first a
+  b = ahead ws t i first a (ToRun kind) refl here
+
+  abbrev is : (low : ℕ) × (high : ℕ) × (test : Test) × (b.item ≡ Run kind low high test)
+      × ReadsItem ws i b.after (Run kind low high test)
+  is = is_run ws i b.after b.item here b.here
 
   pub run_operands : i + 3 < length ws
   run_operands = word_within ws (i + 3) is.1 is.4.1.2
@@ -130,23 +107,19 @@ module _ (ws : List ℕ) (t : Tree) (i : ℕ) (first : Option ℕ) (o : SreOpcod
   pub run_stands : Word ws (i + 3) unlimited → RunStands ws t first (i + 4)
   run_stands wide =
       let high : is.1 ≡ unlimited = same_word ws (i + 3) is.1 unlimited is.4.1.2 wide in
-      let same : here.item ≡ Run kind is.0 unlimited is.2 = is.3 ∙ ap (λ n. Run kind is.0 n is.2) high in
+      let same : b.item ≡ Run kind is.0 unlimited is.2 = is.3 ∙ ap (λ n. Run kind is.0 n is.2) high in
       record {
-        front = here.front;
+        front = a.front;
         test = is.2;
-        end = here.after - 1;
-        before = here.before;
+        end = b.after - 1;
+        before = a.before;
         stands = record { code = is.4.1.4; operands = is.4.1.5 };
         leads =
-            run_first here.front (Then (Run kind is.0 unlimited is.2) here.rest) t is.2
-            (subst (λ x. LeadsOn here.front (Then x here.rest) t) same here.leads)
-            (run_leads kind is.0 is.2 here.rest);
+            run_first a.front (Then (Run kind is.0 unlimited is.2) b.rest) t is.2
+            (leads_with ws t i first a b (Run kind is.0 unlimited is.2) same) (run_leads kind is.0 is.2 b.rest);
       }
 
 -- Tests
-
-test_no_end : (o : SreOpcode) → begins_test o ≡ true → o ≢ opcode.SUCCESS
-test_no_end o tests e = true≢false (sym tests ∙ ap begins_test e)
 
 -- a run behind a test, of which none stands in front
 behind_front : (ws : List ℕ) (front : Option Test) (x test : Test) (rest whole : Tree) → FrontStands ws None front
@@ -156,11 +129,14 @@ behind_front ws (Some y) x test rest whole some on l = absurd some
 
 module _ (ws : List ℕ) (t : Tree) (i : ℕ) (o : SreOpcode) (a : RunAhead ws t i None) (tests : begins_test o ≡ true)
     (w : Opcode ws i o) where
-  abbrev at : ItemAhead ws t i None
-  at = item_ahead ws t i None a o (test_no_end o tests) w
+  here_test : HasRole ws i (ToTest (some_test o tests).0)
+  here_test = role_here ws i o (ToTest (some_test o tests).0) w (some_test o tests).1
+
+  abbrev at : Ahead ws t i None a
+  at = ahead ws t i None a (ToTest (some_test o tests).0) refl here_test
 
   abbrev one : (x : Test) × (at.item ≡ One x) × ReadsItem ws i at.after (One x)
-  one = is_one ws i at.after at.item (role_here ws i o (ToTest (some_test o tests).0) w (some_test o tests).1) at.here
+  one = is_one ws i at.after at.item here_test at.here
 
   stands : TestStands ws i at.after one.0
   stands = record { code = one.2.0; operands = one.2.1 }
@@ -174,15 +150,14 @@ module _ (ws : List ℕ) (t : Tree) (i : ℕ) (o : SreOpcode) (a : RunAhead ws t
   pub behind_test : (j : ℕ) → ((k : ℕ) (x : Test) → TestStands ws i k x → j ≡ k) → RunAhead ws t j (Some i)
   behind_test j ends = record {
     left = at.rest;
-    end = at.end;
+    end = a.end;
     front = Some one.0;
-    reads = subst (λ k. Reads ws k at.end at.rest) (sym (ends at.after one.0 stands)) at.behind;
-    ends = at.ends;
+    reads = subst (λ k. Reads ws k a.end at.rest) (sym (ends at.after one.0 stands)) at.reads;
+    ends = a.ends;
     before = (at.after, stands);
     leads = λ test l.
-        behind_front ws at.front one.0 test at.rest t at.before
-        (subst (λ x. LeadsOn at.front (Then x at.rest) t) one.1 at.leads) l;
-    apart = at.apart;
+        behind_front ws a.front one.0 test at.rest t a.before (leads_with ws t i None a at (One one.0) one.1) l;
+    apart = apart_behind ws t i None a at;
   }
 
 -- Marks
@@ -196,19 +171,20 @@ behind_mark (Some x) n rest whole apart on = λ test l. on test (mark_leads n re
 pub mark_ahead : (ws : List ℕ) (t : Tree) (i : ℕ) (first : Option ℕ) → refers t ≡ false → RunAhead ws t i first
     → Opcode ws i opcode.MARK → RunAhead ws t (i + 2) first
 mark_ahead ws t i first none a w =
-    let here : ItemAhead ws t i first = item_ahead ws t i first a opcode.MARK (λ e. cc) w in
-    let is = is_mark ws i here.after here.item (record { code = opcode.MARK; there = w; begins = refl }) here.here in
+    let here : HasRole ws i ToMark = record { code = opcode.MARK; there = w; begins = refl } in
+    let b : Ahead ws t i first a = ahead ws t i first a ToMark refl here in
+    let is = is_mark ws i b.after b.item here b.here in
     record {
-      left = here.rest;
-      end = here.end;
-      front = here.front;
-      reads = subst (λ k. Reads ws k here.end here.rest) is.2.1.1 here.behind;
-      ends = here.ends;
-      before = here.before;
+      left = b.rest;
+      end = a.end;
+      front = a.front;
+      reads = subst (λ k. Reads ws k a.end b.rest) is.2.1.1 b.reads;
+      ends = a.ends;
+      before = a.before;
       leads =
-          behind_mark here.front is.0 here.rest t (here.apart none)
-          (subst (λ x. LeadsOn here.front (Then x here.rest) t) is.1 here.leads);
-      apart = here.apart;
+          behind_mark a.front is.0 b.rest t (apart_behind ws t i first a b none)
+          (leads_with ws t i first a b (Mark is.0) is.1);
+      apart = apart_behind ws t i first a b;
     }
 
 -- What is known of a run that is found

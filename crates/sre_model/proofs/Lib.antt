@@ -8,6 +8,7 @@ pub mod Props
 pub mod SetWords
 pub mod ClaimProps
 pub mod Each
+pub mod Along
 pub mod Bounds
 pub mod WideWays
 pub mod LoopCases

@@ -6,6 +6,7 @@ use Rattle.sre_model.specs.Tree.{Test}
 use Rattle.sre_model.specs.Subject.{Subject, passes}
 use Rattle.sre_model.specs.Ways.{unlimited, run_length, most_from, longest_run}
 use Rattle.sre_model.proofs.Passing.{past_end}
+use Rattle.sre_model.proofs.Along.{run_rounds}
 use Rattle.sre_model.proofs.Bounds.{passes-below}
 
 -- each of its characters passes
@@ -44,11 +45,8 @@ run_stopped s t (suc n) p l = go (passes s t p) refl l (λ k. run_stopped s t n 
     go false y k later = let e : p + 0 ≡ p = omega arith in rw (y, e) y
 
 pub run_at_most : (s : Subject) (t : Test) (n p : ℕ) → run_length s t n p ≤ n
-run_at_most s t zero p = omega arith
-run_at_most s t (suc n) p = elim (passes s t p) as (λ b. cond b (suc (run_length s t n (p + 1))) 0 ≤ suc n) [
-  | true ↦ omega (arith, run_at_most s t n (p + 1))
-  | false ↦ omega arith
-]
+run_at_most s t n p =
+    (run_rounds (λ k l. k ≡ l) s (λ q r. Unit {0}) t (λ q e. tt) n p (run_length s t n p) (omega arith)).0
 
 -- and lies in the window
 pub run_inside : (s : Subject) (t : Test) (n p : ℕ) → run_length s t n p ≤ s.end - p

@@ -12,7 +12,7 @@ use Rattle.sre_model.proofs.Each.{flat_map_each}
 use Rattle.sre_model.proofs.Bounds.{Between, EachBetween, Bounded, within-each, within-all}
 
 -- past the window's end nothing is followed
-pub none-past : (s : Subject) (p : ℕ) (ws : List Way) → s.end < p → within s p ws ≡ []
+none-past : (s : Subject) (p : ℕ) (ws : List Way) → s.end < p → within s p ws ≡ []
 none-past s p ws h = empty (within s p ws) (within-each s p ws)
   where
     empty : (vs : List Way) → EachBetween s p vs → vs ≡ []
@@ -20,19 +20,19 @@ none-past s p ws h = empty (within s p ws) (within-each s p ws)
     empty (v ∷ vs) b = absurd (omega (arith, b.0.0, b.0.1))
 
 -- of a body whose ways lie between, all are followed
-pub followed-all : (s : Subject) (body rest : Body) (p : ℕ) (m : Marks) → Bounded s body → p ≤ s.end
+followed-all : (s : Subject) (body rest : Body) (p : ℕ) (m : Marks) → Bounded s body → p ≤ s.end
     → followed s body rest p m ≡ flat_map (λ w. rest w.stop w.marks) (body p m)
 followed-all s body rest p m b h = ap (flat_map (λ w. rest w.stop w.marks)) (within-all s p (body p m) (b p m h))
 
 -- what is followed is the same where what follows it is
-pub followed-same : (s : Subject) (body f g : Body) (p : ℕ) (m : Marks)
+followed-same : (s : Subject) (body f g : Body) (p : ℕ) (m : Marks)
     → ((w : Way) → Between s p w → f w.stop w.marks ≡ g w.stop w.marks) → followed s body f p m ≡ followed s body g p m
 followed-same s body f g p m e =
     flat_map_each (Between s p) (λ w. f w.stop w.marks) (λ w. g w.stop w.marks) e (within s p (body p m))
     (within-each s p (body p m))
 
 -- an equation that holds where a body stayed, and where it moved on
-pub by_progress : {X : Type 0} {x y : X} (p q : ℕ) → p ≤ q → (p ≡ q → x ≡ y) → (p < q → x ≡ y) → x ≡ y
+by_progress : {X : Type 0} {x y : X} (p q : ℕ) → p ≤ q → (p ≡ q → x ≡ y) → (p < q → x ≡ y) → x ≡ y
 by_progress {x = x} {y = y} p q l stayed moved = by_test (nat_lt p q) refl
   where
     by_test : (b : Bool) → nat_lt p q ≡ b → x ≡ y
@@ -44,7 +44,7 @@ cond-same true x = refl
 cond-same false x = refl
 
 -- where nothing further is tried the loop ends
-alone : (o : Order) (p : ℕ) (m : Marks) → ordered o [] (here p m) ≡ here p m
+pub alone : (o : Order) (p : ℕ) (m : Marks) → ordered o [] (here p m) ≡ here p m
 alone Greedy p m = refl
 alone Lazy p m = refl
 
@@ -92,20 +92,29 @@ module _ (s : Subject) (o : Order) (low high : ℕ) (body : Body) where
       let done : max low count ≡ count = omega arith in
       rw (owed, done)
 
-  -- below the least count a body is always tried, and the loop goes on from each of its ways
-  pub loop-below : (count : ℕ) (last : Option ℕ) (p : ℕ) (m : Marks) → count < low
-      → loop count last p m ≡ followed s body (loop (count + 1) last) p m
-  loop-below count last p m h =
+  -- a loop's ways are those after no body
+  pub loop-ways : (p : ℕ) (m : Marks) → loop_ways s o low high body p m ≡ loop 0 None p m
+  loop-ways p m =
+      let owed : low - 0 ≡ low = omega arith in
+      let done : max low 0 ≡ low = omega arith in
+      rw (owed, done)
+
+  -- below the least count a body is always tried, and the loop goes on from each of its ways, where these lie between
+  pub loop-below-all : Bounded s body → (count : ℕ) (last : Option ℕ) (p : ℕ) (m : Marks) → p ≤ s.end → count < low
+      → loop count last p m ≡ flat_map (λ w. loop (count + 1) last w.stop w.marks) (body p m)
+  loop-below-all b count last p m l h =
       let owed : low - count ≡ suc (low - (count + 1)) = omega arith in
       let done : max low count ≡ max low (count + 1) = omega arith in
-      ap (λ c. least s body (λ q k. more s o high body (s.end + 1 - q) c last q k) (low - count) p m) done ∙ rw owed
+      let below : loop count last p m ≡ followed s body (loop (count + 1) last) p m =
+      ap (λ c. least s body (λ q k. more s o high body (s.end + 1 - q) c last q k) (low - count) p m) done ∙ rw owed in
+      below ∙ followed-all s body (loop (count + 1) last) p m b l
 
   -- from it on the loop may end here; what follows a further body, where one may be tried,
   -- comes before that or after it
-  pub loop-beyond : (count : ℕ) (last : Option ℕ) (p : ℕ) (m : Marks) → low ≤ count
-      → loop count last p m
-      ≡ ordered o (cond (may_repeat high count last p) (followed s body (loop (count + 1) (Some p)) p m) []) (here p m)
-  loop-beyond count last p m h =
+  pub loop-beyond-all : Bounded s body → (count : ℕ) (last : Option ℕ) (p : ℕ) (m : Marks) → p ≤ s.end → low ≤ count
+      → loop count last p m ≡ ordered o (cond (may_repeat high count last p)
+      (flat_map (λ w. loop (count + 1) (Some p) w.stop w.marks) (body p m)) []) (here p m)
+  loop-beyond-all b count last p m l h =
       let fuel : ℕ = s.end + 1 - p in
       let each : (w : Way) → Between s p w
       → fuelled fuel (count + 1) (Some p) w.stop w.marks ≡ loop (count + 1) (Some p) w.stop w.marks = λ w l.
@@ -114,25 +123,5 @@ module _ (s : Subject) (o : Order) (low high : ℕ) (body : Body) where
       owed-none count last p m h
       ∙ fuelled-enough fuel (suc fuel) count last p m (omega arith) (omega arith)
       ∙ ap (λ l. ordered o (cond (may_repeat high count last p) l []) (here p m))
-      (followed-same s body (fuelled fuel (count + 1) (Some p)) (loop (count + 1) (Some p)) p m each)
-
-  -- a loop's ways are those after no body
-  pub loop-ways : (p : ℕ) (m : Marks) → loop_ways s o low high body p m ≡ loop 0 None p m
-  loop-ways p m =
-      let owed : low - 0 ≡ low = omega arith in
-      let done : max low 0 ≡ low = omega arith in
-      rw (owed, done)
-
-  -- the same two cases over all ways of a body, where these lie between
-  pub loop-below-all : Bounded s body → (count : ℕ) (last : Option ℕ) (p : ℕ) (m : Marks) → p ≤ s.end → count < low
-      → loop count last p m ≡ flat_map (λ w. loop (count + 1) last w.stop w.marks) (body p m)
-  loop-below-all b count last p m l h =
-      loop-below count last p m h ∙ followed-all s body (loop (count + 1) last) p m b l
-
-  pub loop-beyond-all : Bounded s body → (count : ℕ) (last : Option ℕ) (p : ℕ) (m : Marks) → p ≤ s.end → low ≤ count
-      → loop count last p m ≡ ordered o (cond (may_repeat high count last p)
-      (flat_map (λ w. loop (count + 1) (Some p) w.stop w.marks) (body p m)) []) (here p m)
-  loop-beyond-all b count last p m l h =
-      loop-beyond count last p m h
-      ∙ ap (λ l. ordered o (cond (may_repeat high count last p) l []) (here p m))
-      (followed-all s body (loop (count + 1) (Some p)) p m b l)
+      (followed-same s body (fuelled fuel (count + 1) (Some p)) (loop (count + 1) (Some p)) p m each
+      ∙ followed-all s body (loop (count + 1) (Some p)) p m b l)

@@ -26,33 +26,22 @@ four_back a b c d p q r s =
 pub packed_back : (k count : ℕ) (ns : List ℕ) → length ns ≡ 4 * k → NumbersBelow count ns
     → flat_map bytes_of (packed ns) ≡ ns
 packed_back k count [] e h = refl
-packed_back k count (a ∷ []) e h = absurd (omega arith)
-packed_back k count (a ∷ b ∷ []) e h = absurd (omega arith)
-packed_back k count (a ∷ b ∷ c ∷ []) e h = absurd (omega arith)
-packed_back zero count (a ∷ b ∷ c ∷ d ∷ ns) e h = absurd (omega arith)
 packed_back (suc k) count (a ∷ b ∷ c ∷ d ∷ ns) e h =
     let l : 3 < length (a ∷ b ∷ c ∷ d ∷ ns) = omega arith in
     let front = four_back a b c d (h 0 (omega (arith, l))).0 (h 1 (omega (arith, l))).0 (h 2 (omega (arith, l))).0
     (h 3 l).0 in
     let rest = packed_back k count ns (omega arith) (further count a b c d ns h) in
     ap (λ l. l ++ flat_map bytes_of (packed ns)) front ∙ ap (λ l. a ∷ b ∷ c ∷ d ∷ l) rest
+packed_back k count ns e h = absurd (omega arith)
 
 pub packed_long : (k : ℕ) (ns : List ℕ) → length ns ≡ 4 * k → length (packed ns) ≡ k
 packed_long k [] e = omega arith
-packed_long k (a ∷ []) e = absurd (omega arith)
-packed_long k (a ∷ b ∷ []) e = absurd (omega arith)
-packed_long k (a ∷ b ∷ c ∷ []) e = absurd (omega arith)
-packed_long zero (a ∷ b ∷ c ∷ d ∷ ns) e = absurd (omega arith)
 packed_long (suc k) (a ∷ b ∷ c ∷ d ∷ ns) e = omega (arith, packed_long k ns (omega arith))
+packed_long k ns e = absurd (omega arith)
 
 -- each byte of each word is below the count
 pub packed_below : (k count : ℕ) (ns : List ℕ) → length ns ≡ 4 * k → NumbersBelow count ns
     → (q : ℕ) → q < length (packed ns) → BytesBelow count (slice_index (packed ns) q)
-packed_below k count [] e h q l = absurd (omega arith)
-packed_below k count (a ∷ []) e h q l = absurd (omega arith)
-packed_below k count (a ∷ b ∷ []) e h q l = absurd (omega arith)
-packed_below k count (a ∷ b ∷ c ∷ []) e h q l = absurd (omega arith)
-packed_below zero count (a ∷ b ∷ c ∷ d ∷ ns) e h q l = absurd (omega arith)
 packed_below (suc k) count (a ∷ b ∷ c ∷ d ∷ ns) e h zero l =
     let long : 3 < length (a ∷ b ∷ c ∷ d ∷ ns) = omega arith in
     let p = h 0 (omega (arith, long)) in
@@ -66,6 +55,7 @@ packed_below (suc k) count (a ∷ b ∷ c ∷ d ∷ ns) e h zero l =
     )
 packed_below (suc k) count (a ∷ b ∷ c ∷ d ∷ ns) e h (suc q) l =
     packed_below k count ns (omega arith) (further count a b c d ns h) q (omega arith)
+packed_below k count ns e h q l = absurd (omega (arith, packed_long k ns e))
 
 -- the words that were packed are those of their bytes
 pub packed_again : (ws : List ℕ) → ((k : ℕ) → k < length ws → slice_index ws k < 4294967296)

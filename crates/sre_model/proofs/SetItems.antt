@@ -19,13 +19,8 @@ set_item_opcode Negate = opcode.NEGATE
 
 pub first : (x : SetItem) (rest : List SetItem) (ws : List ℕ) (i j : ℕ) → ReadsSet ws i j (x ∷ rest)
     → Opcode ws i (set_item_opcode x)
-first (Single v) rest ws i j r = r.0
-first (Range low high) rest ws i j r = r.0
-first (RangeUniIgnore low high) rest ws i j r = r.0
-first (Category c) rest ws i j r = r.0
-first (Charset bits) rest ws i j r = r.0
-first (BigCharset numbers bits) rest ws i j r = r.0
 first Negate rest ws i j r = r.0
+first x rest ws i j r = r.0
 
 pub begins : (ws : List ℕ) (i j : ℕ) (o : SreOpcode) (x : SetItem) (rest : List SetItem) → Opcode ws i o
     → ReadsSet ws i j (x ∷ rest) → o ≡ set_item_opcode x

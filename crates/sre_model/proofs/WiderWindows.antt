@@ -1,8 +1,8 @@
 -- What is memoized and counted for a range holds of each range inside it.
 use Rattle.std.proofs.Common.{ℕ, ◌+◌, ◌-◌, ◌*◌, ◌/◌, ◌≤◌, Bool, true, false, cond, min, nat_eq, arith}
 use Rattle.std.proofs.Math.Nat.{mul-le-mul, mul-le-mul_left, mul-le-mul_right}
-use Rattle.sre_model.specs.Tree.{Tree, Empty, Then, Item, Fail, One, At, Mark, Branch, Loop, Run, PossessiveLoop}
-use Rattle.sre_model.specs.Tree.{Atomic, Look, Reference, Exists, ExistsElse, Trees, Only, Or, GreedyRun, LazyRun}
+use Rattle.sre_model.specs.Tree.{Tree, Empty, Then, Item, Branch, Loop, Run, PossessiveLoop}
+use Rattle.sre_model.specs.Tree.{Atomic, Look, Exists, ExistsElse, Trees, Only, Or}
 use Rattle.sre_model.specs.Tree.{PossessiveRun}
 use Rattle.sre_model.specs.Ways.{unlimited}
 use Rattle.sre_model.specs.Found.{Asked}
@@ -39,22 +39,17 @@ module _ (e f : ℕ) (wider : e ≤ f) where
     cost_grows s (Then x rest) b = omega (arith, item_grows s x (steps_of rest b), cost_grows s rest b)
 
     item_grows : (s : ℕ) (x : Item) (b : ℕ) → item_cost e s x b ≤ item_cost f s x b
-    item_grows s Fail b = omega arith
-    item_grows s (One t) b = omega arith
-    item_grows s (At a) b = omega arith
-    item_grows s (Mark n) b = omega arith
     item_grows s (Branch ts) b = omega (arith, branch_grows s ts b)
     item_grows s (Loop o low high body) b = omega (arith, cost_grows (loop_slots low high * s) body 1)
-    item_grows s (Run GreedyRun low high t) b = mul-le-mul_left s (run_grows low high b)
-    item_grows s (Run LazyRun low high t) b = mul-le-mul_left s (run_grows low high b)
     item_grows s (Run PossessiveRun low high t) b = mul-le-mul_left s (omega (arith, scan_grows low high))
+    item_grows s (Run kind low high t) b = mul-le-mul_left s (run_grows low high b)
     item_grows s (PossessiveLoop low high body) b = omega (arith, cost_grows 1 body 2)
     item_grows s (Atomic body) b = cost_grows 1 body 2
     item_grows s (Look sign back body) b = cost_grows 1 body 2
-    item_grows s (Reference fold g) b = omega arith
     item_grows s (Exists g there) b = cost_grows s there b
     item_grows s (ExistsElse g there absent) b =
         omega (arith, cost_grows s there (1 + b), cost_grows s absent b)
+    item_grows s x b = omega arith
 
     branch_grows : (s : ℕ) (ts : Trees) (b : ℕ) → branch_cost e s ts b ≤ branch_cost f s ts b
     branch_grows s (Only t) b = cost_grows s t (1 + b)

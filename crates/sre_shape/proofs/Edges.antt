@@ -1,10 +1,10 @@
 -- Positions between characters, as positions between bytes: where a position code holds an assertion does.
 use Rattle.std.proofs.Common.{◌≡◌, ℕ, zero, suc, ◌+◌, ◌-◌, ◌<◌, ◌≤◌, Bool, true, false, cond, not, ◌&&◌, ◌||◌, ◌==◌}
-use Rattle.std.proofs.Common.{nat_eq, nat_lt, List, length, Some, is_some, slice_get, refl, sym, ap, ap₂}
+use Rattle.std.proofs.Common.{nat_eq, nat_lt, List, length, Option, None, Some, is_some, slice_get, refl, sym, ap, ap₂}
 use Rattle.std.proofs.Common.{◌∙◌, subst, arith}
 use Rattle.std.proofs.lemmas.Bool.{and_parts}
 use Rattle.std.proofs.lemmas.Bool.Decides.{nat_tests}
-use Rattle.std.proofs.lemmas.Option.{slice_get_past, none-some, same_Some}
+use Rattle.std.proofs.lemmas.Option.{slice_get_past}
 use Rattle.ucd_perl.specs.Perl.{is_word_byte}
 use Rattle.regex_hir.specs.Text as bytes
 use Rattle.regex_hir.specs.Looks as looks
@@ -24,7 +24,7 @@ use Rattle.sre_model.specs.Subject.{Subject, char_at, before, after, holds_at, i
 use Rattle.sre_model.specs.Subject.{bars_non_boundary}
 use Rattle.sre_shape.specs.Covers.{View, CoversItem, InBytes}
 use Rattle.sre_shape.specs.Looks.{look_of, exact_look, in_ascii}
-use Rattle.sre_shape.proofs.Matched.{at-matched}
+use Rattle.sre_shape.proofs.Composed.{covers-position}
 
 same_word : (c : ℕ) → is_word_byte c ≡ is_word c
 same_word c = grind (arith, nat_tests)
@@ -164,71 +164,9 @@ module _ (s : Subject) (hay : List ℕ) (off : ℕ → ℕ) (v : Sided s hay off
   no_word-holds word g p l =
       ap₂ (λ x y. not (cond x (not y) y)) (before-same is_word_byte word g p l) (after-same is_word_byte word g p l)
 
-  -- a condition of which the assertion that it is at most holds wherever it does
-  abbrev Implies : Look → SreAtCode → Type 0
-  Implies l a = (p : ℕ) → p ≤ s.end → holds_at s a p ≡ true → looks.holds l hay (off p) ≡ true
-
-  beginning : Implies Start BEGINNING
-  beginning p l h = start-holds p l ∙ h
-
-  beginning_string : Implies Start BEGINNING_STRING
-  beginning_string p l h = start-holds p l ∙ h
-
-  beginning_line : Implies StartLf BEGINNING_LINE
-  beginning_line p l h = start_line-holds p l ∙ h
-
-  end_string : Implies End END_STRING
-  end_string p l h = end-holds p l ∙ h
-
-  end_line : Implies EndLf END_LINE
-  end_line p l h = end_line-holds p l ∙ h
-
-  end : Implies EndLf END
-  end p l h = end_line-holds p l ∙ weaker (nat_eq p s.end) (nat_eq (p + 1) s.end) (after s is_linebreak p) h
-    where
-      weaker : (x y z : Bool) → (x || (y && z)) ≡ true → (x || z) ≡ true
-      weaker true y z e = refl
-      weaker false y z e = (and_parts y z e).1
-
-  boundary : Implies WordAscii BOUNDARY
-  boundary p l h =
-      word-holds is_word word-agrees p l ∙ (and_parts (not (is_on_nothing s p)) (is_boundary s is_word p) h).1
-
-  loc_boundary : Implies WordAscii LOC_BOUNDARY
-  loc_boundary p l h = boundary p l h
-
-  non_boundary : Implies WordAsciiNegate NON_BOUNDARY
-  non_boundary p l h =
-      no_word-holds is_word word-agrees p l
-      ∙ (and_parts (not (bars_non_boundary s p)) (not (is_boundary s is_word p)) h).1
-
-  loc_non_boundary : Implies WordAsciiNegate LOC_NON_BOUNDARY
-  loc_non_boundary p l h = non_boundary p l h
-
-  implied : (k l : Look) (a : SreAtCode) → Some k ≡ Some l → Implies k a → Implies l a
-  implied k l a e f = subst (λ x. Implies x a) (same_Some k l e) f
-
-  look-implies : (a : SreAtCode) (l : Look) → look_of a ≡ Some l → Implies l a
-  look-implies BEGINNING l e = implied Start l BEGINNING e beginning
-  look-implies BEGINNING_LINE l e = implied StartLf l BEGINNING_LINE e beginning_line
-  look-implies BEGINNING_STRING l e = implied Start l BEGINNING_STRING e beginning_string
-  look-implies BOUNDARY l e = implied WordAscii l BOUNDARY e boundary
-  look-implies NON_BOUNDARY l e = implied WordAsciiNegate l NON_BOUNDARY e non_boundary
-  look-implies END l e = implied EndLf l END e end
-  look-implies END_LINE l e = implied EndLf l END_LINE e end_line
-  look-implies END_STRING l e = implied End l END_STRING e end_string
-  look-implies LOC_BOUNDARY l e = implied WordAscii l LOC_BOUNDARY e loc_boundary
-  look-implies LOC_NON_BOUNDARY l e = implied WordAsciiNegate l LOC_NON_BOUNDARY e loc_non_boundary
-  look-implies UNI_BOUNDARY l e = absurd (none-some l e)
-  look-implies UNI_NON_BOUNDARY l e = absurd (none-some l e)
-
-  -- an assertion that holds just where a position does
-  abbrev Agrees : Look → SreAtCode → Type 0
-  Agrees l a = (p : ℕ) → p ≤ s.end → looks.holds l hay (off p) ≡ holds_at s a p
-
   -- on nothing no boundary is anyway
-  boundary-agrees : Agrees WordAscii BOUNDARY
-  boundary-agrees p l = word-holds is_word word-agrees p l ∙ by_place (is_on_nothing s p) refl
+  boundary-holds : (p : ℕ) → p ≤ s.end → looks.holds WordAscii hay (off p) ≡ holds_at s BOUNDARY p
+  boundary-holds p l = word-holds is_word word-agrees p l ∙ by_place (is_on_nothing s p) refl
     where
       by_place : (y : Bool) → is_on_nothing s p ≡ y
           → is_boundary s is_word p ≡ (not y && is_boundary s is_word p)
@@ -241,22 +179,51 @@ module _ (s : Subject) (hay : List ℕ) (off : ℕ → ℕ) (v : Sided s hay off
           (λ x y. cond (x && is_word (char_at s (p - 1))) (not (y && is_word (char_at s p)))
           (y && is_word (char_at s p))) front back
 
-  agreed : (k l : Look) (a : SreAtCode) → Some k ≡ Some l → Agrees k a → Agrees l a
-  agreed k l a e f = subst (λ x. Agrees x a) (same_Some k l e) f
+  -- an assertion, if there is one, that holds just where a position does
+  abbrev Agrees : SreAtCode → Option Look → Type 0
+  Agrees a None = Unit {0}
+  Agrees a (Some l) = (p : ℕ) → p ≤ s.end → looks.holds l hay (off p) ≡ holds_at s a p
 
-  pub look-agrees : (a : SreAtCode) (l : Look) → exact_look a ≡ Some l → Agrees l a
-  look-agrees BEGINNING l e = agreed Start l BEGINNING e start-holds
-  look-agrees BEGINNING_LINE l e = agreed StartLf l BEGINNING_LINE e start_line-holds
-  look-agrees BEGINNING_STRING l e = agreed Start l BEGINNING_STRING e start-holds
-  look-agrees BOUNDARY l e = agreed WordAscii l BOUNDARY e boundary-agrees
-  look-agrees NON_BOUNDARY l e = absurd (none-some l e)
-  look-agrees END l e = absurd (none-some l e)
-  look-agrees END_LINE l e = agreed EndLf l END_LINE e end_line-holds
-  look-agrees END_STRING l e = agreed End l END_STRING e end-holds
-  look-agrees LOC_BOUNDARY l e = agreed WordAscii l LOC_BOUNDARY e boundary-agrees
-  look-agrees LOC_NON_BOUNDARY l e = absurd (none-some l e)
-  look-agrees UNI_BOUNDARY l e = absurd (none-some l e)
-  look-agrees UNI_NON_BOUNDARY l e = absurd (none-some l e)
+  agrees : (a : SreAtCode) → Agrees a (exact_look a)
+  agrees BEGINNING = start-holds
+  agrees BEGINNING_LINE = start_line-holds
+  agrees BEGINNING_STRING = start-holds
+  agrees BOUNDARY = boundary-holds
+  agrees END_LINE = end_line-holds
+  agrees END_STRING = end-holds
+  agrees LOC_BOUNDARY = boundary-holds
+  agrees a = tt
+
+  pub look-agrees : (a : SreAtCode) (l : Look) → exact_look a ≡ Some l → Agrees a (Some l)
+  look-agrees a l e = subst (Agrees a) e (agrees a)
+
+  -- and one that holds at least where it does
+  abbrev Implies : SreAtCode → Option Look → Type 0
+  Implies a None = Unit {0}
+  Implies a (Some l) = (p : ℕ) → p ≤ s.end → holds_at s a p ≡ true → looks.holds l hay (off p) ≡ true
+
+  end : Implies END (Some EndLf)
+  end p l h = end_line-holds p l ∙ weaker (nat_eq p s.end) (nat_eq (p + 1) s.end) (after s is_linebreak p) h
+    where
+      weaker : (x y z : Bool) → (x || (y && z)) ≡ true → (x || z) ≡ true
+      weaker true y z e = refl
+      weaker false y z e = (and_parts y z e).1
+
+  non_boundary : Implies NON_BOUNDARY (Some WordAsciiNegate)
+  non_boundary p l h =
+      no_word-holds is_word word-agrees p l
+      ∙ (and_parts (not (bars_non_boundary s p)) (not (is_boundary s is_word p)) h).1
+
+  implies : (a : SreAtCode) → Implies a (look_of a)
+  implies END = end
+  implies NON_BOUNDARY = non_boundary
+  implies LOC_NON_BOUNDARY = non_boundary
+  implies UNI_BOUNDARY = tt
+  implies UNI_NON_BOUNDARY = tt
+  implies a = λ p l h. agrees a p l ∙ h
+
+  look-implies : (a : SreAtCode) (l : Look) → look_of a ≡ Some l → Implies a (Some l)
+  look-implies a l e = subst (Implies a) e (implies a)
 
 -- two positions that hold at the same places of the window
 abbrev pub HoldAlike : Subject → SreAtCode → SreAtCode → Type 0
@@ -267,13 +234,11 @@ pub covers-look_of : (V : View) (table : Table)
     → ((s : Subject) (hay : List ℕ) (off : ℕ → ℕ) → V s hay off → Sided s hay off)
     → (a b : SreAtCode) → ((s : Subject) (hay : List ℕ) (off : ℕ → ℕ) → V s hay off → HoldAlike s a b)
     → (l : Look) → look_of a ≡ Some l → CoversItem V table (look l) (At b)
-covers-look_of V table sided a b alike l e = record {
-  covers = λ s hay off v same.
-      at-matched s hay off (look l) b (λ p i h. (
-        look-implies s hay off (sided s hay off v) a l e p i (alike s hay off v p i ∙ h),
-        refl,
-      ));
-}
+covers-look_of V table sided a b alike l e =
+    covers-position V table (look l) b (λ s hay off v p i h. (
+      look-implies s hay off (sided s hay off v) a l e p i (alike s hay off v p i ∙ h),
+      refl,
+    ))
 
 -- in ASCII each table has the same words
 module _ (s : Subject) (hay : List ℕ) (off : ℕ → ℕ) (v : InBytes 128 s hay off) where
@@ -299,15 +264,6 @@ module _ (s : Subject) (hay : List ℕ) (off : ℕ → ℕ) (v : InBytes 128 s h
   ascii-boundary p l = ap₂ (λ x y. cond x (not y) y) (ascii-before p l) (ascii-after p)
 
   pub ascii-alike : (a : SreAtCode) → HoldAlike s (in_ascii a) a
-  ascii-alike BEGINNING p l = refl
-  ascii-alike BEGINNING_LINE p l = refl
-  ascii-alike BEGINNING_STRING p l = refl
-  ascii-alike BOUNDARY p l = refl
-  ascii-alike NON_BOUNDARY p l = refl
-  ascii-alike END p l = refl
-  ascii-alike END_LINE p l = refl
-  ascii-alike END_STRING p l = refl
-  ascii-alike LOC_BOUNDARY p l = refl
-  ascii-alike LOC_NON_BOUNDARY p l = refl
   ascii-alike UNI_BOUNDARY p l = ap (λ y. not (is_on_nothing s p) && y) (ascii-boundary p l)
   ascii-alike UNI_NON_BOUNDARY p l = ap (λ y. not (bars_non_boundary s p) && not y) (ascii-boundary p l)
+  ascii-alike a p l = refl

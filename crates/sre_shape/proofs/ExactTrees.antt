@@ -1,5 +1,5 @@
 -- Patterns that try the match paths of the parts of a tree in order, combined to one that tries those of the tree.
-use Rattle.std.proofs.Common.{◌≡◌, ℕ, zero, suc, ◌+◌, ◌-◌, ◌<◌, ◌≤◌, min, true, false, cond, ◌||◌, nat_lt, nat_eq}
+use Rattle.std.proofs.Common.{◌≡◌, ℕ, zero, suc, ◌+◌, ◌-◌, ◌<◌, ◌≤◌, min, true, false, cond, ◌||◌, nat_lt}
 use Rattle.std.proofs.Common.{List, [], Option, Some, None, slice_get, refl, sym, ap, ap₂, ◌∙◌, subst, ⊎_elim, arith}
 use Rattle.std.specs.List.{AllByRecursion}
 use Rattle.std.specs.Option.{option_or}
@@ -8,6 +8,7 @@ use Rattle.std.proofs.lemmas.Str.{len_utf8_bounds}
 use Rattle.std.specs.Char.{IsScalar}
 use Rattle.regex_class.specs.Ranges.{in_ranges}
 use Rattle.regex_hir.specs.Re.{Re, empty, byte_in, char_in, look, cat, alt, attempt}
+use Rattle.regex_hir.specs.Looks as looks
 use Rattle.regex_hir.specs.declared.look.Look.{Look}
 use Rattle.regex_hir.specs.Text.{is_some_and}
 use Rattle.regex_hir.specs.Meaning.{repeat}
@@ -20,15 +21,15 @@ use Rattle.sre_model.specs.Tree.{Tree, Empty, Then, Item, Fail, One, At, Mark, B
 use Rattle.sre_model.specs.Tree.{Order}
 use Rattle.sre_model.specs.Marks.{Marks}
 use Rattle.sre_model.specs.Characters.{holds}
-use Rattle.sre_model.specs.Subject.{Subject, char_at, passes}
-use Rattle.sre_model.specs.Ways.{Body, here, unlimited, ways, item_ways, run_ways, loop_ways}
+use Rattle.sre_model.specs.Subject.{Subject, char_at, passes, holds_at}
+use Rattle.sre_model.specs.Ways.{Body, here, unlimited, ways, item_ways, run_ways, loop_ways, branch_ways}
 use Rattle.sre_model.proofs.Each.{each-cond}
-use Rattle.sre_model.proofs.Bounds.{ways-bounded, item-bounded}
+use Rattle.sre_model.proofs.Bounds.{Between, Bounded, ways-bounded, item-bounded}
 use Rattle.sre_shape.specs.Covers.{View, InBytes, InUtf8}
 use Rattle.sre_shape.specs.Exact.{tried, Exact, ExactTree, ExactItem, ExactBranch, ExactTest, Rises, AreKept}
 use Rattle.sre_shape.specs.Repeated.{most_kept, repeated, is_greedy, kind_of}
 use Rattle.sre_shape.specs.Looks.{exact_look}
-use Rattle.sre_shape.proofs.InOrder.{empty-exact, then-exact, or-exact, one-exact, char-exact, look-exact, mark-exact}
+use Rattle.sre_shape.proofs.InOrder.{tried-append, tried-flat, tried-here, tried-cond, one-exact, char-exact}
 use Rattle.sre_shape.proofs.InOrder.{counted-exact, endless-exact}
 use Rattle.sre_shape.proofs.AtPlaces.{empty-at, look-at, none-at, cat-at, alt-at, repeat-at, bytes-at, char-at}
 use Rattle.sre_shape.proofs.Edges.{Sided, HoldAlike, look-agrees}
@@ -40,43 +41,40 @@ module _ (s : Subject) (hay : List ℕ) (off : ℕ → ℕ) (up : (p q : ℕ) �
   abbrev X : Re → Body → Type 0
   X = Exact s hay off
 
-  -- counts that are kept are those of the loop
-  repeated-exact : (o : Order) (low high : ℕ) (body : Body) (a : Re) → AreKept kept low high
-      → (high < unlimited → X (repeat low (Some high) (is_greedy o) a) (loop_ways s o low high body))
-      → (nat_eq high unlimited ≡ true → X (repeat low None (is_greedy o) a) (loop_ways s o low high body))
+  -- a loop whose body moves on, where its counts are kept
+  repeated-exact : (o : Order) (low high : ℕ) (body : Body) (a : Re) → AreKept kept low high → X a body → Bounded s body
+      → ((p : ℕ) (m : Marks) → p ≤ s.end → AllByRecursion (λ v. p < v.stop) (body p m))
       → X (repeated kept low high (is_greedy o) a) (loop_ways s o low high body)
-  repeated-exact o low high body a k f g = ⊎_elim counted endless k.2
+  repeated-exact o low high body a k x b moves = ⊎_elim counted endless k.2
     where
-      low_kept : min low kept ≡ low
-      low_kept = omega (arith, k.1)
+      by_top : (top : Option ℕ) → most_kept kept low high ≡ top
+          → X (repeat low top (is_greedy o) a) (loop_ways s o low high body)
+          → X (repeated kept low high (is_greedy o) a) (loop_ways s o low high body)
+      by_top top most =
+          let low_kept : min low kept ≡ low = omega (arith, k.1) in
+          subst (λ r. X r (loop_ways s o low high body))
+          (sym (ap₂ (λ n t. repeat n t (is_greedy o) a) low_kept most))
+
+      short : nat_lt kept low ≡ false
+      short = let l : low ≤ kept = k.1 in grind (arith, nat_tests)
 
       counted : high ≤ kept → X (repeated kept low high (is_greedy o) a) (loop_ways s o low high body)
       counted l =
-          let x : nat_lt kept low ≡ false = grind (arith, nat_tests) in
           let y : nat_lt kept high ≡ false = grind (arith, nat_tests) in
-          let most : most_kept kept low high ≡ Some high = ap₂ (λ a b. cond (a || b) None (Some high)) x y in
-          subst (λ m. X (repeat m (most_kept kept low high) (is_greedy o) a) (loop_ways s o low high body))
-          (sym low_kept)
-          (subst (λ m. X (repeat low m (is_greedy o) a) (loop_ways s o low high body)) (sym most) (f (omega arith)))
+          by_top (Some high) (ap₂ (λ a b. cond (a || b) None (Some high)) short y)
+          (counted-exact s hay off up o low high body a x b moves k.0 (omega arith))
 
       endless : high ≡ unlimited → X (repeated kept low high (is_greedy o) a) (loop_ways s o low high body)
       endless e =
-          let x : nat_lt kept low ≡ false = grind (arith, nat_tests) in
           let y : nat_lt kept high ≡ true = grind (arith, nat_tests) in
-          let z : nat_eq high unlimited ≡ true = grind (arith, nat_tests) in
-          let most : most_kept kept low high ≡ None = ap₂ (λ a b. cond (a || b) None (Some high)) x y in
-          subst (λ m. X (repeat m (most_kept kept low high) (is_greedy o) a) (loop_ways s o low high body))
-          (sym low_kept)
-          (subst (λ m. X (repeat low m (is_greedy o) a) (loop_ways s o low high body)) (sym most) (g z))
+          by_top None (ap₂ (λ a b. cond (a || b) None (Some high)) short y)
+          (endless-exact s hay off up o low high body a x b moves (grind (arith, nat_tests)))
 
   loop-exact : (o : Order) (low high : ℕ) (body : Tree) (a : Re) → AreKept kept low high → IsMinLen a 1
       → X a (ways s body) → X (repeated kept low high (is_greedy o) a) (loop_ways s o low high (ways s body))
   loop-exact o low high body a k least x =
-      let moves : (p : ℕ) (m : Marks) → p ≤ s.end → AllByRecursion (λ v. p < v.stop) (ways s body p m) =
-      exact-moves s hay off a (ways s body) x least (ways-bounded s body) in
-      repeated-exact o low high (ways s body) a k
-      (λ u. counted-exact s hay off up o low high (ways s body) a x (ways-bounded s body) moves k.0 u)
-      (λ e. endless-exact s hay off up o low high (ways s body) a x (ways-bounded s body) moves e)
+      repeated-exact o low high (ways s body) a k x (ways-bounded s body)
+      (exact-moves s hay off a (ways s body) x least (ways-bounded s body))
 
   abbrev one : Test → Body
   one t q n = item_ways s (One t) q n
@@ -84,11 +82,8 @@ module _ (s : Subject) (hay : List ℕ) (off : ℕ → ℕ) (up : (p q : ℕ) �
   run-exact : (o : Order) (low high : ℕ) (t : Test) (a : Re) → AreKept kept low high → X a (one t)
       → X (repeated kept low high (is_greedy o) a) (run_ways s (kind_of o) low high t)
   run-exact o low high t a k x c p m h =
-      let moves : (q : ℕ) (n : Marks) → q ≤ s.end → AllByRecursion (λ v. q < v.stop) (one t q n) =
-      λ q n l. each-cond (λ v. q < v.stop) (passes s t q) (here (q + 1) n) [] (λ _. (omega arith, tt)) (λ _. tt) in
-      repeated-exact o low high (one t) a k
-      (λ u. counted-exact s hay off up o low high (one t) a x (item-bounded s (One t)) moves k.0 u)
-      (λ e. endless-exact s hay off up o low high (one t) a x (item-bounded s (One t)) moves e)
+      repeated-exact o low high (one t) a k x (item-bounded s (One t))
+      (λ q n l. each-cond (λ v. q < v.stop) (passes s t q) (here (q + 1) n) [] (λ _. (omega arith, tt)) (λ _. tt))
       c p m h
       ∙ ap (tried off c) (run-loop s o t low high k.0 p m h)
 
@@ -115,15 +110,19 @@ module _ (V : View) (table : Table) where
   I = ExactItem V table
 
   pub exact-empty : T empty Empty
+  unfolding attempt
   exact-empty = record {
-    tries = λ s hay off v same. empty-exact s hay off;
+    tries = λ s hay off v same k p m h. sym (tried-here s hay off k p m);
     begins = λ s hay off v. empty-at s hay off;
   }
 
   pub exact-then : (a b : Re) (item : Item) (rest : Tree) → I a item → T b rest → T (cat a b) (Then item rest)
+  unfolding attempt
   exact-then a b item rest f g = record {
-    tries = λ s hay off v same.
-        then-exact s hay off a b item rest (f.tries s hay off v same) (g.tries s hay off v same);
+    tries = λ s hay off v same k p m h.
+        f.tries s hay off v same (attempt hay b k) p m h
+        ∙ tried-flat s hay off (Between s p) (attempt hay b k) k (λ w. ways s rest w.stop w.marks)
+        (item_ways s item p m) (item-bounded s item p m h) (λ w l. g.tries s hay off v same k w.stop w.marks l.1);
     begins = λ s hay off v. cat-at s hay off a b (f.begins s hay off v) (g.begins s hay off v);
   }
 
@@ -137,8 +136,9 @@ module _ (V : View) (table : Table) where
   exact-one re t f = record { tries = f.tries; begins = f.begins }
 
   pub exact-mark : (n : ℕ) → I empty (Mark n)
+  unfolding attempt
   exact-mark n = record {
-    tries = λ s hay off v same. mark-exact s hay off n;
+    tries = λ s hay off v same k p m h. sym (tried-here s hay off k p m);
     begins = λ s hay off v. empty-at s hay off;
   }
 
@@ -153,8 +153,11 @@ module _ (V : View) (table : Table) where
 
   pub exact-or : (a b : Re) (t : Tree) (ts : Trees) → T a t → ExactBranch V table b ts
       → ExactBranch V table (alt a b) (Or t ts)
+  unfolding attempt
   exact-or a b t ts f g = record {
-    tries = λ s hay off v same. or-exact s hay off a b t ts (f.tries s hay off v same) (g.tries s hay off v same);
+    tries = λ s hay off v same k p m h.
+        ap₂ option_or (f.tries s hay off v same k p m h) (g.tries s hay off v same k p m h)
+        ∙ sym (tried-append s hay off k (ways s t p m) (branch_ways s ts p m));
     begins = λ s hay off v. alt-at s hay off a b (f.begins s hay off v) (g.begins s hay off v);
   }
 
@@ -208,10 +211,11 @@ pub exact-at : (V : View) (table : Table)
     → ((s : Subject) (hay : List ℕ) (off : ℕ → ℕ) → V s hay off → Sided s hay off)
     → (a b : SreAtCode) → ((s : Subject) (hay : List ℕ) (off : ℕ → ℕ) → V s hay off → HoldAlike s a b)
     → (l : Look) → exact_look a ≡ Some l → ExactItem V table (look l) (At b)
+unfolding attempt
 exact-at V table sided a b alike l e = record {
-  tries = λ s hay off v same.
-      look-exact s hay off l b
-      (λ p i. look-agrees s hay off (sided s hay off v) a l e p i ∙ alike s hay off v p i);
+  tries = λ s hay off v same k p m h.
+      tried-cond s hay off k p (off p) m (looks.holds l hay (off p)) (holds_at s b p)
+      (look-agrees s hay off (sided s hay off v) a l e p h ∙ alike s hay off v p h) refl;
   begins = λ s hay off v. look-at s hay off l;
 }
 

@@ -8,7 +8,7 @@ use Rattle.sre_model.specs.Tree.{Tree, Then, Item}
 use Rattle.sre_model.specs.Subject.{Subject}
 use Rattle.sre_model.specs.Ways.{Way, Body, ways, item_ways}
 use Rattle.sre_shape.specs.Covers.{Leads, IsWider, Along, View, Covers, CoversItem, Fronts, CoversStart}
-use Rattle.sre_shape.proofs.Journeys.{Leg}
+use Rattle.sre_shape.proofs.Composed.{Leg}
 
 module _ (s : Subject) (hay : List ℕ) (off : ℕ → ℕ) where
   -- some ways of which none can be are none

@@ -1,7 +1,4 @@
 pub mod Times
-pub mod Journeys
-pub mod RunsAlong
-pub mod Matched
 pub mod OverBytes
 pub mod Composed
 pub mod OverUtf8

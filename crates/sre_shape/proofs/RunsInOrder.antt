@@ -1,86 +1,77 @@
 -- A single-character repeat is a loop over one character.
-use Rattle.std.proofs.Common.{◌≡◌, ℕ, zero, suc, ◌+◌, ◌-◌, ◌<◌, ◌≤◌, Bool, true, false, cond, ◌&&◌, ◌||◌, nat_lt}
+use Rattle.std.proofs.Common.{◌≡◌, ℕ, zero, suc, ◌+◌, ◌-◌, ◌<◌, ◌≤◌, Bool, true, false, cond, ◌||◌, nat_lt}
 use Rattle.std.proofs.Common.{nat_eq, List, [], ◌∷◌, ◌++◌, map, Option, Some, None, refl, sym, ap, ap₂, ◌∙◌, arith}
-use Rattle.std.proofs.Common.{true≢false, min, not}
+use Rattle.std.proofs.Common.{true≢false, min}
 use Rattle.std.specs.List.{flat_map}
 use Rattle.std.proofs.lemmas.List.{append-nil}
 use Rattle.std.proofs.lemmas.Bool.Decides.{nat_tests}
-use Rattle.sre_model.specs.Tree.{Test, Order, Greedy, Lazy, GreedyRun, LazyRun, One}
+use Rattle.sre_model.specs.Tree.{Test, Order, Greedy, Lazy, One}
 use Rattle.sre_model.specs.Marks.{Marks}
 use Rattle.sre_model.specs.Subject.{Subject, passes}
-use Rattle.sre_model.specs.Ways.{Way, Body, here, unlimited, run_length, most_from, longest_run, rising, falling}
-use Rattle.sre_model.specs.Ways.{counts, ordered, may_repeat, run_ways, loop_ways, item_ways}
+use Rattle.sre_model.specs.Ways.{Way, Body, here, unlimited, run_length, most_from, rising, falling}
+use Rattle.sre_model.specs.Ways.{counts, ordered, run_ways, loop_ways, item_ways}
 use Rattle.sre_model.specs.Loops.{loop_from}
 use Rattle.sre_model.proofs.Bounds.{Bounded, item-bounded, passes-below}
-use Rattle.sre_model.proofs.LoopCases.{loop-below-all, loop-beyond-all, loop-ways}
+use Rattle.sre_model.proofs.Longest.{run_none}
+use Rattle.sre_model.proofs.LoopCases.{alone, loop-below-all, loop-beyond-all, loop-ways}
 use Rattle.sre_shape.specs.Repeated.{kind_of}
+use Rattle.sre_shape.proofs.InOrder.{Passed, repeats}
 
-falling-suc : (l n : ℕ) → falling (suc l) n ≡ map (λ c. suc c) (falling l n)
-falling-suc l zero = refl
-falling-suc l (suc n) =
-    let same : suc l + n ≡ suc (l + n) = omega arith in
-    ap₂ (λ x y. x ∷ y) same (falling-suc l n)
+module _ (p : ℕ) (m : Marks) where
+  abbrev shape : ℕ → ℕ → Way
+  shape q n = record { stop = q + n; marks = m }
 
-rising-suc : (l n : ℕ) → rising (suc l) n ≡ map (λ c. suc c) (rising l n)
-rising-suc l zero = refl
-rising-suc l (suc n) =
-    let same : suc l + 1 ≡ suc (l + 1) = omega arith in
-    ap (λ y. suc l ∷ rising y n) same ∙ ap (λ y. suc l ∷ y) (rising-suc (l + 1) n)
+  abbrev put : ℕ → List Way → List Way
+  put q ws = record { stop = q; marks = m } ∷ ws
 
--- behind a character, the counts are one more
-counts-suc : (o : Order) (l k : ℕ) → counts (kind_of o) (suc l) (suc k) ≡ map (λ c. suc c) (counts (kind_of o) l k)
-counts-suc Greedy l k =
-    let same : suc k + 1 - suc l ≡ k + 1 - l = omega arith in
-    ap (falling (suc l)) same ∙ falling-suc l (k + 1 - l)
-counts-suc Lazy l k =
-    let same : suc k + 1 - suc l ≡ k + 1 - l = omega arith in
-    ap (rising (suc l)) same ∙ rising-suc l (k + 1 - l)
+  -- behind a character, the counts are one more
+  falling-on : (l n : ℕ) → map (shape p) (falling (suc l) n) ≡ map (shape (p + 1)) (falling l n)
+  falling-on l zero = refl
+  falling-on l (suc n) =
+      let same : p + (suc l + n) ≡ p + 1 + (l + n) = omega arith in ap₂ put same (falling-on l n)
 
-falling-snoc : (n : ℕ) → falling 0 (suc n) ≡ map (λ c. suc c) (falling 0 n) ++ 0 ∷ []
-falling-snoc zero = refl
-falling-snoc (suc n) =
-    let same : 0 + suc n ≡ suc (0 + n) = omega arith in
-    ap₂ (λ x y. x ∷ y) same (falling-snoc n)
+  rising-on : (l n : ℕ) → map (shape p) (rising (suc l) n) ≡ map (shape (p + 1)) (rising l n)
+  rising-on l zero = refl
+  rising-on l (suc n) =
+      let same : p + suc l ≡ p + 1 + l = omega arith in
+      let next : suc l + 1 ≡ suc (l + 1) = omega arith in
+      ap₂ put same (ap (λ k. map (shape p) (rising k n)) next ∙ rising-on (l + 1) n)
 
--- with none owed, the count of no character comes last or first
-counts-zero : (o : Order) (k : ℕ)
-    → counts (kind_of o) 0 (suc k)
-    ≡ elim o [
-      | Greedy ↦ map (λ c. suc c) (counts GreedyRun 0 k) ++ 0 ∷ []
-      | Lazy ↦ 0 ∷ map (λ c. suc c) (counts LazyRun 0 k)
-    ]
-counts-zero Greedy k =
-    let a : suc k + 1 - 0 ≡ suc (suc k) = omega arith in
-    let b : k + 1 - 0 ≡ suc k = omega arith in
-    ap (falling 0) a ∙ falling-snoc (suc k) ∙ ap (λ n. map (λ c. suc c) (falling 0 n) ++ 0 ∷ []) (sym b)
-counts-zero Lazy k =
-    let a : suc k + 1 - 0 ≡ suc (suc k) = omega arith in
-    let b : k + 1 - 0 ≡ suc k = omega arith in
-    let one : 0 + 1 ≡ suc 0 = omega arith in
-    ap (rising 0) a ∙ ap (λ n. 0 ∷ rising n (suc k)) one ∙ ap (λ l. 0 ∷ l) (rising-suc 0 (suc k))
-    ∙ ap (λ n. 0 ∷ map (λ c. suc c) (rising 0 n)) (sym b)
+  falling-last : (n : ℕ) → map (shape p) (falling 0 (suc n)) ≡ map (shape (p + 1)) (falling 0 n) ++ here p m
+  falling-last zero = let same : p + (0 + 0) ≡ p = omega arith in ap (λ q. put q []) same
+  falling-last (suc n) =
+      let same : p + (0 + suc n) ≡ p + 1 + (0 + n) = omega arith in ap₂ put same (falling-last n)
 
-counts-none : (o : Order) (l : ℕ) → counts (kind_of o) (suc l) 0 ≡ []
-counts-none Greedy l = let none : 0 + 1 - suc l ≡ 0 = omega arith in ap (falling (suc l)) none
-counts-none Lazy l = let none : 0 + 1 - suc l ≡ 0 = omega arith in ap (rising (suc l)) none
+  -- the ways of a run from a position, where so many characters are owed and the longest has so many
+  abbrev shown : Order → ℕ → ℕ → ℕ → List Way
+  shown o q l k = map (shape q) (counts (kind_of o) l k)
 
-counts-one : (o : Order) → counts (kind_of o) 0 0 ≡ 0 ∷ []
-counts-one Greedy = refl
-counts-one Lazy = refl
+  shown-owed : (o : Order) (l k : ℕ) → shown o p (suc l) (suc k) ≡ shown o (p + 1) l k
+  shown-owed Greedy l k =
+      let same : suc k + 1 - suc l ≡ k + 1 - l = omega arith in
+      ap (λ n. map (shape p) (falling (suc l) n)) same ∙ falling-on l (k + 1 - l)
+  shown-owed Lazy l k =
+      let same : suc k + 1 - suc l ≡ k + 1 - l = omega arith in
+      ap (λ n. map (shape p) (rising (suc l) n)) same ∙ rising-on l (k + 1 - l)
 
-abbrev shape : ℕ → Marks → ℕ → Way
-shape p m n = record { stop = p + n; marks = m }
+  shown-some : (o : Order) (k : ℕ) → ordered o (shown o (p + 1) 0 k) (here p m) ≡ shown o p 0 (suc k)
+  shown-some Greedy k =
+      let same : suc k + 1 - 0 ≡ suc (k + 1 - 0) = omega arith in
+      sym (ap (λ n. map (shape p) (falling 0 n)) same ∙ falling-last (k + 1 - 0))
+  shown-some Lazy k =
+      let same : suc k + 1 - 0 ≡ suc (k + 1 - 0) = omega arith in
+      let none : p + 0 ≡ p = omega arith in
+      sym (ap (λ n. map (shape p) (rising 0 n)) same ∙ ap₂ put none (rising-on 0 (k + 1 - 0)))
 
-shift : (p : ℕ) (m : Marks) (cs : List ℕ) → map (shape p m) (map (λ c. suc c) cs) ≡ map (shape (p + 1) m) cs
-shift p m [] = refl
-shift p m (c ∷ cs) =
-    let same : p + suc c ≡ p + 1 + c = omega arith in
-    ap₂ (λ (x : ℕ) (y : List Way). record { stop = x; marks = m } ∷ y) same (shift p m cs)
+  shown-short : (o : Order) (l : ℕ) → shown o p (suc l) 0 ≡ []
+  shown-short Greedy l =
+      let none : 0 + 1 - suc l ≡ 0 = omega arith in ap (λ n. map (shape p) (falling (suc l) n)) none
+  shown-short Lazy l =
+      let none : 0 + 1 - suc l ≡ 0 = omega arith in ap (λ n. map (shape p) (rising (suc l) n)) none
 
-map-snoc : (p : ℕ) (m : Marks) (cs : List ℕ) (c : ℕ)
-    → map (shape p m) (cs ++ c ∷ []) ≡ map (shape p m) cs ++ shape p m c ∷ []
-map-snoc p m [] c = refl
-map-snoc p m (x ∷ cs) c = ap (λ l. shape p m x ∷ l) (map-snoc p m cs c)
+  shown-none : (o : Order) → here p m ≡ shown o p 0 0
+  shown-none Greedy = let same : p ≡ p + 0 = omega arith in ap (λ q. put q []) same
+  shown-none Lazy = let same : p ≡ p + 0 = omega arith in ap (λ q. put q []) same
 
 module _ (s : Subject) (o : Order) (t : Test) (low high : ℕ) (sound : low ≤ high) where
   abbrev one : Body
@@ -92,182 +83,120 @@ module _ (s : Subject) (o : Order) (t : Test) (low high : ℕ) (sound : low ≤ 
   abbrev loop : ℕ → Option ℕ → Body
   loop = loop_from s o low high one
 
-  abbrev Passed : Option ℕ → ℕ → Type 0
-  Passed None p = Unit {0}
-  Passed (Some q) p = q < p
+  abbrev may : ℕ → Bool
+  may count = nat_eq high unlimited || nat_lt count high
 
   -- how many characters may follow after so many
-  record IsCap (c count p : ℕ) : Type 0 where
-    endless : nat_eq high unlimited ≡ true → c ≡ s.end - p
-    limited : nat_eq high unlimited ≡ false → c ≡ min (s.end - p) (high - count)
+  abbrev cap : ℕ → ℕ → ℕ
+  cap count p = cond (nat_eq high unlimited) (s.end - p) (min (s.end - p) (high - count))
 
-  repeats : (count : ℕ) (last : Option ℕ) (p : ℕ) → Passed last p
-      → may_repeat high count last p ≡ (nat_eq high unlimited || nat_lt count high)
-  repeats count None p l = refl
-  repeats count (Some q) p l =
-      let other : nat_eq q p ≡ false = grind (arith, nat_tests) in
-      ap (λ y. (nat_eq high unlimited || nat_lt count high) && not y) other
-      ∙ and-true (nat_eq high unlimited || nat_lt count high)
+  cap-some : (count p : ℕ) → p < s.end → may count ≡ true → cap count p ≡ suc (cap (count + 1) (p + 1))
+  cap-some count p inside = by_test (nat_eq high unlimited)
     where
-      and-true : (y : Bool) → (y && true) ≡ y
-      and-true true = refl
-      and-true false = refl
+      by_test : (y : Bool) → (y || nat_lt count high) ≡ true → cond y (s.end - p) (min (s.end - p) (high - count))
+          ≡ suc (cond y (s.end - (p + 1)) (min (s.end - (p + 1)) (high - (count + 1))))
+      by_test true h = omega arith
+      by_test false h = let below : count < high = grind (arith, nat_tests) in omega arith
 
-  cap-some : (c count p : ℕ) → IsCap c count p → p < s.end → (nat_eq high unlimited || nat_lt count high) ≡ true
-      → (c ≡ suc (c - 1)) × IsCap (c - 1) (count + 1) (p + 1)
-  cap-some c count p is inside may = by_test (nat_eq high unlimited) refl may
+  cap-none : (count p : ℕ) → may count ≡ false → cap count p ≡ 0
+  cap-none count p = by_test (nat_eq high unlimited)
     where
-      by_test : (y : Bool) → nat_eq high unlimited ≡ y → (y || nat_lt count high) ≡ true
-          → (c ≡ suc (c - 1)) × IsCap (c - 1) (count + 1) (p + 1)
-      by_test true e h =
-          let a : c ≡ s.end - p = is.endless e in
-          (omega arith, record { endless = λ _. omega arith; limited = λ f. absurd (true≢false (sym e ∙ f)) })
-      by_test false e h =
-          let a : c ≡ min (s.end - p) (high - count) = is.limited e in
-          let below : count < high = grind (arith, nat_tests) in
-          (omega arith, record { endless = λ f. absurd (true≢false (sym f ∙ e)); limited = λ _. omega arith })
+      by_test : (y : Bool) → (y || nat_lt count high) ≡ false
+          → cond y (s.end - p) (min (s.end - p) (high - count)) ≡ 0
+      by_test true h = absurd (true≢false h)
+      by_test false h = let above : high ≤ count = grind (arith, nat_tests) in omega arith
 
-  cap-none : (c count p : ℕ) → IsCap c count p → (nat_eq high unlimited || nat_lt count high) ≡ false → c ≡ 0
-  cap-none c count p is may = by_test (nat_eq high unlimited) refl may
+  cap-first : (p : ℕ) → cap 0 p ≡ most_from s high p
+  cap-first p = by_tests (nat_eq high unlimited) (nat_lt (s.end - p) high) refl
     where
-      by_test : (y : Bool) → nat_eq high unlimited ≡ y → (y || nat_lt count high) ≡ false → c ≡ 0
-      by_test true e h = absurd (true≢false h)
-      by_test false e h =
-          let a : c ≡ min (s.end - p) (high - count) = is.limited e in
-          let above : high ≤ count = grind (arith, nat_tests) in
-          omega arith
+      by_tests : (x y : Bool) → nat_lt (s.end - p) high ≡ y
+          → cond x (s.end - p) (min (s.end - p) (high - 0)) ≡ cond (x || y) (s.end - p) high
+      by_tests true y e = refl
+      by_tests false true e = let less : s.end - p < high = grind (arith, nat_tests) in omega arith
+      by_tests false false e = let more : high ≤ s.end - p = grind (arith, nat_tests) in omega arith
 
-  run-on : (c p : ℕ) → passes s t p ≡ true → c ≡ suc (c - 1) → run_length s t c p ≡ suc (run_length s t (c - 1) (p + 1))
-  run-on c p e some =
-      ap (λ n. run_length s t n p) some ∙ ap (λ b. cond b (suc (run_length s t (c - 1) (p + 1))) 0) e
+  -- the longest run after so many characters, and its ways
+  abbrev run : ℕ → ℕ → ℕ
+  run count p = run_length s t (cap count p) p
 
-  run-stops : (c p : ℕ) → passes s t p ≡ false → run_length s t c p ≡ 0
-  run-stops zero p e = refl
-  run-stops (suc c) p e = ap (λ b. cond b (suc (run_length s t c (p + 1))) 0) e
+  abbrev left : ℕ → ℕ → Marks → List Way
+  left count p m = shown p m o p (low - count) (run count p)
 
-  here-alone : (p : ℕ) (m : Marks) → here p m ≡ map (shape p m) (counts (kind_of o) 0 0)
-  here-alone p m =
-      let same : p ≡ p + 0 = omega arith in
-      ap (λ (x : ℕ). record { stop = x; marks = m } ∷ []) same ∙ ap (map (shape p m)) (sym (counts-one o))
-
-  put-before : (r : Order) (p k : ℕ) (m : Marks)
-      → ordered r (map (shape (p + 1) m) (counts (kind_of r) 0 k)) (here p m)
-      ≡ map (shape p m) (counts (kind_of r) 0 (suc k))
-  put-before Greedy p k m =
-      let same : p ≡ p + 0 = omega arith in
-      ap₂ (λ (l : List Way) (x : ℕ). l ++ record { stop = x; marks = m } ∷ []) (sym (shift p m (counts GreedyRun 0 k)))
-      same
-      ∙ sym (map-snoc p m (map (λ c. suc c) (counts GreedyRun 0 k)) 0)
-      ∙ ap (map (shape p m)) (sym (counts-zero Greedy k))
-  put-before Lazy p k m =
-      let same : p ≡ p + 0 = omega arith in
-      ap₂ (λ (l : List Way) (x : ℕ). record { stop = x; marks = m } ∷ l) (sym (shift p m (counts LazyRun 0 k))) same
-      ∙ ap (map (shape p m)) (sym (counts-zero Lazy k))
-
-  alone : (r : Order) (p : ℕ) (m : Marks) → ordered r [] (here p m) ≡ here p m
-  alone Greedy p m = refl
-  alone Lazy p m = refl
+  run-on : (count p : ℕ) → may count ≡ true → passes s t p ≡ true → run count p ≡ suc (run (count + 1) (p + 1))
+  run-on count p h e =
+      ap (λ n. run_length s t n p) (cap-some count p (passes-below s t p e) h)
+      ∙ ap (λ b. cond b (suc (run (count + 1) (p + 1))) 0) e
 
   -- what follows some ways
   abbrev goes : ℕ → Option ℕ → List Way → List Way
   goes count after ws = flat_map (λ w. loop (count + 1) after w.stop w.marks) ws
 
-  abbrev shown : ℕ → Marks → ℕ → ℕ → List Way
-  shown p m l k = map (shape p m) (counts (kind_of o) l k)
-
   -- one character later the run goes on as the loop does
   abbrev Later : ℕ → ℕ → Marks → Type 0
   Later count p m =
-      (after : Option ℕ) (d : ℕ) → Passed after (p + 1) → p + 1 ≤ s.end → IsCap d (count + 1) (p + 1)
-      → loop (count + 1) after (p + 1) m ≡ shown (p + 1) m (low - (count + 1)) (run_length s t d (p + 1))
+      (after : Option ℕ) → Passed after (p + 1) → p + 1 ≤ s.end
+      → loop (count + 1) after (p + 1) m ≡ left (count + 1) (p + 1) m
 
-  step-beyond : (count p : ℕ) (m : Marks) (c : ℕ) → IsCap c count p → low ≤ count → Later count p m → (y z : Bool)
-      → (nat_eq high unlimited || nat_lt count high) ≡ y → passes s t p ≡ z
+  step-beyond : (count p : ℕ) (m : Marks) → low ≤ count → Later count p m → (y z : Bool) → may count ≡ y
+      → passes s t p ≡ z
       → ordered o (cond y (goes count (Some p) (cond z (here (p + 1) m) [])) []) (here p m)
-      ≡ shown p m 0 (run_length s t c p)
-  step-beyond count p m c is l ih false z y e =
-      let none : run_length s t c p ≡ 0 = ap (λ n. run_length s t n p) (cap-none c count p is y) in
-      alone o p m ∙ here-alone p m ∙ ap (shown p m 0) (sym none)
-  step-beyond count p m c is l ih true false y e =
-      alone o p m ∙ here-alone p m ∙ ap (shown p m 0) (sym (run-stops c p e))
-  step-beyond count p m c is l ih true true y e =
+      ≡ shown p m o p 0 (run count p)
+  step-beyond count p m l ih false z y e =
+      let none : run count p ≡ 0 = ap (λ n. run_length s t n p) (cap-none count p y) in
+      alone o p m ∙ shown-none p m o ∙ ap (shown p m o p 0) (sym none)
+  step-beyond count p m l ih true false y e =
+      alone o p m ∙ shown-none p m o ∙ ap (shown p m o p 0) (sym (run_none s t (cap count p) p e))
+  step-beyond count p m l ih true true y e =
       let inside : p < s.end = passes-below s t p e in
-      let cap = cap-some c count p is inside y in
-      let k : ℕ = run_length s t (c - 1) (p + 1) in
       let owed : low - (count + 1) ≡ 0 = omega arith in
       ap (λ ws. ordered o ws (here p m))
-      (append-nil (loop (count + 1) (Some p) (p + 1) m) ∙ ih (Some p) (c - 1) (omega arith) (omega arith) cap.1
-      ∙ ap (λ n. shown (p + 1) m n k) owed)
-      ∙ put-before o p k m
-      ∙ ap (shown p m 0) (sym (run-on c p e cap.0))
+      (append-nil (loop (count + 1) (Some p) (p + 1) m) ∙ ih (Some p) (omega arith) (omega arith)
+      ∙ ap (λ n. shown p m o (p + 1) n (run (count + 1) (p + 1))) owed)
+      ∙ shown-some p m o (run (count + 1) (p + 1))
+      ∙ ap (shown p m o p 0) (sym (run-on count p y e))
 
-  may-below : (count : ℕ) → count < low → (nat_eq high unlimited || nat_lt count high) ≡ true
-  may-below count l =
-      let below : nat_lt count high ≡ true = grind (arith, nat_tests) in
-      ap (λ y. nat_eq high unlimited || y) below ∙ or-true (nat_eq high unlimited)
-    where
-      or-true : (y : Bool) → (y || true) ≡ true
-      or-true true = refl
-      or-true false = refl
-
-  step-below : (count : ℕ) (last : Option ℕ) (p : ℕ) (m : Marks) (c : ℕ) → Passed last (p + 1) → IsCap c count p
-      → count < low → Later count p m → (z : Bool) → passes s t p ≡ z
-      → goes count last (cond z (here (p + 1) m) []) ≡ shown p m (low - count) (run_length s t c p)
-  step-below count last p m c passed is l ih false e =
+  step-below : (count : ℕ) (last : Option ℕ) (p : ℕ) (m : Marks) → Passed last (p + 1) → count < low
+      → Later count p m → (z : Bool) → passes s t p ≡ z → goes count last (cond z (here (p + 1) m) []) ≡ left count p m
+  step-below count last p m passed l ih false e =
       let owed : low - count ≡ suc (low - (count + 1)) = omega arith in
-      ap (map (shape p m)) (sym (counts-none o (low - (count + 1))))
-      ∙ ap₂ (shown p m) (sym owed) (sym (run-stops c p e))
-  step-below count last p m c passed is l ih true e =
+      sym (ap₂ (shown p m o p) owed (run_none s t (cap count p) p e) ∙ shown-short p m o (low - (count + 1)))
+  step-below count last p m passed l ih true e =
       let inside : p < s.end = passes-below s t p e in
-      let cap = cap-some c count p is inside (may-below count l) in
-      let k : ℕ = run_length s t (c - 1) (p + 1) in
+      let below : nat_lt count high ≡ true = grind (arith, nat_tests) in
       let owed : low - count ≡ suc (low - (count + 1)) = omega arith in
       append-nil (loop (count + 1) last (p + 1) m)
-      ∙ ih last (c - 1) passed (omega arith) cap.1
-      ∙ sym (shift p m (counts (kind_of o) (low - (count + 1)) k))
-      ∙ ap (map (shape p m)) (sym (counts-suc o (low - (count + 1)) k))
-      ∙ ap₂ (shown p m) (sym owed) (sym (run-on c p e cap.0))
+      ∙ ih last passed (omega arith)
+      ∙ sym (ap₂ (shown p m o p) owed (run-on count p (or-true (nat_eq high unlimited) _ below) e)
+      ∙ shown-owed p m o (low - (count + 1)) (run (count + 1) (p + 1)))
+    where
+      or-true : (x y : Bool) → y ≡ true → (x || y) ≡ true
+      or-true true y h = refl
+      or-true false y h = h
 
   later-passed : (last : Option ℕ) (p : ℕ) → Passed last p → Passed last (p + 1)
   later-passed None p l = tt
   later-passed (Some q) p l = omega arith
 
   -- after so many characters a run goes on as the loop does
-  run-is-loop : (fuel count : ℕ) (last : Option ℕ) (p : ℕ) (m : Marks) (c : ℕ) → s.end < p + fuel → p ≤ s.end
-      → Passed last p → IsCap c count p
-      → loop count last p m ≡ shown p m (low - count) (run_length s t c p)
-  run-is-loop zero count last p m c f h passed is = absurd (omega arith)
-  run-is-loop (suc fuel) count last p m c f h passed is =
-      by_low (nat_lt count low) refl
-      (λ after d l k i. run-is-loop fuel (count + 1) after (p + 1) m d (omega arith) k l i)
+  run-is-loop : (fuel count : ℕ) (last : Option ℕ) (p : ℕ) (m : Marks) → s.end < p + fuel → p ≤ s.end → Passed last p
+      → loop count last p m ≡ left count p m
+  run-is-loop zero count last p m f h passed = absurd (omega arith)
+  run-is-loop (suc fuel) count last p m f h passed =
+      by_low (nat_lt count low) refl (λ after l k. run-is-loop fuel (count + 1) after (p + 1) m (omega arith) k l)
     where
-      by_low : (x : Bool) → nat_lt count low ≡ x → Later count p m
-          → loop count last p m ≡ shown p m (low - count) (run_length s t c p)
+      by_low : (x : Bool) → nat_lt count low ≡ x → Later count p m → loop count last p m ≡ left count p m
       by_low true x ih =
           let below : count < low = grind (arith, nat_tests) in
           loop-below-all s o low high one one-bounded count last p m h below
-          ∙ step-below count last p m c (later-passed last p passed) is below ih (passes s t p) refl
+          ∙ step-below count last p m (later-passed last p passed) below ih (passes s t p) refl
       by_low false x ih =
           let done : low ≤ count = grind (arith, nat_tests) in
           let owed : low - count ≡ 0 = omega arith in
           loop-beyond-all s o low high one one-bounded count last p m h done
-          ∙ ap (λ y. ordered o (cond y (goes count (Some p) (one p m)) []) (here p m)) (repeats count last p passed)
-          ∙ step-beyond count p m c is done ih (nat_eq high unlimited || nat_lt count high) (passes s t p) refl refl
-          ∙ ap (λ n. shown p m n (run_length s t c p)) (sym owed)
-
-  most-cap : (p : ℕ) → IsCap (most_from s high p) 0 p
-  most-cap p = record { endless = endless; limited = limited }
-    where
-      endless : nat_eq high unlimited ≡ true → most_from s high p ≡ s.end - p
-      endless e = ap (λ y. cond (y || nat_lt (s.end - p) high) (s.end - p) high) e
-
-      by_test : (y : Bool) → nat_lt (s.end - p) high ≡ y → cond y (s.end - p) high ≡ min (s.end - p) (high - 0)
-      by_test true e = let less : s.end - p < high = grind (arith, nat_tests) in omega arith
-      by_test false e = let more : high ≤ s.end - p = grind (arith, nat_tests) in omega arith
-
-      limited : nat_eq high unlimited ≡ false → most_from s high p ≡ min (s.end - p) (high - 0)
-      limited e =
-          ap (λ y. cond (y || nat_lt (s.end - p) high) (s.end - p) high) e ∙ by_test (nat_lt (s.end - p) high) refl
+          ∙ ap (λ y. ordered o (cond y (goes count (Some p) (one p m)) []) (here p m))
+          (repeats high count last p passed)
+          ∙ step-beyond count p m done ih (may count) (passes s t p) refl refl
+          ∙ ap (λ n. shown p m o p n (run count p)) (sym owed)
 
   -- a run that gives back is a loop over one character
   pub run-loop : (p : ℕ) (m : Marks) → p ≤ s.end
@@ -275,5 +204,5 @@ module _ (s : Subject) (o : Order) (t : Test) (low high : ℕ) (sound : low ≤ 
   run-loop p m h =
       let same : low - 0 ≡ low = omega arith in
       loop-ways s o low high one p m
-      ∙ run-is-loop (s.end + 1) 0 None p m (most_from s high p) (omega arith) h tt (most-cap p)
-      ∙ ap (λ n. shown p m n (longest_run s t high p)) same
+      ∙ run-is-loop (s.end + 1) 0 None p m (omega arith) h tt
+      ∙ ap₂ (λ n k. shown p m o p n (run_length s t k p)) same (cap-first p)

@@ -1,5 +1,5 @@
 -- So many rounds of a relation, and what a repetition makes of them.
-use Rattle.std.proofs.Common.{◌≡◌, ℕ, zero, suc, ◌+◌, ◌-◌, ◌<◌, ◌≤◌, min, max, Bool, true, false, cond, ◌||◌, nat_lt}
+use Rattle.std.proofs.Common.{◌≡◌, ℕ, zero, suc, ◌-◌, ◌<◌, ◌≤◌, min, max, Bool, true, false, cond, ◌||◌, nat_lt}
 use Rattle.std.proofs.Common.{Option, Some, None, inl, inr, refl, sym, subst, arith, List}
 use Rattle.std.proofs.lemmas.Bool.Decides.{nat_tests}
 use Rattle.std.proofs.lemmas.Option.{none-some, same_Some}
@@ -7,21 +7,8 @@ use Rattle.regex_hir.specs.Re.{Re, cat, plus}
 use Rattle.regex_hir.specs.Meaning.{optional, copies, up_to, at_least, repeat}
 use Rattle.regex_hir.specs.Matches.{Rounds, one_round, next_round, Matches}
 use Rattle.sre_model.specs.Ways.{unlimited}
+use Rattle.sre_model.proofs.Along.{Times}
 use Rattle.sre_shape.specs.Repeated.{repeated}
-
--- n rounds of R lead from i to j
-abbrev pub Times : (ℕ → ℕ → Type 0) → ℕ → ℕ → ℕ → Type 0
-Times R zero i j = j ≡ i
-Times R (suc n) i j = (l : ℕ) × R i l × Times R n l j
-
--- rounds after others
-pub times-append : (R : ℕ → ℕ → Type 0) (a b i l j : ℕ) → Times R a i l → Times R b l j → Times R (a + b) i j
-times-append R zero b i l j h k =
-    let none : zero + b ≡ b = omega arith in
-    rw none (subst (λ x. Times R b x j) h k)
-times-append R (suc a) b i l j h k =
-    let more : suc a + b ≡ suc (a + b) = omega arith in
-    rw more (h.0, h.1, times-append R a b h.0 l j h.2 k)
 
 -- a round before others
 round-before : (R : ℕ → ℕ → Type 0) (i l j : ℕ) → R i l → Rounds R l j → Rounds R i j
@@ -41,11 +28,19 @@ module _ (hay : List ℕ) (greedy : Bool) (a : Re) where
   optional-some b true i j h = inl h
   optional-some b false i j h = inr h
 
-  -- n copies and what follows them
-  copies-times : (b : Re) (n i l j : ℕ) → Times (Matches hay a) n i l → Matches hay b l j
-      → Matches hay (copies n a b) i j
-  copies-times b zero i l j h k = subst (λ x. Matches hay b x j) h k
-  copies-times b (suc n) i l j h k = (h.0, h.1, copies-times b n h.0 l j h.2 k)
+  -- the first n of so many rounds are copies, where those after them match what follows
+  copies-times : (b : Re) (n k i j : ℕ) → n ≤ k
+      → ((l : ℕ) → Times (Matches hay a) (k - n) l j → Matches hay b l j)
+      → Times (Matches hay a) k i j → Matches hay (copies n a b) i j
+  copies-times b zero k i j l f h =
+      let all : k ≡ k - zero = omega arith in f i (subst (λ c. Times (Matches hay a) c i j) all h)
+  copies-times b (suc n) zero i j l f h = absurd (omega arith)
+  copies-times b (suc n) (suc k) i j l f h =
+      let left : k - n ≡ suc k - suc n = omega arith in (
+        h.0,
+        h.1,
+        copies-times b n k h.0 j (omega arith) (λ q t. f q (subst (λ c. Times (Matches hay a) c q j) left t)) h.2,
+      )
 
   up_to-times : (most n i j : ℕ) → n ≤ most → Times (Matches hay a) n i j → Matches hay (up_to greedy most a) i j
   up_to-times zero zero i j l h = h
@@ -55,27 +50,14 @@ module _ (hay : List ℕ) (greedy : Bool) (a : Re) where
       optional-some (cat a (up_to greedy most a)) greedy i j
       (h.0, h.1, up_to-times most n h.0 j (omega arith) h.2)
 
-  -- the first m of so many rounds, and those after them
-  times-split : (m n i j : ℕ) → Times (Matches hay a) (m + n) i j
-      → (l : ℕ) × Times (Matches hay a) m i l × Times (Matches hay a) n l j
-  times-split zero n i j h =
-      let none : zero + n ≡ n = omega arith in
-      (i, refl, subst (λ c. Times (Matches hay a) c i j) none h)
-  times-split (suc m) n i j h =
-      let more : suc m + n ≡ suc (m + n) = omega arith in
-      let g : Times (Matches hay a) (suc (m + n)) i j = subst (λ c. Times (Matches hay a) c i j) more h in
-      let later = times-split m n g.0 j g.2 in
-      (later.0, (g.0, g.1, later.1), later.2)
-
   at_least-times : (low n i j : ℕ) → low ≤ n → Times (Matches hay a) n i j → Matches hay (at_least greedy low a) i j
   at_least-times zero zero i j l h = optional-none (plus greedy a) greedy i j h
   at_least-times zero (suc n) i j l h =
       optional-some (plus greedy a) greedy i j (rounds-of_times (Matches hay a) n i j h)
   at_least-times (suc low) n i j l h =
-      let parts : n ≡ low + suc (n - suc low) = omega arith in
-      let split = times-split low (suc (n - suc low)) i j (subst (λ c. Times (Matches hay a) c i j) parts h) in
-      copies-times (plus greedy a) low i split.0 j split.1
-      (rounds-of_times (Matches hay a) (n - suc low) split.0 j split.2)
+      let left : n - low ≡ suc (n - suc low) = omega arith in
+      copies-times (plus greedy a) low n i j (omega arith)
+      (λ q t. rounds-of_times (Matches hay a) (n - suc low) q j (subst (λ c. Times (Matches hay a) c q j) left t)) h
 
   -- so many rounds are a repetition's, where the counts allow them
   pub repeat-times : (low : ℕ) (most : Option ℕ) (n i j : ℕ) → low ≤ n
@@ -85,10 +67,8 @@ module _ (hay : List ℕ) (greedy : Bool) (a : Re) where
   repeat-times low None n i j l t h = at_least-times low n i j l h
   repeat-times low (Some top) n i j l t h =
       let within : n ≤ max low top = t top refl in
-      let parts : n ≡ low + (n - low) = omega arith in
-      let split = times-split low (n - low) i j (subst (λ c. Times (Matches hay a) c i j) parts h) in
-      copies-times (up_to greedy (top - low) a) low i split.0 j split.1
-      (up_to-times (top - low) (n - low) split.0 j (omega arith) split.2)
+      copies-times (up_to greedy (top - low) a) low n i j l
+      (λ q t. up_to-times (top - low) (n - low) q j (omega arith) t) h
 
   -- the same as far as the counts are kept
   pub repeated-times : (kept low high n i j : ℕ) → kept < unlimited → low ≤ n → (high < unlimited → n ≤ max low high)
