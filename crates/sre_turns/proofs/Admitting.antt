@@ -1,34 +1,35 @@
 -- The FIRST set of an instruction, from those where it continues: one step, whatever the role.
 -- Branches skip alternatives that fail by this; nothing in this crate rests on it.
-use Rattle.std.proofs.Common.{◌≡◌, ℕ, ◌+◌, ◌-◌, ◌<◌, ◌&&◌, ◌||◌, Bool, true, false, cond, nat_eq, nat_lt, List, []}
-use Rattle.std.proofs.Common.{◌∷◌, Option, Some, None, refl, sym, ◌∙◌, ap, subst, arith}
+use Rattle.std.proofs.Common.{◌≡◌, ℕ, ◌+◌, ◌-◌, ◌<◌, ◌&&◌, ◌||◌, Bool, true, false, cond, nat_eq, nat_lt, List, [], ◌∷◌}
+use Rattle.std.proofs.Common.{Some, None, refl, sym, ◌∙◌, ap, subst, arith}
 use Rattle.std.specs.Bool.{⊤}
 use Rattle.std.proofs.lemmas.Bool.Decides.{nat_tests}
+use Rattle.std.proofs.lemmas.Bool.{true≢false}
 use Rattle.sre_chars.specs.declared.constants.SreOpcode.{SreOpcode}
-use Rattle.sre_model.specs.Tree.{Test, RunKind, GreedyRun, LazyRun, PossessiveRun, Order, Greedy, Lazy, Sign, Positive}
-use Rattle.sre_model.specs.Tree.{Negative}
+use Rattle.sre_model.specs.Tree.{Test, Order, Greedy, Lazy, Positive, Negative}
 use Rattle.sre_model.specs.Characters.{holds}
 use Rattle.sre_model.specs.Marks.{Marks, group}
-use Rattle.sre_model.specs.Subject.{Subject, char_at, passes, holds_at}
+use Rattle.sre_model.specs.Subject.{Subject, char_at, passes}
 use Rattle.sre_model.specs.Ways.{Way, unlimited, may_repeat, longest_run, run_length}
 use Rattle.sre_model.specs.Grammar.{Word, Opcode, word, skip, until_opcode}
-use Rattle.sre_model.specs.Roles.{Role, ToFail, ToEnd, ToTest, ToCheckPosition, ToMark, ToBranch, ToJump, ToRun}
-use Rattle.sre_model.specs.Roles.{ToRepeat, ToLoop, ToRepeatPossessively, ToGroupAtomically, ToLook, ToRefer}
-use Rattle.sre_model.specs.Roles.{ToCheckGroup, ToNothing, role}
+use Rattle.sre_model.specs.Roles.{Role, ToLoop, role}
 use Rattle.sre_model.specs.Standing.{TestStands}
 use Rattle.sre_turns.specs.declared.Frame.{Frame}
-use Rattle.sre_turns.specs.declared.Region.TheVariants.{AtomicGroup, Ahead, NotAhead, Owed, Further}
+use Rattle.sre_turns.specs.declared.Region.{Region}
+use Rattle.sre_turns.specs.declared.Region.TheVariants.{AtomicGroup, Owed, Further}
 use Rattle.sre_turns.specs.declared.Point.TheVariants.{Instruction, Shorter, Longer, Again}
 use Rattle.sre_turns.specs.declared.Point.{Point}
-use Rattle.sre_turns.specs.Moves.{Spot, spot_at, into_region, Move, Stop, End, Go, Split, Enter, closing_move}
-use Rattle.sre_turns.specs.MovesInRuns.{onward_turn, run_turn}
+use Rattle.sre_turns.specs.Moves.{Spot, spot_at, Move, Stop, End, Go, Split, Enter, closing_move}
+use Rattle.sre_turns.specs.MovesInRuns.{RunOperands}
 use Rattle.sre_turns.specs.MovesInLoops.{first_frame, next_frame, until_move, UntilMove, again_move, AgainMove}
 use Rattle.sre_turns.specs.MovesInLoops.{in_order}
-use Rattle.sre_turns.specs.MovesInRegions.{look}
-use Rattle.sre_turns.specs.MovesAtReferences.{condition_place}
 use Rattle.sre_turns.specs.Machine.{InRole, Moves, Runs, turns, Comes, stops, goes, splits, enters}
-use Rattle.sre_turns.specs.Admitting.{IsOutside, NextOutside, AdmitsOnly, TestsOnly, HasAll, RepeatsOnly}
+use Rattle.sre_turns.specs.Admitting.{IsOutside, NextOutside, AdmitsOnly, TestsOnly, HasAll, RepeatsOnly, RunsOnly}
 use Rattle.sre_turns.specs.Admitting.{LeadsOnly}
+use Rattle.sre_turns.proofs.Turned.{GoesOn, behind_test, behind_reference, behind_run, run_on, group_there}
+use Rattle.sre_turns.proofs.Turned.{group_missing, Forks, greedy_run, lazy_run, Begins, plain_loop, possessive_loop}
+use Rattle.sre_turns.proofs.Turned.{Enters, atomic_group, lookaround, Turned, stopped, ended, went, forked, marked}
+use Rattle.sre_turns.proofs.Turned.{grouped, begun, entered, looped, none_owed, point_turned}
 use Rattle.sre_model.proofs.Families.{until_role}
 use Rattle.sre_model.proofs.Longest.{run_none}
 use Rattle.sre_model.proofs.Words.{word_of, same_opcode}
@@ -48,11 +49,8 @@ module _ (ws : List ℕ) (s : Subject) where
 
   -- and where one may be
   abbrev BarrenAfter : Move → Type 0
-  BarrenAfter Stop = ⊤
-  BarrenAfter End = ⊥
-  BarrenAfter (Go y) = Barren y
-  BarrenAfter (Split y z) = Barren y × Barren z
   BarrenAfter (Enter g y z) = (now : List Way) (n : ℕ) → Runs ws s z now n → BarrenOnto (closing_move g y now)
+  BarrenAfter a = BarrenOnto a
 
   onto_nothing : {x : Spot} {os : List Way} {n : ℕ} (a : Move) → BarrenOnto a → Comes ws s x a os n → os ≡ []
   onto_nothing Stop h stops = refl
@@ -62,11 +60,8 @@ module _ (ws : List ℕ) (s : Subject) where
   onto_nothing (Enter g y z) h d = absurd h
 
   after_nothing : {x : Spot} {os : List Way} {n : ℕ} (a : Move) → BarrenAfter a → Comes ws s x a os n → os ≡ []
-  after_nothing Stop h stops = refl
-  after_nothing End h d = absurd h
-  after_nothing (Go y) h (goes e) = h _ _ e
-  after_nothing (Split y z) h (splits {os₁ = os₁} {os₂ = os₂} e f) = rw (h.0 os₁ _ e, h.1 os₂ _ f) refl
   after_nothing (Enter g y z) h (enters {now = now} lies e f) = onto_nothing (closing_move g y now) (h now _ e) f
+  after_nothing a h d = onto_nothing a h d
 
   barren_turn : (x : Spot) → ((a : Move) → Moves ws s x a → BarrenAfter a) → Barren x
   barren_turn x h os n (turns a m d) = after_nothing a (h a m) d
@@ -96,6 +91,12 @@ module _ (ws : List ℕ) (s : Subject) (set : ℕ → Bool) (p : ℕ) (o : NextO
           subst (λ c. holds s.table t c ≡ false) (o.next inside) (only.none o.character o.outside s.table j t stands)
       go false e = refl
 
+  -- what is told of an opcode that is there is so of its role
+  led : (i : ℕ) {f : Role} (c : SreOpcode) → Opcode ws i c → LeadsOnly ws set (role c) i → (d : SreOpcode)
+      → Opcode ws i d → role d ≡ f → LeadsOnly ws set f i
+  led i c w h d v is =
+      subst (λ f. LeadsOnly ws set f i) (ap (λ x. role x) (same_opcode ws i c d w v) ∙ is) h
+
   module _ (fs : List Frame) (m : Marks) where
     abbrev Nothing : Point → Type 0
     Nothing pt = (q : ℕ) → q ≡ p → Barren ws s (spot_at pt fs q m)
@@ -124,66 +125,60 @@ module _ (ws : List ℕ) (s : Subject) (set : ℕ → Bool) (p : ℕ) (o : NextO
         never true b e y = let f : true ≡ false = sym y ∙ e in cc
         never false b e y = cc
 
-    onward_barren : (i t low : ℕ) (test : Test) → passes s test p ≡ false
-        → (low ≡ 0 → AdmitsOnly ws (Instruction t) set)
-        → BarrenAfter ws s (onward_turn s i t low test (spot_at (Instruction i) fs p m))
-    onward_barren i t low test missed tail =
-        let none : run_length s test low p ≡ 0 = run_none s test low p missed in
-        rw none (cond_barren ws s (nat_lt 0 low) Stop _ (λ e. tt) (λ e.
-        let free : low ≡ 0 = grind (arith, nat_tests) in
-        let same : p + low ≡ p = omega (arith, free) in
-        rw (same, missed) (there (Instruction t) (tail free) p refl)))
+    tail : {i low high end : ℕ} {t : Test} → RunsOnly ws i set → RunOperands ws i low high end t → low ≡ 0
+        → Nothing (Instruction (skip ws (i + 1)))
+    tail {i} {low} h operands free =
+        there (Instruction (skip ws (i + 1))) (h.behind (word_of ws (i + 2) low operands.lowest ∙ free))
 
-    run_barren : (kind : RunKind) (i t low high : ℕ) (test : Test) → passes s test p ≡ false
-        → TestsOnly ws (i + 4) set → (low ≡ 0 → AdmitsOnly ws (Instruction t) set)
-        → BarrenAfter ws s (run_turn kind s i t low high test (spot_at (Instruction i) fs p m))
-    run_barren GreedyRun i t low high test missed only tail =
-        let none : longest_run s test high p ≡ 0 = run_none s test _ p missed in
-        rw none (cond_barren ws s (nat_lt 0 low) Stop _ (λ e. tt) (λ e.
-        let free : low ≡ 0 = grind (arith, nat_tests) in
-        (there (Instruction t) (tail free) (p + 0) (omega arith), no_shorter t (0 - low) (p + 0) (omega arith))))
-    run_barren LazyRun i t low high test missed only tail =
-        let none : run_length s test low p ≡ 0 = run_none s test low p missed in
-        rw none (cond_barren ws s (nat_lt 0 low) Stop _ (λ e. tt) (λ e.
-        let free : low ≡ 0 = grind (arith, nat_tests) in (
-          there (Instruction t) (tail free) (p + low) (omega (arith, free)),
-          no_longer i low only (p + low) (omega (arith, free)),
-        )))
-    run_barren PossessiveRun i t low high test missed only tail =
-        cond_barren ws s (nat_eq high unlimited) _ _ (λ e. onward_barren i t low test missed tail)
-        (λ e. let none : longest_run s test high p ≡ 0 = run_none s test _ p missed in
-        rw none (cond_barren ws s (nat_lt 0 low) Stop _ (λ e. tt) (λ e.
-        let free : low ≡ 0 = grind (arith, nat_tests) in
-        there (Instruction t) (tail free) (p + 0) (omega arith))))
+    -- where an instruction goes on, no further character is taken
+    goes_on_barren : {i q : ℕ} {f : Role} {pt : Point} → LeadsOnly ws set f i → GoesOn ws s i p f pt q
+        → Barren ws s (spot_at pt fs q m)
+    goes_on_barren {i} h (behind_test {t = t} stands passed) =
+        absurd (true≢false (sym passed ∙ test_fails i _ t h stands))
+    goes_on_barren h behind_reference = admitted_nowhere h
+    goes_on_barren {i} h (run_on {test = t} operands more) =
+        absurd (more (test_fails (i + 4) _ t h.test operands.stands))
+    goes_on_barren {i} {q} h (behind_run {test = t} operands missed) =
+        let free = missed (test_fails (i + 4) _ t h.test operands.stands) in tail h operands free.0 q free.1
+    goes_on_barren h group_there = h.0.none s p o fs m
+    goes_on_barren h group_missing = h.1.none s p o fs m
+    goes_on_barren h on = h.none s p o fs m
 
-    look_barren : (sign : Sign) (t back : ℕ) (i : ℕ) → AdmitsOnly ws (Instruction t) set
-        → BarrenAfter ws s
-        (let x = spot_at (Instruction i) fs p m in
-        cond (nat_lt p back) (closing_move (look sign t) x [])
-        (Enter (look sign t) x (into_region x (i + 3) (p - back))))
-    look_barren Positive t back i h =
-        cond_barren ws s (nat_lt p back) _ _ (λ e. tt) (λ e now n d. ahead now)
-      where
-        ahead : (now : List Way) → BarrenOnto ws s (closing_move (Ahead t) (spot_at (Instruction i) fs p m) now)
-        ahead [] = tt
-        ahead (w ∷ os) = h.none s p o fs w.marks
-    look_barren Negative t back i h =
-        cond_barren ws s (nat_lt p back) _ _ (λ e. h.none s p o fs m) (λ e now n d. not_ahead now)
-      where
-        not_ahead : (now : List Way) → BarrenOnto ws s (closing_move (NotAhead t) (spot_at (Instruction i) fs p m) now)
-        not_ahead [] = h.none s p o fs m
-        not_ahead (w ∷ os) = tt
+    -- nor where it forks
+    forks_barren : {i q : ℕ} {first rest : Point} (c : SreOpcode) → Opcode ws i c → LeadsOnly ws set (role c) i
+        → Forks ws s p (Instruction i) first rest q
+        → Barren ws s (spot_at first fs q m) × Barren ws s (spot_at rest fs q m)
+    forks_barren {i} c w h (greedy_run {low = low} {high = high} {test = t} d v is operands full) =
+        let only : RunsOnly ws i set = led i c w h d v is in
+        let none : longest_run s t high p ≡ 0 =
+        run_none s t _ p (test_fails (i + 4) _ t only.test operands.stands) in
+        let free : low ≡ 0 = none_owed (longest_run s t high p) low none full in (
+          tail only operands free _ (omega (arith, none)),
+          no_shorter (skip ws (i + 1)) (longest_run s t high p - low) _ (omega (arith, none)),
+        )
+    forks_barren {i} c w h (lazy_run {low = low} {test = t} d v is operands full) =
+        let only : RunsOnly ws i set = led i c w h d v is in
+        let none : run_length s t low p ≡ 0 =
+        run_none s t low p (test_fails (i + 4) _ t only.test operands.stands) in
+        let free : low ≡ 0 = none_owed (run_length s t low p) low none full in
+        (tail only operands free _ (omega (arith, free)), no_longer i low only.test _ (omega (arith, free)))
 
-    condition_barren : (i g : ℕ) → AdmitsOnly ws (Instruction (i + 3)) set
-        → AdmitsOnly ws (Instruction (i + 1 + word ws (i + 2))) set
-        → Barren ws s (spot_at (Instruction (condition_place ws i g m)) fs p m)
-    condition_barren i g h k = go (group m g)
+    -- where a region closes whose body has no outcome, or is a lookaround
+    enters_barren : {i back j q : ℕ} {f : Role} {g : Region} → LeadsOnly ws set f i → Enters ws i f back j g
+        → (back ≡ 0 → q ≡ p)
+        → BarrenAfter ws s (Enter g (spot_at (Instruction i) fs p m) (spot_at (Instruction j) [] q m))
+    enters_barren {i} h atomic_group same now n d =
+        closed i (skip ws (i + 1)) now (h.none s p o [] m now n
+        (subst (λ r. Runs ws s (spot_at (Instruction (i + 2)) [] r m) now n) (same refl) d))
       where
-        go : (span : Option (ℕ × ℕ))
-            → Barren ws s
-            (spot_at (Instruction (elim span [ None ↦ i + 1 + word ws (i + 2) | (Some _) ↦ i + 3 ])) fs p m)
-        go None = k.none s p o fs m
-        go (Some span) = h.none s p o fs m
+        closed : (i t : ℕ) (now : List Way) → now ≡ []
+            → BarrenOnto ws s (closing_move (AtomicGroup t) (spot_at (Instruction i) fs p m) now)
+        closed i t [] e = tt
+        closed i t (v ∷ os) e = absurd (cc)
+    enters_barren h (lookaround {sign = Positive} back) same [] n d = tt
+    enters_barren h (lookaround {sign = Positive} back) same (w ∷ os) n d = h.none s p o fs w.marks
+    enters_barren h (lookaround {sign = Negative} back) same [] n d = h.none s p o fs m
+    enters_barren h (lookaround {sign = Negative} back) same (w ∷ os) n d = tt
 
   -- a loop that has had no body, at what ends its bodies
   module _ (i : ℕ) (outer : List Frame) (m : Marks) (h : RepeatsOnly ws i set) where
@@ -224,23 +219,20 @@ module _ (ws : List ℕ) (s : Subject) (set : ℕ → Bool) (p : ℕ) (o : NextO
       → u ≡ skip ws (i + 1) → UntilMove ws order u (spot_at (Instruction u) (first_frame i ∷ outer) p m) a
       → BarrenAfter ws s a
   until_after i u order outer m a h e k =
-      let frame : first_frame i ≡ k.frame = let y : first_frame i ∷ outer ≡ k.frame ∷ k.outer = k.inside in cc in
-      let rest : outer ≡ k.outer = let y : first_frame i ∷ outer ≡ k.frame ∷ k.outer = k.inside in cc in
-      let x : Spot = spot_at (Instruction u) (first_frame i ∷ outer) p m in
-      subst (BarrenAfter ws s) (sym k.is)
-      (subst (λ (f : Frame). Word ws (f.repeat + 2) k.low
-      → BarrenAfter ws s (until_move order k.low k.high u f k.outer x))
-      frame (λ w. until_barren i k.outer m h order k.low k.high u u (first_frame i ∷ outer) e w) k.lowest)
+      let both : k.frame ∷ k.outer ≡ first_frame i ∷ outer = sym k.inside in
+      let frame : k.frame ≡ first_frame i = cc in
+      let rest : k.outer ≡ outer = cc in
+      let low : Word ws (i + 2) k.low = subst (λ (f : Frame). Word ws (f.repeat + 2) k.low) frame k.lowest in
+      rw (k.is, frame, rest) (until_barren i outer m h order k.low k.high u u (first_frame i ∷ outer) e low)
 
   again_after : (i : ℕ) (outer : List Frame) (m : Marks) (a : Move) → RepeatsOnly ws i set
       → AgainMove ws (spot_at Again (first_frame i ∷ outer) p m) a → BarrenAfter ws s a
   again_after i outer m a h k =
-      let frame : first_frame i ≡ k.frame = let y : first_frame i ∷ outer ≡ k.frame ∷ k.outer = k.inside in cc in
-      let x : Spot = spot_at Again (first_frame i ∷ outer) p m in
-      subst (BarrenAfter ws s) (sym k.is)
-      (subst (λ (f : Frame). Word ws (f.repeat + 2) k.low
-      → BarrenAfter ws s (again_move k.low k.high (skip ws (f.repeat + 1)) f k.outer x))
-      frame (λ w. again_barren i k.outer m h k.low k.high (first_frame i ∷ outer) w) k.lowest)
+      let both : k.frame ∷ k.outer ≡ first_frame i ∷ outer = sym k.inside in
+      let frame : k.frame ≡ first_frame i = cc in
+      let rest : k.outer ≡ outer = cc in
+      let low : Word ws (i + 2) k.low = subst (λ (f : Frame). Word ws (f.repeat + 2) k.low) frame k.lowest in
+      rw (k.is, frame, rest) (again_barren i outer m h k.low k.high (first_frame i ∷ outer) low)
 
   until_there : (i u : ℕ) (order : Order) (outer : List Frame) (m : Marks) → RepeatsOnly ws i set
       → u ≡ skip ws (i + 1) → Opcode ws u (until_opcode order)
@@ -253,44 +245,25 @@ module _ (ws : List ℕ) (s : Subject) (set : ℕ → Bool) (p : ℕ) (o : NextO
       until_after i u order outer m a h e (subst (λ f. InRole ws s f u x a) same k.2))
 
   -- a step of an instruction
-  role_barren : (f : Role) (i : ℕ) (fs : List Frame) (m : Marks) (a : Move) → LeadsOnly ws set f i
-      → InRole ws s f i (spot_at (Instruction i) fs p m) a → BarrenAfter ws s a
-  role_barren ToFail i fs m a h k = subst (BarrenAfter ws s) (sym k) tt
-  role_barren ToEnd i fs m a h k = admitted_nowhere h
-  role_barren (ToTest kind) i fs m a h k =
-      let missed : passes s k.test p ≡ false = test_fails i k.end k.test h k.stands in
-      subst (BarrenAfter ws s) (sym k.is) (rw missed tt)
-  role_barren ToCheckPosition i fs m a h k =
-      subst (BarrenAfter ws s) (sym k.is)
-      (cond_barren ws s (holds_at s k.code p) _ Stop (λ e. h.none s p o fs m) (λ e. tt))
-  role_barren ToMark i fs m a h k = subst (BarrenAfter ws s) (sym k.is) (h.none s p o fs _)
-  role_barren ToBranch i fs m a h k = subst (BarrenAfter ws s) (sym k) (h.none s p o fs m)
-  role_barren ToJump i fs m a h k = subst (BarrenAfter ws s) (sym k.is) (h.none s p o fs m)
-  role_barren (ToRun kind) i fs m a h k =
-      let missed : passes s k.test p ≡ false =
-      test_fails (i + 4) k.end k.test h.test k.operands.stands in
-      subst (BarrenAfter ws s) (sym k.is)
-      (run_barren fs m kind i (skip ws (i + 1)) k.low k.high k.test missed h.test
-      (λ e. h.behind (word_of ws (i + 2) k.low k.operands.lowest ∙ e)))
-  role_barren ToRepeat i fs m a h k =
-      subst (BarrenAfter ws s) (sym k.is) (until_there i (skip ws (i + 1)) h.0.0 fs m h.1 refl h.0.1)
-  role_barren (ToLoop order) i fs m a h k = admitted_nowhere h
-  role_barren ToRepeatPossessively i fs m a h k =
-      let x : Spot = spot_at Again (first_frame i ∷ fs) p m in
-      subst (BarrenAfter ws s) (sym k) (barren_turn ws s x (λ b y. again_after i fs m b h y))
-  role_barren ToGroupAtomically i fs m a h k =
-      subst (BarrenAfter ws s) (sym k.is) (λ now n d. closed now (h.none s p o [] m now n d))
+  turn_barren : {fs : List Frame} {m : Marks} {i : ℕ} {v w : Move} (c : SreOpcode) → Opcode ws i c
+      → LeadsOnly ws set (role c) i → Turned ws s p fs fs m m (Instruction i) v w → BarrenAfter ws s v
+  turn_barren c w h stopped = tt
+  turn_barren {i = i} c w h (ended d v is) = admitted_nowhere (led i c w h d v is)
+  turn_barren {fs} {m} {i} c w h (went x) =
+      goes_on_barren fs m (led i c w h x.code x.there refl) x.goes
+  turn_barren {fs} {m} c w h (forked f one other on) = forks_barren fs m c w h f
+  turn_barren {fs} {i = i} c w h (marked d v is number) = (led i c w h d v is).none s p o fs _
+  turn_barren {m = m} c w h (grouped {g = g} d v is asked number a b each) = turn_barren c w h (each (group m g))
+  turn_barren {fs} {m} {i} c w h (begun {pt = pt} d v b same) = begins (role d) (led i c w h d v refl) b
     where
-      closed : (now : List Way) → now ≡ []
-          → BarrenOnto ws s (closing_move (AtomicGroup (skip ws (i + 1))) (spot_at (Instruction i) fs p m) now)
-      closed [] e = tt
-      closed (v ∷ os) e = absurd (cc)
-  role_barren (ToLook sign) i fs m a h k =
-      subst (BarrenAfter ws s) (sym k.is) (look_barren fs m sign (skip ws (i + 1)) k.back i h)
-  role_barren ToRefer i fs m a h k = admitted_nowhere h
-  role_barren ToCheckGroup i fs m a h k =
-      subst (BarrenAfter ws s) (sym k.is) (condition_barren fs m i k.number h.0 h.1)
-  role_barren ToNothing i fs m a h k = absurd k
+      begins : (f : Role) {pt : Point} → LeadsOnly ws set f i → Begins ws i f pt
+          → Barren ws s (spot_at pt (first_frame i ∷ fs) p m)
+      begins f h plain_loop = until_there i (skip ws (i + 1)) h.0.0 fs m h.1 refl h.0.1
+      begins f h possessive_loop =
+          barren_turn ws s (spot_at Again (first_frame i ∷ fs) p m) (λ b y. again_after i fs m b h y)
+  turn_barren {fs} {m} {i} c w h (entered d v b l far on) =
+      enters_barren fs m (led i c w h d v refl) b (λ none. omega (arith, none, l, far))
+  turn_barren {i = i} c w h (looped d order v is x y) = admitted_nowhere (led i c w h d v is)
 
 -- so an instruction admits only what is admitted where it goes on
 pub leads_admit : (ws : List ℕ) (i : ℕ) (o : SreOpcode) (set : ℕ → Bool) → Opcode ws i o
@@ -298,9 +271,7 @@ pub leads_admit : (ws : List ℕ) (i : ℕ) (o : SreOpcode) (set : ℕ → Bool)
 leads_admit ws i o set w h = record {
   none = λ s p out fs m.
       barren_turn ws s (spot_at (Instruction i) fs p m) (λ a k.
-      let same : role k.0 ≡ role o = ap (λ z. role z) (same_opcode ws i k.0 o k.1 w) in
-      role_barren ws s set p out (role o) i fs m a h
-      (subst (λ f. InRole ws s f i (spot_at (Instruction i) fs p m) a) same k.2));
+      turn_barren ws s set p out o w h (point_turned ws s p fs fs m m (Instruction i) a a k k));
 }
 
 -- a set with every ASCII character is right anywhere

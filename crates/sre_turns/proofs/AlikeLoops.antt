@@ -1,7 +1,7 @@
 -- Equivalent loops: how long they stay so, and that they decide the same on a further body. So the memo of failures
 -- stores of a loop its count, as far as it makes a difference, and one bit of its last body.
 use Rattle.std.proofs.Common.{◌≡◌, ℕ, ◌+◌, ◌≤◌, Bool, true, false, not, ◌&&◌, ◌||◌, List, [], ◌∷◌, min, max, drop}
-use Rattle.std.proofs.Common.{nat_eq, nat_lt, Option, Some, None, refl, sym, ap, ◌∙◌, subst, arith}
+use Rattle.std.proofs.Common.{nat_eq, nat_lt, Option, Some, None, refl, sym, ap, ◌∙◌, arith}
 use Rattle.std.proofs.lemmas.Bool.Decides.{nat_tests}
 use Rattle.sre_model.specs.Ways.{unlimited, may_repeat}
 use Rattle.sre_model.specs.Grammar.{Word}
@@ -35,22 +35,6 @@ frame-alike ws p f = record { repeat = refl; count = λ low high wl wh. refl; la
 pub loops-alike : (ws : List ℕ) (p : ℕ) (fs : List Frame) → LoopsAlike ws p fs fs
 loops-alike ws p [] = tt
 loops-alike ws p (f ∷ fs) = (frame-alike ws p f, loops-alike ws p fs)
-
--- where one side has a loop, so has the other
-pub record Beside (ws : List ℕ) (p : ℕ) (f : Frame) (outer gs : List Frame) : Type 0 where
-  pub frame : Frame
-  pub others : List Frame
-  pub inside : gs ≡ frame ∷ others
-  pub alike : FramesAlike ws p f frame
-  pub around : LoopsAlike ws p outer others
-
-pub loop_beside : (ws : List ℕ) (p : ℕ) (f : Frame) (outer fs gs : List Frame) → fs ≡ f ∷ outer → LoopsAlike ws p fs gs
-    → Beside ws p f outer gs
-loop_beside ws p f outer fs gs e h = go gs (subst (λ x. LoopsAlike ws p x gs) e h)
-  where
-    go : (gs : List Frame) → LoopsAlike ws p (f ∷ outer) gs → Beside ws p f outer gs
-    go [] h = absurd h
-    go (g ∷ gs) h = record { frame = g; others = gs; inside = refl; alike = h.0; around = h.1 }
 
 -- a further body leaves them alike
 held-alike : (a b cap : ℕ) → min a cap ≡ min b cap

@@ -1,51 +1,47 @@
 -- Equivalent configurations with equivalent captures make equivalent steps, and close an atomic scope equally. By these
 -- laws they have the same stops (SameComes), on which the memo of failures rests.
-use Rattle.std.proofs.Common.{◌≡◌, ℕ, ◌+◌, ◌-◌, ◌*◌, ◌<◌, ◌≤◌, ◌&&◌, ◌||◌, Bool, true, false, cond, nat_eq}
-use Rattle.std.proofs.Common.{nat_le, nat_lt}
-use Rattle.std.proofs.Common.{List, [], ◌∷◌, Option, Some, None, refl, sym, ap, subst, arith, ◌⊎◌, inl, inr, drop}
+use Rattle.std.proofs.Common.{◌≡◌, ℕ, ◌+◌, ◌*◌, ◌≤◌, Bool, true, false, cond, nat_lt, List, [], ◌∷◌, Option, Some, refl}
+use Rattle.std.proofs.Common.{sym, ap, subst, arith, ◌⊎◌, inl, inr, drop, ◌<◌}
 use Rattle.std.specs.Bool.{⊤}
 use Rattle.std.proofs.lemmas.Bool.Decides.{nat_tests}
-use Rattle.sre_model.specs.Tree.{Test, RunKind, GreedyRun, LazyRun, PossessiveRun, Order, Greedy, Lazy, Sign, Positive}
-use Rattle.sre_model.specs.Tree.{Negative, Fold}
-use Rattle.sre_model.specs.Marks.{Marks, set_mark, group}
-use Rattle.sre_model.specs.Subject.{Subject, passes, holds_at, same_folded}
-use Rattle.sre_model.specs.Ways.{Way, unlimited, may_repeat, longest_run, run_length}
-use Rattle.sre_model.specs.Grammar.{Word, word, skip}
-use Rattle.sre_model.proofs.Words.{word_of}
-use Rattle.sre_model.specs.Roles.{Role, ToFail, ToEnd, ToTest, ToCheckPosition, ToMark, ToBranch, ToJump, ToRun}
-use Rattle.sre_model.specs.Roles.{ToRepeat, ToLoop, ToRepeatPossessively, ToGroupAtomically, ToLook, ToRefer}
-use Rattle.sre_model.specs.Roles.{ToCheckGroup, ToNothing, role}
+use Rattle.std.proofs.lemmas.Bool.{true≢false}
+use Rattle.sre_chars.specs.declared.constants.SreOpcode.{SreOpcode}
+use Rattle.sre_model.specs.Tree.{Order, Greedy, Lazy, Positive, Negative}
+use Rattle.sre_model.specs.Marks.{Marks, group}
+use Rattle.sre_model.specs.Subject.{Subject}
+use Rattle.sre_model.specs.Ways.{Way, may_repeat}
+use Rattle.sre_model.specs.Grammar.{Word, Opcode, word, skip}
+use Rattle.sre_model.proofs.Words.{same_word}
+use Rattle.sre_model.specs.Roles.{Role, ToRefer, ToCheckGroup, role}
 use Rattle.sre_turns.specs.declared.Frame.{Frame}
 use Rattle.sre_turns.specs.declared.Region.TheVariants.{AtomicGroup, Ahead, NotAhead, Owed, Further}
 use Rattle.sre_turns.specs.declared.Region.{Region}
-use Rattle.sre_turns.specs.declared.Point.TheVariants.{Instruction, Alternatives, Shorter, Longer, Again}
+use Rattle.sre_turns.specs.declared.Point.TheVariants.{Instruction, Again}
 use Rattle.sre_turns.specs.declared.Point.{Point}
-use Rattle.sre_turns.specs.Moves.{Spot, spot_at, to_point, to_place, into_region, Move, Stop, End, Go, Split, Enter}
-use Rattle.sre_turns.specs.Moves.{closing_move, AlternativesMove}
-use Rattle.sre_turns.specs.MovesInRuns.{onward_turn, run_turn, ShorterMove, LongerMove}
-use Rattle.sre_turns.specs.MovesInLoops.{first_frame, next_frame, at_body, behind, in_order, until_move}
-use Rattle.sre_turns.specs.MovesInLoops.{enter_body, again_move, AgainMove}
-use Rattle.sre_turns.specs.MovesInRegions.{look}
-use Rattle.sre_turns.specs.MovesAtReferences.{reference_turn, condition_place}
+use Rattle.sre_turns.specs.Moves.{Spot, spot_at, Move, Stop, End, Go, Split, Enter, closing_move}
+use Rattle.sre_turns.specs.MovesInLoops.{first_frame, next_frame, at_body, behind, in_order, until_move, enter_body}
+use Rattle.sre_turns.specs.MovesInLoops.{again_move}
+use Rattle.sre_turns.specs.MovesAtReferences.{Asks, asks}
 use Rattle.sre_turns.specs.Asked.{MarksAgree, OutcomesAlike}
-use Rattle.sre_turns.specs.AskedPlaces.{Lies, Within, PlacesAsk, GroupLies, AsksAt, AlternativesAsk, AskedByPlace}
-use Rattle.sre_turns.specs.AskedPlaces.{PointAsks, LoopsAsk, Matters, RegionAsks, MattersBehind}
-use Rattle.sre_turns.specs.Machine.{InRole, Moves, MovesAt}
+use Rattle.sre_turns.specs.AskedPlaces.{Lies, Within, PlacesAsk, GroupLies, AsksAt, AskedByPlace, MarkLeads, PointAsks}
+use Rattle.sre_turns.specs.AskedPlaces.{LoopsAsk, Matters, RegionAsks, MattersBehind}
+use Rattle.sre_turns.specs.Machine.{Moves, MovesAt}
 use Rattle.sre_turns.specs.Alike.{is_last, LoopsAlike, FramesAlike, least_from, Alike}
 use Rattle.sre_turns.proofs.Asked.{agree_less, agree_set, group_agrees}
-use Rattle.sre_turns.proofs.OneTurn.{moves_same}
 use Rattle.sre_turns.specs.Straight.{goes_behind}
 use Rattle.sre_turns.proofs.Onward.{EndFrom}
-use Rattle.sre_turns.proofs.AlikeLoops.{loops_later, loops_left, Beside, loop_beside, frame-alike, next-alike}
-use Rattle.sre_turns.proofs.AlikeLoops.{below-alike, repeat-alike}
+use Rattle.sre_turns.proofs.Turned.{GoesOn, behind_test, behind_reference, behind_look, run_on, group_there}
+use Rattle.sre_turns.proofs.Turned.{group_missing, Forks, greedy_run, lazy_run, next_alternative, next_shorter}
+use Rattle.sre_turns.proofs.Turned.{next_longer, Begins, plain_loop, possessive_loop, Enters, atomic_group, lookaround}
+use Rattle.sre_turns.proofs.Turned.{Turned, stopped, ended, went, forked, marked, grouped, begun, entered, looped}
+use Rattle.sre_turns.proofs.Turned.{repeated, point_turned}
+use Rattle.sre_turns.proofs.AlikeLoops.{loops_later, loops_left, frame-alike, next-alike, below-alike, repeat-alike}
 
--- of what matters at a point, what may be asked for there may be some of what may be at another
-point_less : (base : ℕ → Type 0) (ws : List ℕ) (a : PlacesAsk) (pt pt' : Point) (fs : List Frame)
-    → ((k : ℕ) → PointAsks ws a pt' fs k → PointAsks ws a pt fs k) → (k : ℕ) → Matters base ws a pt' fs k
-    → Matters base ws a pt fs k
-point_less base ws a pt pt' fs fewer k (inl x) = inl x
-point_less base ws a pt pt' fs fewer k (inr (inl x)) = inr (inl (fewer k x))
-point_less base ws a pt pt' fs fewer k (inr (inr x)) = inr (inr x)
+-- what matters in any case, is asked for at a point, or is in a further body of a loop, one by one
+each_case : {B A L X : Type 0} → (B → X) → (A → X) → (L → X) → B ⊎ (A ⊎ L) → X
+each_case f g h (inl e) = f e
+each_case f g h (inr (inl e)) = g e
+each_case f g h (inr (inr e)) = h e
 
 -- two spots of which the same comes, besides some marks that matter in any case
 pub record Twins (base : ℕ → Type 0) (ws : List ℕ) (a : PlacesAsk) (x y : Spot) : Type 0 where
@@ -96,21 +92,9 @@ module _ (base : ℕ → Type 0) (ws : List ℕ) (a : PlacesAsk) (x y : Spot) (h
   in_place t m n marks =
       record { alike = record { point = refl; position = h.alike.position; loops = loops_here }; marks = marks }
 
-  -- what matters behind a further body of a possessive loop, and behind its last one
-  behind_further : (t k : ℕ) → Matters base ws a Again x.frames k → MattersBehind base ws a (Further t) x.frames k
-  behind_further t k (inl e) = inl e
-  behind_further t k (inr (inl e)) = inr (inl (inl e))
-  behind_further t k (inr (inr e)) = inr (inr e)
-
-  behind_last : (t k : ℕ) → Matters base ws a (Instruction t) (drop 1 x.frames) k
-      → MattersBehind base ws a (Further t) x.frames k
-  behind_last t k (inl e) = inl e
-  behind_last t k (inr (inl e)) = inr (inl (inr e))
-  behind_last t k (inr (inr e)) = inr (inr (left x.frames e))
-    where
-      left : (fs : List Frame) → LoopsAsk a (drop 1 fs) k → LoopsAsk a fs k
-      left [] e = absurd e
-      left (f ∷ fs) e = inr e
+  left_loop : (fs : List Frame) (k : ℕ) → LoopsAsk a (drop 1 fs) k → LoopsAsk a fs k
+  left_loop [] k e = absurd e
+  left_loop (f ∷ fs) k e = inr e
 
   pub closing-alike : (g : Region) (now after : List Way)
       → MarksAgree (MattersBehind base ws a g x.frames) x.marks y.marks
@@ -119,14 +103,11 @@ module _ (base : ℕ → Type 0) (ws : List ℕ) (a : PlacesAsk) (x y : Spot) (h
       → MovesAlike base ws a (closing_move g x now) (closing_move g y after)
   closing-alike g [] (w ∷ after) left same from = absurd same
   closing-alike g (v ∷ now) [] left same from = absurd same
-  closing-alike (AtomicGroup t) [] [] left same from = tt
   closing-alike (AtomicGroup t) (v ∷ now) (w ∷ after) left same from =
       behind_body (Instruction t) v w same.0 same.1 refl (from refl).0
-  closing-alike (Ahead t) [] [] left same from = tt
   closing-alike (Ahead t) (v ∷ now) (w ∷ after) left same from = in_place t v.marks w.marks same.1
   closing-alike (NotAhead t) [] [] left same from = in_place t x.marks y.marks left
   closing-alike (NotAhead t) (v ∷ now) (w ∷ after) left same from = tt
-  closing-alike Owed [] [] left same from = tt
   closing-alike Owed (v ∷ now) (w ∷ after) left same from = behind_body Again v w same.0 same.1 refl (from refl).0
   closing-alike (Further t) [] [] left same from = record {
     alike = record {
@@ -135,31 +116,58 @@ module _ (base : ℕ → Type 0) (ws : List ℕ) (a : PlacesAsk) (x y : Spot) (h
       loops = loops_left ws x.position x.frames y.frames loops_here;
     };
     marks = agree_less (MattersBehind base ws a (Further t) x.frames)
-        (Matters base ws a (Instruction t) (drop 1 x.frames)) x.marks y.marks (behind_last t) left;
+        (Matters base ws a (Instruction t) (drop 1 x.frames)) x.marks y.marks
+        (λ k. each_case (λ e. inl e) (λ e. inr (inl (inr e))) (λ e. inr (inr (left_loop x.frames k e)))) left;
   }
+  closing-alike g [] [] left same from = tt
   closing-alike (Further t) (v ∷ now) (w ∷ after) left same from =
       behind_body Again v w same.0
       (agree_less (MattersBehind base ws a (Further t) x.frames) (Matters base ws a Again x.frames) v.marks w.marks
-      (behind_further t) same.1) refl (from refl).0
+      (λ k. each_case (λ e. inl e) (λ e. inr (inl (inl e))) (λ e. inr (inr e))) same.1) refl (from refl).0
 
 cond-alike : (base : ℕ → Type 0) (ws : List ℕ) (a : PlacesAsk) (b : Bool) (v w v' w' : Move)
     → MovesAlike base ws a v w → MovesAlike base ws a v' w' → MovesAlike base ws a (cond b v v') (cond b w w')
 cond-alike base ws a true v w v' w' h k = h
 cond-alike base ws a false v w v' w' h k = k
 
--- a turn is made there, too, of which the same comes
-abbrev pub Mirrored : (ℕ → Type 0) → List ℕ → PlacesAsk → (Move → Type 0) → Move → Type 0
-Mirrored base ws a There v = (w : Move) × There w × MovesAlike base ws a v w
+-- a region is entered alike, where the marks agree that matter there, behind it and in its body
+enters-alike : (base : ℕ → Type 0) (ws : List ℕ) (a : PlacesAsk) (g : Region) (pt : Point) (p q j k : ℕ)
+    (fs gs : List Frame) (m n : Marks) (same : ℕ → Type 0) → MarksAgree same m n → j ≡ k → LoopsAlike ws p fs gs
+    → least_from pt p ≡ p → (goes_behind g ≡ true → p ≤ q) → ((v : ℕ) → Matters base ws a pt fs v → same v)
+    → ((v : ℕ) → MattersBehind base ws a g fs v → same v) → ((v : ℕ) → Lies v (a.instruction j) → same v)
+    → MovesAlike base ws a (Enter g (spot_at pt fs p m) (spot_at (Instruction j) [] q m))
+    (Enter g (spot_at pt gs p n) (spot_at (Instruction k) [] q n))
+enters-alike base ws a g pt p q j k fs gs m n same marks at loops here on before behind body = (
+  refl,
+  record {
+    entered = record {
+      alike = record {
+        point = refl;
+        position = refl;
+        loops = subst (λ r. LoopsAlike ws r fs gs) (sym here) loops;
+      };
+      marks = agree_less same (Matters base ws a pt fs) m n before marks;
+    };
+    behind = agree_less same (MattersBehind base ws a g fs) m n behind marks;
+    begins = record {
+      alike = record { point = ap (λ r. Instruction r) at; position = refl; loops = tt };
+      marks = agree_less same (Matters (MattersBehind base ws a g fs) ws a (Instruction j) []) m n
+          (λ v. each_case (behind v) (body v) (λ e. absurd e)) marks;
+    };
+    here = here;
+    onward = on;
+  },
+)
 
-mirrors : (base : ℕ → Type 0) (ws : List ℕ) (a : PlacesAsk) (There : Move → Type 0) (v e w : Move) → v ≡ e → There w
-    → MovesAlike base ws a e w → Mirrored base ws a There v
-mirrors base ws a There v e w is there same =
-    (w, there, subst (λ move. MovesAlike base ws a move w) (sym is) same)
+-- loops that are alike are so one by one, and have the same operands
+opened-alike : (ws : List ℕ) (p : ℕ) (f g : Frame) (outer others fs gs : List Frame) → fs ≡ f ∷ outer
+    → gs ≡ g ∷ others → LoopsAlike ws p fs gs → FramesAlike ws p f g × LoopsAlike ws p outer others
+opened-alike ws p f g outer others fs gs e k h = rw (e, k) at h
 
--- what stands at a loop's repeat stands at that of one that is alike
-same_repeat : (ws : List ℕ) (p k v : ℕ) (f g : Frame) → FramesAlike ws p f g → Word ws (f.repeat + k) v
-    → Word ws (g.repeat + k) v
-same_repeat ws p k v f g h w = subst (λ r. Word ws (r + k) v) h.repeat w
+same_operand : (ws : List ℕ) (p k v w : ℕ) (f g : Frame) → FramesAlike ws p f g → Word ws (f.repeat + k) v
+    → Word ws (g.repeat + k) w → v ≡ w
+same_operand ws p k v w f g h there other =
+    same_word ws (g.repeat + k) v w (subst (λ r. Word ws (r + k) v) h.repeat there) other
 
 -- what is asked for of marks in a loop: where it ends, and in a further body
 pub record LoopAsks (ws : List ℕ) (a : PlacesAsk) (u : ℕ) (pt : Point) (f : Frame) (fs : List Frame) : Type 0 where
@@ -183,17 +191,6 @@ module _ (base : ℕ → Type 0) (ws : List ℕ) (a : PlacesAsk) (u low high p :
   fewer : (less : ℕ → Type 0) → ((k : ℕ) → less k → Matters base ws a pt (f ∷ fs) k) → MarksAgree less m n
   fewer less part = agree_less (Matters base ws a pt (f ∷ fs)) less m n part marks
 
-  in_body : (last : Option ℕ) (k : ℕ) → Matters base ws a (Instruction (f.repeat + 4)) (next_frame f last ∷ fs) k
-      → Matters base ws a pt (f ∷ fs) k
-  in_body last k (inl e) = inl e
-  in_body last k (inr (inl e)) = inr (inr (inl e))
-  in_body last k (inr (inr e)) = inr (inr e)
-
-  at_end : (k : ℕ) → Matters base ws a (Instruction (u + 1)) fs k → Matters base ws a pt (f ∷ fs) k
-  at_end k (inl e) = inl e
-  at_end k (inr (inl e)) = inr (inl (asks.behind k e))
-  at_end k (inr (inr e)) = inr (inr (inr e))
-
   body-alike : (b c : Option ℕ) → Last b c → Twins base ws a (at_body f b fs in_one) (at_body g c gs in_other)
   body-alike b c same = record {
     alike = record {
@@ -201,13 +198,15 @@ module _ (base : ℕ → Type 0) (ws : List ℕ) (a : PlacesAsk) (u low high p :
       position = refl;
       loops = (next-alike ws p f g b c h same, hs);
     };
-    marks = fewer (Matters base ws a (Instruction (f.repeat + 4)) (next_frame f b ∷ fs)) (in_body b);
+    marks = fewer (Matters base ws a (Instruction (f.repeat + 4)) (next_frame f b ∷ fs))
+        (λ k. each_case (λ e. inl e) (λ e. inr (inr (inl e))) (λ e. inr (inr e)));
   }
 
   end-alike : Twins base ws a (behind u fs in_one) (behind u gs in_other)
   end-alike = record {
     alike = record { point = refl; position = refl; loops = hs };
-    marks = fewer (Matters base ws a (Instruction (u + 1)) fs) at_end;
+    marks = fewer (Matters base ws a (Instruction (u + 1)) fs)
+        (λ k. each_case (λ e. inl e) (λ e. inr (inl (asks.behind k e))) (λ e. inr (inr (inr e))));
   }
 
   order-alike : (o : Order) → MovesAlike base ws a (in_order o (at_body f (Some p) fs in_one) (behind u fs in_one))
@@ -233,45 +232,11 @@ module _ (base : ℕ → Type 0) (ws : List ℕ) (a : PlacesAsk) (u low high p :
   enter-alike : (k : Region) (b c : Option ℕ) → least_from pt p ≡ p → Last b c
       → ((v : ℕ) → RegionAsks ws a k (next_frame f b ∷ fs) v → PointAsks ws a pt (f ∷ fs) v)
       → MovesAlike base ws a (enter_body k f b fs in_one) (enter_body k g c gs in_other)
-  enter-alike k b c here same region = (
-    refl,
-    record {
-      entered = record {
-        alike = record {
-          point = refl;
-          position = refl;
-          loops = subst (λ q. LoopsAlike ws q (next_frame f b ∷ fs) (next_frame g c ∷ gs)) (sym here)
-              (next-alike ws p f g b c h same, hs);
-        };
-        marks = fewer (Matters base ws a pt (next_frame f b ∷ fs)) counted;
-      };
-      behind = fewer (MattersBehind base ws a k (next_frame f b ∷ fs)) put_aside;
-      begins = record {
-        alike = record { point = ap (λ r. Instruction (r + 4)) h.repeat; position = refl; loops = tt };
-        marks = fewer
-            (Matters (MattersBehind base ws a k (next_frame f b ∷ fs)) ws a (Instruction (f.repeat + 4)) []) begun;
-      };
-      here = here;
-      onward = λ e. omega arith;
-    },
-  )
-    where
-      counted : (v : ℕ) → Matters base ws a pt (next_frame f b ∷ fs) v → Matters base ws a pt (f ∷ fs) v
-      counted v (inl e) = inl e
-      counted v (inr (inl e)) = inr (inl (asks.again b v e))
-      counted v (inr (inr e)) = inr (inr e)
-
-      put_aside : (v : ℕ) → MattersBehind base ws a k (next_frame f b ∷ fs) v → Matters base ws a pt (f ∷ fs) v
-      put_aside v (inl e) = inl e
-      put_aside v (inr (inl e)) = inr (inl (region v e))
-      put_aside v (inr (inr e)) = inr (inr e)
-
-      begun : (v : ℕ)
-          → Matters (MattersBehind base ws a k (next_frame f b ∷ fs)) ws a (Instruction (f.repeat + 4)) [] v
-          → Matters base ws a pt (f ∷ fs) v
-      begun v (inl e) = put_aside v e
-      begun v (inr (inl e)) = inr (inr (inl e))
-      begun v (inr (inr e)) = absurd e
+  enter-alike k b c here same region =
+      enters-alike base ws a k pt p p (f.repeat + 4) (g.repeat + 4) (next_frame f b ∷ fs) (next_frame g c ∷ gs) m n
+      (Matters base ws a pt (f ∷ fs)) marks (ap (λ r. r + 4) h.repeat) (next-alike ws p f g b c h same, hs) here
+      (λ e. omega arith) (λ v. each_case (λ e. inl e) (λ e. inr (inl (asks.again b v e))) (λ e. inr (inr e)))
+      (λ v. each_case (λ e. inl e) (λ e. inr (inl (region v e))) (λ e. inr (inr e))) (λ v e. inr (inr (inl e)))
 
   pub again-alike : least_from pt p ≡ p
       → ((b : Option ℕ) (v : ℕ) → PointAsks ws a Again (next_frame f b ∷ fs) v → PointAsks ws a pt (f ∷ fs) v)
@@ -293,460 +258,162 @@ module _ (base : ℕ → Type 0) (ws : List ℕ) (a : PlacesAsk) (u low high p :
       last_body v (inl e) = loop (Some p) v e
       last_body v (inr e) = asks.behind v e
 
--- at an instruction, by role
-module _ (root base : ℕ → Type 0) (rooted : (k : ℕ) → root k → base k) (ws : List ℕ) (a : PlacesAsk) (s : Subject)
-    (i p : ℕ) (fs gs : List Frame) (m n : Marks) (h : LoopsAlike ws p fs gs)
-    (marks : MarksAgree (Matters base ws a (Instruction i) fs) m n) where
-  abbrev one : Spot
-  one = spot_at (Instruction i) fs p m
+-- what is told of places goes along the graph of control flow
+module _ (root : ℕ → Type 0) (ws : List ℕ) (a : PlacesAsk) where
+  abbrev Told : ℕ → Role → Type 0
+  Told i f = AsksAt root ws a (a.instruction i) f i
 
-  abbrev other : Spot
-  other = spot_at (Instruction i) gs p n
+  goes_on_asks : {s : Subject} {i p q : ℕ} {f : Role} {pt : Point} → Told i f → GoesOn ws s i p f pt q
+      → (fs : List Frame) (k : ℕ) → PointAsks ws a pt fs k → Lies k (a.instruction i)
+  goes_on_asks told (behind_test t passed) fs k e = told.each _ _ t k e
+  goes_on_asks told behind_reference fs k e = told.1 k e
+  goes_on_asks told behind_look fs k e = told.0 k e
+  goes_on_asks told (run_on operands more) fs k e = e
+  goes_on_asks told group_there fs k e = told.1.1 k e
+  goes_on_asks told group_missing fs k e = told.1.0 k e
+  goes_on_asks told on fs k e = told k e
 
-  -- what is asked for there is asked for here
-  abbrev Fewer : Point → Type 0
-  Fewer pt = (k : ℕ) → PointAsks ws a pt fs k → Lies k (a.instruction i)
+  begins_asks : {i : ℕ} {f : Role} {pt : Point} → Told i f → Begins ws i f pt
+      → ((fs : List Frame) (k : ℕ) → PointAsks ws a pt (first_frame i ∷ fs) k → Lies k (a.instruction i))
+      × Within (a.instruction (i + 4)) (a.instruction i)
+  begins_asks told plain_loop = ((λ fs k e. told.0 k e), told.1)
+  begins_asks told possessive_loop = ((λ fs k e. told.0 k e), told.1)
 
-  -- no further back than here
-  further : (pt : Point) (q : ℕ) → p ≤ least_from pt q → (k l : Marks) → MarksAgree (Matters base ws a pt fs) k l
-      → Twins base ws a (spot_at pt fs q k) (spot_at pt gs q l)
-  further pt q on k l same = record {
-    alike = record { point = refl; position = refl; loops = loops_later ws p (least_from pt q) fs gs on h };
-    marks = same;
-  }
+  enters_asks : {i back j : ℕ} {f : Role} {g : Region} → Told i f → Enters ws i f back j g
+      → ((fs : List Frame) (k : ℕ) → RegionAsks ws a g fs k → Lies k (a.instruction i))
+      × Within (a.instruction j) (a.instruction i)
+  enters_asks told atomic_group = ((λ fs k e. told.0 k e), told.1)
+  enters_asks told (lookaround {sign = Positive} there) = ((λ fs k e. told.0 k e), told.1)
+  enters_asks told (lookaround {sign = Negative} there) = ((λ fs k e. told.0 k e), told.1)
 
-  further_on : (pt : Point) (q : ℕ) → p ≤ least_from pt q → Fewer pt
-      → Twins base ws a (spot_at pt fs q m) (spot_at pt gs q n)
-  further_on pt q on fewer =
-      further pt q on m n
-      (agree_less (Matters base ws a (Instruction i) fs) (Matters base ws a pt fs) m n
-      (point_less base ws a (Instruction i) pt fs fewer) marks)
+  group_asked : (i g : ℕ) (f : Role) → asks f ≡ true → Told i f → Asks ws g → Word ws (i + 1) g
+      → GroupLies root (a.instruction i) g
+  group_asked i g ToRefer e told asked there = told.0.each g asked there
+  group_asked i g ToCheckGroup e told asked there = told.0.each g asked there
+  group_asked i g f e told asked there = absurd (true≢false (sym e))
 
-  unmoved : (j : ℕ) → Within (a.instruction j) (a.instruction i)
-      → Twins base ws a (spot_at (Instruction j) fs p m) (spot_at (Instruction j) gs p n)
-  unmoved j fewer = further_on (Instruction j) p (omega arith) fewer
+  forks_ask : {s : Subject} {p q : ℕ} {pt first rest : Point} → AskedByPlace root ws a → Forks ws s p pt first rest q
+      → (fs : List Frame) (k : ℕ)
+      → (PointAsks ws a first fs k → PointAsks ws a pt fs k) × (PointAsks ws a rest fs k → PointAsks ws a pt fs k)
+  forks_ask told (greedy_run {i = i} o at is operands full) fs k =
+      let asks = subst (Told i) is (told.instruction i o at) in (asks k, asks k)
+  forks_ask told (lazy_run {i = i} o at is operands full) fs k =
+      let asks = subst (Told i) is (told.instruction i o at) in (asks k, asks k)
+  forks_ask told (next_alternative {q = q} inside other) fs k =
+      let some : 0 < word ws q = grind (arith, nat_tests) in
+      ((told.alternatives q).first some k, (told.alternatives q).others some k)
+  forks_ask told (next_shorter some) fs k = ((λ e. e), (λ e. e))
+  forks_ask told (next_longer operands past more passed) fs k = ((λ e. e), (λ e. e))
 
-  onward-alike : (t low : ℕ) (test : Test) → Fewer (Instruction t)
-      → MovesAlike base ws a (onward_turn s i t low test one) (onward_turn s i t low test other)
-  onward-alike t low test tail =
-      cond-alike base ws a (nat_lt (run_length s test low p) low) Stop Stop _ _ tt
-      (cond-alike base ws a (passes s test (p + low)) (Go (to_place one (Instruction i) (p + 1)))
-      (Go (to_place other (Instruction i) (p + 1))) (Go (to_place one (Instruction t) (p + low)))
-      (Go (to_place other (Instruction t) (p + low))) (further_on (Instruction i) (p + 1) (omega arith) (λ k e. e))
-      (further_on (Instruction t) (p + low) (omega arith) tail))
-
-  run-alike : (kind : RunKind) (t low high : ℕ) (test : Test) → Fewer (Instruction t) → Fewer (Longer i low)
-      → MovesAlike base ws a (run_turn kind s i t low high test one) (run_turn kind s i t low high test other)
-  run-alike GreedyRun t low high test tail later =
-      let k : ℕ = longest_run s test high p in
-      cond-alike base ws a (nat_lt k low) Stop Stop
-      (Split (to_place one (Instruction t) (p + k)) (to_place one (Shorter t (k - low)) (p + k)))
-      (Split (to_place other (Instruction t) (p + k)) (to_place other (Shorter t (k - low)) (p + k))) tt (
-        further_on (Instruction t) (p + k) (omega arith) tail,
-        further_on (Shorter t (k - low)) (p + k) (omega arith) tail,
-      )
-  run-alike LazyRun t low high test tail later =
-      cond-alike base ws a (nat_lt (run_length s test low p) low) Stop Stop
-      (Split (to_place one (Instruction t) (p + low)) (to_place one (Longer i low) (p + low)))
-      (Split (to_place other (Instruction t) (p + low)) (to_place other (Longer i low) (p + low))) tt (
-        further_on (Instruction t) (p + low) (omega arith) tail,
-        further_on (Longer i low) (p + low) (omega arith) later,
-      )
-  run-alike PossessiveRun t low high test tail later =
-      let k : ℕ = longest_run s test high p in
-      cond-alike base ws a (nat_eq high unlimited) (onward_turn s i t low test one)
-      (onward_turn s i t low test other) (cond (nat_lt k low) Stop (Go (to_place one (Instruction t) (p + k))))
-      (cond (nat_lt k low) Stop (Go (to_place other (Instruction t) (p + k))))
-      (onward-alike t low test tail)
-      (cond-alike base ws a (nat_lt k low) Stop Stop (Go (to_place one (Instruction t) (p + k)))
-      (Go (to_place other (Instruction t) (p + k))) tt (further_on (Instruction t) (p + k) (omega arith) tail))
-
-  -- a region is entered at these spots, and its body begins there or before
-  enters-alike : (g : Region) (j q : ℕ) → (goes_behind g ≡ true → p ≤ q)
-      → ((k : ℕ) → RegionAsks ws a g fs k → Lies k (a.instruction i)) → Fewer (Instruction j)
-      → MovesAlike base ws a (Enter g one (into_region one j q)) (Enter g other (into_region other j q))
-  enters-alike g j q on tail body = (
-    refl,
-    record {
-      entered = further_on (Instruction i) p (omega arith) (λ k e. e);
-      behind = fewer (MattersBehind base ws a g fs) put_aside;
-      begins = record {
-        alike = record { point = refl; position = refl; loops = tt };
-        marks = fewer (Matters (MattersBehind base ws a g fs) ws a (Instruction j) []) begun;
-      };
-      here = refl;
-      onward = on;
-    },
-  )
-    where
-      fewer : (less : ℕ → Type 0) → ((k : ℕ) → less k → Matters base ws a (Instruction i) fs k) → MarksAgree less m n
-      fewer less part = agree_less (Matters base ws a (Instruction i) fs) less m n part marks
-
-      put_aside : (k : ℕ) → MattersBehind base ws a g fs k → Matters base ws a (Instruction i) fs k
-      put_aside k (inl e) = inl e
-      put_aside k (inr (inl e)) = inr (inl (tail k e))
-      put_aside k (inr (inr e)) = inr (inr e)
-
-      begun : (k : ℕ) → Matters (MattersBehind base ws a g fs) ws a (Instruction j) [] k
-          → Matters base ws a (Instruction i) fs k
-      begun k (inl e) = put_aside k e
-      begun k (inr (inl e)) = inr (inl (body k e))
-      begun k (inr (inr e)) = absurd e
-
-  look-alike : (sign : Sign) (t back : ℕ) → Within (a.instruction t) (a.instruction i)
-      → Within (a.instruction (i + 3)) (a.instruction i) → MovesAlike base ws a
-      (cond (nat_lt p back) (closing_move (look sign t) one []) (Enter (look sign t) one
-      (into_region one (i + 3) (p - back))))
-      (cond (nat_lt p back) (closing_move (look sign t) other []) (Enter (look sign t) other
-      (into_region other (i + 3) (p - back))))
-  look-alike Positive t back tail body =
-      cond-alike base ws a (nat_lt p back) Stop Stop (Enter (Ahead t) one (into_region one (i + 3) (p - back)))
-      (Enter (Ahead t) other (into_region other (i + 3) (p - back))) tt
-      (enters-alike (Ahead t) (i + 3) (p - back) (λ e. absurd (cc)) tail body)
-  look-alike Negative t back tail body =
-      cond-alike base ws a (nat_lt p back) (Go (to_point one (Instruction t))) (Go (to_point other (Instruction t)))
-      (Enter (NotAhead t) one (into_region one (i + 3) (p - back)))
-      (Enter (NotAhead t) other (into_region other (i + 3) (p - back)))
-      (further_on (Instruction t) p (omega arith) tail)
-      (enters-alike (NotAhead t) (i + 3) (p - back) (λ e. absurd (cc)) tail body)
-
-  -- what comes of a reference, by its group
-  abbrev referred : Fold → ℕ → Option (ℕ × ℕ) → Spot → Move
-  referred fold t o x = elim o [
-    | None ↦ Stop
-    | (Some span) ↦
-        cond (nat_le (x.position + (span.1 - span.0)) s.end && same_folded s fold (span.1 - span.0) span.0 x.position)
-        (Go (to_place x (Instruction t) (x.position + (span.1 - span.0)))) Stop
-  ]
-
-  reference-alike : (fold : Fold) (g t : ℕ) → group m g ≡ group n g → Within (a.instruction t) (a.instruction i)
-      → MovesAlike base ws a (reference_turn s fold g t one) (reference_turn s fold g t other)
-  reference-alike fold g t same tail =
-      subst (λ o. MovesAlike base ws a (referred fold t (group m g) one) (referred fold t o other)) same
-      (by_group (group m g))
-    where
-      by_group : (o : Option (ℕ × ℕ)) → MovesAlike base ws a (referred fold t o one) (referred fold t o other)
-      by_group None = tt
-      by_group (Some span) =
-          let far : ℕ = p + (span.1 - span.0) in
-          cond-alike base ws a (nat_le far s.end && same_folded s fold (span.1 - span.0) span.0 p)
-          (Go (to_place one (Instruction t) far)) (Go (to_place other (Instruction t) far)) Stop Stop
-          (further_on (Instruction t) far (omega arith) tail) tt
-
-  -- where a condition leads, by its group
-  abbrev leads_by : Option (ℕ × ℕ) → ℕ
-  leads_by o = elim o [ None ↦ i + 1 + word ws (i + 2) | (Some _) ↦ i + 3 ]
-
-  leads_within : (o : Option (ℕ × ℕ)) → Within (a.instruction (i + 1 + word ws (i + 2))) (a.instruction i)
-      → Within (a.instruction (i + 3)) (a.instruction i) → Within (a.instruction (leads_by o)) (a.instruction i)
-  leads_within None absent there = absent
-  leads_within (Some span) absent there = there
-
-  condition-alike : (g : ℕ) → group m g ≡ group n g
-      → Within (a.instruction (i + 1 + word ws (i + 2))) (a.instruction i)
-      → Within (a.instruction (i + 3)) (a.instruction i)
-      → Twins base ws a (to_point one (Instruction (condition_place ws i g m)))
-      (to_point other (Instruction (condition_place ws i g n)))
-  condition-alike g same absent there = subst
-      (λ (o : Option (ℕ × ℕ)). Twins base ws a (to_point one (Instruction (condition_place ws i g m)))
-      (to_point other (Instruction (leads_by o)))) same
-      (unmoved (condition_place ws i g m) (leads_within (group m g) absent there))
-
-  -- the group of a reference or a condition is the same in both
-  same_asked : (g : ℕ) → GroupLies root (a.instruction i) g → group m g ≡ group n g
-  same_asked g lies =
-      group_agrees (Matters base ws a (Instruction i) fs) m n g (matters (2 * g) lies.start)
-      (matters (2 * g + 1) lies.end) marks
-    where
-      matters : (k : ℕ) → Lies k (a.instruction i) ⊎ root k → Matters base ws a (Instruction i) fs k
-      matters k (inl e) = inr (inl e)
-      matters k (inr e) = inl (rooted k e)
-
-  abbrev AtOther : Role → Move → Type 0
-  AtOther f w = InRole ws s f i other w
-
-  abbrev Own : Role → Type 0
-  Own f = AsksAt root ws a (a.instruction i) f i
-
-  role-alike : (f : Role) (v : Move) → Own f → InRole ws s f i one v → Mirrored base ws a (AtOther f) v
-  role-alike ToFail v asks k = mirrors base ws a (AtOther ToFail) v Stop Stop k refl tt
-  role-alike ToEnd v asks k = mirrors base ws a (AtOther ToEnd) v End End k refl tt
-  role-alike (ToTest kind) v asks k =
-      let next : Spot = spot_at (Instruction k.end) fs (p + 1) m in
-      let beyond : Spot = spot_at (Instruction k.end) gs (p + 1) n in
-      mirrors base ws a (AtOther (ToTest kind)) v (cond (passes s k.test p) (Go next) Stop)
-      (cond (passes s k.test p) (Go beyond) Stop) k.is
-      (record { end = k.end; test = k.test; stands = k.stands; is = refl })
-      (cond-alike base ws a (passes s k.test p) (Go next) (Go beyond) Stop Stop
-      (further_on (Instruction k.end) (p + 1) (omega arith) (asks.each k.end k.test k.stands)) tt)
-  role-alike ToCheckPosition v asks k =
-      let next : Spot = spot_at (Instruction (i + 2)) fs p m in
-      let beyond : Spot = spot_at (Instruction (i + 2)) gs p n in
-      mirrors base ws a (AtOther ToCheckPosition) v (cond (holds_at s k.code p) (Go next) Stop)
-      (cond (holds_at s k.code p) (Go beyond) Stop) k.is (record { code = k.code; there = k.there; is = refl })
-      (cond-alike base ws a (holds_at s k.code p) (Go next) (Go beyond) Stop Stop (unmoved (i + 2) asks) tt)
-  role-alike ToMark v asks k =
-      mirrors base ws a (AtOther ToMark) v (Go (spot_at (Instruction (i + 2)) fs p (set_mark m k.number p)))
-      (Go (spot_at (Instruction (i + 2)) gs p (set_mark n k.number p))) k.is
-      (record { number = k.number; there = k.there; is = refl })
-      (further (Instruction (i + 2)) p (omega arith) (set_mark m k.number p) (set_mark n k.number p)
-      (agree_set (Matters base ws a (Instruction i) fs) (Matters base ws a (Instruction (i + 2)) fs) m n k.number p
-      set_anew marks))
-    where
-      set_anew : (x : ℕ) → Matters base ws a (Instruction (i + 2)) fs x
-          → Matters base ws a (Instruction i) fs x ⊎ (x ≡ k.number)
-      set_anew x (inl e) = inl (inl e)
-      set_anew x (inr (inl e)) = asked (asks.each k.number k.there x e)
-        where
-          asked : Lies x (a.instruction i) ⊎ (x ≡ k.number)
-              → Matters base ws a (Instruction i) fs x ⊎ (x ≡ k.number)
-          asked (inl e) = inl (inr (inl e))
-          asked (inr e) = inr e
-      set_anew x (inr (inr e)) = inl (inr (inr e))
-  role-alike ToBranch v asks k =
-      mirrors base ws a (AtOther ToBranch) v (Go (spot_at (Alternatives (i + 1)) fs p m))
-      (Go (spot_at (Alternatives (i + 1)) gs p n)) k refl
-      (further_on (Alternatives (i + 1)) p (omega arith) asks)
-  role-alike ToJump v asks k =
-      mirrors base ws a (AtOther ToJump) v (Go (spot_at (Instruction (skip ws (i + 1))) fs p m))
-      (Go (spot_at (Instruction (skip ws (i + 1))) gs p n)) k.is (record { there = k.there; is = refl })
-      (unmoved (skip ws (i + 1)) asks)
-  role-alike (ToRun kind) v asks k =
-      mirrors base ws a (AtOther (ToRun kind)) v
-      (run_turn kind s i (skip ws (i + 1)) k.low k.high k.test one)
-      (run_turn kind s i (skip ws (i + 1)) k.low k.high k.test other) k.is
-      (record { low = k.low; high = k.high; end = k.end; test = k.test; operands = k.operands; is = refl })
-      (run-alike kind (skip ws (i + 1)) k.low k.high k.test asks asks)
-  role-alike ToRepeat v asks k =
-      mirrors base ws a (AtOther ToRepeat) v
-      (Go (spot_at (Instruction (skip ws (i + 1))) (first_frame i ∷ fs) p m))
-      (Go (spot_at (Instruction (skip ws (i + 1))) (first_frame i ∷ gs) p n)) k.is
-      (record { there = k.there; is = refl })
-      (record {
-        alike = record { point = refl; position = refl; loops = (frame-alike ws p (first_frame i), h) };
-        marks = agree_less (Matters base ws a (Instruction i) fs)
-            (Matters base ws a (Instruction (skip ws (i + 1))) (first_frame i ∷ fs)) m n begun marks;
-      })
-    where
-      begun : (x : ℕ) → Matters base ws a (Instruction (skip ws (i + 1))) (first_frame i ∷ fs) x
-          → Matters base ws a (Instruction i) fs x
-      begun x (inl e) = inl e
-      begun x (inr (inl e)) = inr (inl (asks.0 x e))
-      begun x (inr (inr (inl e))) = inr (inl (asks.1 x e))
-      begun x (inr (inr (inr e))) = inr (inr e)
-  role-alike (ToLoop o) v asks k =
-      let loops : Beside ws p k.frame k.outer gs = loop_beside ws p k.frame k.outer fs gs k.inside h in
-      mirrors base ws a (AtOther (ToLoop o)) v (until_move o k.low k.high i k.frame k.outer one)
-      (until_move o k.low k.high i loops.frame loops.others other) k.is
-      (record {
-        frame = loops.frame;
-        outer = loops.others;
-        low = k.low;
-        high = k.high;
-        inside = loops.inside;
-        lowest = same_repeat ws p 2 k.low k.frame loops.frame loops.alike k.lowest;
-        highest = same_repeat ws p 3 k.high k.frame loops.frame loops.alike k.highest;
-        is = refl;
-      })
-      (until-alike base ws a i k.low k.high p k.frame loops.frame k.outer loops.others m n (Instruction i) loops.alike
-      loops.around (subst (λ x. MarksAgree (Matters base ws a (Instruction i) x) m n) k.inside marks)
-      (record { behind = asks; again = λ last x e. e }) k.lowest k.highest o)
-  role-alike ToRepeatPossessively v asks k =
-      mirrors base ws a (AtOther ToRepeatPossessively) v (Go (spot_at Again (first_frame i ∷ fs) p m))
-      (Go (spot_at Again (first_frame i ∷ gs) p n)) k refl
-      (record {
-        alike = record { point = refl; position = refl; loops = (frame-alike ws p (first_frame i), h) };
-        marks = agree_less (Matters base ws a (Instruction i) fs) (Matters base ws a Again (first_frame i ∷ fs)) m n
-            begun marks;
-      })
-    where
-      begun : (x : ℕ) → Matters base ws a Again (first_frame i ∷ fs) x → Matters base ws a (Instruction i) fs x
-      begun x (inl e) = inl e
-      begun x (inr (inl e)) = inr (inl (asks.0 x e))
-      begun x (inr (inr (inl e))) = inr (inl (asks.1 x e))
-      begun x (inr (inr (inr e))) = inr (inr e)
-  role-alike ToGroupAtomically v asks k =
-      let g : Region = AtomicGroup (skip ws (i + 1)) in
-      mirrors base ws a (AtOther ToGroupAtomically) v (Enter g one (into_region one (i + 2) p))
-      (Enter g other (into_region other (i + 2) p)) k.is (record { there = k.there; is = refl })
-      (enters-alike g (i + 2) p (λ e. omega arith) asks.0 asks.1)
-  role-alike (ToLook sign) v asks k =
-      let g : Region = look sign (skip ws (i + 1)) in
-      mirrors base ws a (AtOther (ToLook sign)) v
-      (cond (nat_lt p k.back) (closing_move g one []) (Enter g one (into_region one (i + 3) (p - k.back))))
-      (cond (nat_lt p k.back) (closing_move g other []) (Enter g other (into_region other (i + 3) (p - k.back))))
-      k.is (record { back = k.back; there = k.there; is = refl })
-      (look-alike sign (skip ws (i + 1)) k.back asks.0 asks.1)
-  role-alike ToRefer v asks k =
-      mirrors base ws a (AtOther ToRefer) v (reference_turn s k.fold k.number (i + 2) one)
-      (reference_turn s k.fold k.number (i + 2) other) k.is
-      (record {
-        fold = k.fold;
-        number = k.number;
-        asked = k.asked;
-        code = k.code;
-        there = k.there;
-        is = refl;
-      })
-      (reference-alike k.fold k.number (i + 2) (same_asked k.number (asks.0.each k.number k.asked k.there)) asks.1)
-  role-alike ToCheckGroup v asks k =
-      mirrors base ws a (AtOther ToCheckGroup) v (Go (to_point one (Instruction (condition_place ws i k.number m))))
-      (Go (to_point other (Instruction (condition_place ws i k.number n)))) k.is
-      (record { number = k.number; asked = k.asked; there = k.there; skips = k.skips; is = refl })
-      (condition-alike k.number (same_asked k.number (asks.0.each k.number k.asked k.there)) asks.1.0 asks.1.1)
-  role-alike ToNothing v asks k = absurd k
-
--- at any point
+-- turns at a point and a position, under loops that are alike
 module _ (root base : ℕ → Type 0) (rooted : (k : ℕ) → root k → base k) (ws : List ℕ) (a : PlacesAsk)
     (told : AskedByPlace root ws a) (s : Subject) (p : ℕ) (fs gs : List Frame) (m n : Marks) where
   abbrev Agree : Point → Type 0
   Agree pt = MarksAgree (Matters base ws a pt fs) m n
 
-  alternatives-alike : (q : ℕ) (v : Move) → Agree (Alternatives q) → LoopsAlike ws p fs gs
-      → AlternativesMove ws q (spot_at (Alternatives q) fs p m) v
-      → Mirrored base ws a (λ w. AlternativesMove ws q (spot_at (Alternatives q) gs p n) w) v
-  alternatives-alike q v marks h k =
-      mirrors base ws a (λ w. AlternativesMove ws q (spot_at (Alternatives q) gs p n) w) v
-      (cond (nat_eq k.value 0) Stop (both fs m)) (cond (nat_eq k.value 0) Stop (both gs n)) k.is
-      (record { value = k.value; there = k.there; is = refl }) (by_length (nat_eq k.value 0) refl)
-    where
-      value : word ws q ≡ k.value
-      value = word_of ws q k.value k.there
+  told_as : (i : ℕ) {f : Role} (o : SreOpcode) → Opcode ws i o → role o ≡ f → AsksAt root ws a (a.instruction i) f i
+  told_as i {f} o at is = subst (λ r. AsksAt root ws a (a.instruction i) r i) is (told.instruction i o at)
 
-      next : Point
-      next = Alternatives (q + k.value)
+  onward-alike : (pt at : Point) (q : ℕ) → LoopsAlike ws (least_from pt p) fs gs → Agree pt
+      → least_from pt p ≤ least_from at q → ((k : ℕ) → PointAsks ws a at fs k → PointAsks ws a pt fs k)
+      → Twins base ws a (spot_at at fs q m) (spot_at at gs q n)
+  onward-alike pt at q h marks l fewer = record {
+    alike = record {
+      point = refl;
+      position = refl;
+      loops = loops_later ws (least_from pt p) (least_from at q) fs gs l h;
+    };
+    marks = agree_less (Matters base ws a pt fs) (Matters base ws a at fs) m n
+        (λ k. each_case (λ e. inl e) (λ e. inr (inl (fewer k e))) (λ e. inr (inr e))) marks;
+  }
 
-      both : List Frame → Marks → Move
-      both loops marks = Split (spot_at (Instruction (q + 1)) loops p marks) (spot_at next loops p marks)
+  -- at an instruction
+  module _ (i : ℕ) (h : LoopsAlike ws p fs gs) (marks : Agree (Instruction i)) where
+    -- a MARK sets its own anew
+    set_anew : (v : ℕ) → MarkLeads ws a (a.instruction i) i → Word ws (i + 1) v → (k : ℕ)
+        → Matters base ws a (Instruction (i + 2)) fs k → Matters base ws a (Instruction i) fs k ⊎ (k ≡ v)
+    set_anew v leads there k =
+        each_case (λ e. inl (inl e)) (λ e. elim (leads.each v there k e) [
+          | (inl own) ↦ inl (inr (inl own))
+          | (inr new) ↦ inr new
+        ]) (λ e. inl (inr (inr e)))
 
-      -- what comes of the first alternative, or of the others
-      there : (pt : Point) → p ≤ least_from pt p
-          → ((x : ℕ) → PointAsks ws a pt fs x → Lies x (a.alternatives q))
-          → Twins base ws a (spot_at pt fs p m) (spot_at pt gs p n)
-      there pt on fewer = record {
-        alike = record { point = refl; position = refl; loops = loops_later ws p (least_from pt p) fs gs on h };
-        marks = agree_less (Matters base ws a (Alternatives q) fs) (Matters base ws a pt fs) m n
-            (point_less base ws a (Alternatives q) pt fs fewer) marks;
-      }
+    -- the group of a reference or a condition is the same in both
+    same_asked : (g : ℕ) → GroupLies root (a.instruction i) g → group m g ≡ group n g
+    same_asked g lies =
+        group_agrees (Matters base ws a (Instruction i) fs) m n g (matters (2 * g) lies.start)
+        (matters (2 * g + 1) lies.end) marks
+      where
+        matters : (k : ℕ) → Lies k (a.instruction i) ⊎ root k → Matters base ws a (Instruction i) fs k
+        matters k (inl e) = inr (inl e)
+        matters k (inr e) = inl (rooted k e)
 
-      by_length : (b : Bool) → nat_eq k.value 0 ≡ b
-          → MovesAlike base ws a (cond (nat_eq k.value 0) Stop (both fs m)) (cond (nat_eq k.value 0) Stop (both gs n))
-      by_length true y = rw y tt
-      by_length false y =
-          let asks : AlternativesAsk ws a (a.alternatives q) q = told.alternatives q in
-          let some : 0 < word ws q = grind (arith, nat_tests, value) in
-          let others : Within (a.alternatives (q + k.value)) (a.alternatives q) =
-          subst (λ x. Within (a.alternatives (q + x)) (a.alternatives q)) value (asks.others some) in
-          let same : Twins base ws a (spot_at (Instruction (q + 1)) fs p m) (spot_at (Instruction (q + 1)) gs p n)
-          × Twins base ws a (spot_at next fs p m) (spot_at next gs p n) =
-          (there (Instruction (q + 1)) (omega arith) (asks.first some), there next (omega arith) others) in
-          rw y same
+    -- a loop begins
+    begins-alike : (pt : Point) → ((k : ℕ) → PointAsks ws a pt (first_frame i ∷ fs) k → Lies k (a.instruction i))
+        → Within (a.instruction (i + 4)) (a.instruction i) → least_from pt p ≡ p
+        → Twins base ws a (spot_at pt (first_frame i ∷ fs) p m) (spot_at pt (first_frame i ∷ gs) p n)
+    begins-alike pt at body same = record {
+      alike = record { point = refl; position = refl; loops = later };
+      marks = agree_less (Matters base ws a (Instruction i) fs) (Matters base ws a pt (first_frame i ∷ fs)) m n begun
+          marks;
+    }
+      where
+        later : LoopsAlike ws (least_from pt p) (first_frame i ∷ fs) (first_frame i ∷ gs)
+        later = loops_later ws p (least_from pt p) (first_frame i ∷ fs) (first_frame i ∷ gs) (omega (arith, same))
+            (frame-alike ws p (first_frame i), h)
 
-  abbrev shorter_turn : ℕ → ℕ → List Frame → Marks → Move
-  shorter_turn t c loops marks = cond (nat_eq c 0) Stop
-      (Split (spot_at (Instruction t) loops (p - 1) marks) (spot_at (Shorter t (c - 1)) loops (p - 1) marks))
+        begun : (k : ℕ) → Matters base ws a pt (first_frame i ∷ fs) k → Matters base ws a (Instruction i) fs k
+        begun k = each_case (λ e. inl e) (λ e. inr (inl (at k e))) (λ e. elim e [
+          | (inl again) ↦ inr (inl (body k again))
+          | (inr outer) ↦ inr (inr outer)
+        ])
 
-  -- the shorter counts of a run come back to its least count alone
-  shorter_turns-alike : (t c : ℕ) → Agree (Shorter t c) → LoopsAlike ws (p - c) fs gs → c ≤ p
-      → MovesAlike base ws a (shorter_turn t c fs m) (shorter_turn t c gs n)
-  shorter_turns-alike t c marks h past = go (nat_eq c 0) refl
-    where
-      go : (b : Bool) → nat_eq c 0 ≡ b → MovesAlike base ws a (shorter_turn t c fs m) (shorter_turn t c gs n)
-      go true y = rw y tt
-      go false y =
-          let some : 1 ≤ c = grind (arith, nat_tests) in
-          let both : Twins base ws a (spot_at (Instruction t) fs (p - 1) m) (spot_at (Instruction t) gs (p - 1) n)
-          × Twins base ws a (spot_at (Shorter t (c - 1)) fs (p - 1) m) (spot_at (Shorter t (c - 1)) gs (p - 1) n) = (
-            record {
-              alike = record {
-                point = refl;
-                position = refl;
-                loops = loops_later ws (p - c) (p - 1) fs gs (omega arith) h;
-              };
-              marks = marks;
-            },
-            record {
-              alike = record {
-                point = refl;
-                position = refl;
-                loops = loops_later ws (p - c) (p - 1 - (c - 1)) fs gs (omega (arith, some)) h;
-              };
-              marks = marks;
-            },
-          ) in
-          rw y both
-
-  shorter-alike : (t c : ℕ) (v : Move) → Agree (Shorter t c) → LoopsAlike ws (p - c) fs gs
-      → ShorterMove t c (spot_at (Shorter t c) fs p m) v
-      → Mirrored base ws a (λ w. ShorterMove t c (spot_at (Shorter t c) gs p n) w) v
-  shorter-alike t c v marks h k =
-      mirrors base ws a (λ w. ShorterMove t c (spot_at (Shorter t c) gs p n) w) v (shorter_turn t c fs m)
-      (shorter_turn t c gs n) k.is (record { past = k.past; is = refl }) (shorter_turns-alike t c marks h k.past)
-
-  longer-alike : (i c : ℕ) (v : Move) → Agree (Longer i c) → LoopsAlike ws p fs gs
-      → LongerMove ws s i c (spot_at (Longer i c) fs p m) v
-      → Mirrored base ws a (λ w. LongerMove ws s i c (spot_at (Longer i c) gs p n) w) v
-  longer-alike i c v marks h k =
-      let t : Point = Instruction (skip ws (i + 1)) in
-      let one_more : Bool = (nat_eq k.high unlimited || nat_lt c k.high) && passes s k.test p in
-      let both : List Frame → Marks → Move =
-      λ loops marks. Split (spot_at t loops (p + 1) marks) (spot_at (Longer i (c + 1)) loops (p + 1) marks) in
-      mirrors base ws a (λ w. LongerMove ws s i c (spot_at (Longer i c) gs p n) w) v (cond one_more (both fs m) Stop)
-      (cond one_more (both gs n) Stop) k.is
-      (record {
-        low = k.low;
-        high = k.high;
-        end = k.end;
-        test = k.test;
-        operands = k.operands;
-        past = k.past;
-        is = refl;
-      })
-      (cond-alike base ws a one_more (both fs m) (both gs n) Stop Stop (
-        record {
-          alike = record { point = refl; position = refl; loops = loops_later ws p (p + 1) fs gs (omega arith) h };
-          marks = marks;
-        },
-        record {
-          alike = record { point = refl; position = refl; loops = loops_later ws p (p + 1) fs gs (omega arith) h };
-          marks = marks;
-        },
-      ) tt)
-
-  possessive-alike : (v : Move) → Agree Again → LoopsAlike ws p fs gs → AgainMove ws (spot_at Again fs p m) v
-      → Mirrored base ws a (λ w. AgainMove ws (spot_at Again gs p n) w) v
-  possessive-alike v marks h k =
-      let loops : Beside ws p k.frame k.outer gs = loop_beside ws p k.frame k.outer fs gs k.inside h in
-      let u : ℕ = skip ws (k.frame.repeat + 1) in
-      let same : skip ws (loops.frame.repeat + 1) ≡ u = ap (λ r. skip ws (r + 1)) (sym loops.alike.repeat) in
-      mirrors base ws a (λ w. AgainMove ws (spot_at Again gs p n) w) v
-      (again_move k.low k.high u k.frame k.outer (spot_at Again fs p m))
-      (again_move k.low k.high u loops.frame loops.others (spot_at Again gs p n)) k.is
-      (record {
-        frame = loops.frame;
-        outer = loops.others;
-        low = k.low;
-        high = k.high;
-        inside = loops.inside;
-        lowest = same_repeat ws p 2 k.low k.frame loops.frame loops.alike k.lowest;
-        highest = same_repeat ws p 3 k.high k.frame loops.frame loops.alike k.highest;
-        is = rw same refl;
-      })
-      (again-alike base ws a u k.low k.high p k.frame loops.frame k.outer loops.others m n Again loops.alike
-      loops.around (subst (λ x. MarksAgree (Matters base ws a Again x) m n) k.inside marks)
-      (record { behind = λ x e. e; again = λ last x e. e }) k.lowest k.highest refl (λ last x e. e))
-
-  point-alike : (pt : Point) (v : Move) → Agree pt → LoopsAlike ws (least_from pt p) fs gs
-      → MovesAt ws s pt (spot_at pt fs p m) v → Mirrored base ws a (λ w. MovesAt ws s pt (spot_at pt gs p n) w) v
-  point-alike (Instruction i) v marks h k =
-      let mirror = role-alike root base rooted ws a s i p fs gs m n h marks (role k.0) v
-      (told.instruction i k.0 k.1) k.2 in
-      (mirror.0, (k.0, k.1, mirror.1), mirror.2)
-  point-alike (Alternatives q) v marks h k = alternatives-alike q v marks h k
-  point-alike (Shorter t c) v marks h k = shorter-alike t c v marks h k
-  point-alike (Longer i c) v marks h k = longer-alike i c v marks h k
-  point-alike Again v marks h k = possessive-alike v marks h k
-  point-alike pt v marks h k = absurd k
+  turn-alike : {pt : Point} {v w : Move} → Turned ws s p fs gs m n pt v w → LoopsAlike ws (least_from pt p) fs gs
+      → Agree pt → MovesAlike base ws a v w
+  turn-alike stopped h marks = tt
+  turn-alike (ended o at is) h marks = tt
+  turn-alike (went {i = i} x) h marks =
+      onward-alike (Instruction i) x.point x.position h marks x.onward
+      (goes_on_asks root ws a (told.instruction i x.code x.there) x.goes fs)
+  turn-alike (forked {pt = pt} {first = first} {rest = rest} {q = q} f one other on) h marks = (
+    onward-alike pt first q h marks one (λ k. (forks_ask root ws a told f fs k).0),
+    onward-alike pt rest q h marks other (λ k. (forks_ask root ws a told f fs k).1),
+  )
+  turn-alike (marked {i = i} {k = k} o at is there) h marks = record {
+    alike = record { point = refl; position = refl; loops = h };
+    marks = agree_set (Matters base ws a (Instruction i) fs) (Matters base ws a (Instruction (i + 2)) fs) m n k p
+        (set_anew i h marks k (told_as i o at is) there) marks;
+  }
+  turn-alike (grouped {i = i} {g = g} o at is asked there v w each) h marks =
+      subst (λ span. MovesAlike base ws a (v (group m g)) (w span))
+      (same_asked i h marks g (group_asked root ws a i g (role o) is (told.instruction i o at) asked there))
+      (turn-alike (each (group m g)) h marks)
+  turn-alike (begun {i = i} {pt = pt} o at b same) h marks =
+      let begins = begins_asks root ws a (told.instruction i o at) b in
+      begins-alike i h marks pt (begins.0 fs) begins.1 same
+  turn-alike (entered {i = i} {j = j} {q = q} {g = g} o at b l k on) h marks =
+      let enters = enters_asks root ws a (told.instruction i o at) b in
+      enters-alike base ws a g (Instruction i) p q j j fs gs m n (Matters base ws a (Instruction i) fs) marks refl h
+      refl on (λ v e. e) (λ v. each_case (λ e. inl e) (λ e. inr (inl (enters.0 fs v e))) (λ e. inr (inr e)))
+      (λ v e. inr (inl (enters.1 v e)))
+  turn-alike (looped {u = u} o order at is x y) h marks =
+      let loops = opened-alike ws p x.frame y.frame x.outer y.outer fs gs x.inside y.inside h in
+      let low = same_operand ws p 2 x.low y.low x.frame y.frame loops.0 x.lowest y.lowest in
+      let high = same_operand ws p 3 x.high y.high x.frame y.frame loops.0 x.highest y.highest in
+      rw (x.is, y.is, ← low, ← high)
+      (until-alike base ws a u x.low x.high p x.frame y.frame x.outer y.outer m n (Instruction u) loops.0 loops.1
+      (subst (λ l. MarksAgree (Matters base ws a (Instruction u) l) m n) x.inside marks)
+      (record { behind = told_as u o at is; again = λ last k e. e }) x.lowest x.highest order)
+  turn-alike (repeated x y) h marks =
+      let loops = opened-alike ws p x.frame y.frame x.outer y.outer fs gs x.inside y.inside h in
+      let low = same_operand ws p 2 x.low y.low x.frame y.frame loops.0 x.lowest y.lowest in
+      let high = same_operand ws p 3 x.high y.high x.frame y.frame loops.0 x.highest y.highest in
+      let end : skip ws (x.frame.repeat + 1) ≡ skip ws (y.frame.repeat + 1) =
+      ap (λ r. skip ws (r + 1)) loops.0.repeat in
+      rw (x.is, y.is, ← low, ← high, ← end)
+      (again-alike base ws a (skip ws (x.frame.repeat + 1)) x.low x.high p x.frame y.frame x.outer y.outer m n Again
+      loops.0 loops.1 (subst (λ l. MarksAgree (Matters base ws a Again l) m n) x.inside marks)
+      (record { behind = λ k e. e; again = λ last k e. e }) x.lowest x.highest refl (λ last k e. e))
 
 -- alike spots make alike turns
 pub turns-alike : (root base : ℕ → Type 0) → ((k : ℕ) → root k → base k) → (ws : List ℕ) (a : PlacesAsk)
@@ -754,10 +421,8 @@ pub turns-alike : (root base : ℕ → Type 0) → ((k : ℕ) → root k → bas
     → Moves ws s y w → MovesAlike base ws a v w
 turns-alike root base rooted ws a told s x y v w twins hv hw =
     let h : Alike ws x y = twins.alike in
-    let mirror = point-alike root base rooted ws a told s x.position x.frames y.frames x.marks y.marks x.point v
-    twins.marks h.loops hv in
     let moved : MovesAt ws s x.point (spot_at x.point y.frames x.position y.marks) w =
     subst (λ q. MovesAt ws s x.point (spot_at x.point y.frames q y.marks) w) (sym h.position)
     (subst (λ pt. MovesAt ws s pt (spot_at pt y.frames y.position y.marks) w) (sym h.point) hw) in
-    subst (λ move. MovesAlike base ws a v move)
-    (moves_same ws s x.point (spot_at x.point y.frames x.position y.marks) mirror.0 w mirror.1 moved) mirror.2
+    turn-alike root base rooted ws a told s x.position x.frames y.frames x.marks y.marks
+    (point_turned ws s x.position x.frames y.frames x.marks y.marks x.point v w hv moved) h.loops twins.marks

@@ -3,11 +3,11 @@
 use Rattle.std.proofs.Common.{◌≡◌, ℕ, ◌+◌, ◌⊎◌, inl, inr, List, sym, subst}
 use Rattle.sre_chars.specs.declared.constants.SreOpcode.{SreOpcode}
 use Rattle.sre_model.specs.Grammar.{Word, Opcode, word, skip}
-use Rattle.sre_model.specs.Roles.{Role, ToFail, ToEnd, ToTest, ToCheckPosition, ToMark, ToBranch, ToJump, ToRun}
-use Rattle.sre_model.specs.Roles.{ToRepeat, ToLoop, ToRepeatPossessively, ToGroupAtomically, ToLook, ToRefer}
-use Rattle.sre_model.specs.Roles.{ToCheckGroup, ToNothing, role}
-use Rattle.sre_turns.specs.AskedPlaces.{MarkRange, Within, PlacesAsk, GroupLies}
-use Rattle.sre_turns.specs.AskedPlaces.{BothLead, AsksAt, AlternativesAsk, AskedByPlace}
+use Rattle.sre_model.specs.Roles.{Role, ToTest, ToCheckPosition, ToMark, ToBranch, ToJump, ToRun, ToRepeat, ToLoop}
+use Rattle.sre_model.specs.Roles.{ToRepeatPossessively, ToGroupAtomically, ToLook, ToRefer, ToCheckGroup, role}
+use Rattle.sre_turns.specs.MovesAtReferences.{Asks}
+use Rattle.sre_turns.specs.AskedPlaces.{MarkRange, Within, PlacesAsk, GroupLies, BothLead, AsksAt, AlternativesAsk}
+use Rattle.sre_turns.specs.AskedPlaces.{AskedByPlace}
 
 -- no more is told of any place
 pub record IsNarrower (b a : PlacesAsk) : Type 0 where
@@ -74,37 +74,40 @@ one_place_told base ws a b p told less same here alternatives = record {
 }
 
 -- a range has what any instruction asks for, if what is told of the places lies in it, and the marks of all groups that
--- words name do
+-- are asked for do
 module _ (base : ℕ → Type 0) (ws : List ℕ) (a : PlacesAsk) (whole : MarkRange)
     (inside : (i : ℕ) → Within (a.instruction i) whole) (others : (q : ℕ) → Within (a.alternatives q) whole)
-    (groups : (i g : ℕ) → Word ws i g → GroupLies base whole g) where
-  pub whole_asks : (f : Role) (i : ℕ) → AsksAt base ws a whole f i
-  whole_asks ToFail i = tt
-  whole_asks ToEnd i = tt
-  whole_asks (ToTest kind) i = record { each = λ j t s. inside j }
-  whole_asks ToCheckPosition i = inside (i + 2)
-  whole_asks ToMark i = record { each = λ v w k l. inl (inside (i + 2) k l) }
-  whole_asks ToBranch i = others (i + 1)
-  whole_asks ToJump i = inside (skip ws (i + 1))
-  whole_asks (ToRun kind) i = inside (skip ws (i + 1))
-  whole_asks ToRepeat i = (inside (skip ws (i + 1)), inside (i + 4))
-  whole_asks (ToLoop o) i = inside (i + 1)
-  whole_asks ToRepeatPossessively i = (inside (skip ws (i + 1) + 1), inside (i + 4))
-  whole_asks ToGroupAtomically i = (inside (skip ws (i + 1)), inside (i + 2))
-  whole_asks (ToLook sign) i = (inside (skip ws (i + 1)), inside (i + 3))
-  whole_asks ToRefer i = (record { each = λ g asked w. groups (i + 1) g w }, inside (i + 2))
-  whole_asks ToCheckGroup i =
-      (record { each = λ g asked w. groups (i + 1) g w }, (inside (i + 1 + word ws (i + 2)), inside (i + 3)))
-  whole_asks ToNothing i = tt
+    (groups : (i g : ℕ) → Asks ws g → Word ws i g → GroupLies base whole g) where
+  all_asks : (f : Role) (i : ℕ) → AsksAt base ws a whole f i
+  all_asks (ToTest kind) i = record { each = λ j t s. inside j }
+  all_asks ToCheckPosition i = inside (i + 2)
+  all_asks ToMark i = record { each = λ v w k l. inl (inside (i + 2) k l) }
+  all_asks ToBranch i = others (i + 1)
+  all_asks ToJump i = inside (skip ws (i + 1))
+  all_asks (ToRun kind) i = inside (skip ws (i + 1))
+  all_asks ToRepeat i = (inside (skip ws (i + 1)), inside (i + 4))
+  all_asks (ToLoop o) i = inside (i + 1)
+  all_asks ToRepeatPossessively i = (inside (skip ws (i + 1) + 1), inside (i + 4))
+  all_asks ToGroupAtomically i = (inside (skip ws (i + 1)), inside (i + 2))
+  all_asks (ToLook sign) i = (inside (skip ws (i + 1)), inside (i + 3))
+  all_asks ToRefer i = (record { each = groups (i + 1) }, inside (i + 2))
+  all_asks ToCheckGroup i = (record { each = groups (i + 1) }, (inside (i + 1 + word ws (i + 2)), inside (i + 3)))
+  all_asks f i = tt
+
+-- and if the marks of all groups that words name do
+pub whole_asks : (base : ℕ → Type 0) (ws : List ℕ) (a : PlacesAsk) (whole : MarkRange)
+    → ((i : ℕ) → Within (a.instruction i) whole) → ((q : ℕ) → Within (a.alternatives q) whole)
+    → ((i g : ℕ) → Word ws i g → GroupLies base whole g) → (f : Role) (i : ℕ) → AsksAt base ws a whole f i
+whole_asks base ws a whole inside others groups = all_asks base ws a whole inside others (λ i g asked w. groups i g w)
 
 -- so it is told rightly of every place
-pub told_everywhere : (base : ℕ → Type 0) (ws : List ℕ) (a : PlacesAsk) (whole : MarkRange)
+pub told_alike : (base : ℕ → Type 0) (ws : List ℕ) (a : PlacesAsk) (whole : MarkRange)
     → ((i : ℕ) → a.instruction i ≡ whole) → ((q : ℕ) → a.alternatives q ≡ whole)
-    → ((i g : ℕ) → Word ws i g → GroupLies base whole g) → AskedByPlace base ws a
-told_everywhere base ws a whole same others groups = record {
+    → ((i g : ℕ) → Asks ws g → Word ws i g → GroupLies base whole g) → AskedByPlace base ws a
+told_alike base ws a whole same others groups = record {
   instruction = λ i o w.
       subst (λ r. AsksAt base ws a r (role o) i) (sym (same i))
-      (whole_asks base ws a whole inside inside_others groups (role o) i);
+      (all_asks base ws a whole inside inside_others groups (role o) i);
   alternatives = λ q.
       subst (λ r. AlternativesAsk ws a r q) (sym (others q))
       (record { first = λ some. inside (q + 1); others = λ some. inside_others (skip ws q) });
@@ -115,3 +118,9 @@ told_everywhere base ws a whole same others groups = record {
 
     inside_others : (q : ℕ) → Within (a.alternatives q) whole
     inside_others q = subst (λ r. Within r whole) (sym (others q)) (λ k l. l)
+
+pub told_everywhere : (base : ℕ → Type 0) (ws : List ℕ) (a : PlacesAsk) (whole : MarkRange)
+    → ((i : ℕ) → a.instruction i ≡ whole) → ((q : ℕ) → a.alternatives q ≡ whole)
+    → ((i g : ℕ) → Word ws i g → GroupLies base whole g) → AskedByPlace base ws a
+told_everywhere base ws a whole same others groups =
+    told_alike base ws a whole same others (λ i g asked w. groups i g w)

@@ -1,45 +1,39 @@
 -- In the body of an atomic scope that sets no capture slot the captures stay as they are: a run there stays in the
 -- body, and no step there is that of a MARK.
 -- The memo of body ends rests on this.
-use Rattle.std.proofs.Common.{◌≡◌, ℕ, ◌+◌, ◌-◌, Bool, true, false, cond, ◌&&◌, ◌||◌, nat_lt, nat_eq, nat_le}
-use Rattle.std.proofs.Common.{List, [], ◌∷◌, Option, Some, None, refl, sym, ap, ◌∙◌, subst}
+use Rattle.std.proofs.Common.{◌≡◌, ℕ, Bool, true, false, cond, nat_lt, List, [], ◌∷◌, refl, sym, ap, ◌∙◌, subst}
 use Rattle.std.specs.Bool.{⊤}
 use Rattle.std.proofs.lemmas.Bool.{or_parts, true≢false}
 use Rattle.sre_chars.specs.declared.constants.SreOpcode.{SreOpcode}
 use Rattle.sre_chars.specs.declared.constants.SreOpcode.TheVariants as opcode
-use Rattle.sre_model.specs.Tree.{Tree, Item, Mark, Test, Fold, Order, Greedy, Lazy, Sign, Positive, Negative, RunKind}
-use Rattle.sre_model.specs.Tree.{GreedyRun, LazyRun, PossessiveRun}
+use Rattle.sre_model.specs.Tree.{Tree, Item, Mark, Order, Greedy, Lazy}
 use Rattle.sre_model.specs.Marks.{Marks, group}
 use Rattle.sre_model.specs.MarksSet.{by_marks, marks_in_regions}
-use Rattle.sre_model.specs.Subject.{Subject, passes, holds_at, same_folded}
-use Rattle.sre_model.specs.Ways.{Way, unlimited, may_repeat, longest_run, run_length}
+use Rattle.sre_model.specs.Subject.{Subject}
+use Rattle.sre_model.specs.Ways.{Way, may_repeat}
 use Rattle.sre_model.specs.Folding.{of_item, of_parts}
-use Rattle.sre_model.specs.Grammar.{skip, Opcode, WholeItems}
-use Rattle.sre_model.specs.Roles.{Role, ToFail, ToEnd, ToTest, ToCheckPosition, ToMark, ToBranch, ToJump, ToRun}
-use Rattle.sre_model.specs.Roles.{ToRepeat, ToLoop, ToRepeatPossessively, ToGroupAtomically, ToLook, ToRefer}
-use Rattle.sre_model.specs.Roles.{ToCheckGroup, ToNothing, role}
+use Rattle.sre_model.specs.Grammar.{Opcode, WholeItems}
+use Rattle.sre_model.specs.Roles.{Role, ToEnd, ToMark, role}
 use Rattle.sre_model.specs.Runs.{Run}
 use Rattle.sre_model.proofs.Each.{each-append}
 use Rattle.sre_model.proofs.Families.{HasRole, role_here, item_role, item_here}
 use Rattle.sre_model.proofs.Unique.{items_same}
 use Rattle.sre_model.proofs.Words.{same_opcode}
 use Rattle.sre_turns.specs.declared.Frame.{Frame}
-use Rattle.sre_turns.specs.declared.Region.TheVariants.{AtomicGroup, Ahead, NotAhead, Owed, Further}
+use Rattle.sre_turns.specs.declared.Region.TheVariants.{NotAhead, Further}
 use Rattle.sre_turns.specs.declared.Region.{Region}
-use Rattle.sre_turns.specs.declared.Point.TheVariants.{Instruction, Alternatives, Shorter, Longer, Inside, Again, Tried}
-use Rattle.sre_turns.specs.declared.Point.TheVariants.{TriedAgain}
+use Rattle.sre_turns.specs.declared.Point.TheVariants.{Instruction}
 use Rattle.sre_turns.specs.declared.Point.{Point}
-use Rattle.sre_turns.specs.Moves.{Spot, spot_at, to_place, into_region, Move, Stop, End, Go, Split, Enter, closing_move}
-use Rattle.sre_turns.specs.MovesInRuns.{run_turn}
-use Rattle.sre_turns.specs.MovesInLoops.{in_order, until_move, again_move, at_body, behind}
-use Rattle.sre_turns.specs.MovesInRegions.{look}
-use Rattle.sre_turns.specs.MovesAtReferences.{reference_turn}
-use Rattle.sre_turns.specs.Machine.{Moves, InRole, MovesAt, Runs, turns, Comes, stops, ends, goes, splits, enters}
+use Rattle.sre_turns.specs.Moves.{Spot, Move, Stop, End, Go, Split, Enter, closing_move}
+use Rattle.sre_turns.specs.MovesInLoops.{in_order}
+use Rattle.sre_turns.specs.Machine.{Moves, Runs, turns, Comes, stops, ends, goes, splits, enters}
 use Rattle.sre_turns.specs.Nested.{repeats, ClosesAt, LeadsTo}
 use Rattle.sre_turns.specs.Alike.{LoopsAlike, Alike}
 use Rattle.sre_turns.specs.Bodies.{MarklessBody, LiesInBody, Confined, MarklessRegions}
 use Rattle.sre_turns.specs.BodyEnds.{AllMarked, MarksStay}
 use Rattle.sre_turns.proofs.NestedMoves.{body_moves}
+use Rattle.sre_turns.proofs.Turned.{Turned, stopped, ended, went, forked, marked, grouped, begun, entered, looped}
+use Rattle.sre_turns.proofs.Turned.{repeated, point_turned}
 use Rattle.sre_turns.proofs.NestedPoints.{HoldsInGood, tree_holds}
 
 -- whether an opcode of this role sets a mark
@@ -47,13 +41,10 @@ abbrev sets : Role → Bool
 sets ToMark = true
 sets _ = false
 
-item_markless : (a : Item) → of_item by_marks a ≡ false → sets (item_role a) ≡ false
+item_markless : (a : Item) → of_item by_marks a ≡ false
+    → (sets (item_role a) ≡ false) × (of_parts by_marks a ≡ false)
 item_markless (Mark n) e = absurd (true≢false e)
-item_markless a e = refl
-
-parts_markless : (a : Item) → of_item by_marks a ≡ false → of_parts by_marks a ≡ false
-parts_markless (Mark n) e = absurd (true≢false e)
-parts_markless a e = e
+item_markless a e = (refl, e)
 
 module _ (ws : List ℕ) where
   -- no mark is set at a point
@@ -71,8 +62,8 @@ module _ (ws : List ℕ) where
   markless_in = record {
     first = λ a b e. (or_parts a b e).0;
     second = λ a b e. (or_parts a b e).1;
-    parts = parts_markless;
-    item = λ i j a r e ks. markless_role i (item_role a) (item_here ws i j a r) (item_markless a e);
+    parts = λ a e. (item_markless a e).1;
+    item = λ i j a r e ks. markless_role i (item_role a) (item_here ws i j a r) (item_markless a e).0;
     success = λ i h ks. markless_role i _ h refl;
     jump = λ i h ks. markless_role i _ h refl;
     until = λ i o low high body g h ks. markless_role i _ h refl;
@@ -108,115 +99,41 @@ module _ (m : Marks) where
   -- where a region closes whose body keeps them
   closing_keeps : (g : Region) (y : Spot) (now : List Way) → y.marks ≡ m → AllMarked m now
       → KeepsMarks m (closing_move g y now)
-  closing_keeps (AtomicGroup t) y [] e h = tt
-  closing_keeps (AtomicGroup t) y (w ∷ os) e h = h.0
-  closing_keeps (Ahead t) y [] e h = tt
-  closing_keeps (Ahead t) y (w ∷ os) e h = h.0
   closing_keeps (NotAhead t) y [] e h = e
   closing_keeps (NotAhead t) y (w ∷ os) e h = tt
-  closing_keeps Owed y [] e h = tt
-  closing_keeps Owed y (w ∷ os) e h = h.0
   closing_keeps (Further t) y [] e h = e
-  closing_keeps (Further t) y (w ∷ os) e h = h.0
+  closing_keeps g y [] e h = tt
+  closing_keeps g y (w ∷ os) e h = h.0
 
--- a turn at an instruction that is no MARK keeps them, role by role
-module _ (ws : List ℕ) (s : Subject) (i p : ℕ) (fs : List Frame) (m : Marks) where
-  abbrev standing : Spot
-  standing = spot_at (Instruction i) fs p m
-
-  run_keeps : (kind : RunKind) (t low high : ℕ) (test : Test)
-      → KeepsMarks m (run_turn kind s i t low high test standing)
-  run_keeps GreedyRun t low high test =
-      cond_keeps m (nat_lt (longest_run s test high p) low) _ _ tt (refl, refl)
-  run_keeps LazyRun t low high test = cond_keeps m (nat_lt (run_length s test low p) low) _ _ tt (refl, refl)
-  run_keeps PossessiveRun t low high test =
-      cond_keeps m (nat_eq high unlimited) _ _
-      (cond_keeps m (nat_lt (run_length s test low p) low) _ _ tt
-      (cond_keeps m (passes s test (p + low)) _ _ refl refl))
-      (cond_keeps m (nat_lt (longest_run s test high p) low) _ _ tt refl)
-
-  reference_keeps : (fold : Fold) (n t : ℕ) → KeepsMarks m (reference_turn s fold n t standing)
-  reference_keeps fold n t = go (group m n)
-    where
-      go : (o : Option (ℕ × ℕ)) → KeepsMarks m (elim o [
-        | None ↦ Stop
-        | (Some span) ↦
-            cond (nat_le (p + (span.1 - span.0)) s.end && same_folded s fold (span.1 - span.0) span.0 p)
-            (Go (to_place standing (Instruction t) (p + (span.1 - span.0)))) Stop
-      ])
-      go None = tt
-      go (Some span) =
-          cond_keeps m
-          (nat_le (p + (span.1 - span.0)) s.end && same_folded s fold (span.1 - span.0) span.0 p) _ _ refl tt
-
-  look_keeps : (sign : Sign) (t back : ℕ)
-      → KeepsMarks m (cond (nat_lt p back) (closing_move (look sign t) standing [])
-      (Enter (look sign t) standing (into_region standing (i + 3) (p - back))))
-  look_keeps Positive t back = cond_keeps m (nat_lt p back) _ _ tt (refl, refl)
-  look_keeps Negative t back = cond_keeps m (nat_lt p back) _ _ refl (refl, refl)
-
-  until_keeps : (o : Order) (low high : ℕ) (f : Frame) (outer : List Frame)
-      → KeepsMarks m (until_move o low high i f outer standing)
-  until_keeps o low high f outer =
-      cond_keeps m (nat_lt f.count low) _ _ refl
-      (cond_keeps m (may_repeat high f.count f.last p) _ _
-      (order_keeps m o (at_body f (Some p) outer standing) (behind i outer standing) refl refl) refl)
-
-  role_keeps : (f : Role) (a : Move) → sets f ≡ false → InRole ws s f i standing a → KeepsMarks m a
-  role_keeps ToFail a e h = subst (KeepsMarks m) (sym h) tt
-  role_keeps ToEnd a e h = subst (KeepsMarks m) (sym h) tt
-  role_keeps (ToTest kind) a e h = subst (KeepsMarks m) (sym h.is) (cond_keeps m (passes s h.test p) _ _ refl tt)
-  role_keeps ToCheckPosition a e h =
-      subst (KeepsMarks m) (sym h.is) (cond_keeps m (holds_at s h.code p) _ _ refl tt)
-  role_keeps ToMark a e h = absurd (true≢false e)
-  role_keeps ToBranch a e h = subst (KeepsMarks m) (sym h) refl
-  role_keeps ToJump a e h = subst (KeepsMarks m) (sym h.is) refl
-  role_keeps (ToRun kind) a e h =
-      subst (KeepsMarks m) (sym h.is) (run_keeps kind (skip ws (i + 1)) h.low h.high h.test)
-  role_keeps ToRepeat a e h = subst (KeepsMarks m) (sym h.is) refl
-  role_keeps (ToLoop o) a e h = subst (KeepsMarks m) (sym h.is) (until_keeps o h.low h.high h.frame h.outer)
-  role_keeps ToRepeatPossessively a e h = subst (KeepsMarks m) (sym h) refl
-  role_keeps ToGroupAtomically a e h = subst (KeepsMarks m) (sym h.is) (refl, refl)
-  role_keeps (ToLook sign) a e h = subst (KeepsMarks m) (sym h.is) (look_keeps sign (skip ws (i + 1)) h.back)
-  role_keeps ToRefer a e h = subst (KeepsMarks m) (sym h.is) (reference_keeps h.fold h.number (i + 2))
-  role_keeps ToCheckGroup a e h = subst (KeepsMarks m) (sym h.is) refl
-  role_keeps ToNothing a e h = absurd h
-
--- and so does one at any other point
-module _ (ws : List ℕ) (s : Subject) (p : ℕ) (fs : List Frame) (m : Marks) where
-  again_keeps : (low high u : ℕ) (f : Frame) (outer : List Frame)
-      → KeepsMarks m (again_move low high u f outer (spot_at Again fs p m))
-  again_keeps low high u f outer =
-      cond_keeps m (nat_lt f.count low) _ _ (refl, refl)
-      (cond_keeps m (may_repeat high f.count f.last p) _ _ (refl, refl) refl)
-
-  point_keeps : (pt : Point) (a : Move) → Markless ws pt → MovesAt ws s pt (spot_at pt fs p m) a → KeepsMarks m a
-  point_keeps (Instruction i) a e h = role_keeps ws s i p fs m (role h.0) a (e h.0 h.1) h.2
-  point_keeps (Alternatives q) a e h =
-      subst (KeepsMarks m) (sym h.is) (cond_keeps m (nat_eq h.value 0) _ _ tt (refl, refl))
-  point_keeps (Shorter t k) a e h = subst (KeepsMarks m) (sym h.is) (cond_keeps m (nat_eq k 0) _ _ tt (refl, refl))
-  point_keeps (Longer i n) a e h =
+  -- a turn at a point at which none is set
+  turn_keeps : {ws : List ℕ} {s : Subject} {p : ℕ} {fs gs : List Frame} {n : Marks} {pt : Point} {v w : Move}
+      → Turned ws s p fs gs m n pt v w → Markless ws pt → KeepsMarks m v
+  turn_keeps stopped e = tt
+  turn_keeps (ended o at is) e = tt
+  turn_keeps (went x) e = refl
+  turn_keeps (forked f a b on) e = (refl, refl)
+  turn_keeps (marked o at is there) e = absurd (true≢false (sym (ap sets is) ∙ e o at))
+  turn_keeps (grouped {g = g} o at is asked there v w each) e = turn_keeps (each (group m g)) e
+  turn_keeps (begun o at b same) e = refl
+  turn_keeps (entered o at b l k on) e = (refl, refl)
+  turn_keeps {p = p} (looped {u = u} o order at is h k) e =
       subst (KeepsMarks m) (sym h.is)
-      (cond_keeps m ((nat_eq h.high unlimited || nat_lt n h.high) && passes s h.test p) _ _ (refl, refl) tt)
-  point_keeps (Inside g) a e h = absurd h
-  point_keeps Again a e h =
-      subst (KeepsMarks m) (sym h.is) (again_keeps h.low h.high (skip ws (h.frame.repeat + 1)) h.frame h.outer)
-  point_keeps (Tried i) a e h = absurd h
-  point_keeps TriedAgain a e h = absurd h
+      (cond_keeps (nat_lt h.frame.count h.low) _ _ refl
+      (cond_keeps (may_repeat h.high h.frame.count h.frame.last p) _ _ (order_keeps order _ _ refl refl) refl))
+  turn_keeps {p = p} (repeated h k) e =
+      subst (KeepsMarks m) (sym h.is)
+      (cond_keeps (nat_lt h.frame.count h.low) _ _ (refl, refl)
+      (cond_keeps (may_repeat h.high h.frame.count h.frame.last p) _ _ (refl, refl) refl))
 
 -- where a turn leads, and a region closes, in a body
 onto_leads : (P : Point → List ℕ → Type 0) (g : Region) (y : Spot) (now : List Way) → ClosesAt P g y.frames
     → LeadsTo P (closing_move g y now)
-onto_leads P (AtomicGroup t) y [] c = tt
-onto_leads P (AtomicGroup t) y (w ∷ os) c = c
-onto_leads P (Ahead t) y [] c = tt
-onto_leads P (Ahead t) y (w ∷ os) c = c
 onto_leads P (NotAhead t) y [] c = c
 onto_leads P (NotAhead t) y (w ∷ os) c = tt
-onto_leads P Owed y [] c = tt
-onto_leads P Owed y (w ∷ os) c = c
 onto_leads P (Further t) y [] c = c.1
 onto_leads P (Further t) y (w ∷ os) c = c.0
+onto_leads P g y [] c = tt
+onto_leads P g y (w ∷ os) c = c
 
 -- a turn in a body leads to spots in the body
 pub confined_moves : (ws : List ℕ) (s : Subject) (b : MarklessBody ws) (x : Spot) (mv : Move)
@@ -230,7 +147,8 @@ module _ (ws : List ℕ) (s : Subject) (b : MarklessBody ws) where
         → LiesInBody ws b x.point (repeats x.frames) → Runs ws s x os n → AllMarked m os
     marks_stay {x} m e y (turns a h d) =
         marks_after m a e (subst (λ l. KeepsMarks l a) e
-        (point_keeps ws s x.position x.frames x.marks x.point a (body_markless ws b x.point (repeats x.frames) y) h))
+        (turn_keeps x.marks (point_turned ws s x.position x.frames x.frames x.marks x.marks x.point a a h h)
+        (body_markless ws b x.point (repeats x.frames) y)))
         (confined_moves ws s b x a y h) d
 
     marks_after : {x : Spot} {os : List Way} {n : ℕ} (m : Marks) (a : Move) → x.marks ≡ m → KeepsMarks m a

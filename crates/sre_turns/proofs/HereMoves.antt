@@ -1,8 +1,7 @@
 -- In a search over bytecode whose steps are counted, each step leads to where the machine may be: it enters an atomic
 -- scope at the body that the scope has, and continues after it where it may be, too.
 -- That the step bound suffices (`enough` of sre_engine) rests on this.
-use Rattle.std.proofs.Common.{◌≡◌, ℕ, ◌+◌, ◌-◌, ◌≤◌, true, false, List, [], ◌∷◌, length, drop, refl, sym, subst}
-use Rattle.std.proofs.Common.{arith}
+use Rattle.std.proofs.Common.{◌≡◌, ℕ, ◌+◌, ◌-◌, ◌≤◌, true, false, List, [], ◌∷◌, length, drop, refl, sym, subst, arith}
 use Rattle.std.specs.Bool.{⊤}
 use Rattle.std.proofs.lemmas.Bool.{true≢false}
 use Rattle.sre_chars.specs.declared.constants.SreOpcode.TheVariants as opcode
@@ -24,11 +23,10 @@ use Rattle.sre_turns.specs.Straight.{point_behind, goes_behind, BodyOf, IsBodyIn
 use Rattle.sre_turns.specs.declared.Frame.{Frame}
 use Rattle.sre_turns.specs.declared.Point.TheVariants.{Instruction}
 use Rattle.sre_turns.specs.declared.Point.{Point}
-use Rattle.sre_turns.specs.declared.Region.TheVariants.{AtomicGroup, Ahead, NotAhead, Owed, Further}
+use Rattle.sre_turns.specs.declared.Region.TheVariants.{AtomicGroup, Further}
 use Rattle.sre_turns.specs.declared.Region.{Region}
 use Rattle.sre_turns.proofs.NestedMoves.{begins, body_moves}
-use Rattle.sre_turns.proofs.Onward.{Reaches, Reaching, point_reaches, all_later, least_position}
-use Rattle.sre_turns.proofs.SettledMoves.{settled_moves}
+use Rattle.sre_turns.proofs.Onward.{outer_begun, Reaches, Reaching, point_reaches, all_later, least_position}
 use Rattle.sre_turns.proofs.Straight.{StraightPoint, body_straight, GoesBack, counted_entry, point_entered}
 
 -- what is told of where a step leads
@@ -43,11 +41,8 @@ OntoHere r pl start cs x (Enter g y z) =
 -- behind an atomic scope, under the loops under which it was entered, or where a possessive loop is left
 closes_behind : (P : Point → List ℕ → Type 0) (g : Region) (fs : List Frame) → ClosesAt P g fs
     → P (point_behind g) (repeats fs)
-closes_behind P (AtomicGroup t) fs h = h
-closes_behind P (Ahead t) fs h = h
-closes_behind P (NotAhead t) fs h = h
-closes_behind P Owed fs h = h
 closes_behind P (Further t) fs h = h.0
+closes_behind P g fs h = h
 
 closes_without : (P : Point → List ℕ → Type 0) (g : Region) (fs : List Frame) (t : ℕ) → g ≡ Further t → ClosesAt P g fs
     → P (Instruction t) (repeats (drop 1 fs))
@@ -56,15 +51,7 @@ closes_without P g fs t e h = (subst (λ k. ClosesAt P k fs) e h).1
 -- nothing comes back from behind an atomic scope
 behind_from : (g : Region) (q : ℕ) → least_from (point_behind g) q ≡ q
 behind_from (AtomicGroup t) q = refl
-behind_from (Ahead t) q = refl
-behind_from (NotAhead t) q = refl
-behind_from Owed q = refl
-behind_from (Further t) q = refl
-
--- where the loops of a configuration began before, those without the innermost did
-all_begun_without : (p : ℕ) (fs : List Frame) → AllBegunBy p fs → AllBegunBy p (drop 1 fs)
-all_begun_without p [] h = tt
-all_begun_without p (f ∷ fs) h = h.1
+behind_from g q = refl
 
 -- what comes of words
 module _ (r : Run) (x : Spot) (i j : ℕ) (t : Tree) (reads : Reads r.words i j t)
@@ -130,121 +117,112 @@ module _ (r : Run) (pl : Counted r) (start : ℕ) where
         let near = least_position x.point x.position in
         in_body at.body at.first (omega (arith, from, near, at.far, at.is))
 
-  -- where no atomic scope is in progress
-  outside_moves : (x : Spot) (mv : Move) → SettledIn r pl start x → Moves r.words r.subject x mv
-      → OntoHere r pl start [] x mv
-  outside_moves x Stop d h = tt
-  outside_moves x End d h = tt
-  outside_moves x (Go y) d h = settled_moves r.words r.subject pl.tree pl.whole start x (Go y) d h
-  outside_moves x (Split y z) d h = settled_moves r.words r.subject pl.tree pl.whole start x (Split y z) d h
-  outside_moves x (Enter g y z) d h =
-      let from = d.from in
-      let at =
-      entered_counted x d.lies d.inside g y z h 0 (last r) pl.tree pl.whole.0 pl.whole.1 d.lies (λ e. e)
-      (omega (arith, from)) in
-      let f = reaching r x (Enter g y z) h in (
-        record {
-          inside = f.0.inside d.inside;
-          behind = λ q m l k. record {
-            lies = behind_lies r x 0 (last r) pl.tree pl.whole.0 pl.whole.1 d.lies g y z h;
-            passed = subst (λ n. AllBegunBy n y.frames) (sym (behind_from g q))
-                (all_later y.position q y.frames l (f.0.begun d.passed));
-            inside = k;
-            from = let o = f.0.onward in let from = d.from in omega (arith, from, o, l, behind_from g q);
-          };
-          without = λ t m e. record {
-            lies = without_lies r x 0 (last r) pl.tree pl.whole.0 pl.whole.1 d.lies g y z t e h;
-            passed = all_begun_without y.position y.frames (f.0.begun d.passed);
-            inside = f.0.inside d.inside;
-            from = let o = f.0.onward in let from = d.from in omega (arith, from, o);
-          };
-        },
-        at,
-      )
-
-  -- where a step at a position leads in the body of an atomic scope
-  abbrev pub InsideOnto : Region → ℕ → ℕ → Move → Type 0
-  InsideOnto g entered p Stop = ⊤
-  InsideOnto g entered p End = (goes_behind g ≡ true → entered ≤ p) × (p ≤ r.subject.end)
-  InsideOnto g entered p (Go y) = InBody r pl start g entered y
-  InsideOnto g entered p (Split y z) = InBody r pl start g entered y × InBody r pl start g entered z
-  InsideOnto g entered p (Enter k y z) =
+  -- where a step at a position leads, if spots of a kind are kept, and ends are such positions
+  abbrev OntoKept : (Spot → Type 0) → (ℕ → Type 0) → ℕ → Move → Type 0
+  OntoKept K E p Stop = ⊤
+  OntoKept K E p End = E p
+  OntoKept K E p (Go y) = K y
+  OntoKept K E p (Split y z) = K y × K z
+  OntoKept K E p (Enter k y z) =
       (y.position ≤ r.subject.end)
-      × ((q : ℕ) (m : Marks) → y.position ≤ q → q ≤ r.subject.end
-      → InBody r pl start g entered (spot_at (point_behind k) y.frames q m))
-      × ((t : ℕ) (m : Marks) → k ≡ Further t
-      → InBody r pl start g entered (spot_at (Instruction t) (drop 1 y.frames) y.position m))
+      × ((q : ℕ) (m : Marks) → y.position ≤ q → q ≤ r.subject.end → K (spot_at (point_behind k) y.frames q m))
+      × ((t : ℕ) (m : Marks) → k ≡ Further t → K (spot_at (Instruction t) (drop 1 y.frames) y.position m))
       × InBody r pl start k y.position z
 
-  -- in the body of an atomic scope
-  module _ (g : Region) (entered : ℕ) (x : Spot) (b : InBody r pl start g entered x) where
-    abbrev body : BodyOf r.words (IsBodyIn pl.tree)
-    body = b.body
-
-    -- it does not come back before where it was entered, nor before the start
-    stays : (y : Spot) → LiesIn r.words body.start body.end body.tree body.reads [] y.point (repeats y.frames)
-        → LiesIn r.words 0 (last r) pl.tree pl.whole.0 [] y.point (repeats y.frames)
+  -- with each spot of the kind each is that lies in the words wherever that does, and is within its reach
+  record IsKept (K : Spot → Type 0) (E : ℕ → Type 0) : Type 0 where
+    kept : (x y : Spot)
+        → ((i j : ℕ) (t : Tree) (reads : Reads r.words i j t) → Opcode r.words j opcode.SUCCESS
+        → LiesIn r.words i j t reads [] x.point (repeats x.frames)
+        → LiesIn r.words i j t reads [] y.point (repeats y.frames))
         → Reaches r.subject x.position (least_from x.point x.position) x.frames y.position
         (least_from y.point y.position) y.frames
-        → InBody r pl start g entered y
-    stays y here lies k = record {
-      body = body;
-      here = here;
-      lies = lies;
+        → K x → K y
+    inside : (x : Spot) → K x → x.position ≤ r.subject.end
+    ends : (x : Spot) → K x → E x.position
+    enters : (x : Spot) (g : Region) (y z : Spot) → K x → Moves r.words r.subject x (Enter g y z)
+        → InBody r pl start g y.position z
+
+  module _ (K : Spot → Type 0) (E : ℕ → Type 0) (k : IsKept K E) (x : Spot) (d : K x) where
+    onto_kept : (mv : Move) → Moves r.words r.subject x mv → OntoKept K E x.position mv
+    onto_kept Stop h = tt
+    onto_kept End h = k.ends x d
+    onto_kept (Go y) h =
+        k.kept x y (λ i j t reads ends l. leads r x i j t reads ends l (Go y) h) (reaching r x (Go y) h) d
+    onto_kept (Split y z) h =
+        let far = reaching r x (Split y z) h in (
+          k.kept x y (λ i j t reads ends l. (leads r x i j t reads ends l (Split y z) h).0) far.0 d,
+          k.kept x z (λ i j t reads ends l. (leads r x i j t reads ends l (Split y z) h).1) far.1 d,
+        )
+    onto_kept (Enter g y z) h =
+        let f = reaching r x (Enter g y z) h in (
+          f.0.inside (k.inside x d),
+          λ q m l e. k.kept x (spot_at (point_behind g) y.frames q m)
+              (λ i j t reads ends lies. behind_lies r x i j t reads ends lies g y z h)
+              (record {
+                onward = let o = f.0.onward in omega (arith, o, l, behind_from g q);
+                inside = λ _. e;
+                begun = λ p. subst (λ n. AllBegunBy n y.frames) (sym (behind_from g q))
+                    (all_later y.position q y.frames l (f.0.begun p));
+              })
+              d,
+          λ t m e. k.kept x (spot_at (Instruction t) (drop 1 y.frames) y.position m)
+              (λ i j u reads ends lies. without_lies r x i j u reads ends lies g y z t e h)
+              (record {
+                onward = let o = f.0.onward in omega (arith, o);
+                inside = λ _. f.0.inside (k.inside x d);
+                begun = λ p. outer_begun y.position y.frames (f.0.begun p);
+              })
+              d,
+          k.enters x g y z d h,
+        )
+
+  -- where no atomic scope is in progress
+  outside_kept : IsKept (SettledIn r pl start) (λ p. ⊤)
+  outside_kept = record {
+    kept = λ x y lies k d. record {
+      lies = lies 0 (last r) pl.tree pl.whole.0 pl.whole.1 d.lies;
+      passed = k.begun d.passed;
+      inside = k.inside d.inside;
+      from = let from = d.from in let o = k.onward in omega (arith, from, o);
+    };
+    inside = λ x d. d.inside;
+    ends = λ x d. tt;
+    enters = λ x g y z d h.
+        let from = d.from in
+        entered_counted x d.lies d.inside g y z h 0 (last r) pl.tree pl.whole.0 pl.whole.1 d.lies (λ e. e)
+        (omega (arith, from));
+  }
+
+  -- in the body of an atomic scope
+  abbrev StopsIn : Region → ℕ → ℕ → Type 0
+  StopsIn g entered p = (goes_behind g ≡ true → entered ≤ p) × (p ≤ r.subject.end)
+
+  body_kept : (g : Region) (entered : ℕ) → IsKept (InBody r pl start g entered) (StopsIn g entered)
+  body_kept g entered = record {
+    kept = λ x y lies k b. record {
+      body = b.body;
+      here = lies b.body.start b.body.end b.body.tree b.body.reads b.body.ends b.here;
+      lies = lies 0 (last r) pl.tree pl.whole.0 pl.whole.1 b.lies;
       passed = k.begun b.passed;
       inside = k.inside b.inside;
       from = let l = b.from in omega (arith, l, k.onward);
       behind = λ e. let l = b.behind e in omega (arith, l, k.onward);
-    }
+    };
+    inside = λ x b. b.inside;
+    ends = λ x b. (λ e. let l = b.behind e in omega (arith, l, least_position x.point x.position), b.inside);
+    enters = λ x k y z b h.
+        entered_counted x b.lies b.inside k y z h b.body.start b.body.end b.body.tree b.body.reads b.body.ends b.here
+        b.body.is.1 b.from;
+  }
 
-    onto : (mv : Move) → Moves r.words r.subject x mv
-        → LeadsTo (λ pt ks. LiesIn r.words body.start body.end body.tree body.reads [] pt ks) mv
-    onto mv h = leads r x body.start body.end body.tree body.reads body.ends b.here mv h
+  abbrev pub InsideOnto : Region → ℕ → ℕ → Move → Type 0
+  InsideOnto g entered = OntoKept (InBody r pl start g entered) (StopsIn g entered)
 
-    onto_whole : (mv : Move) → Moves r.words r.subject x mv
-        → LeadsTo (λ pt ks. LiesIn r.words 0 (last r) pl.tree pl.whole.0 [] pt ks) mv
-    onto_whole mv h = leads r x 0 (last r) pl.tree pl.whole.0 pl.whole.1 b.lies mv h
-
-    -- an atomic scope inside of it
-    entered_here : (k : Region) (y z : Spot) → Moves r.words r.subject x (Enter k y z)
-        → InBody r pl start k y.position z
-    entered_here k y z h =
-        entered_counted x b.lies b.inside k y z h body.start body.end body.tree body.reads body.ends b.here body.is.1
-        b.from
-
+  -- in the body of an atomic scope
+  module _ (g : Region) (entered : ℕ) (x : Spot) (b : InBody r pl start g entered x) where
     pub inside_moves : (mv : Move) → Moves r.words r.subject x mv → InsideOnto g entered x.position mv
-    inside_moves Stop h = tt
-    inside_moves End h =
-        (λ e. let l = b.behind e in omega (arith, l, least_position x.point x.position), b.inside)
-    inside_moves (Go y) h = stays y (onto (Go y) h) (onto_whole (Go y) h) (reaching r x (Go y) h)
-    inside_moves (Split y z) h =
-        let here = onto (Split y z) h in
-        let whole = onto_whole (Split y z) h in
-        let far = reaching r x (Split y z) h in
-        (stays y here.0 whole.0 far.0, stays z here.1 whole.1 far.1)
-    inside_moves (Enter k y z) h =
-        let at = entered_here k y z h in
-        let f = reaching r x (Enter k y z) h in (
-          f.0.inside b.inside,
-          λ q m l e. stays (spot_at (point_behind k) y.frames q m)
-              (behind_lies r x body.start body.end body.tree body.reads body.ends b.here k y z h)
-              (behind_lies r x 0 (last r) pl.tree pl.whole.0 pl.whole.1 b.lies k y z h)
-              (record {
-                onward = let o = f.0.onward in omega (arith, o, l, behind_from k q);
-                inside = λ _. e;
-                begun = λ p. subst (λ n. AllBegunBy n y.frames) (sym (behind_from k q))
-                    (all_later y.position q y.frames l (f.0.begun p));
-              }),
-          λ t m e. stays (spot_at (Instruction t) (drop 1 y.frames) y.position m)
-              (without_lies r x body.start body.end body.tree body.reads body.ends b.here k y z t e h)
-              (without_lies r x 0 (last r) pl.tree pl.whole.0 pl.whole.1 b.lies k y z t e h)
-              (record {
-                onward = let o = f.0.onward in omega (arith, o);
-                inside = λ _. f.0.inside b.inside;
-                begun = λ p. all_begun_without y.position y.frames (f.0.begun p);
-              }),
-          at,
-        )
+    inside_moves = onto_kept (InBody r pl start g entered) (StopsIn g entered) (body_kept g entered) x b
 
     -- it is settled, too, from as far before the start as lookbehinds go back
     pub body_settled : SettledIn r pl (start - backs pl.tree) x
@@ -256,50 +234,30 @@ module _ (r : Run) (pl : Counted r) (start : ℕ) where
     }
 
     -- where it forks, an atomic scope of the whole does
-    pub forked_region : (StraightPoint r.words x.point → ⊥) → forks body.tree ≡ true
-    forked_region forked = go (forks body.tree) refl
+    pub forked_region : (StraightPoint r.words x.point → ⊥) → forks b.body.tree ≡ true
+    forked_region forked = go (forks b.body.tree) refl
       where
-        go : (told : _) → forks body.tree ≡ told → forks body.tree ≡ true
+        go : (told : _) → forks b.body.tree ≡ told → forks b.body.tree ≡ true
         go true e = e
-        go false e = absurd (forked (body_straight r.words body e x.point (repeats x.frames) b.here))
+        go false e = absurd (forked (body_straight r.words b.body e x.point (repeats x.frames) b.here))
 
-  -- below a choice or a mark the same waits
-  reopened_below : (cs ds : List Choice) → ((x : Spot) → HereIn r pl start cs x → HereIn r pl start ds x) → (g : Region)
-      (fs : List Frame) (p : ℕ) → Reopens r pl start g fs p cs → Reopens r pl start g fs p ds
-  reopened_below cs ds on g fs p o = record {
-    inside = o.inside;
-    behind = λ q m l e. on (spot_at (point_behind g) fs q m) (o.behind q m l e);
-    without = λ t m e. on (spot_at (Instruction t) (drop 1 fs) p m) (o.without t m e);
-  }
+  here_kept : (cs : List Choice) → IsKept (HereIn r pl start cs) (EndsIn r cs)
+  here_kept [] = outside_kept
+  here_kept (Else pt fs c k ∷ cs) = here_kept cs
+  here_kept (Trying pt fs c k ∷ cs) = here_kept cs
+  here_kept (Keep g fs c k ∷ cs) = body_kept g c.position
 
   -- where each step leads
   pub here_moves : (cs : List Choice) (x : Spot) (mv : Move) → HereIn r pl start cs x → Moves r.words r.subject x mv
       → OntoHere r pl start cs x mv
-  here_moves [] x mv h m = outside_moves x mv h m
-  here_moves (Else pt fs c k ∷ cs) x mv h m = go mv (here_moves cs x mv h m)
+  here_moves cs x mv d h = go mv (onto_kept (HereIn r pl start cs) (EndsIn r cs) (here_kept cs) x d mv h)
     where
-      go : (mv : Move) → OntoHere r pl start cs x mv → OntoHere r pl start (Else pt fs c k ∷ cs) x mv
+      go : (mv : Move) → OntoKept (HereIn r pl start cs) (EndsIn r cs) x.position mv → OntoHere r pl start cs x mv
       go Stop on = tt
       go End on = on
       go (Go y) on = on
       go (Split y z) on = on
-      go (Enter f y z) on = (reopened_below cs (Else pt fs c k ∷ cs) (λ x h. h) f y.frames y.position on.0, on.1)
-  here_moves (Trying pt fs c k ∷ cs) x mv h m = go mv (here_moves cs x mv h m)
-    where
-      go : (mv : Move) → OntoHere r pl start cs x mv → OntoHere r pl start (Trying pt fs c k ∷ cs) x mv
-      go Stop on = tt
-      go End on = on
-      go (Go y) on = on
-      go (Split y z) on = on
-      go (Enter f y z) on = (reopened_below cs (Trying pt fs c k ∷ cs) (λ x h. h) f y.frames y.position on.0, on.1)
-  here_moves (Keep g fs c k ∷ cs) x mv h m = go mv (inside_moves g c.position x h mv m)
-    where
-      go : (mv : Move) → InsideOnto g c.position x.position mv → OntoHere r pl start (Keep g fs c k ∷ cs) x mv
-      go Stop on = tt
-      go End on = on
-      go (Go y) on = on
-      go (Split y z) on = on
-      go (Enter f y z) on = (record { inside = on.0; behind = on.1; without = on.2 }, on.3)
+      go (Enter g y z) on = (record { inside = on.0; behind = on.1; without = on.2 }, on.3)
 
   -- whether an atomic scope is in progress or not, it is settled from as far before the start as lookbehinds go back
   pub here_settled : (cs : List Choice) (x : Spot) → HereIn r pl start cs x → SettledIn r pl (start - backs pl.tree) x
@@ -330,17 +288,7 @@ module _ (r : Run) (pl : Counted r) (start : ℕ) where
       → Reaches r.subject x.position (least_from x.point x.position) x.frames y.position
       (least_from y.point y.position) y.frames
       → HereIn r pl start cs x → HereIn r pl start cs y
-  here_reached [] x y lies k h = record {
-    lies = lies 0 (last r) pl.tree pl.whole.0 h.lies;
-    passed = k.begun h.passed;
-    inside = k.inside h.inside;
-    from = let from = h.from in let o = k.onward in omega (arith, from, o);
-  }
-  here_reached (Else pt fs c m ∷ cs) x y lies k h = here_reached cs x y lies k h
-  here_reached (Keep g fs c m ∷ cs) x y lies k h =
-      stays g c.position x h y (lies h.body.start h.body.end h.body.tree h.body.reads h.here)
-      (lies 0 (last r) pl.tree pl.whole.0 h.lies) k
-  here_reached (Trying pt fs c m ∷ cs) x y lies k h = here_reached cs x y lies k h
+  here_reached cs x y lies k h = (here_kept cs).kept x y (λ i j t reads ends l. lies i j t reads l) k h
 
   -- an instruction to which a step leads, at another position within reach
   module _ (x z : Spot) (j p q : ℕ) (fs : List Frame) (m : Marks)
@@ -351,14 +299,6 @@ module _ (r : Run) (pl : Counted r) (start : ℕ) where
     pub here_first : (cs : List Choice)
         → Reaches r.subject x.position (least_from x.point x.position) x.frames q q fs
         → HereIn r pl start cs x → HereIn r pl start cs (there q)
-    here_first [] k d = record {
-      lies = (leads r x 0 (last r) pl.tree pl.whole.0 pl.whole.1 d.lies (Split (there p) z) h).0;
-      passed = k.begun d.passed;
-      inside = k.inside d.inside;
-      from = let from = d.from in let o = k.onward in omega (arith, from, o);
-    }
-    here_first (Else pt gs c n ∷ cs) k d = here_first cs k d
-    here_first (Keep g gs c n ∷ cs) k d =
-        stays g c.position x d (there q) (onto g c.position x d (Split (there p) z) h).0
-        (onto_whole g c.position x d (Split (there p) z) h).0 k
-    here_first (Trying pt gs c n ∷ cs) k d = here_first cs k d
+    here_first cs k d =
+        (here_kept cs).kept x (there q) (λ i j t reads ends l. (leads r x i j t reads ends l (Split (there p) z) h).0)
+        k d

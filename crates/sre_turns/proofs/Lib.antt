@@ -1,5 +1,6 @@
 pub mod Asked
 pub mod OneTurn
+pub mod Turned
 pub mod Moving
 pub mod FirstOutcomes
 pub mod SettledMoves
@@ -26,7 +27,6 @@ pub mod Onward
 pub mod NestedMoves
 pub mod NestedStarts
 pub mod NestedPlaces
-pub mod NestedPositions
 pub mod NestedSlots
 pub mod NestedPoints
 pub mod AlikeLoops

@@ -1,6 +1,6 @@
 -- A step of the machine, whatever the opcode: what it comes to, and that the accepted outcomes begin as they did.
-use Rattle.std.proofs.Common.{◌≡◌, ℕ, suc, ◌+◌, ◌<◌, ◌≤◌, List, [], ◌∷◌, ◌++◌, length, refl, sym, ap, ◌∙◌, subst}
-use Rattle.std.proofs.Common.{arith, true}
+use Rattle.std.proofs.Common.{◌≡◌, ℕ, suc, ◌+◌, ◌<◌, ◌≤◌, List, [], ◌∷◌, ◌++◌, length, refl, sym, ap, ◌∙◌, subst, arith}
+use Rattle.std.proofs.Common.{true}
 use Rattle.std.proofs.lemmas.List.{append-nil}
 use Rattle.sre_chars.specs.declared.constants.SreOpcode.{SreOpcode}
 use Rattle.sre_chars.specs.declared.string.StringCursor.{StringCursor}
@@ -11,11 +11,11 @@ use Rattle.sre_model.specs.Grammar.{Opcode}
 use Rattle.sre_turns.specs.Board.{Choice, Else, Keep, Trying, choice, from_region, BoardValue}
 use Rattle.sre_turns.specs.declared.Frame.{Frame}
 use Rattle.sre_turns.specs.declared.Region.{Region}
-use Rattle.sre_turns.specs.declared.Point.TheVariants.{Instruction, Alternatives, Shorter, Longer, Inside, Again, Tried}
-use Rattle.sre_turns.specs.declared.Point.TheVariants.{TriedAgain}
+use Rattle.sre_turns.specs.declared.Point.TheVariants.{Instruction, Inside, Tried, TriedAgain}
 use Rattle.sre_turns.specs.declared.Point.{Point}
 use Rattle.sre_turns.specs.Moves.{Spot, spot_at, Move, Stop, End, Go, Split, Enter, TestMove}
-use Rattle.sre_turns.specs.Limits.{Limit, earlier, raised, pool, CodeAt, FaresAt}
+use Rattle.sre_turns.specs.Limits.{Limit, earlier, raised, pool, CodeAt, FaresAt, Stage, Coming, Going, Splitting}
+use Rattle.sre_turns.specs.Limits.{spare, share}
 use Rattle.sre_turns.specs.Prices.{price_of, toll, toll_by, split_toll}
 use Rattle.sre_turns.specs.Lying.{repeats}
 use Rattle.sre_turns.specs.Settled.{Counted}
@@ -25,15 +25,11 @@ use Rattle.sre_turns.proofs.Confining.{second_left}
 use Rattle.sre_turns.proofs.Faring.{FreeOfToll, turn_leaves, fares_less, first_waits, first_alone, second_alone}
 use Rattle.sre_turns.proofs.Faring.{second_goes, nothing_left, run_code, with_tolls, with_toll}
 use Rattle.sre_turns.specs.Machine.{Placed, InRole, Moves, MovesAt, Runs, turns, Comes, stops, ends, goes, splits}
-use Rattle.sre_turns.specs.Machine.{enters, Waits, outermost, otherwise, kept, tried, Goes, Arrives, Tries}
-use Rattle.sre_turns.specs.Machine.{GoesBoth}
+use Rattle.sre_turns.specs.Machine.{enters, Waits, outermost, otherwise, kept, tried, Goes, Arrives, Tries, GoesBoth}
 use Rattle.sre_turns.specs.Machine.{Later}
 use Rattle.sre_model.specs.Runs.{Run}
-use Rattle.sre_turns.specs.Machine.{spot, HasRun, IsAt}
-use Rattle.sre_turns.specs.Machine.{Refuses, Skips, SkipsBoth, Exhausted, Continues}
-use Rattle.sre_model.specs.Roles.{Role, ToTest}
-use Rattle.sre_model.specs.Roles.{role}
-use Rattle.sre_model.specs.Roles.{begins_test}
+use Rattle.sre_turns.specs.Machine.{spot, HasRun, IsAt, GoesWith, Refuses, Skips, SkipsBoth, Exhausted, Continues}
+use Rattle.sre_model.specs.Roles.{Role, ToTest, role, begins_test}
 use Rattle.sre_turns.specs.declared.Next.TheVariants as next
 use Rattle.sre_model.proofs.Words.{same_opcode, opcode_within}
 use Rattle.sre_model.proofs.Families.{some_test}
@@ -141,28 +137,36 @@ sooner u v l (kept {pt = pt} {n = n} there placed d wt) =
     kept {pt = pt} there placed d (sooner (u + n) (v + n) (omega arith) wt)
 sooner u v l (tried there placed d most same wt) = tried there placed d (omega arith) same (sooner u v l wt)
 
--- what is reached is executed, for nothing
-pub arrived : {r : Run} {all : List Way} {limit : Limit} {pt : Point} {c : StringCursor} {b : BoardValue}
-    → FreeOfToll pt → Arrives r all limit pt c b → Goes r all limit pt c b
-arrived {r} {all} {limit} {pt} {c} {b} free g = record {
+-- what is reached is under way, where no more has to be spared, with what it may still take
+under_way : {r : Run} {all : List Way} {limit : Limit} {pt : Point} {c : StringCursor} {b : BoardValue} (stage : Stage)
+    (more_ : Limit) → spare stage ≤ 1 → more_.turns ≡ limit.turns
+    → ((pl : Counted r) (o : SreOpcode) → CodeAt r.words pt o
+    → FaresAt r pl limit (share Coming r.words r.subject.end o (spot pt c b)) (spot pt c b) b.choices
+    → FaresAt r pl more_ (share stage r.words r.subject.end o (spot pt c b)) (spot pt c b) b.choices)
+    → Arrives r all limit pt c b → GoesWith stage r all more_ pt c b
+under_way stage more_ l same fares g = record {
   now = g.now;
   turns = g.turns;
   later = g.later;
   stands = g.stands;
   placed = g.placed;
   runs = g.runs;
-  waits = sooner (g.turns + 1) (g.turns + 0) (omega arith) g.waits;
-  within = g.within;
-  fares = λ pl o w.
-      let f = g.fares pl o w in
-      record {
-        here = f.here;
-        fares =
-            fares_less r pl limit b.choices (pool r.words r.subject.end o pt (repeats b.frames) c.position) _
-            (omega (arith, free.same r.words r.subject.end c.position o (repeats b.frames))) f.fares;
-      };
+  waits = sooner (g.turns + 1) (g.turns + spare stage) (omega (arith, l)) g.waits;
+  within = omega (arith, same, g.within);
+  fares = λ pl o w. fares pl o w (g.fares pl o w);
   confined = g.confined;
 }
+
+-- it is executed, for nothing
+pub arrived : {r : Run} {all : List Way} {limit : Limit} {pt : Point} {c : StringCursor} {b : BoardValue}
+    → FreeOfToll pt → Arrives r all limit pt c b → Goes r all limit pt c b
+arrived {r} {all} {limit} {pt} {c} {b} free =
+    under_way Going limit (omega arith) refl (λ pl o w f. record {
+      here = f.here;
+      fares =
+          fares_less r pl limit b.choices (pool r.words r.subject.end o pt (repeats b.frames) c.position) _
+          (omega (arith, free.same r.words r.subject.end c.position o (repeats b.frames))) f.fares;
+    })
 
 -- a point has the credits of its opcode, whichever of them is read
 same_tolls : (ws : List ℕ) (e : ℕ) (pt : Point) (ks : List ℕ) (o p : SreOpcode) → CodeAt ws pt o → CodeAt ws pt p
@@ -174,38 +178,19 @@ same_tolls ws e pt ks o p w v = refl
 pub arrived_at : {r : Run} {all : List Way} {limit : Limit} {pt : Point} {c : StringCursor} {b : BoardValue}
     (o : SreOpcode) → CodeAt r.words pt o → Arrives r all limit pt c b
     → Goes r all (raised (toll r.words r.subject.end o pt (repeats b.frames)) limit) pt c b
-arrived_at {r} {all} {limit} {pt} {c} {b} o w g = record {
-  now = g.now;
-  turns = g.turns;
-  later = g.later;
-  stands = g.stands;
-  placed = g.placed;
-  runs = g.runs;
-  waits = sooner (g.turns + 1) (g.turns + 0) (omega arith) g.waits;
-  within = g.within;
-  fares = λ pl o' w'.
-      let x : Spot = spot pt c b in
-      let ks : List ℕ = repeats b.frames in
-      subst (λ k. FaresAt r pl (raised k limit) (pool r.words r.subject.end o' pt ks c.position) x b.choices)
-      (same_tolls r.words r.subject.end pt ks o' o w' w) (with_tolls r pl limit x b.choices o' (g.fares pl o' w'));
-  confined = g.confined;
-}
+arrived_at {r} {all} {limit} {pt} {c} {b} o w =
+    let x : Spot = spot pt c b in
+    let ks : List ℕ = repeats b.frames in
+    under_way Going (raised (toll r.words r.subject.end o pt ks) limit) (omega arith) refl (λ pl o' w' f.
+    subst (λ k. FaresAt r pl (raised k limit) (pool r.words r.subject.end o' pt ks c.position) x b.choices)
+    (same_tolls r.words r.subject.end pt ks o' o w' w) (with_tolls r pl limit x b.choices o' f))
 
 -- or for those of a repeat that is split
 pub arrived_once : {r : Run} {all : List Way} {limit : Limit} {pt : Point} {c : StringCursor} {b : BoardValue}
     → Arrives r all limit pt c b → Tries r all (raised (split_toll r.words pt) limit) pt c b
-arrived_once {r} {all} {limit} {pt} {c} {b} g = record {
-  now = g.now;
-  turns = g.turns;
-  later = g.later;
-  stands = g.stands;
-  placed = g.placed;
-  runs = g.runs;
-  waits = sooner (g.turns + 1) (g.turns + 0) (omega arith) g.waits;
-  within = g.within;
-  fares = λ pl o w. with_toll r pl limit (spot pt c b) b.choices (g.fares pl o w);
-  confined = g.confined;
-}
+arrived_once {r} {all} {limit} {pt} {c} {b} =
+    under_way Splitting (raised (split_toll r.words pt) limit) (omega arith) refl
+    (λ pl o w. with_toll r pl limit (spot pt c b) b.choices)
 
 -- what one step keeps
 module _ (r : Run) (pt : Point) (c : StringCursor) (b : BoardValue) where
@@ -376,27 +361,19 @@ both_other r i second c b b' eb all limit g =
     subst (λ x. Later r all limit (next.At i c) x) (sym eb)
     (both_wait r i (spot second c b) c b waiting b.choices refl refl all limit g)
 
+-- nothing is known to come of a configuration that has no step
+nowhere : {ws : List ℕ} {s : Subject} {x : Spot} {os : List Way} {n : ℕ} → Runs ws s x os n
+    → ((mv : Move) → Moves ws s x mv → ⊥) → ⊥
+nowhere (turns mv m d) none = none mv m
+
 -- the second is any point; nobody stands inside an atomic scope
 pub both_choose : (r : Run) (i : ℕ) (second : Point) (c : StringCursor) (b b' : BoardValue)
     → b' ≡ record b { choices = choice second b.frames c b.marks ∷ b.choices } → (all : List Way) (limit : Limit)
     → GoesBoth r all limit (spot (Instruction i) c b) (spot second c b) c b.choices → Later r all limit (next.At i c) b'
-both_choose r i (Inside h) c b b' eb all limit g = absurd (nowhere g.others)
-  where
-    nowhere : {os : List Way} {n : ℕ} → Runs r.words r.subject (spot (Inside h) c b) os n → ⊥
-    nowhere (turns mv m d) = absurd m
-both_choose r i (Instruction j) c b b' eb all limit g = both_other r i (Instruction j) c b b' eb all limit g
-both_choose r i (Alternatives q) c b b' eb all limit g = both_other r i (Alternatives q) c b b' eb all limit g
-both_choose r i (Shorter j n) c b b' eb all limit g = both_other r i (Shorter j n) c b b' eb all limit g
-both_choose r i (Longer j n) c b b' eb all limit g = both_other r i (Longer j n) c b b' eb all limit g
-both_choose r i Again c b b' eb all limit g = both_other r i Again c b b' eb all limit g
-both_choose r i (Tried j) c b b' eb all limit g = absurd (nowhere g.others)
-  where
-    nowhere : {os : List Way} {n : ℕ} → Runs r.words r.subject (spot (Tried j) c b) os n → ⊥
-    nowhere (turns mv m d) = absurd m
-both_choose r i TriedAgain c b b' eb all limit g = absurd (nowhere g.others)
-  where
-    nowhere : {os : List Way} {n : ℕ} → Runs r.words r.subject (spot TriedAgain c b) os n → ⊥
-    nowhere (turns mv m d) = absurd m
+both_choose r i (Inside h) c b b' eb all limit g = absurd (nowhere g.others (λ mv m. m))
+both_choose r i (Tried j) c b b' eb all limit g = absurd (nowhere g.others (λ mv m. m))
+both_choose r i TriedAgain c b b' eb all limit g = absurd (nowhere g.others (λ mv m. m))
+both_choose r i second c b b' eb all limit g = both_other r i second c b b' eb all limit g
 
 -- a configuration of which nothing comes
 abbrev pub Barren : Run → Spot → Type 0
@@ -406,7 +383,9 @@ Barren r x = (os : List Way) (n : ℕ) → Runs r.words r.subject x os n → os 
 pub both_second : (r : Run) (y : Spot) (i : ℕ) (c : StringCursor) (b : BoardValue) (cs : List Choice) → Barren r y
     → b.choices ≡ cs → (all : List Way) (limit : Limit) → GoesBoth r all limit y (spot (Instruction i) c b) c cs
     → Later r all limit (next.At i c) b
-both_second r y i c b cs none e all limit g =
+both_second r y i c b cs none e all limit h =
+    let x : Spot = spot (Instruction i) c b in
+    let g : GoesBoth r all limit y x c b.choices = subst (λ xs. GoesBoth r all limit y x c xs) (sym e) h in
     let same : g.now ++ g.next ≡ g.next = ap (λ x. x ++ g.next) (none g.now g.turns g.runs) in (
       omega (arith, g.within),
       record {
@@ -417,23 +396,19 @@ both_second r y i c b cs none e all limit g =
         placed = g.others_placed;
         runs = g.others;
         waits = sooner (g.turns + g.further + 2) (g.further + 1) (omega arith)
-            (subst (λ x. Waits r x (g.turns + g.further + 2) g.next all g.later) (sym e)
-            (subst (λ x. Waits r cs (g.turns + g.further + 2) x all g.later) same g.waits));
+            (subst (λ x. Waits r b.choices (g.turns + g.further + 2) x all g.later) same g.waits);
         within = omega (arith, g.within);
-        fares = λ pl o w.
-            let x : Spot = spot (Instruction i) c b in
-            subst (λ xs. FaresAt r pl (earlier limit) (price_of r.words r.subject.end x) x xs) (sym e)
-            (second_alone r pl limit y x cs (g.fares pl));
-        confined = λ none.
-            subst (λ xs. StandsConfined r.words (spot (Instruction i) c b) xs) (sym e)
-            (second_left r.words y (spot (Instruction i) c b) cs (g.confined none));
+        fares = λ pl o w. second_alone r pl limit y x b.choices (g.fares pl);
+        confined = λ none. second_left r.words y x b.choices (g.confined none);
       },
     )
 
 pub both_first : (r : Run) (z : Spot) (i : ℕ) (c : StringCursor) (b : BoardValue) (cs : List Choice) → Barren r z
     → b.choices ≡ cs → (all : List Way) (limit : Limit) → GoesBoth r all limit (spot (Instruction i) c b) z c cs
     → Later r all limit (next.At i c) b
-both_first r z i c b cs none e all limit g =
+both_first r z i c b cs none e all limit h =
+    let x : Spot = spot (Instruction i) c b in
+    let g : GoesBoth r all limit x z c b.choices = subst (λ xs. GoesBoth r all limit x z c xs) (sym e) h in
     let same : g.now ++ g.next ≡ g.now = ap (λ x. g.now ++ x) (none g.next g.further g.others) ∙ append-nil g.now in (
       omega (arith, g.within),
       record {
@@ -444,16 +419,10 @@ both_first r z i c b cs none e all limit g =
         placed = g.placed;
         runs = g.runs;
         waits = sooner (g.turns + g.further + 2) (g.turns + 1) (omega arith)
-            (subst (λ x. Waits r x (g.turns + g.further + 2) g.now all g.later) (sym e)
-            (subst (λ x. Waits r cs (g.turns + g.further + 2) x all g.later) same g.waits));
+            (subst (λ x. Waits r b.choices (g.turns + g.further + 2) x all g.later) same g.waits);
         within = omega (arith, g.within);
-        fares = λ pl o w.
-            let x : Spot = spot (Instruction i) c b in
-            subst (λ xs. FaresAt r pl (earlier limit) (price_of r.words r.subject.end x) x xs) (sym e)
-            (first_alone r pl limit x z cs (g.fares pl));
-        confined = λ none.
-            subst (λ xs. StandsConfined r.words (spot (Instruction i) c b) xs) (sym e)
-            (first_left r.words (spot (Instruction i) c b) z cs (g.confined none));
+        fares = λ pl o w. first_alone r pl limit x z b.choices (g.fares pl);
+        confined = λ none. first_left r.words x z b.choices (g.confined none);
       },
     )
 
@@ -515,9 +484,11 @@ module _ (r : Run) (pt pt' : Point) (c c' : StringCursor) (on : Continues r pt c
       → StandsConfined r.words (spot pt' c' b) b.choices
   continues_confined b f = record { here = λ inside. on.confines b.frames (f.here inside); others = f.others }
 
-  pub continues_goes : FreeOfToll pt → FreeOfToll pt' → (b : BoardValue) (all : List Way) (limit : Limit)
-      → Goes r all limit pt c b → Goes r all limit pt' c' b
-  continues_goes free free' b all limit g =
+  continues_with : (stage : Stage) (b : BoardValue) (all : List Way) (limit : Limit)
+      → GoesWith stage r all limit pt c b → ((pl : Counted r) (o : SreOpcode) → CodeAt r.words pt' o
+      → FaresAt r pl limit (share stage r.words r.subject.end o (spot pt' c' b)) (spot pt' c' b) b.choices)
+      → GoesWith stage r all limit pt' c' b
+  continues_with stage b all limit g fares =
       let x = on.runs b.frames b.marks g.now g.turns g.runs in
       record {
         now = g.now;
@@ -526,34 +497,27 @@ module _ (r : Run) (pt pt' : Point) (c c' : StringCursor) (on : Continues r pt c
         stands = on.stands;
         placed = g.placed;
         runs = x.2;
-        waits = sooner (g.turns + 0) (x.0 + 0) (omega (arith, x.1)) g.waits;
+        waits = sooner (g.turns + spare stage) (x.0 + spare stage) (omega (arith, x.1)) g.waits;
         within = omega (arith, g.within, x.1);
-        fares = λ pl o w.
-            let old = run_code r (spot pt c b) g.runs in
-            let ks : List ℕ = repeats b.frames in
-            continues_fares pl limit b _ _ (omega (arith, free.same r.words r.subject.end c.position old.0 ks))
-            (omega (arith, free'.same r.words r.subject.end c'.position o ks)) (g.fares pl old.0 old.1);
+        fares = fares;
         confined = λ none. continues_confined b (g.confined none);
       }
+
+  pub continues_goes : FreeOfToll pt → FreeOfToll pt' → (b : BoardValue) (all : List Way) (limit : Limit)
+      → Goes r all limit pt c b → Goes r all limit pt' c' b
+  continues_goes free free' b all limit g =
+      continues_with Going b all limit g (λ pl o w.
+      let old = run_code r (spot pt c b) g.runs in
+      let ks : List ℕ = repeats b.frames in
+      continues_fares pl limit b _ _ (omega (arith, free.same r.words r.subject.end c.position old.0 ks))
+      (omega (arith, free'.same r.words r.subject.end c'.position o ks)) (g.fares pl old.0 old.1))
 
   pub continues_arrives : (b : BoardValue) (all : List Way) (limit : Limit) → Arrives r all limit pt c b
       → Arrives r all limit pt' c' b
   continues_arrives b all limit g =
-      let x = on.runs b.frames b.marks g.now g.turns g.runs in
-      record {
-        now = g.now;
-        turns = x.0;
-        later = g.later;
-        stands = on.stands;
-        placed = g.placed;
-        runs = x.2;
-        waits = sooner (g.turns + 1) (x.0 + 1) (omega (arith, x.1)) g.waits;
-        within = omega (arith, g.within, x.1);
-        fares = λ pl o w.
-            let old = run_code r (spot pt c b) g.runs in
-            continues_fares pl limit b _ _ (omega arith) (omega arith) (g.fares pl old.0 old.1);
-        confined = λ none. continues_confined b (g.confined none);
-      }
+      continues_with Coming b all limit g (λ pl o w.
+      let old = run_code r (spot pt c b) g.runs in
+      continues_fares pl limit b _ _ (omega arith) (omega arith) (g.fares pl old.0 old.1))
 
   pub continues_run : HasRun r pt c → HasRun r pt' c'
   continues_run h =

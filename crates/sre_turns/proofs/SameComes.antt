@@ -1,17 +1,13 @@
 -- Equivalent configurations with equivalent captures have equivalent outcomes in as many steps. Hopelessness rests on
 -- where these stop, the step bound on the number of steps: no configuration leads to an equivalent one.
-use Rattle.std.proofs.Common.{◌≡◌, ℕ, suc, ◌+◌, List, [], ◌∷◌, refl, sym, ap, subst, arith, inl, inr}
-use Rattle.std.proofs.Common.{Bool, true, Some, slice_get}
+use Rattle.std.proofs.Common.{◌≡◌, ℕ, suc, ◌+◌, List, [], ◌∷◌, refl, sym, ap, subst, arith, inl, inr, Bool, true, Some}
+use Rattle.std.proofs.Common.{slice_get}
 use Rattle.sre_model.specs.Marks.{Marks}
-use Rattle.sre_model.specs.Roles.{Role, ToFail, ToEnd, ToTest, ToCheckPosition, ToMark, ToBranch, ToJump, ToRun}
-use Rattle.sre_model.specs.Roles.{ToRepeat, ToLoop, ToRepeatPossessively, ToGroupAtomically, ToLook, ToRefer}
-use Rattle.sre_model.specs.Roles.{ToCheckGroup, ToNothing, role}
 use Rattle.sre_model.specs.Subject.{Subject}
 use Rattle.sre_model.specs.Ways.{Way}
 use Rattle.sre_model.proofs.MarksApart.{SameStops}
 use Rattle.sre_turns.specs.declared.Frame.{Frame}
-use Rattle.sre_turns.specs.declared.Point.TheVariants.{Instruction, Alternatives, Shorter, Longer, Inside, Again, Tried}
-use Rattle.sre_turns.specs.declared.Point.TheVariants.{TriedAgain}
+use Rattle.sre_turns.specs.declared.Point.TheVariants.{Instruction, Alternatives, Shorter, Longer, Again}
 use Rattle.sre_turns.specs.declared.Point.{Point}
 use Rattle.sre_turns.specs.declared.Region.{Region}
 use Rattle.sre_turns.specs.Moves.{Spot, spot_at, Move, Stop, End, Go, Split, Enter, closing_move}
@@ -19,9 +15,10 @@ use Rattle.sre_turns.specs.MovesAtReferences.{HasReference}
 use Rattle.sre_turns.specs.Machine.{Runs, turns, Comes, stops, ends, goes, splits, enters}
 use Rattle.sre_turns.specs.Alike.{least_from, LoopsAlike, Alike}
 use Rattle.sre_turns.specs.Asked.{AskedMark, MarksAlike, OutcomesAlike}
-use Rattle.sre_turns.specs.AskedPlaces.{Lies, PlacesAsk, GroupAsked, AsksAt, AskedByPlace, PointAsks, LoopsAsk, Matters}
-use Rattle.sre_turns.specs.AskedPlaces.{MattersBehind, MarksIdle, SaysOfBodies, SaysOf, AreIdle}
+use Rattle.sre_turns.specs.AskedPlaces.{Lies, PlacesAsk, AskedByPlace, PointAsks, LoopsAsk, Matters, MattersBehind}
+use Rattle.sre_turns.specs.AskedPlaces.{MarksIdle, SaysOfBodies, SaysOf, AreIdle}
 use Rattle.sre_turns.proofs.AlikeLoops.{loops-alike}
+use Rattle.sre_turns.proofs.AskedPlaces.{told_alike}
 use Rattle.sre_turns.proofs.Onward.{outcomes-onward}
 use Rattle.sre_turns.proofs.AlikeTurns.{Twins, EntersAlike, MovesAlike, closing-alike, turns-alike}
 use Rattle.sre_turns.proofs.Asked.{agree_less, outcomes_appended, stops_of, both_agree, start_asked, end_asked}
@@ -80,34 +77,10 @@ nowhere = record {
 
 -- so it is where the marks of groups that are asked for matter in any case
 module _ (ws : List ℕ) where
-  group_asked : (i : ℕ) → GroupAsked (AskedMark ws) ws (record { from = 0; end = 0 }) i
-  group_asked i = record {
-    each = λ g asked w. record { start = inr (start_asked ws g asked); end = inr (end_asked ws g asked) };
-  }
-
-  at_role : (f : Role) (i : ℕ) → AsksAt (AskedMark ws) ws nowhere (record { from = 0; end = 0 }) f i
-  at_role ToFail i = tt
-  at_role ToEnd i = tt
-  at_role (ToTest kind) i = record { each = λ j t h k e. e }
-  at_role ToCheckPosition i = λ k e. e
-  at_role ToMark i = record { each = λ v w k e. inl e }
-  at_role ToBranch i = λ k e. e
-  at_role ToJump i = λ k e. e
-  at_role (ToRun kind) i = λ k e. e
-  at_role ToRepeat i = ((λ k e. e), (λ k e. e))
-  at_role (ToLoop o) i = λ k e. e
-  at_role ToRepeatPossessively i = ((λ k e. e), (λ k e. e))
-  at_role ToGroupAtomically i = ((λ k e. e), (λ k e. e))
-  at_role (ToLook sign) i = ((λ k e. e), (λ k e. e))
-  at_role ToRefer i = (group_asked i, (λ k e. e))
-  at_role ToCheckGroup i = (group_asked i, ((λ k e. e), (λ k e. e)))
-  at_role ToNothing i = tt
-
   anywhere : AskedByPlace (AskedMark ws) ws nowhere
-  anywhere = record {
-    instruction = λ i o h. at_role (role o) i;
-    alternatives = λ q. record { first = λ some k e. e; others = λ some k e. e };
-  }
+  anywhere =
+      told_alike (AskedMark ws) ws nowhere (record { from = 0; end = 0 }) (λ i. refl) (λ q. refl)
+      (λ i g asked w. record { start = inr (start_asked ws g asked); end = inr (end_asked ws g asked) })
 
   -- then no other mark matters
   none_in_loops : (fs : List Frame) (k : ℕ) → LoopsAsk nowhere fs k → ⊥
@@ -120,11 +93,9 @@ module _ (ws : List ℕ) where
   none_at (Alternatives q) fs k e = absurd (omega (arith, e.1))
   none_at (Shorter t c) fs k e = absurd (omega (arith, e.1))
   none_at (Longer i c) fs k e = absurd (omega (arith, e.1))
-  none_at (Inside g) fs k e = e
   none_at Again [] k e = e
   none_at Again (f ∷ fs) k e = absurd (omega (arith, e.1))
-  none_at (Tried i) fs k e = e
-  none_at TriedAgain fs k e = e
+  none_at pt fs k e = e
 
   asked_alone : (pt : Point) (fs : List Frame) (k : ℕ) → Matters (AskedMark ws) ws nowhere pt fs k → AskedMark ws k
   asked_alone pt fs k (inl e) = e
@@ -175,17 +146,11 @@ module _ (ws : List ℕ) (a : PlacesAsk) (told : AskedByPlace (λ k. ⊥) ws a) 
 
   point_asks : (pt : Point) (p k : ℕ) (fs gs : List Frame) → LoopsAlike ws p fs gs
       → PointAsks ws a pt fs k ≡ PointAsks ws a pt gs k
-  point_asks (Instruction i) p k fs gs h = refl
-  point_asks (Alternatives q) p k fs gs h = refl
-  point_asks (Shorter t c) p k fs gs h = refl
-  point_asks (Longer i c) p k fs gs h = refl
-  point_asks (Inside g) p k fs gs h = refl
   point_asks Again p k [] [] h = refl
   point_asks Again p k [] (g ∷ gs) h = absurd h
   point_asks Again p k (f ∷ fs) [] h = absurd h
   point_asks Again p k (f ∷ fs) (g ∷ gs) h = rw h.0.repeat refl
-  point_asks (Tried i) p k fs gs h = refl
-  point_asks TriedAgain p k fs gs h = refl
+  point_asks pt p k fs gs h = refl
 
   -- none matters
   abbrev NoneMatters : Spot → Type 0

@@ -1,54 +1,46 @@
 -- In a body that does not branch the machine has at most one way to go on at each point. An atomic scope that is
 -- entered has a body, with what its tree has.
 -- That the step bound suffices (`enough` of sre_engine) rests on this.
-use Rattle.std.proofs.Common.{◌≡◌, ℕ, ◌+◌, ◌-◌, ◌≤◌, ◌⊎◌, inl, inr, Bool, true, false, ◌||◌, cond, nat_lt}
-use Rattle.std.proofs.Common.{List, [], ◌∷◌, Option, Some, refl, sym, ap, ◌∙◌, subst, arith}
+use Rattle.std.proofs.Common.{◌≡◌, ℕ, ◌+◌, ◌-◌, ◌≤◌, Bool, true, false, ◌||◌, cond, nat_lt, List, [], ◌∷◌, Some, refl}
+use Rattle.std.proofs.Common.{sym, ap, ◌∙◌, subst, arith}
 use Rattle.std.specs.Bool.{⊤}
 use Rattle.std.proofs.lemmas.Bool.{or_parts, true≢false}
 use Rattle.sre_chars.specs.declared.constants.SreOpcode.{SreOpcode}
 use Rattle.sre_chars.specs.declared.constants.SreOpcode.TheVariants as opcode
-use Rattle.sre_model.specs.Tree.{Tree, Item, Branch, Loop, Run, PossessiveLoop}
-use Rattle.sre_model.specs.Tree.{Atomic, Look, Sign, Positive, Negative}
-use Rattle.sre_model.specs.Marks.{Marks}
+use Rattle.sre_model.specs.Tree.{Tree, Item, Branch, Loop, Run, PossessiveLoop, Atomic, Look, Sign, Order, Greedy, Lazy}
+use Rattle.sre_model.specs.Marks.{Marks, group}
 use Rattle.sre_model.specs.Subject.{Subject}
 use Rattle.sre_model.specs.Ways.{may_repeat}
 use Rattle.sre_model.specs.Folding.{Folding, of_tree, of_item, of_parts}
-use Rattle.sre_model.specs.Grammar.{word, skip, Opcode, Operands, ReadsItem}
+use Rattle.sre_model.specs.Grammar.{skip, Opcode, Operands, ReadsItem}
 use Rattle.sre_model.specs.LooksBehind.{by_backs, backs}
 use Rattle.sre_model.specs.Regions.{by_forks, forks, by_forked_regions, has_forked_region}
-use Rattle.sre_model.specs.Roles.{Role, ToEnd}
-use Rattle.sre_model.specs.Roles.{ToGroupAtomically, ToLook}
-use Rattle.sre_model.specs.Roles.{role}
+use Rattle.sre_model.specs.Roles.{Role, ToEnd, role}
 use Rattle.sre_model.proofs.Families.{HasRole, item_role, item_here}
 use Rattle.sre_model.proofs.Foldings.{paired, tree_paired}
-use Rattle.sre_model.proofs.Words.{same_opcode, word_of}
+use Rattle.sre_model.proofs.Words.{same_opcode, same_word}
 use Rattle.sre_turns.specs.declared.Frame.{Frame}
-use Rattle.sre_turns.specs.declared.Region.TheVariants.{AtomicGroup, Ahead, NotAhead, Owed, Further}
+use Rattle.sre_turns.specs.declared.Region.TheVariants.{Owed, Further}
 use Rattle.sre_turns.specs.declared.Region.{Region}
-use Rattle.sre_turns.specs.declared.Point.TheVariants.{Instruction, Alternatives, Shorter, Longer, Again}
+use Rattle.sre_turns.specs.declared.Point.TheVariants.{Instruction, Again}
 use Rattle.sre_turns.specs.declared.Point.{Point}
-use Rattle.sre_turns.specs.Moves.{Spot, spot_at, into_region, Go, Enter, closing_move}
-use Rattle.sre_turns.specs.MovesInRegions.{look, LookMove}
-use Rattle.sre_turns.specs.MovesInLoops.{behind, enter_body, AgainMove}
-use Rattle.sre_turns.specs.Machine.{InRole, MovesAt}
+use Rattle.sre_turns.specs.Moves.{Spot, spot_at, Move, Go, Enter}
+use Rattle.sre_turns.specs.MovesInLoops.{in_order, behind, enter_body, AgainMove}
+use Rattle.sre_turns.specs.Machine.{MovesAt}
 use Rattle.sre_turns.specs.Nested.{repeats, LiesIn}
 use Rattle.sre_turns.specs.Straight.{forking, ForksAt, BodyOf, IsBodyIn}
 use Rattle.sre_turns.proofs.NestedPoints.{HoldsInGood, tree_holds}
-use Rattle.sre_turns.proofs.PriceMoves.{enters, step_covered}
+use Rattle.sre_turns.proofs.PriceMoves.{enters}
+use Rattle.sre_turns.proofs.Turned.{Enters, atomic_group, lookaround, Turned, stopped, ended, went, forked, marked}
+use Rattle.sre_turns.proofs.Turned.{grouped, begun, entered, looped, repeated, point_turned}
 
-item_straight : (a : Item) → of_item by_forks a ≡ false → forking (item_role a) ≡ false
+item_straight : (a : Item) → of_item by_forks a ≡ false
+    → (forking (item_role a) ≡ false) × (of_parts by_forks a ≡ false)
 item_straight (Branch ts) e = absurd (true≢false e)
 item_straight (Run kind low high t) e = absurd (true≢false e)
 item_straight (Loop o low high body) e = absurd (true≢false e)
 item_straight (PossessiveLoop low high body) e = absurd (true≢false e)
-item_straight a e = refl
-
-parts_straight : (a : Item) → of_item by_forks a ≡ false → of_parts by_forks a ≡ false
-parts_straight (Branch ts) e = absurd (true≢false e)
-parts_straight (Run kind low high t) e = absurd (true≢false e)
-parts_straight (Loop o low high body) e = absurd (true≢false e)
-parts_straight (PossessiveLoop low high body) e = absurd (true≢false e)
-parts_straight a e = e
+item_straight a e = (refl, e)
 
 module _ (ws : List ℕ) where
   -- an instruction that does not fork is at a point
@@ -66,8 +58,8 @@ module _ (ws : List ℕ) where
   straight_in = record {
     first = λ a b e. (or_parts a b e).0;
     second = λ a b e. (or_parts a b e).1;
-    parts = parts_straight;
-    item = λ i j a r e ks. straight_role i (item_role a) (item_here ws i j a r) (item_straight a e);
+    parts = λ a e. (item_straight a e).1;
+    item = λ i j a r e ks. straight_role i (item_role a) (item_here ws i j a r) (item_straight a e).0;
     success = λ i h ks. straight_role i _ h refl;
     jump = λ i h ks. straight_role i _ h refl;
     until = λ i o low high body e h ks. absurd (true≢false e);
@@ -88,19 +80,18 @@ module _ (ws : List ℕ) where
 pub forks_never : (ws : List ℕ) (i : ℕ) → ForksAt ws i → StraightPoint ws (Instruction i) → ⊥
 forks_never ws i f q = true≢false (sym f.forks ∙ q f.code f.there)
 
--- where an atomic scope is entered at i, its body begins behind the operands, and is of some kind; and so it is as one
--- that is entered so far back
-pub record EntryAt (ws : List ℕ) (P : Tree → Type 0) (Q : ℕ → Tree → Type 0) (i : ℕ) (f : Role) : Type 0 where
-  pub atomic : f ≡ ToGroupAtomically → (b : BodyOf ws P) × (b.start ≡ i + 2) × Q 0 b.tree
-  pub look : (sign : Sign) → f ≡ ToLook sign
-      → (b : BodyOf ws P) × (b.start ≡ i + 3) × Q (word ws (i + 2)) b.tree
+-- a body of some kind begins at a place, and is so as one that is entered so far back
+abbrev BodyFrom : (ws : List ℕ) → (Tree → Type 0) → (ℕ → Tree → Type 0) → ℕ → ℕ → Type 0
+BodyFrom ws P Q back j = (b : BodyOf ws P) × (b.start ≡ j) × Q back b.tree
+
+-- an instruction of a role enters regions at such bodies alone
+abbrev EntryAt : (ws : List ℕ) → (Tree → Type 0) → (ℕ → Tree → Type 0) → ℕ → Role → Type 0
+EntryAt ws P Q i f = (back j : ℕ) (g : Region) → Enters ws i f back j g → BodyFrom ws P Q back j
 
 no_entry : (ws : List ℕ) (P : Tree → Type 0) (Q : ℕ → Tree → Type 0) (i : ℕ) (f : Role) → enters f ≡ false
     → EntryAt ws P Q i f
-no_entry ws P Q i f none = record {
-  atomic = λ e. absurd (true≢false (ap enters (sym e) ∙ none));
-  look = λ sign e. absurd (true≢false (ap enters (sym e) ∙ none));
-}
+no_entry ws P Q i f none back j g atomic_group = absurd (true≢false none)
+no_entry ws P Q i f none back j g (lookaround there) = absurd (true≢false none)
 
 -- a value of trees tells of which kind the bodies of their atomic scopes are
 pub record TellsBodies {V : Type 0} (f : Folding V) (Good : V → Type 0) (P : Tree → Type 0) (Q : ℕ → Tree → Type 0)
@@ -115,14 +106,10 @@ pub record TellsBodies {V : Type 0} (f : Folding V) (Good : V → Type 0) (P : T
       → P body × Q 0 body
 
 module _ (ws : List ℕ) (P : Tree → Type 0) (Q : ℕ → Tree → Type 0) where
-  -- a body of a loop begins behind its operands, where the loop is
-  abbrev LoopsBody : ℕ → Type 0
-  LoopsBody q = (b : BodyOf ws P) × (b.start ≡ q + 4) × Q 0 b.tree
-
   -- the same at a point under loops: the body of a possessive loop begins behind its operands
   abbrev pub Entry : Point → List ℕ → Type 0
   Entry (Instruction i) ks = (o : SreOpcode) → Opcode ws i o → EntryAt ws P Q i (role o)
-  Entry Again ks = (q : ℕ) (qs : List ℕ) → ks ≡ q ∷ qs → LoopsBody q
+  Entry Again ks = (q : ℕ) (qs : List ℕ) → ks ≡ q ∷ qs → BodyFrom ws P Q 0 (q + 4)
   Entry pt ks = ⊤
 
   entry_role_at : (i : ℕ) (f : Role) → HasRole ws i f → EntryAt ws P Q i f → (ks : List ℕ) → Entry (Instruction i) ks
@@ -132,42 +119,19 @@ module _ (ws : List ℕ) (P : Tree → Type 0) (Q : ℕ → Tree → Type 0) whe
 
   module _ {V : Type 0} (f : Folding V) (Good : V → Type 0) (tells : TellsBodies f Good P Q) where
     item_entry : (i j : ℕ) (a : Item) → ReadsItem ws i j a → Good (of_item f a) → EntryAt ws P Q i (item_role a)
-    item_entry i j (Atomic body) r g =
-        let is = tells.atomic body g in
-        record {
-          atomic = λ _. (
-            record {
-              start = i + 2;
-              end = j - 1;
-              tree = body;
-              reads = r.1.1;
-              ends = r.1.2;
-              is = is.0;
-            },
-            refl,
-            is.1,
-          );
-          look = λ sign same. absurd (cc);
-        }
-    item_entry i j (Look sign back body) r g =
-        let is = tells.look sign back body g in
-        let goes : word ws (i + 2) ≡ back = word_of ws (i + 2) back r.1.1 in
-        record {
-          atomic = λ same. absurd (cc);
-          look = λ _ same. (
-            record {
-              start = i + 3;
-              end = j - 1;
-              tree = body;
-              reads = r.1.2;
-              ends = r.1.3;
-              is = is.0;
-            },
-            refl,
-            subst (λ n. Q n body) (sym goes) is.1,
-          );
-        }
-    item_entry i j a r g = no_entry ws P Q i (item_role a) refl
+    item_entry i j (Atomic body) r g back k h atomic_group =
+        let is = tells.atomic body g in (
+          record { start = i + 2; end = j - 1; tree = body; reads = r.1.1; ends = r.1.2; is = is.0 },
+          refl,
+          is.1,
+        )
+    item_entry i j (Look sign back body) r g from k h (lookaround there) =
+        let is = tells.look sign back body g in (
+          record { start = i + 3; end = j - 1; tree = body; reads = r.1.2; ends = r.1.3; is = is.0 },
+          refl,
+          subst (λ n. Q n body) (same_word ws (i + 2) back from r.1.1 there) is.1,
+        )
+    item_entry i j a r g back k h e = no_entry ws P Q i (item_role a) refl back k h e
 
     -- a possessive loop's body
     again_entry : (i j low high : ℕ) (body : Tree) → Operands ws i j (PossessiveLoop low high body)
@@ -175,7 +139,7 @@ module _ (ws : List ℕ) (P : Tree → Type 0) (Q : ℕ → Tree → Type 0) whe
     again_entry i j low high body r g js q qs same =
         let at : i ≡ q = cc in
         let is = tells.possessive low high body g in
-        subst (λ n. LoopsBody n) at (
+        subst (λ n. BodyFrom ws P Q 0 (n + 4)) at (
           record {
             start = i + 4;
             end = skip ws (i + 1);
@@ -276,108 +240,69 @@ pub record Entered (ws : List ℕ) (P : Tree → Type 0) (Q : ℕ → Tree → T
   pub is : Q back body.tree
   pub far : p ≤ z.position + back
 
-entering : (f : Role) → enters f ≡ true → (f ≡ ToGroupAtomically) ⊎ ((sign : Sign) × (f ≡ ToLook sign))
-entering ToGroupAtomically e = inl refl
-entering (ToLook sign) e = inr (sign, refl)
-entering f e = absurd (true≢false (sym e))
+-- no end of a body of a loop enters one
+never_enters : (o : Order) (owed more : Bool) (x y z u v : Spot) (g : Region)
+    → cond owed (Go x) (cond more (in_order o y z) (Go z)) ≡ Enter g u v → ⊥
+never_enters o true more x y z u v g e = cc
+never_enters Greedy false true x y z u v g e = cc
+never_enters Lazy false true x y z u v g e = cc
+never_enters o false false x y z u v g e = cc
 
-module _ (ws : List ℕ) (P : Tree → Type 0) (Q : ℕ → Tree → Type 0) (s : Subject) (i p : ℕ) (fs : List Frame)
-    (m : Marks) (g : Region) (y z : Spot) where
-  abbrev there : Spot
-  there = spot_at (Instruction i) fs p m
-
-  entered_as : (h : Region) (q back j : ℕ) (b : BodyOf ws P) → b.start ≡ j → Q back b.tree → p ≤ q + back
-      → Enter g y z ≡ Enter h there (into_region there j q) → Entered ws P Q p g z
-  entered_as h q back j b first is far same =
-      let region : h ≡ g = cc in
-      let at : z ≡ into_region there j q = cc in
-      let position : z.position ≡ q = ap (λ x. x.position) at in
-      subst (λ k. Entered ws P Q p k z) region
-      (record {
-        body = b;
-        first = ap (λ x. x.point) at ∙ ap (λ n. Instruction n) (sym first);
-        back = back;
-        is = is;
-        far = omega (arith, position, far);
-      })
-
-  look_enters : (sign : Sign) (b : BodyOf ws P) → b.start ≡ i + 3
-      → Q (word ws (i + 2)) b.tree → LookMove ws sign i there (Enter g y z) → Entered ws P Q p g z
-  look_enters sign b first told h = go sign (nat_lt p h.back) h.is
-    where
-      is : Q h.back b.tree
-      is = subst (λ n. Q n b.tree) (word_of ws (i + 2) h.back h.there) told
-
-      go : (sign : Sign) (less : Bool)
-          → Enter g y z ≡ cond less (closing_move (look sign (skip ws (i + 1))) there [])
-          (Enter (look sign (skip ws (i + 1))) there (into_region there (i + 3) (p - h.back)))
-          → Entered ws P Q p g z
-      go Positive true same = absurd (cc)
-      go Negative true same = absurd (cc)
-      go Positive false same =
-          entered_as (Ahead (skip ws (i + 1))) (p - h.back) h.back (i + 3) b first is (omega arith) same
-      go Negative false same =
-          entered_as (NotAhead (skip ws (i + 1))) (p - h.back) h.back (i + 3) b first is (omega arith) same
-
-  pub entered : Entry ws P Q (Instruction i) (repeats fs) → MovesAt ws s (Instruction i) there (Enter g y z)
-      → Entered ws P Q p g z
-  entered entry h = go (entering (role h.0) (step_covered ws s (Instruction i) fs p m h.0 (Enter g y z) h.1 h).0)
-    where
-      go : (role h.0 ≡ ToGroupAtomically) ⊎ ((sign : Sign) × (role h.0 ≡ ToLook sign)) → Entered ws P Q p g z
-      go (inl e) =
-          let b = (entry h.0 h.1).atomic e in
-          let k = subst (λ f. InRole ws s f i there (Enter g y z)) e h.2 in
-          entered_as (AtomicGroup (skip ws (i + 1))) p 0 (i + 2) b.0 b.1 b.2 (omega arith) k.is
-      go (inr e) =
-          let b = (entry h.0 h.1).look e.0 e.1 in
-          look_enters e.0 b.0 b.1 b.2 (subst (λ f. InRole ws s f i there (Enter g y z)) e.1 h.2)
-
--- at a possessive loop
 module _ (ws : List ℕ) (P : Tree → Type 0) (Q : ℕ → Tree → Type 0) (s : Subject) (p : ℕ) (fs : List Frame)
     (m : Marks) (g : Region) (y z : Spot) where
-  abbrev at_loop : Spot
-  at_loop = spot_at Again fs p m
-
-  body_entered : (f : Frame) (h : Region) (last : Option ℕ) (outer : List Frame) → LoopsBody ws P Q f.repeat
-      → Enter g y z ≡ enter_body h f last outer at_loop → Entered ws P Q p g z
-  body_entered f h last outer b same =
-      let region : h ≡ g = cc in
-      let at : z ≡ into_region at_loop (f.repeat + 4) p = cc in
-      subst (λ k. Entered ws P Q p k z) region
-      (record {
+  entered_as : (h : Region) (q back j : ℕ) (x : Spot) → BodyFrom ws P Q back j → p ≤ q + back
+      → Enter h x (spot_at (Instruction j) [] q m) ≡ Enter g y z → Entered ws P Q p g z
+  entered_as h q back j x b far same =
+      let at : z ≡ spot_at (Instruction j) [] q m = cc in
+      let position : z.position ≡ q = ap (λ x. x.position) at in
+      record {
         body = b.0;
         first = ap (λ x. x.point) at ∙ ap (λ n. Instruction n) (sym b.1);
-        back = 0;
+        back = back;
         is = b.2;
-        far = let position : z.position ≡ p = ap (λ x. x.position) at in omega (arith, position);
-      })
+        far = omega (arith, position, far);
+      }
 
-  again_entered : Entry ws P Q Again (repeats fs) → AgainMove ws at_loop (Enter g y z) → Entered ws P Q p g z
-  again_entered entry h = go (nat_lt h.frame.count h.low) (may_repeat h.high h.frame.count h.frame.last p) h.is
+  again_entered : Entry ws P Q Again (repeats fs) → AgainMove ws (spot_at Again fs p m) (Enter g y z)
+      → Entered ws P Q p g z
+  again_entered entry h =
+      go (nat_lt h.frame.count h.low) (may_repeat h.high h.frame.count h.frame.last p) (sym h.is)
     where
-      b : LoopsBody ws P Q h.frame.repeat
+      u : ℕ
+      u = skip ws (h.frame.repeat + 1)
+
+      x : Spot
+      x = spot_at Again fs p m
+
+      b : BodyFrom ws P Q 0 (h.frame.repeat + 4)
       b = entry h.frame.repeat (repeats h.outer) (ap (λ gs. repeats gs) h.inside)
 
-      go : (owed more : Bool) → Enter g y z
-          ≡ cond owed (enter_body Owed h.frame h.frame.last h.outer at_loop)
-          (cond more (enter_body (Further (skip ws (h.frame.repeat + 1) + 1)) h.frame (Some p) h.outer at_loop)
-          (Go (behind (skip ws (h.frame.repeat + 1)) h.outer at_loop))) → Entered ws P Q p g z
-      go true more same = body_entered h.frame Owed h.frame.last h.outer b same
-      go false true same =
-          body_entered h.frame (Further (skip ws (h.frame.repeat + 1) + 1)) (Some p) h.outer b same
+      go : (owed more : Bool) → cond owed (enter_body Owed h.frame h.frame.last h.outer x)
+          (cond more (enter_body (Further (u + 1)) h.frame (Some p) h.outer x) (Go (behind u h.outer x))) ≡ Enter g y z
+          → Entered ws P Q p g z
+      go true more same = entered_as Owed p 0 (h.frame.repeat + 4) _ b (omega arith) same
+      go false true same = entered_as (Further (u + 1)) p 0 (h.frame.repeat + 4) _ b (omega arith) same
       go false false same = absurd (cc)
 
--- and at no other point
+  turn_entered : {gs : List Frame} {n : Marks} {pt : Point} {v w : Move} → Turned ws s p fs gs m n pt v w
+      → Entry ws P Q pt (repeats fs) → v ≡ Enter g y z → Entered ws P Q p g z
+  turn_entered stopped entry e = absurd (cc)
+  turn_entered (ended o at is) entry e = absurd (cc)
+  turn_entered (went x) entry e = absurd (cc)
+  turn_entered (forked f a b on) entry e = absurd (cc)
+  turn_entered (marked o at is there) entry e = absurd (cc)
+  turn_entered (grouped {g = number} o at is asked there v w each) entry e =
+      turn_entered (each (group m number)) entry e
+  turn_entered (begun o at b same) entry e = absurd (cc)
+  turn_entered (entered {back = back} {j = j} {q = q} {g = h} o at b l far on) entry e =
+      entered_as h q back j _ (entry o at back j h b) far e
+  turn_entered (looped o order at is h k) entry e = absurd (never_enters order _ _ _ _ _ _ _ _ (sym h.is ∙ e))
+  turn_entered (repeated h k) entry e = again_entered entry (subst (AgainMove ws (spot_at Again fs p m)) e h)
+
+-- so wherever one is entered
 pub point_entered : (ws : List ℕ) (P : Tree → Type 0) (Q : ℕ → Tree → Type 0) (s : Subject) (pt : Point)
     (fs : List Frame) (p : ℕ) (m : Marks) (g : Region) (y z : Spot) → Entry ws P Q pt (repeats fs)
     → MovesAt ws s pt (spot_at pt fs p m) (Enter g y z)
     → Entered ws P Q p g z
-point_entered ws P Q s (Instruction i) fs p m g y z e h = entered ws P Q s i p fs m g y z e h
-point_entered ws P Q s (Alternatives q) fs p m g y z e h =
-    absurd (true≢false (sym (step_covered ws s (Alternatives q) fs p m opcode.FAILURE (Enter g y z) tt h).0))
-point_entered ws P Q s (Shorter t k) fs p m g y z e h =
-    absurd (true≢false (sym (step_covered ws s (Shorter t k) fs p m opcode.FAILURE (Enter g y z) tt h).0))
-point_entered ws P Q s (Longer i n) fs p m g y z e h =
-    absurd (true≢false (sym (step_covered ws s (Longer i n) fs p m opcode.FAILURE (Enter g y z) tt h).0))
-point_entered ws P Q s Again fs p m g y z e h = again_entered ws P Q s p fs m g y z e h
-point_entered ws P Q s pt fs p m g y z e h = absurd h
+point_entered ws P Q s pt fs p m g y z e h =
+    turn_entered ws P Q s p fs m g y z (point_turned ws s p fs fs m m pt (Enter g y z) (Enter g y z) h h) e refl
