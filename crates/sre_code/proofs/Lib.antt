@@ -17,14 +17,10 @@ pub mod Prefixes
 pub mod Claimed
 pub mod FirstSets
 pub mod Walking
-pub mod Scanning
-pub mod Asking
+pub mod Instructions
+pub mod Summaries
 pub mod MarksOutside
-pub mod Seeking
-pub mod UnmarkedRegions
-pub mod BarredRegions
 pub mod ScanningLoops
-pub mod PassedParts
 pub mod Saturating
 pub mod Prices
 pub mod PricedItems

@@ -25,7 +25,7 @@ use Rattle.sre_code.specs.declared.code.prices.Prices.{Prices}
 use Rattle.sre_code.specs.declared.code.prices.PricedItem.{PricedItem}
 use Rattle.sre_code.specs.declared.code.prices.Kind.{Kind}
 use Rattle.sre_code.proofs.Saturating.{held_same}
-use Rattle.sre_code.proofs.PassedParts.{same_slots}
+use Rattle.sre_code.proofs.ScanningLoops.{same_slots}
 use Rattle.sre_code.proofs.Prices.{joined_steps, joined_cost, scope_priced, loop_priced, possessive_priced}
 use Rattle.sre_code.proofs.PricedItems.{held_straight, held_closed, item_priced}
 

@@ -5,14 +5,14 @@ use Rattle.std.proofs.lemmas.Bool.{true≢false}
 use Rattle.sre_model.specs.Tree.{Tree, Item, Fail, One, At, Mark, Branch, Loop, Run, PossessiveLoop}
 use Rattle.sre_model.specs.Tree.{Atomic, Look, Reference, Exists, ExistsElse, Sign, Test}
 use Rattle.sre_model.specs.Tree.{RunKind, GreedyRun, LazyRun, PossessiveRun}
-use Rattle.sre_model.specs.Grammar.{word, Operands, ReadsItem}
+use Rattle.sre_model.specs.Grammar.{Operands, ReadsItem}
 use Rattle.sre_model.specs.Roles.{Role}
 use Rattle.sre_model.specs.Folding.{of_item}
 use Rattle.sre_model.specs.References.{refers, by_references}
 use Rattle.sre_model.specs.TreePrices.{item_steps, scan_price, item_cost}
 use Rattle.sre_model.proofs.Families.{HasRole, item_here, test_here}
 use Rattle.sre_code.specs.Saturating.{Held}
-use Rattle.sre_code.specs.Instructions.{own_words, back_by, Behind, StandsBehind}
+use Rattle.sre_code.specs.Instructions.{own_words, Behind}
 use Rattle.sre_code.specs.Prices.{IsItemPrice, IsHeld}
 use Rattle.sre_code.specs.Prices.{straight_price, closed_price, run_ends, run_price}
 use Rattle.sre_code.specs.Prices.{ItemPriced}
@@ -23,8 +23,7 @@ use Rattle.sre_code.specs.declared.code.prices.PricedItem.{PricedItem}
 use Rattle.sre_code.specs.declared.code.prices.Kind.{Kind}
 use Rattle.sre_code.specs.declared.code.prices.Kind.TheVariants as kind
 use Rattle.sre_code.proofs.Saturating.{held_same}
-use Rattle.sre_code.proofs.Scanning.{role_behind}
-use Rattle.sre_code.proofs.PassedParts.{one_behind}
+use Rattle.sre_code.proofs.Instructions.{role_behind, one_behind}
 use Rattle.sre_code.proofs.Prices.{one_step_price, fail_price, run_priced}
 
 -- small numbers are held as they are
@@ -49,22 +48,20 @@ module _ (e depth : ℕ) (ws : List ℕ) where
         subst (λ z. PricedBy z e depth ws i r) (ap kind_of h.begins ∙ is) (told.by h.code h.there)
 
     -- an item of one step
-    straight : (x : Item) (j : ℕ) (r : Option PricedItem) → StandsBehind ws i j → ((b : ℕ) → item_steps x b ≡ 1 + b)
+    straight : (x : Item) (j : ℕ) (r : Option PricedItem) → Behind ws i j → ((b : ℕ) → item_steps x b ≡ 1 + b)
         → ((s b : ℕ) → item_cost e s x b ≡ 0) → StraightPriced ws i r → ItemPriced e depth x j r
     straight x j (Some p) h steps cost told = (
-      one_behind ws i p.behind told.0.count j h.count told.0.behind h.behind,
+      one_behind ws i p.behind j told.0 h,
       (
         straight_price 1,
         one_step_price e x steps cost,
         subst (IsHeld (straight_price 1)) (sym told.1) (held_straight 1 (omega arith)),
       ),
     )
-    straight x j None h steps cost told = absurd (told.none j h.count h.behind)
+    straight x j None h steps cost told = absurd (told.none j h)
 
-    two_words : (j : ℕ) (o : Role) → HasRole ws i o → own_words o ≡ Some 2 → j ≡ i + 2 → StandsBehind ws i j
-    two_words j o h has is =
-        let count : ℕ = back_by o (word ws (i + 2)) (word ws (i + 3)) in
-        record { count = count; behind = subst (λ k. Behind ws i k count) (sym is) (role_behind ws i 2 o h has) }
+    two_words : (j : ℕ) (o : Role) → HasRole ws i o → own_words o ≡ Some 2 → j ≡ i + 2 → Behind ws i j
+    two_words j o h has is = subst (Behind ws i) (sym is) (role_behind ws i 2 o h has)
 
     -- what has just this price
     just : (x : Item) (j : ℕ) (y : Price) (r : Option PricedItem) → IsItemPrice e x y → IsHeld y y
@@ -105,7 +102,7 @@ module _ (e depth : ℕ) (ws : List ℕ) where
         ((by_role _ kind.Fail r (item_here ws i j Fail w) refl told).is
         ∙ ap (λ k. Some (record { behind = k; price = closed_price 0 0 0 })) (sym w.1))
     item_priced (One t) j r w plain told =
-        straight (One t) j r (record { count = 0; behind = record { one = inl (t, w, refl) } }) (λ b. refl)
+        straight (One t) j r (record { one = inl (t, w) }) (λ b. refl)
         (λ s b. refl) (by_role _ kind.Other r (test_here ws i t w.0) refl told)
     item_priced (At a) j r w plain told =
         straight (At a) j r (two_words j _ (item_here ws i j (At a) w) refl w.1.1) (λ b. refl) (λ s b. refl)

@@ -1,349 +1,262 @@
--- A scan from instruction to instruction, into each alternative, past each loop, and past each atomic scope or into it,
--- computes how many counter states plain items have, or that they are not plain.
-use Rattle.std.proofs.Common.{ℕ, ◌+◌, ◌≡◌, ◌<◌, ◌≤◌, ◌⊎◌, inl, inr, Bool, true, false, ◌&&◌}
-use Rattle.std.proofs.Common.{◌||◌, List, Option, Some, None, max, refl, sym, ap, ◌∙◌, subst, arith}
-use Rattle.std.proofs.lemmas.Bool.{true≢false}
-use Rattle.std.proofs.Math.Nat.{le-max_right}
-use Rattle.sre_model.specs.Tree.{Tree, Empty, Then, Item, Loop, Trees, Only, Or}
+-- A scan from instruction to instruction, past each loop and into other bodies, computes how many counter states items
+-- have, or that they have too many.
+use Rattle.std.proofs.Common.{ℕ, ◌+◌, ◌*◌, ◌/◌, ◌≡◌, ◌<◌, ◌≤◌, inl, ⊎_elim, Bool, true, false, List, Option, Some, None}
+use Rattle.std.proofs.Common.{◌||◌, max, refl, sym, ap, ◌∙◌, subst, arith}
+use Rattle.std.proofs.lemmas.Bool.{true≢false, or_parts, cases_lt}
+use Rattle.std.proofs.lemmas.Nat.{le-div}
+use Rattle.std.proofs.Math.Nat.{le-max_right, div-mul-le_self, mul-le-mul_left}
+use Rattle.sre_chars.specs.Numbers.{opcode_number}
+use Rattle.sre_model.specs.Tree.{Tree, Empty, Then}
 use Rattle.sre_model.specs.References.{refers, by_references}
-use Rattle.sre_model.specs.Folding.{Folding, of_tree, of_item, of_branch}
-use Rattle.sre_model.proofs.Foldings.{paired, tree_paired, item_paired}
-use Rattle.sre_model.specs.Regions.{forks}
+use Rattle.sre_model.specs.Folding.{of_item, of_branch}
 use Rattle.sre_model.specs.Slots.{loop_slots, most_slots, by_slots}
-use Rattle.sre_model.specs.Roles.{Role, ToTest, TestKind}
-use Rattle.sre_model.specs.Grammar.{Reads}
+use Rattle.sre_model.specs.Roles.{Role, ToCheckGroup, ToMark, ToBranch, ToGroupAtomically, ToRefer}
+use Rattle.sre_model.specs.Roles.{ToRepeat, ToRepeatPossessively}
+use Rattle.sre_model.specs.Grammar.{Word, word, skip, Reads}
 use Rattle.sre_model.proofs.Families.{HasRole, test_here}
 use Rattle.sre_model.proofs.Places.{test_past}
-use Rattle.sre_code.specs.Instructions.{own_words}
-use Rattle.sre_code.specs.PlainItems.{stops_at_forks, by_barred_regions, has_barred_region, ArePlain, IsPlain}
-use Rattle.sre_code.specs.PlainItems.{TreeTold, ItemTold, flat, AreTold, flat_unless, region_passed, kind_of, ToldBy}
-use Rattle.sre_code.specs.PlainItems.{ToldAt, OwnTold}
-use Rattle.sre_code.specs.declared.code.slots.Regions.{Regions}
+use Rattle.sre_model.proofs.Words.{word_of}
+use Rattle.sre_code.specs.Reading.{NoCode}
+use Rattle.sre_code.specs.Instructions.{own_words, Behind}
+use Rattle.sre_code.specs.SlotScans.{AreTold, LoopTold, OtherTold, kind_of, ToldBy, ToldAt}
 use Rattle.sre_code.specs.declared.code.slots.Kind.{Kind}
 use Rattle.sre_code.specs.declared.code.slots.Kind.TheVariants as kind
 use Rattle.sre_code.specs.declared.code.slots.Passed.{Passed}
-use Rattle.sre_code.proofs.Walking as passed
-use Rattle.sre_code.proofs.Walking.{Scanner, Scan, Instructions, goes_on, stops_at, ends_at, step, join, behind}
-use Rattle.sre_code.proofs.Walking.{said_of, tree_walked}
-use Rattle.sre_code.proofs.Seeking.{none_right, none_of}
-use Rattle.sre_code.proofs.BarredRegions.{bare_region}
-use Rattle.sre_code.proofs.Scanning.{role_behind, none_of_role, to_refer, to_check, max_assoc}
-
--- what was passed where a scan comes to k
-abbrev pub reached : ℕ → ℕ → Passed
-reached k s = record { behind = k; slots = s }
-
--- parts are plain where both are
-pub both_plain : (most m n : ℕ) (a b c d : Bool) → ArePlain most a b m → ArePlain most c d n
-    → ArePlain most (a || c) (b || d) (max m n)
-both_plain most m n false false false false x y =
-    record { unbarred = refl; no_reference = refl; few = omega (arith, x.few, y.few) }
-both_plain most m n true b c d x y = absurd (true≢false x.unbarred)
-both_plain most m n a true c d x y = absurd (true≢false x.no_reference)
-both_plain most m n a b true d x y = absurd (true≢false y.unbarred)
-both_plain most m n a b c true x y = absurd (true≢false y.no_reference)
-
-pub first_plain : (most m n : ℕ) (a b c d : Bool) → ArePlain most (a || c) (b || d) (max m n) → ArePlain most a b m
-first_plain most m n false false c d x =
-    record { unbarred = refl; no_reference = refl; few = omega (arith, x.few) }
-first_plain most m n true b c d x = absurd (true≢false x.unbarred)
-first_plain most m n a true c d x = absurd (true≢false x.no_reference)
-
-pub second_plain : (most m n : ℕ) (a b c d : Bool) → ArePlain most (a || c) (b || d) (max m n) → ArePlain most c d n
-second_plain most m n false false c d x =
-    record { unbarred = x.unbarred; no_reference = x.no_reference; few = omega (arith, x.few) }
-second_plain most m n true b c d x = absurd (true≢false x.unbarred)
-second_plain most m n a true c d x = absurd (true≢false x.no_reference)
-
--- what has no loop is
-pub one_plain : (most : ℕ) → 1 ≤ most → ArePlain most false false 1
-one_plain most some = record { unbarred = refl; no_reference = refl; few = some }
-
--- all that is told of a tree: whether it has regions that end a scan and references, and its slots
-abbrev by_all : Regions → Folding ((Bool × Bool) × ℕ)
-by_all q = paired (paired (by_barred_regions q) by_references) by_slots
-
--- the same of a tree, and of an item
-abbrev tree_values : Regions → Tree → (Bool × Bool) × ℕ
-tree_values q t = ((has_barred_region q t, refers t), most_slots t)
-
-abbrev item_values : Regions → Item → (Bool × Bool) × ℕ
-item_values q x =
-    ((of_item (by_barred_regions q) x, of_item by_references x), of_item by_slots x)
-
-all_of_tree : (q : Regions) (t : Tree) → of_tree (by_all q) t ≡ tree_values q t
-all_of_tree q t =
-    tree_paired (paired (by_barred_regions q) by_references) by_slots t
-    ∙ ap (λ a. (a, most_slots t)) (tree_paired (by_barred_regions q) by_references t)
-
-all_of_item : (q : Regions) (x : Item) → of_item (by_all q) x ≡ item_values q x
-all_of_item q x =
-    item_paired (paired (by_barred_regions q) by_references) by_slots x
-    ∙ ap (λ a. (a, of_item by_slots x)) (item_paired (by_barred_regions q) by_references x)
-
-abbrev AllPlain : ℕ → (Bool × Bool) × ℕ → Type 0
-AllPlain most a = ArePlain most a.0.0 a.0.1 a.1
-
--- what is told of what has these values and ends at j
-abbrev ValuesTold : ℕ → ℕ → (Bool × Bool) × ℕ → Option Passed → Type 0
-ValuesTold most j a (Some p) = AllPlain most a × (p.behind ≡ j) × (p.slots ≡ a.1)
-ValuesTold most j a None = AllPlain most a → ⊥
-
-told_values : (q : Regions) (most j : ℕ) (x : Item) (r : Option Passed) → ItemTold q most j x r
-    → ValuesTold most j (item_values q x) r
-told_values q most j x (Some p) h = h
-told_values q most j x None h = h
+use Rattle.sre_code.proofs.Instructions.{role_behind, one_behind, none_behind}
+use Rattle.sre_code.proofs.Walking as walk
+use Rattle.sre_code.proofs.Walking.{Scanner, Instructions, Silent, Onto}
 
 -- one slot is there at least
-some_of_tree : (q : Regions) (t : Tree) → 1 ≤ (of_tree (by_all q) t).1
-some_of_tree q Empty = omega arith
-some_of_tree q (Then x t) =
-    omega (arith, some_of_tree q t, le-max_right (of_item (by_all q) x).1 (of_tree (by_all q) t).1)
+pub some_slots : (t : Tree) → 1 ≤ most_slots t
+some_slots Empty = omega arith
+some_slots (Then x t) = omega (arith, some_slots t, le-max_right (of_item by_slots x) (most_slots t))
 
-some_of_branch : (q : Regions) (ts : Trees) → 1 ≤ (of_branch (by_all q) ts).1
-some_of_branch q (Only t) = some_of_tree q t
-some_of_branch q (Or t ts) = omega (arith, some_of_tree q t)
+module _ (most : ℕ) (ws : List ℕ) where
+  -- a scan goes on past an instruction of which so many slots are told
+  record Passes (i l k m : ℕ) : Type 0 where
+    some : 1 ≤ l
+    slots : ℕ
+    told : ToldAt most ws i (Some (record { behind = k; slots = slots }))
+    is : m ≡ max l slots
 
-pub some_slots : (q : Regions) (t : Tree) → 1 ≤ most_slots t
-some_slots q t = subst (λ (a : (Bool × Bool) × ℕ). 1 ≤ a.1) (all_of_tree q t) (some_of_tree q t)
-
--- what an atomic group or a look has by its body, where a fork in it ends the scan, or where it does not
-abbrev around_body : Bool → Tree → (Bool × Bool) × ℕ → (Bool × Bool) × ℕ
-around_body stops body a = (((stops && forks body) || a.0.0, a.0.1), a.1)
-
--- where one does, it is plain where its body neither forks nor refers, and only there
-region_told : (q : Regions) (most : ℕ) → 1 ≤ most → (j : ℕ) (body : Tree) (r : Option Passed)
-    → r ≡ flat_unless (forks body || refers body) j → ValuesTold most j (around_body true body (tree_values q body)) r
-region_told q most some j body r is =
-    subst (ValuesTold most j (around_body true body (tree_values q body))) (sym is)
-    (by (forks body || refers body) refl)
-  where
-    by : (b : Bool) → (forks body || refers body) ≡ b
-        → ValuesTold most j (around_body true body (tree_values q body)) (flat_unless b j)
-    by false none =
-        let bare = bare_region q true body none in (
-          record {
-            unbarred = bare.unforked;
-            no_reference = none_right (forks body) (refers body) none;
-            few = omega (arith, bare.one, some);
-          },
-          refl,
-          sym bare.one,
-        )
-    by true fork = λ x.
-        true≢false
-        (sym fork ∙ none_of (forks body) (refers body) (has_barred_region q body) x.unbarred x.no_reference)
-
-module _ (q : Regions) (ws : List ℕ) (most : ℕ) (some : 1 ≤ most) where
-  -- what is told of an instruction, by its role
-  by_role : (i : ℕ) (o : Role) (k : Kind) (r : Option Passed) → HasRole ws i o → kind_of o ≡ k → ToldAt q most ws i r
-      → ToldBy k q most ws i r
-  by_role i o k r h is told = subst (λ z. ToldBy z q most ws i r) (ap kind_of h.begins ∙ is) (told.by h.code h.there)
-
-  module _ (end : ℕ) where
-    -- a scan says what it has passed, or stops where what it comes to is not plain
-    abbrev scanner : Scanner ℕ (Option Passed) ((Bool × Bool) × ℕ)
+  module _ (some : 1 ≤ most) (end : ℕ) where
+    abbrev scanner : Scanner ℕ (Bool × ℕ)
     scanner = record {
       words = ws;
       end = end;
-      Next = λ i k c. ToldAt q most ws i (Some (reached k c));
-      Stops = λ i. ToldAt q most ws i None;
-      add = max;
-      ended = λ i m. Some (reached i m);
-      stopped = None;
-      folding = by_all q;
-      worth = λ a. a.1;
-      Bad = λ a. AllPlain most a → ⊥;
-      Good = AllPlain most;
-      Fits = λ m. 1 ≤ m;
-      fits = λ m a l. omega (arith, l);
-      unit = λ m l. omega (arith, l);
-      sum = λ m a b. max_assoc m a.1 b.1;
-      good = one_plain most some;
-      clear = λ not. not (one_plain most some);
-      both = λ a b. both_plain most a.1 b.1 a.0.0 a.0.1 b.0.0 b.0.1;
-      first = λ a b not x. not (first_plain most a.1 b.1 a.0.0 a.0.1 b.0.0 b.0.1 x);
-      second = λ a b not x. not (second_plain most a.1 b.1 a.0.0 a.0.1 b.0.0 b.0.1 x);
+      Next = Passes;
+      Stops = λ i. ToldAt most ws i None;
+      nothing = (false, 1);
+      both = λ a b. (a.0 || b.0, max a.1 b.1);
+      tree = λ t. (refers t, most_slots t);
+      item = λ x. (of_item by_references x, of_item by_slots x);
+      branch = λ ts. (of_branch by_references ts, of_branch by_slots ts);
+      empty = refl;
+      then = λ x t. refl;
+      only = λ t. refl;
+      or = λ t ts. refl;
+      Bad = λ a. a.0 ≡ false → most < a.1;
+      After = λ i j a l m. (a.1 ≤ most) × (1 ≤ l → m ≡ max l a.1);
+      first = λ a b x e. let many = x (or_parts a.0 b.0 e).0 in omega (arith, many);
+      second = λ a b x e. let many = x (or_parts a.0 b.0 e).1 in omega (arith, many);
+      stay = λ i j l le. (some, λ s. omega (arith, s));
+      wider = λ i k j a l m le x. x;
+      joined = λ i k j a b l m n before behind x y. (
+        omega (arith, x.0, y.0),
+        λ s.
+            let first = x.1 s in
+            let second = y.1 (omega (arith, s, first)) in
+            omega (arith, first, second),
+      );
     }
 
-    abbrev Passes : ℕ → ℕ → (Bool × Bool) × ℕ → Type 0
-    Passes = passed.Passed scanner
+    abbrev Part : ℕ → ℕ → Bool × ℕ → Type 0
+    Part = walk.Passed scanner
 
-    -- an instruction that has no loop
-    flat_passed : (i j : ℕ) → i < j → ((r : Option Passed) → ToldAt q most ws i r → r ≡ Some (flat j))
-        → Passes i j ((false, false), 1)
-    flat_passed i j lt told =
-        step scanner i j ((false, false), 1) lt
-        (λ k c h.
-        let is : Some (reached k c) ≡ Some (flat j) = told (Some (reached k c)) h in
-        let same : reached k c ≡ flat j = cc in (
-          one_plain most some,
-          ap (λ (p : Passed). p.behind) same,
-          ap (λ (p : Passed). p.slots) same,
-        ))
-        (λ h. let no : None ≡ Some (flat j) = told None h in absurd (cc))
+    by_role : (i : ℕ) (o : Role) (k : Kind) (r : Option Passed) → HasRole ws i o → kind_of o ≡ k → ToldAt most ws i r
+        → ToldBy k most ws i r
+    by_role i o k r h is told = subst (λ z. ToldBy z most ws i r) (ap kind_of h.begins ∙ is) (told.by h.code h.there)
+
+    -- an instruction that has no loop, and the body behind it
+    quiet : (i k : ℕ) → i < k → Behind ws i k → ((r : Option Passed) → ToldAt most ws i r → OtherTold ws i r)
+        → Silent scanner i k
+    quiet i k lt behind other = record {
+      past = lt;
+      goes = λ told. (other None told).none k behind;
+      next = λ l m q s.
+          let told = other (Some (record { behind = q; slots = s.slots })) s.told in
+          (one_behind ws i q k told.0 behind, omega (arith, s.is, s.some, told.1));
+    }
 
     own : (i n : ℕ) (o : Role) → HasRole ws i o → own_words o ≡ Some n → 0 < n → kind_of o ≡ kind.Other
-        → Passes i (i + n) ((false, false), 1)
+        → Silent scanner i (i + n)
     own i n o h has lt is =
-        flat_passed i (i + n) (omega (arith, lt))
-        (λ r told. (by_role i o kind.Other r h is told).some (i + n) _ (role_behind ws i n o h has))
+        quiet i (i + n) (omega (arith, lt)) (role_behind ws i n o h has) (λ r. by_role i o kind.Other r h is)
 
-    -- one that is not plain: a possessive loop, and a reference or a condition
-    barred : (i j : ℕ) (a : (Bool × Bool) × ℕ) → i < j
-        → ((r : Option Passed) → ToldAt q most ws i r → r ≡ None) → (AllPlain most a → ⊥) → Passes i j a
-    barred i j a lt told not =
-        step scanner i j a lt
-        (λ k c h. let no : Some (reached k c) ≡ None = told (Some (reached k c)) h in absurd (cc))
-        (λ h. not)
+    inside : (i n j : ℕ) (o : Role) (a : Bool × ℕ) → HasRole ws i o → own_words o ≡ Some n → 0 < n
+        → kind_of o ≡ kind.Other → Part (i + n) j a → Part i j a
+    inside i n j o a h has lt is y =
+        let step : Silent scanner i (i + n) = own i n o h has lt is in
+        walk.enter scanner i (i + n) j a a (λ l. l) step.past (λ stops. absurd (step.goes stops)) step.next y (λ b. b)
+        (λ l m s x. x)
 
-    referring : (i j : ℕ) (o : Role) (a : (Bool × Bool) × ℕ) → i < j → HasRole ws i o → own_words o ≡ None
-        → ((kind : TestKind) → o ≡ ToTest kind → ⊥) → kind_of o ≡ kind.Other → (AllPlain most a → ⊥) → Passes i j a
-    referring i j o a lt h e other is not =
-        barred i j a lt (λ r told. (by_role i o kind.Other r h is told).none (none_of_role ws i o h e other)) not
-
-    -- an item whose body is passed with it
-    values_passed : (i j : ℕ) (a : (Bool × Bool) × ℕ) → i < j
-        → ((r : Option Passed) → ToldAt q most ws i r → ValuesTold most j a r) → Passes i j a
-    values_passed i j a lt told =
-        step scanner i j a lt
-        (λ k c h.
-        told (Some (reached k c)) h) (λ h. told None h)
-
-    -- a loop
-    item_passed : (i j : ℕ) (x : Item) → i < j → ((r : Option Passed) → ToldAt q most ws i r → ItemTold q most j x r)
-        → Passes i j (of_item (by_all q) x)
-    item_passed i j x lt told =
-        subst (Passes i j) (sym (all_of_item q x))
-        (values_passed i j (item_values q x) lt (λ r h. told_values q most j x r (told r h)))
-
-    -- an atomic group or a look, which is passed whole or stepped into
-    region_scanned : (i b j : ℕ) (body : Tree) (stops : Bool) → i < b → i < j
-        → ((r : Option Passed) → ToldAt q most ws i r → r ≡ region_passed stops (forks body || refers body) b j)
-        → Passes b j (of_tree (by_all q) body) → Passes i j (around_body stops body (of_tree (by_all q) body))
-    region_scanned i b j body true before lt told y =
-        subst (λ (a : (Bool × Bool) × ℕ). Passes i j (around_body true body a)) (sym (all_of_tree q body))
-        (values_passed i j (around_body true body (tree_values q body)) lt
-        (λ r h. region_told q most some j body r (told r h)))
-    region_scanned i b j body false before lt told y =
-        behind scanner i b j (of_tree (by_all q) body) (flat_passed i b before told) y
-
-    -- a possessive loop, whose body is stepped into
-    loop_scanned : (i j slots : ℕ) (a : (Bool × Bool) × ℕ) (stops : Bool) → i < j
-        → ((r : Option Passed) → ToldAt q most ws i r → OwnTold stops most slots (i + 4) r)
-        → Passes (i + 4) j a → Passes i j ((stops || a.0.0, a.0.1), max slots a.1)
-    loop_scanned i j slots a true lt told y =
-        barred i j _ lt (λ r h. none r (told r h)) (λ x. true≢false x.unbarred)
-      where
-        none : (r : Option Passed) → OwnTold true most slots (i + 4) r → r ≡ None
-        none (Some p) h = absurd (true≢false h.0)
-        none None h = refl
-    loop_scanned i j slots a false lt told y =
-        join scanner i (i + 4) j ((false, false), slots) a
-        (step scanner i (i + 4) ((false, false), slots) (omega arith)
-        (λ k c h.
-        let is = told (Some (reached k c)) h in (
-          record { unbarred = refl; no_reference = refl; few = is.1 },
-          ap (λ (p : Passed). p.behind) is.2,
-          ap (λ (p : Passed). p.slots) is.2,
-        ))
-        (λ h x. many (told None h) x.few))
-        y
-      where
-        many : OwnTold false most slots (i + 4) None → slots ≤ most → ⊥
-        many (inl e) few = absurd (true≢false (sym e))
-        many (inr more) few = omega (arith, more, few)
+    condition : (i j : ℕ) (a : Bool × ℕ) → i < j → HasRole ws i ToCheckGroup → a.0 ≡ true → Part i j a
+    condition i j a lt h refers =
+        walk.halt scanner i j a lt
+        (λ l m q s.
+        let told =
+        by_role i ToCheckGroup kind.Other (Some (record { behind = q; slots = s.slots })) h refl s.told in
+        (none_behind ws i h).none q told.0)
+        (λ plain. absurd (true≢false (sym refers ∙ plain)))
 
     instructions : Instructions scanner
     instructions = record {
-      own = λ i n o h has some none other plain. own i n o h has some other;
+      Quiet = λ o. kind_of o ≡ kind.Other;
+      fails = refl;
+      ends = refl;
+      jumps = refl;
+      loops = λ o. refl;
+      checks = refl;
+      own = own;
       test = λ i j t w.
-          flat_passed i j (test_past t ws i j w.1)
-          (λ r told.
-          (by_role i _ kind.Other r (test_here ws i t w.0) refl told).some j 0 (record { one = inl (t, w, refl) }));
+          quiet i j (test_past t ws i j w.1) (record { one = inl (t, w) })
+          (λ r. by_role i _ kind.Other r (test_here ws i t w.0) refl);
       fail = refl;
       one = λ t. refl;
-      at = λ a. refl;
-      mark = λ i n h. own i 2 _ h refl (omega arith) refl;
-      branch = λ i j ts lt h w y.
-          let some : 1 ≤ (of_branch (by_all q) ts).1 = some_of_branch q ts in
-          behind scanner i (i + 2) j _ (own i 2 _ h refl (omega arith) refl) y;
-      run = λ i low high kind t h w v. own i 4 _ h refl (omega arith) refl;
+      at = λ p. refl;
+      mark = λ i n h. walk.silent scanner i (i + 2) _ refl (own i 2 ToMark h refl (omega arith) refl);
+      branch = λ i j ts lt h y. inside i 2 j ToBranch _ h refl (omega arith) refl y;
+      run = λ i low high kind t h. walk.silent scanner i (i + 4) _ refl (own i 4 _ h refl (omega arith) refl);
       loop = λ i j o low high body lt h w y.
-          item_passed i j (Loop o low high body) lt
-          (λ r told. (by_role i _ kind.Loop r h refl told).each o low high body j w);
-      possessive = λ i j low high body lt h w y.
-          loop_scanned i j (loop_slots low high) (of_tree (by_all q) body) (stops_at_forks q) lt
-          (λ r told. (by_role i _ kind.PossessiveLoop r h refl told).each low high w.0 w.1) y;
-      atomic = λ i j body lt h w y.
-          region_scanned i (i + 2) j body (stops_at_forks q) (omega arith) lt
-          (λ r told. (by_role i _ kind.AtomicGroup r h refl told).each body j w.0 w.1) y;
-      look = λ i j sign back body lt h w y.
-          region_scanned i (i + 3) j body (stops_at_forks q) (omega arith) lt
-          (λ r told. (by_role i _ kind.Look r h refl told).each body j w.0 w.2) y;
-      reference = λ i j f g lt h w. referring i j _ _ lt h refl to_refer refl (λ x. true≢false x.no_reference);
-      exists = λ i j g there lt h. referring i j _ _ lt h refl to_check refl (λ x. true≢false x.no_reference);
-      exists_else = λ i j g there absent lt h.
-          referring i j _ _ lt h refl to_check refl (λ x. true≢false x.no_reference);
+          let slots : ℕ = loop_slots low high * most_slots body in
+          walk.enter scanner i j j (refers body, slots) (false, 1) (λ l. max l slots) lt
+          (λ told. (by_role i ToRepeat kind.Loop None h refl told).each o low high body j w)
+          (λ l m q s.
+          let told =
+          (by_role i ToRepeat kind.Loop (Some (record { behind = q; slots = s.slots })) h refl s.told).each o low high
+          body j w in
+          (told.0, omega (arith, s.is, told.1)))
+          (walk.here scanner j j refl) (λ b plain. absurd (few (b refl)))
+          (λ l m s x.
+          let told =
+          (by_role i ToRepeat kind.Loop (Some (record { behind = j; slots = s.slots })) h refl s.told).each o low high
+          body j w in
+          (told.2, λ one. omega (arith, one, x.1 (omega (arith, one)))));
+      possessive = λ i low high body h v w y.
+          let slots : ℕ = loop_slots low high in
+          walk.enter scanner i (i + 4) (skip ws (i + 1)) (refers body, max slots (most_slots body))
+          (refers body, most_slots body) (λ l. max l slots) (omega arith)
+          (λ told plain.
+          let many = (by_role i ToRepeatPossessively kind.PossessiveLoop None h refl told).each low high v w in
+          omega (arith, many))
+          (λ l m q s.
+          let told = own_told i q low high h v w s.slots s.told in
+          (told.1, omega (arith, s.is, told.2)))
+          y (λ b plain. let many = b plain in omega (arith, many))
+          (λ l m s x.
+          let told = own_told i (i + 4) low high h v w s.slots s.told in
+          (omega (arith, told.0, x.0), λ one. omega (arith, one, x.1 (omega (arith, one)))));
+      atomic = λ i e body h at y. inside i 2 e ToGroupAtomically _ h refl (omega arith) refl y;
+      look = λ i e sign back body h at v y. inside i 3 e _ _ h refl (omega arith) refl y;
+      reference = λ i fold g h v.
+          let step : Silent scanner i (i + 2) = own i 2 ToRefer h refl (omega arith) refl in
+          walk.enter scanner i (i + 2) (i + 2) (true, 1) (false, 1) (λ l. l) step.past
+          (λ stops. absurd (step.goes stops)) step.next (walk.here scanner (i + 2) (i + 2) refl)
+          (λ b plain. absurd (true≢false plain)) (λ l m s x. x);
+      exists = λ i j g there lt h. condition i j _ lt h refl;
+      exists_else = λ i j g there absent lt h. condition i j _ lt h refl;
+    }
+      where
+        few : most < 1 → ⊥
+        few lt = omega (arith, lt, some)
+
+        own_told : (i q low high : ℕ) → HasRole ws i ToRepeatPossessively → Word ws (i + 2) low → Word ws (i + 3) high
+            → (n : ℕ) → ToldAt most ws i (Some (record { behind = q; slots = n }))
+            → (loop_slots low high ≤ most) × (q ≡ i + 4) × (n ≡ loop_slots low high)
+        own_told i q low high h v w n told =
+            let p : Passed = record { behind = q; slots = n } in
+            let own = (by_role i ToRepeatPossessively kind.PossessiveLoop (Some p) h refl told).each low high v w in
+            (own.0, ap (λ (p : Passed). p.behind) own.1, ap (λ (p : Passed). p.slots) own.1)
+
+  module _ (start e : ℕ) (some : 1 ≤ most) where
+    -- a scan that has come to i, with what it has there
+    pub record Scanned (i l : ℕ) : Type 0 where
+      one : 1 ≤ l
+      onto : Onto (scanner some e) start 1 i l
+
+    pub scanned_start : Scanned start 1
+    scanned_start = record { one = omega arith; onto = walk.onto_start (scanner some e) start 1 }
+
+    pub scanned_next : (i l m : ℕ) (p : Passed) → Scanned i l → i < e → ToldAt most ws i (Some p) → m ≡ max p.slots l
+        → Scanned p.behind m
+    scanned_next i l m p o lt told is = record {
+      one = omega (arith, is, o.one);
+      onto =
+          walk.onto_next (scanner some e) start 1 i p.behind l m o.onto lt
+          (record { some = o.one; slots = p.slots; told = told; is = omega (arith, is) });
     }
 
-module _ (q : Regions) (ws : List ℕ) (most start e : ℕ) (some : 1 ≤ most) where
-  -- what a scan from i on tells, one from the start tells too
-  pub record Onto (i s : ℕ) : Type 0 where
-    pub to :
-        (res : Option Passed) → Scan (scanner q ws most some e) res i s
-        → Scan (scanner q ws most some e) res start 1
+    -- where it stops there are too many slots, and at the end it has counted them
+    pub scan_stops : (i l : ℕ) → Scanned i l → i < e → ToldAt most ws i None → AreTold most ws start e None
+    scan_stops i l o lt told = record {
+      each = λ t w.
+          walk.walk_stops (scanner some e) (instructions some e) start i 1 l o.onto t w lt told;
+    }
 
-  pub onto_start : Onto start 1
-  onto_start = record { to = λ res x. x }
+    pub scan_ends : (i l : ℕ) → Scanned i l → e ≤ i → AreTold most ws start e (Some l)
+    scan_ends i l o le = record {
+      each = λ t w.
+          let x = walk.walk_ends (scanner some e) (instructions some e) start i 1 l o.onto t w le in
+          let is = x.1 (omega arith) in
+          (omega (arith, is, some_slots t), omega (arith, is, some, x.0));
+    }
 
-  pub onto_next : (i s m : ℕ) (p : Passed) → Onto i s → i < e → ToldAt q most ws i (Some p) → m ≡ max p.slots s
-      → Onto p.behind m
-  onto_next i s m p o lt told slots = record {
-    to = λ res x.
-        let same : max s p.slots ≡ m = omega (arith, slots) in
-        o.to res (goes_on (scanner q ws most some e) res i p.behind s p.slots m lt told same x);
-  }
+-- a product of slots is no more than there may be, or more
+pub within : (most slots m : ℕ) → m ≤ most / slots → slots * m ≤ most
+within most slots m le = omega (arith, mul-le-mul_left slots le, div-mul-le_self most slots)
 
-  -- what a scan of a whole tree says
-  abbrev Said : Tree → Option Passed → Type 0
-  Said t res =
-      ((IsPlain q most t → ⊥) × (res ≡ None))
-      ⊎ (IsPlain q most t × (res ≡ Some (reached e (max 1 (most_slots t)))))
+beyond : (most slots m : ℕ) → 0 < slots → most / slots < m → most < slots * m
+beyond most slots m some lt = ⊎_elim (λ (l : most < slots * m). l)
+    (λ (le : slots * m ≤ most). absurd (omega (arith, lt, le-div m most slots some (omega (arith, le)))))
+    (cases_lt most (slots * m))
 
-  said : (t : Tree) (res : Option Passed) → Reads ws start e t → Scan (scanner q ws most some e) res start 1
-      → Said t res
-  said t res w x =
-      subst (λ (a : (Bool × Bool) × ℕ). ((AllPlain most a → ⊥) × (res ≡ None))
-      ⊎ (AllPlain most a × (res ≡ Some (reached e (max 1 a.1))))) (all_of_tree q t)
-      (said_of (scanner q ws most some e) start 1 (of_tree (by_all q) t) res
-      (tree_walked (scanner q ws most some e) (instructions q ws most some e) t start e w) (omega arith) x)
+module _ (ws : List ℕ) (i least greatest slots : ℕ) (first : least ≡ word ws (i + 2))
+    (second : greatest ≡ word ws (i + 3)) (is : slots ≡ loop_slots least greatest) where
+  pub same_slots : (low high : ℕ) → Word ws (i + 2) low → Word ws (i + 3) high → slots ≡ loop_slots low high
+  same_slots low high l h =
+      is ∙ ap (λ n. loop_slots n greatest) (first ∙ word_of ws (i + 2) low l)
+      ∙ ap (λ n. loop_slots low n) (second ∙ word_of ws (i + 3) high h)
 
-  -- where it stops the items are not plain
-  pub scan_stops : (i s : ℕ) → Onto i s → i < e → ToldAt q most ws i None → AreTold q most ws start e None
-  scan_stops i s o lt none = record {
-    each = λ t w. by_end t (said t None w (o.to None (stops_at (scanner q ws most some e) i s lt none)));
-  }
-    where
-      by_end : (t : Tree) → Said t None → IsPlain q most t → ⊥
-      by_end t (inl x) = x.0
-      by_end t (inr x) =
-          let is : None ≡ Some (reached e (max 1 (most_slots t))) = x.1 in
-          absurd (cc)
+  -- a loop, by what is told of its body under what is left of the slots
+  module _ (most by left : ℕ) (to : by ≡ word ws (i + 1)) (rest : left ≡ most / slots) where
+    same_end : i + 1 + by ≡ skip ws (i + 1)
+    same_end = ap (λ n. i + 1 + n) to
 
-  -- where it comes to the end they have what it has counted
-  pub scan_ends : (i s : ℕ) → Onto i s → e ≤ i → AreTold q most ws start e (Some (reached i s))
-  scan_ends i s o le = record {
-    each = λ t w. by_end t (said t (Some all) w (o.to (Some all) (ends_at (scanner q ws most some e) i s le)));
-  }
-    where
-      all : Passed
-      all = reached i s
+    pub loop_stops : AreTold left ws (i + 4) (i + 1 + by) None → LoopTold most ws i None
+    loop_stops told = record {
+      each = λ o low high body j w plain.
+          let own : slots ≡ loop_slots low high = same_slots low high w.0 w.1 in
+          let many : left < most_slots body =
+          told.each body (subst (λ n. Reads ws (i + 4) n body) (sym same_end) w.3) plain in
+          beyond most (loop_slots low high) (most_slots body) (omega arith)
+          (subst (λ n. most / n < most_slots body) own (omega (arith, many, rest)));
+    }
 
-      by_end : (t : Tree) → Said t (Some all) → TreeTold q most e t (Some all)
-      by_end t (inl x) = let no : Some all ≡ None = x.1 in absurd (cc)
-      by_end t (inr x) =
-          let is : Some all ≡ Some (reached e (max 1 (most_slots t))) = x.1 in
-          let same : all ≡ reached e (max 1 (most_slots t)) = cc in
-          let slots : s ≡ max 1 (most_slots t) = ap (λ (p : Passed). p.slots) same in
-          (x.0, ap (λ (p : Passed). p.behind) same, omega (arith, slots, some_slots q t))
+    pub loop_passed : (n : ℕ) → AreTold left ws (i + 4) (i + 1 + by) (Some n)
+        → LoopTold most ws i (Some (record { behind = i + 1 + by + 1; slots = slots * n }))
+    loop_passed n told = record {
+      each = λ o low high body j w.
+          let own : slots ≡ loop_slots low high = same_slots low high w.0 w.1 in
+          let inside = told.each body (subst (λ n. Reads ws (i + 4) n body) (sym same_end) w.3) in
+          let same : slots * n ≡ loop_slots low high * most_slots body =
+          ap (λ k. k * n) own ∙ ap (λ k. loop_slots low high * k) inside.0 in
+          let few : slots * n ≤ most = within most slots n (omega (arith, inside.1, rest)) in
+          (omega (arith, same_end, w.5), same, omega (arith, few, same));
+    }
+
+-- where nothing is left of the slots a body has more
+pub nothing_left : (ws : List ℕ) (i end : ℕ) → AreTold 0 ws i end None
+nothing_left ws i end = record { each = λ t w plain. omega (arith, some_slots t) }
+
+pub none_at : (most : ℕ) (ws : List ℕ) (i : ℕ) → NoCode opcode_number ws i → ToldAt most ws i None
+none_at most ws i none = record { by = λ o w. absurd (none.none o w) }

@@ -1,303 +1,332 @@
--- Scans from instruction to instruction, and what such a scan computes of a tree: its results for each instruction,
--- combined by a fold.
-use Rattle.std.proofs.Common.{ℕ, zero, suc, ◌+◌, ◌-◌, ◌≡◌, ◌<◌, ◌≤◌, ◌⊎◌, inl, inr, ⊎_elim, Some, List, refl, sym}
-use Rattle.std.proofs.Common.{subst, arith, false}
+-- Scans from instruction to instruction, and what such a scan has behind a part of a tree, by what it had before.
+use Rattle.std.proofs.Common.{ℕ, zero, suc, ◌+◌, ◌-◌, ◌≡◌, ◌<◌, ◌≤◌, ◌⊎◌, inl, inr, ⊎_elim, Option, Some, None, List}
+use Rattle.std.proofs.Common.{refl, sym, subst, arith}
 use Rattle.sre_chars.specs.declared.constants.SreOpcode.TheVariants as opcode
 use Rattle.sre_chars.specs.declared.constants.SreAtCode.{SreAtCode}
 use Rattle.sre_model.specs.Tree.{Tree, Empty, Then, Item, Fail, One, At, Mark, Branch, Loop, Run, PossessiveLoop}
 use Rattle.sre_model.specs.Tree.{Atomic, Look, Reference, Exists, ExistsElse, Trees, Only, Or, Test, Fold, Order}
 use Rattle.sre_model.specs.Tree.{RunKind, Sign}
-use Rattle.sre_model.specs.Folding.{Folding, of_tree, of_branch, of_item}
 use Rattle.sre_model.specs.Roles.{Role, ToFail, ToEnd, ToCheckPosition, ToMark, ToBranch, ToJump, ToRun, ToRepeat}
 use Rattle.sre_model.specs.Roles.{ToLoop, ToRepeatPossessively, ToGroupAtomically, ToLook, ToRefer, ToCheckGroup}
 use Rattle.sre_model.proofs.Families.{HasRole, role_here, item_here, until_role}
 use Rattle.sre_model.specs.Grammar.{Word, skip, Opcode, until_opcode, Operands, Reads, ReadsItem, ReadsBranch}
 use Rattle.sre_model.proofs.Places.{test_past, reads_within, operands_past, alternative_long}
 use Rattle.sre_code.specs.Reading.{ReadsTest}
-use Rattle.sre_code.specs.Instructions.{own_words, back_by}
-use Rattle.sre_code.specs.Sought.{is_fork, is_mark, is_sought}
-use Rattle.sre_code.specs.declared.code.sought.Sought.{Sought}
-use Rattle.sre_code.specs.declared.code.sought.Sought.TheVariants as sought
-use Rattle.sre_code.specs.PlainItems.{kind_of}
-use Rattle.sre_code.specs.declared.code.slots.Kind.TheVariants as kind
+use Rattle.sre_code.specs.Instructions.{own_words}
 
--- a scan of words up to a place, which adds up what instructions have, and a folding of what it tells of a tree
-pub record Scanner (C R V : Type 0) : Type 1 where
+-- a scan of words up to a place, and what it tells of a part of a tree, by the part's value
+pub record Scanner (M V : Type 0) : Type 1 where
   pub words : List ℕ
   pub end : ℕ
-  -- an instruction is at a place, the next one at another, and it has this; the scan stops at a place
-  pub Next : ℕ → ℕ → C → Type 0
+  -- from a place, with what it has there, it goes on to another, with what it then has; or it stops at a place
+  pub Next : ℕ → M → ℕ → M → Type 0
   pub Stops : ℕ → Type 0
-  pub add : C → C → C
-  -- what it says where it comes to the end, by what all that it passed has, and where it stops
-  pub ended : ℕ → C → R
-  pub stopped : R
-  -- by a part's value: it stops in the part, or passes it and adds so much, where what it passed before fits
-  pub folding : Folding V
+  -- the values of parts: of both together, by those of each
+  pub nothing : V
+  pub both : V → V → V
+  pub tree : Tree → V
+  pub item : Item → V
+  pub branch : Trees → V
+  pub empty : tree Empty ≡ nothing
+  pub then : (y : Item) (t : Tree) → tree (Then y t) ≡ both (item y) (tree t)
+  pub only : (t : Tree) → branch (Only t) ≡ tree t
+  pub or : (t : Tree) (ts : Trees) → branch (Or t ts) ≡ both (tree t) (branch ts)
+  -- it stops in a part of such a value, or passes it from one place to another with what it had and then has
   pub Bad : V → Type 0
-  pub Good : V → Type 0
-  pub worth : V → C
-  pub Fits : C → Type 0
-  -- what is passed goes on to fit, nothing adds nothing, and both parts add what each does
-  pub fits : (m : C) (a : V) → Fits m → Fits (add m (worth a))
-  pub unit : (m : C) → Fits m → add m (worth folding.nothing) ≡ m
-  pub sum : (m : C) (a b : V) → add (add m (worth a)) (worth b) ≡ add m (worth (folding.both a b))
-  -- it stops in both parts where it stops in one
-  pub good : Good folding.nothing
-  pub clear : Bad folding.nothing → ⊥
-  pub both : (a b : V) → Good a → Good b → Good (folding.both a b)
-  pub first : (a b : V) → Bad a → Bad (folding.both a b)
-  pub second : (a b : V) → Bad b → Bad (folding.both a b)
+  pub After : ℕ → ℕ → V → M → M → Type 0
+  pub first : (a b : V) → Bad a → Bad (both a b)
+  pub second : (a b : V) → Bad b → Bad (both a b)
+  pub stay : (i j : ℕ) (m : M) → i ≤ j → After i j nothing m m
+  pub wider : (i k j : ℕ) (a : V) (l m : M) → k ≤ j → After i k a l m → After i j a l m
+  pub joined :
+      (i k j : ℕ) (a b : V) (l m n : M) → i ≤ k → k ≤ j → After i k a l m → After k j b m n
+      → After i j (both a b) l n
 
-module _ {C R V : Type 0} (x : Scanner C R V) where
-  -- a scan of n instructions from i on says r, where those before have m
-  abbrev pub Says : R → ℕ → ℕ → C → Type 0
-  Says r zero i m = (x.end ≤ i) × (r ≡ x.ended i m)
-  Says r (suc n) i m =
-      (i < x.end)
-      × ((x.Stops i × (r ≡ x.stopped)) ⊎ ((k : ℕ) × (c : C) × x.Next i k c × Says r n k (x.add m c)))
+module _ {M V : Type 0} (x : Scanner M V) where
+  -- a scan of n instructions from i on, which has l there, says r
+  abbrev pub Says : Option M → ℕ → ℕ → M → Type 0
+  Says r zero i l = (x.end ≤ i) × (r ≡ Some l)
+  Says r (suc n) i l =
+      (i < x.end) × ((x.Stops i × (r ≡ None)) ⊎ ((k : ℕ) × (m : M) × x.Next i l k m × Says r n k m))
 
   -- a scan, however long
-  pub record Scan (r : R) (i : ℕ) (m : C) : Type 0 where
+  pub record Scan (r : Option M) (i : ℕ) (l : M) : Type 0 where
     pub count : ℕ
-    pub says : Says r count i m
+    pub says : Says r count i l
 
-  -- it goes on, stops, or comes to its end
-  pub goes_on : (r : R) (i k : ℕ) (m c n : C) → i < x.end → x.Next i k c → x.add m c ≡ n → Scan r k n → Scan r i m
-  goes_on r i k m c n lt h same s = record {
-    count = suc s.count;
-    says = (lt, inr (k, c, h, subst (λ d. Says r s.count k d) (sym same) s.says));
-  }
+  -- what a scan from i on says, one from the start says too
+  pub record Onto (start : ℕ) (none : M) (i : ℕ) (l : M) : Type 0 where
+    pub to : (r : Option M) → Scan r i l → Scan r start none
 
-  pub stops_at : (i : ℕ) (m : C) → i < x.end → x.Stops i → Scan x.stopped i m
-  stops_at i m lt stops = record { count = 1; says = (lt, inl (stops, refl)) }
+  pub onto_start : (start : ℕ) (none : M) → Onto start none start none
+  onto_start start none = record { to = λ r s. s }
 
-  pub ends_at : (i : ℕ) (m : C) → x.end ≤ i → Scan (x.ended i m) i m
-  ends_at i m le = record { count = 0; says = (le, refl) }
+  pub onto_next : (start : ℕ) (none : M) (i k : ℕ) (l m : M) → Onto start none i l → i < x.end → x.Next i l k m
+      → Onto start none k m
+  onto_next start none i k l m o lt h =
+      record { to = λ r s. o.to r (record { count = suc s.count; says = (lt, inr (k, m, h, s.says)) }) }
 
-  -- what a scan up to a place where a part ends tells of it
-  abbrev Told : R → V → ℕ → C → Type 0
-  Told r a j m = (x.Bad a × (r ≡ x.stopped)) ⊎ (x.Good a × Scan r j (x.add m (x.worth a)))
-
-  -- what a part from i to j tells of a scan that comes to i
-  abbrev pub Passed : ℕ → ℕ → V → Type 0
-  Passed i j a = (i ≤ j) × ((r : R) (m : C) → x.Fits m → j ≤ x.end → Scan r i m → Told r a j m)
-
-  -- one instruction
-  pub step : (i j : ℕ) (a : V) → i < j
-      → ((k : ℕ) (c : C) → x.Next i k c → x.Good a × (k ≡ j) × (c ≡ x.worth a)) → (x.Stops i → x.Bad a)
-      → Passed i j a
-  step i j a lt next stops = (omega (arith, lt), λ r m fits l s. go r m l s.count s.says)
+  -- one instruction of a scan
+  one : (r : Option M) (i : ℕ) (l : M) → i < x.end → Scan r i l
+      → (x.Stops i × (r ≡ None)) ⊎ ((k : ℕ) × (m : M) × x.Next i l k m × Scan r k m)
+  one r i l lt s = go s.count s.says
     where
-      go : (r : R) (m : C) → j ≤ x.end → (n : ℕ) → Says r n i m → Told r a j m
-      go r m l zero y = absurd (omega (arith, lt, l, y.0))
-      go r m l (suc n) y = ⊎_elim
-          (λ (z : x.Stops i × (r ≡ x.stopped)). inl (stops z.0, z.1))
-          (λ (z : (k : ℕ) × (c : C) × x.Next i k c × Says r n k (x.add m c)).
-          let is = next z.0 z.1 z.2 in
-          inr (
-            is.0,
-            record {
-              count = n;
-              says =
-                  subst (λ k. Says r n k (x.add m (x.worth a))) is.1
-                  (subst (λ c. Says r n z.0 (x.add m c)) is.2 z.3);
-            },
-          )) y.1
+      go : (n : ℕ) → Says r n i l → (x.Stops i × (r ≡ None)) ⊎ ((k : ℕ) × (m : M) × x.Next i l k m × Scan r k m)
+      go zero z = absurd (omega (arith, lt, z.0))
+      go (suc n) z = ⊎_elim inl
+          (λ (u : (k : ℕ) × (m : M) × x.Next i l k m × Says r n k m).
+          inr (u.0, u.1, u.2, record { count = n; says = u.3 }))
+          z.1
 
-  through : (r : R) (k : ℕ) (m : C) → x.Fits m → Told r x.folding.nothing k m → Scan r k m
-  through r k m fits (inl y) = absurd (x.clear y.0)
-  through r k m fits (inr y) = subst (λ c. Scan r k c) (x.unit m fits) y.1
+  moved : (P : ℕ → M → Type 0) (i j : ℕ) (l m : M) → i ≡ j → l ≡ m → P i l → P j m
+  moved P i j l m at is p = subst (P j) is (subst (λ k. P k l) at p)
 
-  here : (i : ℕ) → Passed i i x.folding.nothing
-  here i = (omega arith, λ r m fits l s. inr (x.good, subst (λ c. Scan r i c) (sym (x.unit m fits)) s))
+  -- what a scan tells of a part from i to j
+  abbrev Told : Option M → ℕ → ℕ → V → M → Type 0
+  Told r i j a l = (x.Bad a × (r ≡ None)) ⊎ ((m : M) × x.After i j a l m × Scan r j m)
+
+  abbrev pub Passed : ℕ → ℕ → V → Type 0
+  Passed i j a = (i ≤ j) × ((r : Option M) (l : M) → j ≤ x.end → Scan r i l → Told r i j a l)
+
+  -- an instruction, and what is behind it
+  pub enter : (i k j : ℕ) (a b : V) (g : M → M) → i < k → (x.Stops i → x.Bad a)
+      → ((l m : M) (q : ℕ) → x.Next i l q m → (q ≡ k) × (m ≡ g l)) → Passed k j b → (x.Bad b → x.Bad a)
+      → ((l n : M) → x.Next i l k (g l) → x.After k j b (g l) n → x.After i j a l n) → Passed i j a
+  enter i k j a b g lt stops next y bad law = (
+    omega (arith, lt, y.0),
+    λ r l le s. ⊎_elim
+        (λ (u : x.Stops i × (r ≡ None)). inl (stops u.0, u.1))
+        (λ (u : (q : ℕ) × (m : M) × x.Next i l q m × Scan r q m).
+        let is = next l u.1 u.0 u.2 in
+        ⊎_elim
+        (λ (v : x.Bad b × (r ≡ None)). inl (bad v.0, v.1))
+        (λ (v : (m : M) × x.After k j b (g l) m × Scan r j m).
+        inr (v.0, law l v.0 (moved (x.Next i l) u.0 k u.1 (g l) is.0 is.1 u.2) v.1, v.2))
+        (y.1 r (g l) le (moved (Scan r) u.0 k u.1 (g l) is.0 is.1 u.3)))
+        (one r i l (omega (arith, lt, le, y.0)) s),
+  )
+
+  pub here : (i j : ℕ) → i ≡ j → Passed i j x.nothing
+  here i j at = (
+    omega (arith, at),
+    λ r l le s. inr (l, x.stay i j l (omega (arith, at)), subst (λ k. Scan r k l) at s),
+  )
+
+  -- an instruction at which it stops
+  pub halt : (i j : ℕ) (a : V) → i < j → ((l m : M) (q : ℕ) → x.Next i l q m → ⊥) → x.Bad a → Passed i j a
+  halt i j a lt none bad = (
+    omega (arith, lt),
+    λ r l le s. ⊎_elim
+        (λ (u : x.Stops i × (r ≡ None)). inl (bad, u.1))
+        (λ (u : (q : ℕ) × (m : M) × x.Next i l q m × Scan r q m). absurd (none l u.1 u.0 u.2))
+        (one r i l (omega (arith, lt, le)) s),
+  )
+
+  -- one that is nothing to the scan
+  pub record Silent (i k : ℕ) : Type 0 where
+    pub past : i < k
+    pub goes : x.Stops i → ⊥
+    pub next : (l m : M) (q : ℕ) → x.Next i l q m → (q ≡ k) × (m ≡ l)
+
+  -- behind a part, and by itself
+  before : (i k j : ℕ) (a : V) → Passed i k a → Silent k j → Passed i j a
+  before i k j a y h = (
+    omega (arith, y.0, h.past),
+    λ r l le s. ⊎_elim inl
+        (λ (u : (m : M) × x.After i k a l m × Scan r k m). inr (
+          u.0,
+          x.wider i k j a l u.0 (omega (arith, h.past)) u.1,
+          ⊎_elim
+              (λ (v : x.Stops k × (r ≡ None)). absurd (h.goes v.0))
+              (λ (v : (q : ℕ) × (m : M) × x.Next k u.0 q m × Scan r q m).
+              let is = h.next u.0 v.1 v.0 v.2 in
+              moved (Scan r) v.0 j v.1 u.0 is.0 is.1 v.3)
+              (one r k u.0 (omega (arith, h.past, le)) u.2),
+        ))
+        (y.1 r l (omega (arith, h.past, le)) s),
+  )
+
+  pub silent : (i j : ℕ) (a : V) → a ≡ x.nothing → Silent i j → Passed i j a
+  silent i j a is h = subst (Passed i j) (sym is) (before i i j x.nothing (here i i refl) h)
 
   -- a part, and what follows it
-  pub join : (i k j : ℕ) (a b : V) → Passed i k a → Passed k j b → Passed i j (x.folding.both a b)
+  join : (i k j : ℕ) (a b : V) → Passed i k a → Passed k j b → Passed i j (x.both a b)
   join i k j a b y z = (
     omega (arith, y.0, z.0),
-    λ r m fits l s. ⊎_elim
-        (λ (u : x.Bad a × (r ≡ x.stopped)). inl (x.first a b u.0, u.1))
-        (λ (u : x.Good a × Scan r k (x.add m (x.worth a))). ⊎_elim
-        (λ (v : x.Bad b × (r ≡ x.stopped)). inl (x.second a b v.0, v.1))
-        (λ (v : x.Good b × Scan r j (x.add (x.add m (x.worth a)) (x.worth b))).
-        inr (x.both a b u.0 v.0, subst (λ c. Scan r j c) (x.sum m a b) v.1))
-        (z.1 r (x.add m (x.worth a)) (x.fits m a fits) l u.1))
-        (y.1 r m fits (omega (arith, l, z.0)) s),
+    λ r l le s. ⊎_elim
+        (λ (u : x.Bad a × (r ≡ None)). inl (x.first a b u.0, u.1))
+        (λ (u : (m : M) × x.After i k a l m × Scan r k m). ⊎_elim
+        (λ (v : x.Bad b × (r ≡ None)). inl (x.second a b v.0, v.1))
+        (λ (v : (n : M) × x.After k j b u.0 n × Scan r j n).
+        inr (v.0, x.joined i k j a b l u.0 v.0 y.0 z.0 u.1 v.1, v.2))
+        (z.1 r u.0 le u.2))
+        (y.1 r l (omega (arith, le, z.0)) s),
   )
 
-  -- behind a part of which nothing is told, and before one
-  pub behind : (i k j : ℕ) (a : V) → Passed i k x.folding.nothing → Passed k j a → Passed i j a
-  behind i k j a y z = (
-    omega (arith, y.0, z.0),
-    λ r m fits l s. z.1 r m fits l (through r k m fits (y.1 r m fits (omega (arith, l, z.0)) s)),
-  )
-
-  before : (i k j : ℕ) (a : V) → Passed i k a → Passed k j x.folding.nothing → Passed i j a
-  before i k j a y z = (
-    omega (arith, y.0, z.0),
-    λ r m fits l s. ⊎_elim
-        (λ (u : x.Bad a × (r ≡ x.stopped)). inl u)
-        (λ (u : x.Good a × Scan r k (x.add m (x.worth a))).
-        let far : x.Fits (x.add m (x.worth a)) = x.fits m a fits in
-        inr (u.0, through r j (x.add m (x.worth a)) far (z.1 r (x.add m (x.worth a)) far l u.1)))
-        (y.1 r m fits (omega (arith, l, z.0)) s),
-  )
-
-  -- what a scan says of a whole
-  pub said_of : (start : ℕ) (none : C) (a : V) (r : R) → Passed start x.end a → x.Fits none → Scan r start none
-      → (x.Bad a × (r ≡ x.stopped)) ⊎ (x.Good a × (r ≡ x.ended x.end (x.add none (x.worth a))))
-  said_of start none a r y fits s = ⊎_elim inl
-      (λ (u : x.Good a × Scan r x.end (x.add none (x.worth a))). inr (u.0, go u.1.count u.1.says))
-      (y.1 r none fits (omega arith) s)
-    where
-      go : (n : ℕ) → Says r n x.end (x.add none (x.worth a)) → r ≡ x.ended x.end (x.add none (x.worth a))
-      go zero z = z.1
-      go (suc n) z = absurd (omega (arith, z.0))
-
--- what is neither a fork nor a MARK is not sought
-neither : (o : Role) → is_fork o ≡ false → is_mark o ≡ false → (q : Sought) → is_sought q o ≡ false
-neither o fork mark sought.Fork = fork
-neither o fork mark sought.Mark = mark
-
-module _ {C R V : Type 0} (x : Scanner C R V) where
   abbrev ws : List ℕ
   ws = x.words
 
-  abbrev f : Folding V
-  f = x.folding
-
-  abbrev P : ℕ → ℕ → V → Type 0
-  P = Passed x
-
-  -- what is told of each instruction, by its role and by what is told of the bodies behind it
-  pub record Instructions : Type 0 where
-    pub own :
-        (i n : ℕ) (o : Role) → HasRole ws i o → own_words o ≡ Some n → 0 < n
-        → ((low high : ℕ) → back_by o low high ≡ 0) → kind_of o ≡ kind.Other
-        → ((q : Sought) → is_sought q o ≡ false)
-        → P i (i + n) f.nothing
-    pub test : (i j : ℕ) (t : Test) → ReadsTest ws i j t → P i j f.nothing
-    pub fail : f.item Fail f.nothing ≡ f.nothing
-    pub one : (t : Test) → f.item (One t) f.nothing ≡ f.nothing
-    pub at : (a : SreAtCode) → f.item (At a) f.nothing ≡ f.nothing
-    pub mark : (i n : ℕ) → HasRole ws i ToMark → P i (i + 2) (f.item (Mark n) f.nothing)
+  -- what is told of each instruction, by its role and by what is told of the body behind it
+  pub record Instructions : Type 1 where
+    -- what is nothing to the scan, by its role
+    pub Quiet : Role → Type 0
+    pub fails : Quiet ToFail
+    pub ends : Quiet ToEnd
+    pub jumps : Quiet ToJump
+    pub loops : (o : Order) → Quiet (ToLoop o)
+    pub checks : Quiet ToCheckPosition
+    pub own : (i n : ℕ) (o : Role) → HasRole ws i o → own_words o ≡ Some n → 0 < n → Quiet o → Silent i (i + n)
+    pub test : (i j : ℕ) (t : Test) → ReadsTest ws i j t → Silent i j
+    pub fail : x.item Fail ≡ x.nothing
+    pub one : (t : Test) → x.item (One t) ≡ x.nothing
+    pub at : (a : SreAtCode) → x.item (At a) ≡ x.nothing
+    pub mark : (i n : ℕ) → HasRole ws i ToMark → Passed i (i + 2) (x.item (Mark n))
     pub branch :
-        (i j : ℕ) (ts : Trees) → i < j → HasRole ws i ToBranch → ReadsBranch ws (i + 1) j ts
-        → P (i + 2) j (of_branch f ts) → P i j (of_item f (Branch ts))
+        (i j : ℕ) (ts : Trees) → i < j → HasRole ws i ToBranch → Passed (i + 2) j (x.branch ts)
+        → Passed i j (x.item (Branch ts))
     pub run :
-        (i low high : ℕ) (kind : RunKind) (t : Test) → HasRole ws i (ToRun kind) → Word ws (i + 2) low
-        → Word ws (i + 3) high → P i (i + 4) (of_item f (Run kind low high t))
+        (i low high : ℕ) (kind : RunKind) (t : Test) → HasRole ws i (ToRun kind)
+        → Passed i (i + 4) (x.item (Run kind low high t))
     pub loop :
         (i j : ℕ) (o : Order) (low high : ℕ) (body : Tree) → i < j → HasRole ws i ToRepeat
-        → Operands ws i j (Loop o low high body) → P (i + 4) j (of_tree f body)
-        → P i j (of_item f (Loop o low high body))
+        → Operands ws i j (Loop o low high body) → Passed (i + 4) j (x.tree body)
+        → Passed i j (x.item (Loop o low high body))
+    -- an atomic scope, up to where its body ends
     pub possessive :
-        (i j low high : ℕ) (body : Tree) → i < j → HasRole ws i ToRepeatPossessively
-        → Operands ws i j (PossessiveLoop low high body) → P (i + 4) j (of_tree f body)
-        → P i j (of_item f (PossessiveLoop low high body))
+        (i low high : ℕ) (body : Tree) → HasRole ws i ToRepeatPossessively → Word ws (i + 2) low
+        → Word ws (i + 3) high → Passed (i + 4) (skip ws (i + 1)) (x.tree body)
+        → Passed i (skip ws (i + 1)) (x.item (PossessiveLoop low high body))
     pub atomic :
-        (i j : ℕ) (body : Tree) → i < j → HasRole ws i ToGroupAtomically → Operands ws i j (Atomic body)
-        → P (i + 2) j (of_tree f body) → P i j (of_item f (Atomic body))
+        (i e : ℕ) (body : Tree) → HasRole ws i ToGroupAtomically → e + 1 ≡ skip ws (i + 1)
+        → Passed (i + 2) e (x.tree body) → Passed i e (x.item (Atomic body))
     pub look :
-        (i j : ℕ) (sign : Sign) (back : ℕ) (body : Tree) → i < j → HasRole ws i (ToLook sign)
-        → Operands ws i j (Look sign back body) → P (i + 3) j (of_tree f body)
-        → P i j (of_item f (Look sign back body))
+        (i e : ℕ) (sign : Sign) (back : ℕ) (body : Tree) → HasRole ws i (ToLook sign) → e + 1 ≡ skip ws (i + 1)
+        → Word ws (i + 2) back → Passed (i + 3) e (x.tree body) → Passed i e (x.item (Look sign back body))
     pub reference :
-        (i j : ℕ) (fold : Fold) (g : ℕ) → i < j → HasRole ws i ToRefer → ReadsItem ws i j (Reference fold g)
-        → P i j (of_item f (Reference fold g))
+        (i : ℕ) (fold : Fold) (g : ℕ) → HasRole ws i ToRefer → Word ws (i + 1) g
+        → Passed i (i + 2) (x.item (Reference fold g))
     pub exists :
-        (i j g : ℕ) (there : Tree) → i < j → HasRole ws i ToCheckGroup → P i j (of_item f (Exists g there))
+        (i j g : ℕ) (there : Tree) → i < j → HasRole ws i ToCheckGroup → Passed i j (x.item (Exists g there))
     pub exists_else :
         (i j g : ℕ) (there absent : Tree) → i < j → HasRole ws i ToCheckGroup
-        → P i j (of_item f (ExistsElse g there absent))
+        → Passed i j (x.item (ExistsElse g there absent))
 
   module _ (h : Instructions) where
     past : (y : Item) (i j : ℕ) → ReadsItem ws i j y → i < j
     past y i j w = operands_past y ws i j w.1
 
     -- what ends a body, and an alternative
-    success : (i k j : ℕ) (a : V) → P i k a → Opcode ws k opcode.SUCCESS → j ≡ k + 1 → P i j a
+    success : (i k j : ℕ) (a : V) → Passed i k a → Opcode ws k opcode.SUCCESS → k + 1 ≡ j → Passed i j a
     success i k j a y o at =
-        before x i k j a y
-        (subst (λ m. P k m f.nothing) (sym at)
-        (h.own k 1 ToEnd (role_here ws k opcode.SUCCESS ToEnd o refl) refl (omega arith) (λ m n. refl) refl
-        (neither _ refl refl)))
+        before i k j a y
+        (subst (Silent k) at (h.own k 1 ToEnd (role_here ws k opcode.SUCCESS ToEnd o refl) refl (omega arith) h.ends))
 
-    jump : (i k j : ℕ) (a : V) → P i k a → Opcode ws k opcode.JUMP → j ≡ k + 3 → P i j a
+    jump : (i k j : ℕ) (a : V) → Passed i k a → Opcode ws k opcode.JUMP → k + 3 ≡ j → Passed i j a
     jump i k j a y o at =
-        before x i k j a y
-        (subst (λ m. P k m f.nothing) (sym at)
-        (h.own k 3 ToJump (role_here ws k opcode.JUMP ToJump o refl) refl (omega arith) (λ m n. refl) refl
-        (neither _ refl refl)))
+        before i k j a y
+        (subst (Silent k) at (h.own k 3 ToJump (role_here ws k opcode.JUMP ToJump o refl) refl (omega arith) h.jumps))
 
     mutual
-      pub tree_walked : (u : Tree) (i j : ℕ) → Reads ws i j u → P i j (of_tree f u)
-      tree_walked Empty i j w = subst (λ k. P i k f.nothing) w (here x i)
+      pub tree_walked : (u : Tree) (i j : ℕ) → Reads ws i j u → Passed i j (x.tree u)
+      tree_walked Empty i j w = subst (Passed i j) (sym x.empty) (here i j w)
       tree_walked (Then y u) i j w =
-          join x i w.0 j (of_item f y) (of_tree f u) (item_walked y i w.0 w.1) (tree_walked u w.0 j w.2)
+          subst (Passed i j) (sym (x.then y u))
+          (join i w.0 j (x.item y) (x.tree u) (item_walked y i w.0 w.1) (tree_walked u w.0 j w.2))
 
-      item_walked : (y : Item) (i j : ℕ) → ReadsItem ws i j y → P i j (of_item f y)
+      item_walked : (y : Item) (i j : ℕ) → ReadsItem ws i j y → Passed i j (x.item y)
       item_walked Fail i j w =
-          rw (h.fail, w.1)
-          (h.own i 1 ToFail (item_here ws i j Fail w) refl (omega arith) (λ m n. refl) refl (neither _ refl refl))
-      item_walked (One u) i j w = rw (h.one u) (h.test i j u w)
+          silent i j (x.item Fail) h.fail
+          (subst (Silent i) (sym w.1) (h.own i 1 ToFail (item_here ws i j Fail w) refl (omega arith) h.fails))
+      item_walked (One u) i j w = silent i j (x.item (One u)) (h.one u) (h.test i j u w)
       item_walked (At p) i j w =
-          rw (h.at p, w.1.1)
-          (h.own i 2 ToCheckPosition (item_here ws i j (At p) w) refl (omega arith) (λ m n. refl) refl
-          (neither _ refl refl))
+          silent i j (x.item (At p)) (h.at p)
+          (subst (Silent i) (sym w.1.1)
+          (h.own i 2 ToCheckPosition (item_here ws i j (At p) w) refl (omega arith) h.checks))
       item_walked (Mark n) i j w =
-          rw w.1.1 (h.mark i n (item_here ws i j (Mark n) w))
+          subst (λ k. Passed i k (x.item (Mark n))) (sym w.1.1) (h.mark i n (item_here ws i j (Mark n) w))
       item_walked (Branch ts) i j w =
-          h.branch i j ts (past (Branch ts) i j w) (item_here ws i j (Branch ts) w) w.1
-          (subst (λ k. P k j (of_branch f ts)) (omega arith) (trees_walked ts (i + 1) j w.1))
+          h.branch i j ts (past (Branch ts) i j w) (item_here ws i j (Branch ts) w)
+          (subst (λ k. Passed k j (x.branch ts)) (omega arith) (trees_walked ts (i + 1) j w.1))
       item_walked (Loop o low high body) i j w =
           let y : Item = Loop o low high body in
           let end : ℕ = skip ws (i + 1) in
           h.loop i j o low high body (past y i j w) (item_here ws i j y w) w.1
-          (before x (i + 4) end j (of_tree f body) (tree_walked body (i + 4) end w.1.3)
-          (subst (λ k. P end k f.nothing) (sym w.1.5)
+          (before (i + 4) end j (x.tree body) (tree_walked body (i + 4) end w.1.3)
+          (subst (Silent end) (sym w.1.5)
           (h.own end 1 (ToLoop o) (role_here ws end (until_opcode o) (ToLoop o) w.1.4 (until_role o)) refl
-          (omega arith) (λ m n. refl) refl (neither _ refl refl))))
+          (omega arith) (h.loops o))))
       item_walked (Run kind low high u) i j w =
           let y : Item = Run kind low high u in
           let far : i + 4 < j - 1 = test_past u ws (i + 4) (j - 1) w.1.5 in
-          success i (j - 1) j (of_item f y)
-          (before x i (i + 4) (j - 1) (of_item f y)
-          (h.run i low high kind u (item_here ws i j y w) w.1.1 w.1.2) (h.test (i + 4) (j - 1) u (w.1.4, w.1.5)))
-          w.1.6 (omega (arith, far))
+          success i (j - 1) j (x.item y)
+          (before i (i + 4) (j - 1) (x.item y) (h.run i low high kind u (item_here ws i j y w))
+          (h.test (i + 4) (j - 1) u (w.1.4, w.1.5))) w.1.6 (omega (arith, far))
       item_walked (PossessiveLoop low high body) i j w =
           let y : Item = PossessiveLoop low high body in
           let end : ℕ = skip ws (i + 1) in
-          h.possessive i j low high body (past y i j w) (item_here ws i j y w) w.1
-          (success (i + 4) end j (of_tree f body) (tree_walked body (i + 4) end w.1.3) w.1.4 w.1.5)
+          success i end j (x.item y)
+          (h.possessive i low high body (item_here ws i j y w) w.1.0 w.1.1 (tree_walked body (i + 4) end w.1.3))
+          w.1.4 (sym w.1.5)
       item_walked (Atomic body) i j w =
+          let y : Item = Atomic body in
           let far : i + 2 ≤ j - 1 = reads_within body ws (i + 2) (j - 1) w.1.1 in
-          h.atomic i j body (past (Atomic body) i j w) (item_here ws i j (Atomic body) w) w.1
-          (success (i + 2) (j - 1) j (of_tree f body) (tree_walked body (i + 2) (j - 1) w.1.1) w.1.2
-          (omega (arith, far)))
+          success i (j - 1) j (x.item y)
+          (h.atomic i (j - 1) body (item_here ws i j y w) (omega (arith, far, w.1.0))
+          (tree_walked body (i + 2) (j - 1) w.1.1)) w.1.2 (omega (arith, far))
       item_walked (Look sign back body) i j w =
           let y : Item = Look sign back body in
           let far : i + 3 ≤ j - 1 = reads_within body ws (i + 3) (j - 1) w.1.2 in
-          h.look i j sign back body (past y i j w) (item_here ws i j y w) w.1
-          (success (i + 3) (j - 1) j (of_tree f body) (tree_walked body (i + 3) (j - 1) w.1.2) w.1.3
-          (omega (arith, far)))
+          success i (j - 1) j (x.item y)
+          (h.look i (j - 1) sign back body (item_here ws i j y w) (omega (arith, far, w.1.0)) w.1.1
+          (tree_walked body (i + 3) (j - 1) w.1.2)) w.1.3 (omega (arith, far))
       item_walked (Reference fold g) i j w =
-          h.reference i j fold g (past (Reference fold g) i j w) (item_here ws i j (Reference fold g) w) w
+          let y : Item = Reference fold g in
+          subst (λ k. Passed i k (x.item y)) (sym w.1.1) (h.reference i fold g (item_here ws i j y w) w.1.0)
       item_walked (Exists g there) i j w =
           h.exists i j g there (past (Exists g there) i j w) (item_here ws i j (Exists g there) w)
       item_walked (ExistsElse g there absent) i j w =
           let y : Item = ExistsElse g there absent in
           h.exists_else i j g there absent (past y i j w) (item_here ws i j y w)
 
-      trees_walked : (ts : Trees) (q j : ℕ) → ReadsBranch ws q j ts → P (q + 1) j (of_branch f ts)
+      trees_walked : (ts : Trees) (q j : ℕ) → ReadsBranch ws q j ts → Passed (q + 1) j (x.branch ts)
       trees_walked (Only u) q j w =
           let long : q + 3 ≤ skip ws q = alternative_long ws q j (Only u) w in
-          jump (q + 1) (skip ws q - 2) j (of_tree f u) (tree_walked u (q + 1) (skip ws q - 2) w.0) w.1.0
-          (omega (arith, long, w.3))
+          subst (Passed (q + 1) j) (sym (x.only u))
+          (jump (q + 1) (skip ws q - 2) j (x.tree u) (tree_walked u (q + 1) (skip ws q - 2) w.0) w.1.0
+          (omega (arith, long, w.3)))
       trees_walked (Or u ts) q j w =
           let long : q + 3 ≤ skip ws q = alternative_long ws q j (Or u ts) w in
-          join x (q + 1) (skip ws q + 1) j (of_tree f u) (of_branch f ts)
-          (jump (q + 1) (skip ws q - 2) (skip ws q + 1) (of_tree f u) (tree_walked u (q + 1) (skip ws q - 2) w.0)
+          subst (Passed (q + 1) j) (sym (x.or u ts))
+          (join (q + 1) (skip ws q + 1) j (x.tree u) (x.branch ts)
+          (jump (q + 1) (skip ws q - 2) (skip ws q + 1) (x.tree u) (tree_walked u (q + 1) (skip ws q - 2) w.0)
           w.1.0 (omega (arith, long)))
-          (trees_walked ts (skip ws q) j w.2)
+          (trees_walked ts (skip ws q) j w.2))
+
+    -- what a scan of a tree from the start says where it stops, and at the end
+    module _ (start i : ℕ) (none l : M) (o : Onto start none i l) (u : Tree) (w : Reads ws start x.end u) where
+      pub walk_stops : i < x.end → x.Stops i → x.Bad (x.tree u)
+      walk_stops lt stops =
+          by ((tree_walked u start x.end w).1 None none (omega arith)
+          (o.to None (record { count = 1; says = (lt, inl (stops, refl)) })))
+        where
+          over : (n : ℕ) (m : M) → Says None n x.end m → ⊥
+          over zero m z = let no : None ≡ Some m = z.1 in absurd (cc)
+          over (suc n) m z = omega (arith, z.0)
+
+          by : Told None start x.end (x.tree u) none → x.Bad (x.tree u)
+          by (inl z) = z.0
+          by (inr z) = absurd (over z.2.count z.0 z.2.says)
+
+      pub walk_ends : x.end ≤ i → x.After start x.end (x.tree u) none l
+      walk_ends le =
+          by ((tree_walked u start x.end w).1 (Some l) none (omega arith)
+          (o.to (Some l) (record { count = 0; says = (le, refl) })))
+        where
+          last : (n : ℕ) (m : M) → Says (Some l) n x.end m → m ≡ l
+          last zero m z = let same : Some l ≡ Some m = z.1 in cc
+          last (suc n) m z = absurd (omega (arith, z.0))
+
+          by : Told (Some l) start x.end (x.tree u) none → x.After start x.end (x.tree u) none l
+          by (inl z) = let no : Some l ≡ None = z.1 in absurd (cc)
+          by (inr z) =
+              subst (x.After start x.end (x.tree u) none) (last z.2.count z.0 z.2.says) z.1

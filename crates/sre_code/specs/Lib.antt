@@ -8,9 +8,8 @@ pub mod FirstSets
 pub mod AsciiSet
 pub mod AsciiSets
 pub mod Instructions
-pub mod Sought
-pub mod UnmarkedRegions
-pub mod PlainItems
+pub mod Summaries
+pub mod SlotScans
 pub mod RegionWords
 pub mod StepBounds
 pub mod Saturating

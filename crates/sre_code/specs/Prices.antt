@@ -14,7 +14,7 @@ use Rattle.sre_model.specs.Folding.{of_item}
 use Rattle.sre_model.specs.Nesting.{nesting, by_nesting}
 use Rattle.sre_model.specs.TreePrices.{steps_of, item_steps, other_ends, scan_price, cost_of, item_cost, most_steps}
 use Rattle.sre_code.specs.Saturating.{Held}
-use Rattle.sre_code.specs.Instructions.{StandsBehind, NoneBehind}
+use Rattle.sre_code.specs.Instructions.{Behind, NoneBehind}
 use Rattle.sre_code.specs.declared.code.prices.Price.{Price}
 use Rattle.sre_code.specs.declared.code.prices.Prices.{Prices}
 use Rattle.sre_code.specs.declared.code.prices.PricedItem.{PricedItem}
@@ -122,9 +122,9 @@ abbrev pub ItemPriced : ℕ → ℕ → Item → ℕ → Option PricedItem → T
 ItemPriced e depth x j (Some p) = (p.behind ≡ j) × ((y : Price) × IsItemPrice e x y × IsHeld y p.price)
 ItemPriced e depth x j None = depth < of_item by_nesting x
 
--- what is at i takes one step, or is a reference or a condition
+-- what is at i takes one step, or is a condition
 abbrev pub StraightPriced : List ℕ → ℕ → Option PricedItem → Type 0
-StraightPriced ws i (Some p) = StandsBehind ws i p.behind × (p.price ≡ straight_price 1)
+StraightPriced ws i (Some p) = Behind ws i p.behind × (p.price ≡ straight_price 1)
 StraightPriced ws i None = NoneBehind ws i
 
 -- a repeat of one character at i

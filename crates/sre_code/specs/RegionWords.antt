@@ -1,17 +1,10 @@
--- Code words of atomic scopes, which are atomic groups, lookarounds and possessive loops: where a body begins and ends.
+-- Code words of atomic scopes, which are atomic groups, lookarounds and possessive loops: where a body ends.
 -- Definitions for the check's contracts; what sre_engine makes public does not rest on it.
 use Rattle.std.specs.Prelude.{ℕ, ◌+◌, ◌-◌, ◌≡◌, List, Option, Some, None}
 use Rattle.sre_chars.specs.declared.constants.SreOpcode.{SreOpcode}
 use Rattle.sre_chars.specs.declared.constants.SreOpcode.TheVariants as opcode
 use Rattle.sre_model.specs.Roles.{Role, ToRepeatPossessively, ToGroupAtomically, ToLook, role}
 use Rattle.sre_model.specs.Grammar.{Opcode, skip}
-
--- how far behind the opcode of a region its body begins; 0 for others
-abbrev pub body_offset : Role → ℕ
-body_offset ToRepeatPossessively = 4
-body_offset ToGroupAtomically = 2
-body_offset (ToLook sign) = 3
-body_offset _ = 0
 
 -- where the SUCCESS stands that ends a region's body, by where its skip leads: there, or before it; None for others
 abbrev pub closing_place : Role → ℕ → Option ℕ

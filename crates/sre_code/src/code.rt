@@ -4,7 +4,7 @@
 //! tables. The grammar relates at most one tree to it, and demands only a valid skip of an INFO block.
 //!
 //! [`Code::check`] reads the items once from left to right, with an explicit stack of open parts. On the way it adds up
-//! the least width of a match. Two scans without a stack then compute [`Code::refers`], [`Code::asked_from`] and
+//! the least width of a match. A scan without a stack then computes [`Code::refers`], [`Code::asked_from`] and
 //! [`Code::longest_lookbehind`]. At last the claims of the INFO block are compared with the first items.
 
 ghost use Rattle.std.specs.Prelude.{◌≡◌, ◌≢◌, ◌≤◌, ◌-◌, ◌^◌, false, length, IfOk, IfErr, OnOk, IfSome, None, min};
@@ -14,13 +14,13 @@ ghost use Rattle.sre_model.specs.References as references;
 ghost use Rattle.sre_model.specs.LooksBehind as looks_behind;
 ghost use Rattle.sre_model.specs.MarksSet.{marks_in_regions};
 ghost use Rattle.sre_code.specs.Hinted.{Confirmed};
+ghost use Rattle.sre_code.specs.Summaries.{IsSummary};
 ghost use Rattle.sre_model.specs.Grammar.{AreItems, IsCode, HasOneTree, behind_block};
 ghost use Rattle.sre_code.specs.Refusals.{place_of};
 ghost use Rattle.sre_code.specs.StepBounds.{IsStepBound, HasNoStepBound};
 ghost use Rattle.sre_code.specs.MostSlots.{AreMostSlots, HasTooManySlots};
 ghost use Rattle.sre_growth.specs.Refusal.{Refused};
 
-mod asked;
 mod block;
 pub(crate) mod borders;
 mod bounds;
@@ -34,7 +34,6 @@ mod error;
 mod first_set;
 mod instructions;
 mod item;
-mod looks_behind;
 mod marked_regions;
 mod part;
 mod prefix;
@@ -43,14 +42,15 @@ mod region;
 mod repeat;
 mod set;
 mod slots;
-mod sought;
 mod step;
+mod summary;
 mod words;
 
 use check::check_in;
 pub use error::CodeError;
 use sre_chars::string::{LentTable, UniTable};
 use std::alloc::Global;
+use summary::{Summary, summarize};
 
 /// Search hints: what the INFO block claims and the tree confirms. A hint is present exactly if it is confirmed.
 #[derive(Clone, Copy, PartialEq, Eq, Debug)]
@@ -230,6 +230,14 @@ impl<'a> Code<'a> {
         self.asked_from
     }
 
+    // What one scan computes of the items.
+    #[inline(always)]
+    fn summary(&self) -> Summary
+        ensures { (tree : Tree) → Whole (words_of self.now) tree → IsSummary tree result }
+    {
+        summarize(self.items())
+    }
+
     /// The greatest group that a back-reference of the code refers to, counted from 0. It is 4294967295 if the code has
     /// a conditional, and 0 if it has neither.
     ///
@@ -246,7 +254,7 @@ impl<'a> Code<'a> {
         ensures { (tree : Tree) → Whole (words_of self.now) tree
             → result ≡ min references.no_group (references.asked_to tree) }
     {
-        asked::asked(self.items()).to
+        self.summary().to
     }
 
     /// The length, in characters, of the longest lookbehind of the code; 0 if it has none. It means nothing if the code
@@ -301,7 +309,7 @@ impl<'a> Code<'a> {
         ensures { (tree : Tree) → Whole (words_of self.now) tree → references.refers tree ≡ false
             → result ≡ min (looks_behind.backs tree) (2 ^ 64 - 1) }
     {
-        looks_behind::backs(self.items())
+        self.summary().backs
     }
 
     /// The greatest number of counter states at an address: the product of the states of the loops around it. Those of

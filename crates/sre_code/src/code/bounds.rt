@@ -1,7 +1,7 @@
 //! The step bound of a code for texts of so many characters, if it is known.
 //!
-//! A first scan counts the counter states of codes whose atomic scopes do not branch. If it fails, and no atomic scope
-//! sets a capture, a second scan counts those of codes whose scopes may branch.
+//! A summary tells whether an atomic scope may branch and whether one sets a capture. If not both, a second scan counts
+//! the counter states.
 
 ghost use Rattle.std.specs.Prelude.{◌≡◌, ◌+◌, ℕ, ◌-◌, ◌*◌, ◌^◌, length, min, nat_le, true, false, IfSome, ◌≤◌};
 ghost use Rattle.sre_model.specs.Tree.{Tree};
@@ -13,9 +13,9 @@ ghost use Rattle.sre_code.specs.Bounds.{CountedTold, BoundTold, NumberBy, AreWho
 ghost use Rattle.sre_code.specs.Prices.{AreHeld};
 ghost use Rattle.sre_code.specs.Saturating.{Held};
 
-use crate::code::marked_regions::regions_set_marks;
 use crate::code::prices::{Prices, cost_before, prices_of};
-use crate::code::slots::{Regions, scan};
+use crate::code::slots::scan;
+use crate::code::summary::summarize;
 
 /// The most counter states of an address at which failures are memoized.
 const MOST_SLOTS: u64 = 1 << 24;
@@ -109,20 +109,14 @@ fn count(items: &[u32]) -> Option<Counted>
     ensures told { (tree : Tree) → WholeItems items.now tree → CountedTold tree result }
     ensures few { IfSome result (λ c. c.slots ≤ 2 ^ 24) }
 {
-    let end = items.len().saturating_sub(1);
-    if let Some(straight) = scan(items, 0, end, MOST_SLOTS, Regions::Straight) {
-        return Some(Counted {
-            slots: straight.slots,
-            sides: 1,
-        });
-    }
-    if regions_set_marks(items) {
+    let sum = summarize(items);
+    if sum.refers || (sum.forks && sum.marks) {
         return None;
     }
-    match scan(items, 0, end, MOST_SLOTS, Regions::All) {
-        Some(forked) => Some(Counted {
-            slots: forked.slots,
-            sides: 2,
+    match scan(items, 0, items.len().saturating_sub(1), MOST_SLOTS) {
+        Some(slots) => Some(Counted {
+            slots,
+            sides: if sum.forks { 2 } else { 1 },
         }),
         None => None,
     }

@@ -7,9 +7,9 @@ ghost use Rattle.sre_code.specs.Refusals.{place_of};
 ghost use Rattle.sre_code.specs.Codes.{words_of, uni_of};
 ghost use Rattle.sre_growth.specs.Refusal.{Refused};
 
-use crate::code::asked::asked;
 use crate::code::descent::descend;
-use crate::code::{Code, CodeError, block, claims, looks_behind};
+use crate::code::summary::summarize;
+use crate::code::{Code, CodeError, block, claims};
 use sre_chars::string::LentTable;
 use std::alloc::Allocator;
 
@@ -33,14 +33,14 @@ pub fn check_in<'a, A: Allocator + Copy>(
         Ok(least) => least,
         Err(error) => return Err(error.moved(length)),
     };
-    let longest = looks_behind::longest_lookbehind(items);
+    let sum = summarize(items);
     Ok(Code {
         words,
         items,
         uni,
         hints: claims::confirmed(words, length, uni, items, least),
-        refers: longest.is_none(),
-        asked_from: asked(items).from,
-        longest_lookbehind: longest.unwrap_or(u32::MAX),
+        refers: sum.refers,
+        asked_from: sum.from,
+        longest_lookbehind: sum.longest,
     })
 }

@@ -3,11 +3,10 @@
 //! An atomic scope is an atomic group, a lookaround or a possessive loop. After its opcode comes a skip, which leads to
 //! the SUCCESS that ends the body, or past it.
 //!
-//! A first scan goes from one instruction to the next, and past each scope whose body has no MARK. Without a stack it
-//! cannot pass a conditional, so it returns `true` if the items refer to groups. Then a second scan goes word by word.
-//! It may take operands for a scope or a MARK, but it misses none.
+//! Without a stack the scan of a summary cannot pass a conditional, so its answer is then `true`. A second scan goes
+//! word by word. It may take operands for a scope or a MARK, but it misses none.
 
-ghost use Rattle.std.specs.Prelude.{◌≡◌, ◌<◌, ◌≤◌, ◌+◌, ℕ, false, length, IfSome};
+ghost use Rattle.std.specs.Prelude.{◌≡◌, ◌<◌, ◌≤◌, ◌+◌, ℕ, false, length};
 ghost use Rattle.sre_chars.specs.declared.constants.SreOpcode.TheVariants as opcode;
 ghost use Rattle.sre_model.specs.Tree.{Tree};
 ghost use Rattle.sre_model.specs.Roles.{role};
@@ -15,11 +14,8 @@ ghost use Rattle.sre_model.specs.Grammar.{Opcode, WholeItems};
 ghost use Rattle.sre_model.specs.MarksSet.{marks_in_regions};
 ghost use Rattle.sre_model.specs.References.{refers};
 ghost use Rattle.sre_code.specs.RegionWords.{closing_place, RegionWord};
-ghost use Rattle.sre_code.specs.UnmarkedRegions.{UnmarkedAt, MarkedOrRefers};
 
-use crate::code::instructions::next_place;
-use crate::code::region::body_offset;
-use crate::code::sought::{Sought, has_or_refers};
+use crate::code::summary::summarize;
 use crate::code::words;
 use crate::operands::word_or_zero;
 use sre_chars::constants::SreOpcode;
@@ -83,40 +79,6 @@ fn may_set_marks(items: &[u32]) -> bool
     false
 }
 
-/// The address of the instruction after the one at `place`, or after the atomic scope that begins there. `None` if that
-/// scope sets a capture or refers to a group, or for a back-reference or a conditional.
-fn next_unmarked(words: &[u32], place: usize) -> Option<usize>
-    ensures told { UnmarkedAt words.now place result }
-    ensures forward { IfSome result (λ k. place < k) }
-{
-    let Ok(code) = words::opcode(words, place) else {
-        return None;
-    };
-    let tail = place + 1 + word_or_zero(words, place + 1) as usize;
-    let Some(end) = closing_place(code, tail) else {
-        return next_place(words, place);
-    };
-    if has_or_refers(words, place + body_offset(code), end, Sought::Mark) {
-        return None;
-    }
-    Some(end + 1)
-}
-
-/// Whether an atomic scope sets a capture, or the items refer to groups; SUCCESS is the last word.
-fn set_marks_or_refer(items: &[u32]) -> bool
-    ensures { MarkedOrRefers items.now result }
-{
-    let last = items.len().saturating_sub(1);
-    let mut place = 0;
-    'instruction: while place < last {
-        let Some(behind) = next_unmarked(items, place) else {
-            return true;
-        };
-        place = behind;
-    }
-    false
-}
-
 /// Whether an atomic scope sets a capture; SUCCESS is the last word. It may be `true` without one if the items refer to
 /// groups.
 pub fn regions_set_marks(items: &[u32]) -> bool
@@ -124,5 +86,5 @@ pub fn regions_set_marks(items: &[u32]) -> bool
     ensures told { (tree : Tree) → WholeItems items.now tree → refers tree ≡ false
         → result ≡ marks_in_regions tree }
 {
-    set_marks_or_refer(items) && may_set_marks(items)
+    summarize(items).marks && may_set_marks(items)
 }

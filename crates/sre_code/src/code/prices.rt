@@ -13,7 +13,7 @@ ghost use Rattle.sre_code.specs.Prices.{run_ends, scope_price, loop_price, posse
 ghost use Rattle.sre_code.specs.Prices.{BodyPriced, ArePriced, StraightPriced, RunPriced, LoopPriced, PossessivePriced};
 ghost use Rattle.sre_code.specs.Prices.{ScopePriced, BranchPriced, PricedAt};
 
-use crate::code::instructions::next_place;
+use crate::code::instructions::next;
 use crate::code::slots::{counted_to, loop_slots};
 use crate::code::words;
 use crate::operands::word_or_zero;
@@ -220,8 +220,8 @@ fn one_step(words: &[u32], place: usize) -> Option<PricedItem>
     ensures told { StraightPriced words.now place result }
     ensures forward { IfSome result (λ p. place < p.behind) }
 {
-    match next_place(words, place) {
-        Some(behind) => Some(PricedItem {
+    match next(words, place) {
+        Some((behind, _)) => Some(PricedItem {
             behind,
             price: straight(1),
         }),

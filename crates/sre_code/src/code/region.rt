@@ -2,28 +2,13 @@
 //! <SUCCESS>`, also with ASSERT_NOT, leads past the SUCCESS. That of `<POSSESSIVE_REPEAT> <skip> <least count>
 //! <greatest count> <items> <SUCCESS>` leads to it.
 
-ghost use Rattle.std.specs.Prelude.{◌≡◌};
 ghost use Rattle.sre_model.specs.Grammar.{Opcode};
-ghost use Rattle.sre_model.specs.Roles.{role};
-ghost use Rattle.sre_code.specs.RegionWords.{body_offset};
 ghost use Rattle.sre_code.specs.Steps.{Gives, ItemAt, LookAt, Closing};
 
 use crate::code::error::CodeError;
 use crate::code::step::{Part, Step};
 use crate::code::words;
 use sre_chars::constants::SreOpcode;
-
-/// The distance in words from the opcode of an atomic scope to its body; 0 for another opcode.
-pub fn body_offset(code: SreOpcode) -> usize
-    ensures { result ≡ body_offset (role code) }
-{
-    match code {
-        SreOpcode::POSSESSIVE_REPEAT => 4,
-        SreOpcode::ATOMIC_GROUP => 2,
-        SreOpcode::ASSERT | SreOpcode::ASSERT_NOT => 3,
-        _ => 0,
-    }
-}
 
 /// Reads the item, which opens its body.
 #[tactic(auto, using(crate::proofs::ReadRegions::atomic_group_laws))]

@@ -1,38 +1,43 @@
 use Rattle.std.proofs.Common.{arith, refl, sym, subst, ◌+◌}
 use Rattle.std.proofs.lemmas.Grind.{common_steps}
-use Rattle.sre_code.specs.PlainItems.{ToldAt}
-use Rattle.sre_code.proofs.ScanningLoops.{onto_next, scan_stops, scan_ends}
-use Rattle.sre_code.proofs.PassedParts.{nothing_left, loop_stops, loop_passed}
+use Rattle.sre_code.specs.SlotScans.{ToldAt}
+use Rattle.sre_code.proofs.ScanningLoops.{scanned_start, scanned_next, scan_stops, scan_ends, nothing_left, loop_stops}
+use Rattle.sre_code.proofs.ScanningLoops.{loop_passed}
 use Rattle.sre_code.proofs.code.slots.+plain.Goals as goal
 
 pub looped-returns-then-left-eq0-clause-told : goal.looped-returns-then-left-eq0-clause-told
 looped-returns-then-left-eq0-clause-told t c =
     let ws = c.args.words.now in
     let i = c.args.place in
-    loop_stops c.args.regions ws c.args.most i c.word_or_zero.result c.word_or_zero-2.result c.word_or_zero-3.result
-    c.loop_slots-slots.result 0 c.word_or_zero.ensures c.word_or_zero-2.ensures c.word_or_zero-3.ensures
-    c.loop_slots-slots.ensures (sym c.if-left-eq0.true)
-    (nothing_left c.args.regions ws (i + 4) (i + 1 + c.word_or_zero.result))
+    loop_stops ws i c.word_or_zero-2.result c.word_or_zero-3.result c.loop_slots-slots.result c.word_or_zero-2.ensures
+    c.word_or_zero-3.ensures c.loop_slots-slots.ensures c.args.most c.word_or_zero.result 0 c.word_or_zero.ensures
+    (sym c.if-left-eq0.true) (nothing_left ws (i + 4) (i + 1 + c.word_or_zero.result))
 
 pub looped-returns-in-Some-clause-told : goal.looped-returns-in-Some-clause-told
 looped-returns-in-Some-clause-told t c =
-    loop_passed c.args.regions c.args.words.now c.args.most c.args.place c.word_or_zero.result c.word_or_zero-2.result
-    c.word_or_zero-3.result c.loop_slots-slots.result _ c.word_or_zero.ensures c.word_or_zero-2.ensures
-    c.word_or_zero-3.ensures c.loop_slots-slots.ensures refl c.in-Some.body c.in-Some.ensures.told
+    loop_passed c.args.words.now c.args.place c.word_or_zero-2.result c.word_or_zero-3.result
+    c.loop_slots-slots.result c.word_or_zero-2.ensures c.word_or_zero-3.ensures c.loop_slots-slots.ensures c.args.most
+    c.word_or_zero.result _ c.word_or_zero.ensures refl c.in-Some.body c.in-Some.ensures.told
 
 pub looped-returns-in-None-clause-told : goal.looped-returns-in-None-clause-told
 looped-returns-in-None-clause-told t c =
-    loop_stops c.args.regions c.args.words.now c.args.most c.args.place c.word_or_zero.result c.word_or_zero-2.result
-    c.word_or_zero-3.result c.loop_slots-slots.result _ c.word_or_zero.ensures c.word_or_zero-2.ensures
-    c.word_or_zero-3.ensures c.loop_slots-slots.ensures refl c.in-None.ensures.told
+    loop_stops c.args.words.now c.args.place c.word_or_zero-2.result c.word_or_zero-3.result c.loop_slots-slots.result
+    c.word_or_zero-2.ensures c.word_or_zero-3.ensures c.loop_slots-slots.ensures c.args.most c.word_or_zero.result _
+    c.word_or_zero.ensures refl c.in-None.ensures.told
+
+pub scan-part-init : goal.scan-part-init
+scan-part-init t c = record {
+  some = c.requires.some;
+  onto = scanned_start c.args.most c.args.words.now c.args.start c.args.end c.requires.some;
+  few = c.requires.some;
+}
 
 pub scan-returns-in_default-clause-told : goal.scan-returns-in_default-clause-told
 scan-returns-in_default-clause-told t c =
     let before = c.part.invariant in
-    scan_stops c.args.regions c.args.words.now c.args.most c.args.start c.args.end before.some c.part.place
-    c.part.slots before.onto c.part-test.true
-    (subst (λ r. ToldAt c.args.regions c.args.most c.args.words.now c.part.place r) c.in_default.is
-    c.part-in-part.ensures.told)
+    scan_stops c.args.most c.args.words.now c.args.start c.args.end before.some c.part.place c.part.slots before.onto
+    c.part-test.true
+    (subst (λ r. ToldAt c.args.most c.args.words.now c.part.place r) c.in_default.is c.part-in-part.ensures.told)
 
 pub scan-part-preserved : goal.scan-part-preserved
 scan-part-preserved t c =
@@ -40,8 +45,8 @@ scan-part-preserved t c =
     record {
       some = before.some;
       onto =
-          onto_next c.args.regions c.args.words.now c.args.most c.args.start c.args.end before.some c.part.place
-          c.part.slots c.max-slots.result c.in-Some.next before.onto c.part-test.true c.in-Some.ensures.told
+          scanned_next c.args.most c.args.words.now c.args.start c.args.end before.some c.part.place c.part.slots
+          c.max-slots.result c.in-Some.next before.onto c.part-test.true c.in-Some.ensures.told
           (grind (arith, common_steps));
       few = grind (arith, common_steps);
     }
@@ -49,5 +54,5 @@ scan-part-preserved t c =
 pub scan-returns-clause-told : goal.scan-returns-clause-told
 scan-returns-clause-told t c =
     let before = c.part.invariant in
-    scan_ends c.args.regions c.args.words.now c.args.most c.args.start c.args.end before.some c.part.place
-    c.part.slots before.onto c.part-test.false
+    scan_ends c.args.most c.args.words.now c.args.start c.args.end before.some c.part.place c.part.slots before.onto
+    c.part-test.false

@@ -1,5 +1,5 @@
 use Rattle.std.proofs.Common.{◌≤◌, ◌*◌, ◌+◌, ◌-◌}
-use Rattle.sre_code.proofs.ScanningLoops.{Onto}
+use Rattle.sre_code.proofs.ScanningLoops.{Scanned}
 use Rattle.sre_code.proofs.code.slots.+plain.Given as goal
 
 -- a scan stands above the instruction that it passes, and that above the loop that it is
@@ -18,6 +18,6 @@ decreases-scan-part l = l.end - l.place
 abbrev pub invariant-scan-part : goal.invariant-scan-part
 invariant-scan-part l = record {
   some : 1 ≤ l.most;
-  onto : Onto l.regions l.words l.most l.start l.end some l.place l.slots;
+  onto : Scanned l.most l.words l.start l.end some l.place l.slots;
   few : l.slots ≤ l.most;
 }

@@ -1,0 +1,124 @@
+//! A summary of the items, in one scan from one instruction to the next, into each body.
+//!
+//! An atomic scope is an atomic group, a lookaround or a possessive loop. Such scopes nest, so an instruction is inside
+//! of one exactly if the farthest end of those that have begun is behind it.
+
+ghost use Rattle.std.specs.Prelude.{◌≡◌, ◌<◌, ◌+◌, length};
+ghost use Rattle.sre_model.specs.Tree.{Tree};
+ghost use Rattle.sre_model.specs.Grammar.{word, WholeItems};
+ghost use Rattle.sre_model.specs.Roles.{role};
+ghost use Rattle.sre_code.specs.Summaries.{noted, IsSummary};
+
+use crate::code::instructions::next;
+use crate::operands::word_or_zero;
+use sre_chars::constants::SreOpcode;
+
+/// No group: no pattern has so many.
+const NO_GROUP: u32 = u32::MAX;
+
+/// What a scan computes of the items.
+#[derive(Clone, Copy)]
+pub struct Summary {
+    /// Whether there is a back-reference or a conditional.
+    pub refers: bool,
+    /// The least and the greatest group that is referred to. With a conditional they are group 0 and no group, and
+    /// with neither no group and group 0.
+    pub from: u32,
+    pub to: u32,
+    /// How far the lookbehinds go back, at most and together.
+    pub longest: u32,
+    pub backs: usize,
+    /// Whether there is a MARK inside an atomic scope.
+    pub marks: bool,
+    /// Whether there is a branch, a repeat or a loop inside an atomic scope, or a possessive loop.
+    pub forks: bool,
+    /// Where the farthest atomic scope ends that has begun.
+    farthest: usize,
+}
+
+/// The summary with the instruction at `place`.
+#[inline(always)]
+fn noted(sum: Summary, words: &[u32], place: usize, code: SreOpcode) -> Summary
+    requires { place < length words.now }
+    ensures { result ≡ noted (role code) place (word words.now (place + 1)) (word words.now (place + 2)) sum }
+{
+    let first = word_or_zero(words, place + 1);
+    match code {
+        SreOpcode::MARK => Summary {
+            marks: place < sum.farthest || sum.marks,
+            ..sum
+        },
+        SreOpcode::BRANCH
+        | SreOpcode::REPEAT_ONE
+        | SreOpcode::MIN_REPEAT_ONE
+        | SreOpcode::POSSESSIVE_REPEAT_ONE
+        | SreOpcode::REPEAT => Summary {
+            forks: place < sum.farthest || sum.forks,
+            ..sum
+        },
+        SreOpcode::POSSESSIVE_REPEAT => Summary {
+            forks: true,
+            farthest: sum.farthest.max(place + 1 + first as usize),
+            ..sum
+        },
+        SreOpcode::ATOMIC_GROUP => Summary {
+            farthest: sum.farthest.max(place + first as usize),
+            ..sum
+        },
+        SreOpcode::ASSERT | SreOpcode::ASSERT_NOT => {
+            let back = word_or_zero(words, place + 2);
+            Summary {
+                farthest: sum.farthest.max(place + first as usize),
+                longest: sum.longest.max(back),
+                backs: sum.backs.saturating_add(back as usize),
+                ..sum
+            }
+        }
+        SreOpcode::GROUPREF
+        | SreOpcode::GROUPREF_IGNORE
+        | SreOpcode::GROUPREF_LOC_IGNORE
+        | SreOpcode::GROUPREF_UNI_IGNORE => Summary {
+            refers: true,
+            from: sum.from.min(first),
+            to: sum.to.max(first),
+            ..sum
+        },
+        _ => sum,
+    }
+}
+
+/// The summary of the items; SUCCESS is the last word.
+#[inline(always)]
+pub fn summarize(words: &[u32]) -> Summary
+    ensures { (tree : Tree) → WholeItems words.now tree → IsSummary tree result }
+{
+    let end = words.len().saturating_sub(1);
+    let mut place = 0;
+    let mut sum = Summary {
+        refers: false,
+        from: NO_GROUP,
+        to: 0,
+        longest: 0,
+        backs: 0,
+        marks: false,
+        forks: false,
+        farthest: 0,
+    };
+    'instruction: while place < end {
+        let Some((behind, code)) = next(words, place) else {
+            return Summary {
+                refers: true,
+                from: 0,
+                to: NO_GROUP,
+                longest: 0,
+                backs: 0,
+                marks: true,
+                forks: true,
+                farthest: 0,
+            };
+        };
+        sum = noted(sum, words, place, code);
+        place = behind;
+    }
+    sum
+}
