@@ -8,7 +8,6 @@ use Rattle.std.specs.Bool.{Decides}
 use Rattle.sre_chars.specs.Tables.{Table}
 use Rattle.sre_model.specs.Tree.{Tree, Empty, Then}
 use Rattle.sre_model.specs.Grammar.{word, skip, has_block, Reads, WholeItems}
-use Rattle.sre_model.specs.Width.{width}
 use Rattle.sre_model.proofs.Words.{opcode_within}
 use Rattle.sre_model.proofs.Places.{operands_past, reads_within}
 use Rattle.sre_model.specs.Claims.{has_flag, prefix_length, prefix_skip, prefix_words, overlap_words, has_prefix}
@@ -17,9 +16,6 @@ use Rattle.sre_model.specs.Claims.{HasFirstSet}
 use Rattle.sre_code.specs.Fronts.{HasBlock}
 use Rattle.sre_code.specs.Prefixes.{Ends, LeftAt, NoneLeft, LeftBehind}
 use Rattle.sre_code.specs.Hinted.{Confirmed}
-
-false_left : (x y : Bool) → x ≡ false → (x && y) ≡ false
-false_left x y e = ap (λ b. b && y) e
 
 false_right : (x y : Bool) → y ≡ false → (x && y) ≡ false
 false_right true y e = e
@@ -37,7 +33,7 @@ flag_clear ws bit ne =
     false_right (has_block ws) (nat_eq (word ws 2 / bit % 2) 1) clear
 
 no_flag : (ws : List ℕ) (bit : ℕ) → has_block ws ≡ false → has_flag bit ws ≡ false
-no_flag ws bit e = false_left (has_block ws) (nat_eq (word ws 2 / bit % 2) 1) e
+no_flag ws bit e = rw e refl
 
 pub by_one : (a : ℕ) → a / 1 ≡ a
 by_one a = omega arith
@@ -59,26 +55,16 @@ module _ (ws : List ℕ) where
   borders = are_overlaps (prefix_words ws) 1 (overlap_words ws)
 
   not_flagged : has_flag 1 ws ≡ false → has_prefix ws ≡ false
-  not_flagged e =
-      false_left (has_flag 1 ws && some && skips && fills) borders
-      (false_left (has_flag 1 ws && some && skips) fills
-      (false_left (has_flag 1 ws && some) skips (false_left (has_flag 1 ws) some e)))
+  not_flagged e = rw e refl
 
   not_some : some ≡ false → has_prefix ws ≡ false
-  not_some e =
-      false_left (has_flag 1 ws && some && skips && fills) borders
-      (false_left (has_flag 1 ws && some && skips) fills
-      (false_left (has_flag 1 ws && some) skips (false_right (has_flag 1 ws) some e)))
+  not_some e = rw (e, false_right (has_flag 1 ws) false refl) refl
 
   not_skips : skips ≡ false → has_prefix ws ≡ false
-  not_skips e =
-      false_left (has_flag 1 ws && some && skips && fills) borders
-      (false_left (has_flag 1 ws && some && skips) fills (false_right (has_flag 1 ws && some) skips e))
+  not_skips e = rw (e, false_right (has_flag 1 ws && some) false refl) refl
 
   not_fills : fills ≡ false → has_prefix ws ≡ false
-  not_fills e =
-      false_left (has_flag 1 ws && some && skips && fills) borders
-      (false_right (has_flag 1 ws && some && skips) fills e)
+  not_fills e = rw (e, false_right (has_flag 1 ws && some && skips) false refl) refl
 
   not_borders : borders ≡ false → has_prefix ws ≡ false
   not_borders e = false_right (has_flag 1 ws && some && skips && fills) borders e
@@ -180,15 +166,12 @@ at_end items p (Then x rest) ends r =
     sym test
 
 pub no_literal_flag : (ws : List ℕ) (t : Tree) → word ws 2 / 2 % 2 ≡ 0 → false ≡ is_literal ws t
-no_literal_flag ws t e =
-    sym (false_left (has_flag 2 ws && nat_eq (prefix_skip ws) (prefix_length ws)) (is_at_end (behind_prefix ws t))
-    (false_left (has_flag 2 ws) (nat_eq (prefix_skip ws) (prefix_length ws)) (flag_clear ws 2 (omega arith))))
+no_literal_flag ws t e = rw (flag_clear ws 2 (omega arith)) refl
 
 pub no_literal_skip : (ws : List ℕ) (t : Tree) → prefix_length ws ≢ prefix_skip ws → false ≡ is_literal ws t
 no_literal_skip ws t ne =
     let other : nat_eq (prefix_skip ws) (prefix_length ws) ≡ false = grind (arith, nat_tests) in
-    sym (false_left (has_flag 2 ws && nat_eq (prefix_skip ws) (prefix_length ws)) (is_at_end (behind_prefix ws t))
-    (false_right (has_flag 2 ws) (nat_eq (prefix_skip ws) (prefix_length ws)) other))
+    rw (other, false_right (has_flag 2 ws) false refl) refl
 
 pub literal_end : (ws items : List ℕ) (n p : ℕ) (t : Tree) → HasBlock ws n → word ws 2 / 2 % 2 ≢ 0
     → prefix_length ws ≡ prefix_skip ws → LeftAt items 0 p (behind_prefix ws) → WholeItems items t
@@ -211,12 +194,9 @@ none_confirmed ws table t e =
     let none : has_prefix ws ≡ false = not_flagged ws (no_flag ws 1 e) in
     let nothing : behind_prefix ws t ≡ None =
     ap (λ b. cond b (behind_literals (prefix_skip ws) (prefix_words ws) t) None) none in record {
-      width = sym (ap (λ b. cond b (Some (word ws 3)) None)
-          (false_left (has_block ws) (nat_le (word ws 3) (width t)) e));
+      width = rw e refl;
       prefix = sym (ap (λ o. cond (is_some o) (Some (prefix_length ws, prefix_skip ws)) None) nothing);
-      literal = sym
-          (false_left (has_flag 2 ws && nat_eq (prefix_skip ws) (prefix_length ws)) (is_at_end (behind_prefix ws t))
-          (false_left (has_flag 2 ws) (nat_eq (prefix_skip ws) (prefix_length ws)) (no_flag ws 2 e)));
+      literal = rw (no_flag ws 2 e) refl;
       first_set = (
         λ y. absurd (cc),
         λ x.

@@ -1,5 +1,5 @@
 -- What closes parts is what the grammar says.
-use Rattle.std.proofs.Common.{ℕ, ◌+◌, ◌≡◌, ◌≢◌, List, length, refl, arith}
+use Rattle.std.proofs.Common.{ℕ, ◌+◌, ◌≡◌, ◌≢◌, false, List, length, refl, arith}
 use Rattle.sre_chars.specs.Numbers.{opcode_number}
 use Rattle.sre_chars.specs.declared.constants.SreOpcode.{SreOpcode}
 use Rattle.sre_chars.specs.declared.constants.SreOpcode.TheVariants as opcode
@@ -12,20 +12,21 @@ use Rattle.sre_code.specs.declared.code.error.CodeError.TheVariants.{TrailingWor
 use Rattle.sre_code.specs.declared.code.step.Part.TheVariants.{Whole}
 use Rattle.sre_code.specs.declared.code.step.Step.TheVariants.{Past}
 use Rattle.sre_model.proofs.Words.{same_opcode, opcode_within}
-use Rattle.sre_model.proofs.Families.{no_item}
+use Rattle.sre_model.specs.Roles.{role}
+use Rattle.sre_model.proofs.Families.{no_item, is_item_role}
 
 -- SUCCESS as the last word
 pub whole_inside : (ws : List ℕ) (i : ℕ) (o : SreOpcode) → Opcode ws i o → o ≢ opcode.SUCCESS → IsInside ws Whole i
 whole_inside ws i o h ne = record { none = λ u j w c. ne (same_opcode ws i o opcode.SUCCESS h c.0) }
 
--- no item begins with SUCCESS
-success_first : (ws : List ℕ) (i k : ℕ) (t : Tree) → Opcode ws i opcode.SUCCESS → Reads ws i k t → t ≡ Empty
-success_first ws i k Empty h r = refl
-success_first ws i k (Then x t) h r =
-    absurd (no_item ws i r.0 x opcode.SUCCESS h refl r.1)
+-- where an opcode stands that begins no item, no item is read
+pub none_first : (o : SreOpcode) → is_item_role (role o) ≡ false → (ws : List ℕ) (i k : ℕ) (t : Tree) → Opcode ws i o
+    → Reads ws i k t → t ≡ Empty
+none_first o e ws i k Empty h r = refl
+none_first o e ws i k (Then x t) h r = absurd (no_item ws i r.0 x o h e r.1)
 
 pub whole_end : (ws : List ℕ) (i : ℕ) → Opcode ws i opcode.SUCCESS → IsEnd ws Whole i
-whole_end ws i h = record { only = λ k u j w t r c. success_first ws i k t h r }
+whole_end ws i h = record { only = λ k u j w t r c. none_first opcode.SUCCESS refl ws i k t h r }
 
 pub whole_exactly : (ws : List ℕ) (u i : ℕ) → Opcode ws i opcode.SUCCESS → i + 1 ≡ length ws
     → Exactly ws (Past (i + 1) u) (Closes ws Whole i u)

@@ -6,18 +6,18 @@ use Rattle.sre_chars.specs.Numbers.{opcode_number}
 use Rattle.sre_chars.specs.Tables.{Table}
 use Rattle.sre_chars.specs.declared.constants.SreOpcode.{SreOpcode}
 use Rattle.sre_chars.specs.declared.constants.SreOpcode.TheVariants as opcode
-use Rattle.sre_model.specs.Tree.{Tree, Empty, Then, Item, One, Branch, Trees, Only, Or, Literal, In, Plain, Fold, Ascii}
-use Rattle.sre_model.specs.Tree.{Locale, Unicode, SetItem}
-use Rattle.sre_model.specs.Roles.{OfSet, ToTest, ToBranch, role}
+use Rattle.sre_model.specs.Tree.{Tree, Empty, Then, Item, One, Branch, Trees, Only, Or, Literal, In, Plain}
+use Rattle.sre_model.specs.Tree.{SetItem}
+use Rattle.sre_model.specs.Roles.{ToBranch, role}
 use Rattle.sre_model.specs.FirstCharacters.{is_end}
 use Rattle.sre_model.specs.Characters.{is_member}
 use Rattle.sre_model.specs.Grammar.{Word, word, skip, Opcode, Reads, ReadsItem, ReadsBranch, ReadsSet, WholeItems}
-use Rattle.sre_model.specs.Grammar.{set_opcode, test_opcode, item_opcode}
+use Rattle.sre_model.specs.Grammar.{item_opcode}
 use Rattle.sre_model.specs.Standing.{AreWords, SetStands, HasSet}
 use Rattle.sre_model.specs.Claims.{behind_marks, TestIn, EachTestIn, FirstIn, HasFirstSet, has_flag}
 use Rattle.sre_model.proofs.Words.{word_at, word_of, word_within, word_moved, same_opcode, opcode_moved, opcode_within}
 use Rattle.sre_model.proofs.Places.{set_within, alternative_long}
-use Rattle.sre_model.proofs.Families.{HasRole, is_one, is_set, is_branch, role_here}
+use Rattle.sre_model.proofs.Families.{is_branch, role_here}
 use Rattle.sre_model.proofs.SetWords.{same_words_set, same_set_words}
 use Rattle.sre_code.specs.Fronts.{HasBlock}
 use Rattle.sre_code.specs.Reading.{NoCode, IsSet, NoSet}
@@ -80,22 +80,11 @@ module _ (ws : List ℕ) (i : ℕ) (table : Table) (set : List SetItem) where
       go end (Then (One (In Plain items)) rest) r = absurd (set_test (same_opcode ws i c opcode.IN w r.1.0))
       go end (Then x rest) r = refuted (λ p. p)
 
-plain_set : (f : Fold) → set_opcode f ≡ opcode.IN → f ≡ Plain
-plain_set Plain e = refl
-plain_set Ascii e = absurd (cc)
-plain_set Locale e = absurd (cc)
-plain_set Unicode e = absurd (cc)
-
 -- an item that is an IN
-set_first : (ws : List ℕ) (i k : ℕ) (x : Item) → Opcode ws i opcode.IN → ReadsItem ws i k x
+set_first : (ws : List ℕ) (i k : ℕ) (x : Item) → opcode.IN ≡ item_opcode x → ReadsItem ws i k x
     → (items : List SetItem) × (x ≡ One (In Plain items)) × (k ≡ skip ws (i + 1)) × SetStands ws (i + 2) (k - 1) items
-set_first ws i k x w r =
-    let set : HasRole ws i (ToTest OfSet) = role_here ws i opcode.IN (ToTest OfSet) w refl in
-    let f = is_one ws i k x set r in
-    let g = is_set ws i k f.0 set f.2.0 f.2.1 in
-    let code : Opcode ws i (set_opcode g.0) = subst (λ t. Opcode ws i (test_opcode t)) g.2 f.2.0 in
-    let plain : g.0 ≡ Plain = plain_set g.0 (same_opcode ws i (set_opcode g.0) opcode.IN code w) in
-    (g.1, f.1 ∙ ap One (g.2 ∙ ap (λ y. In y g.1) plain), g.3.0, record { items = g.3.1; ends = g.3.2 })
+set_first ws i k (One (In Plain items)) e r = (items, refl, r.1.0, record { items = r.1.1; ends = r.1.2 })
+set_first ws i k x e r = grind arith
 
 pub set_told : (ws items : List ℕ) (n i v : ℕ) (table : Table) (set : List SetItem) (told : Bool) → AreWords ws
     → AreWords items → 5 ≤ n → n ≤ length ws → Opcode items i opcode.IN → v ≡ word items (i + 1)
@@ -113,7 +102,7 @@ set_told ws items n i v table set told aw ai lo hi w e to from s = record { each
         not_at_end items end o opcode.IN x h (opcode_moved items i end opcode.IN r w) in
         absurd (cc)
     go end (Then y rest) o x h r =
-        let f = set_first items i r.0 y w r.1 in
+        let f = set_first items i r.0 y (same_opcode items i opcode.IN (item_opcode y) w r.1.0) r.1 in
         let far : i + 2 ≤ r.0 - 1 = set_within items (i + 2) (r.0 - 1) f.0 f.3.items in
         let long : 5 ≤ n - 1 = set_within ws 5 (n - 1) set s.items in
         let there : r.0 - 1 < length items = opcode_within items (r.0 - 1) opcode.FAILURE f.3.ends in
@@ -138,12 +127,18 @@ pub ruleset test_laws = (literal_told, code_refused, operand_refused, other_refu
 
 -- Alternatives
 
--- what is left of the alternatives from a length word on
+-- of the alternatives some are left from a length word on, of which the same is asked; or all were told, and 0 is there
+abbrev Left : List ℕ → ℕ → ℕ → Table → List SetItem → Trees → Type 0
+Left ws place end table set ts =
+    (rest : Trees) × ReadsBranch ws place end rest × (EachTestIn table set rest → EachTestIn table set ts)
+    × (EachTestIn table set ts → EachTestIn table set rest)
+
+abbrev Told : List ℕ → ℕ → Table → List SetItem → Trees → Type 0
+Told ws place table set ts = EachTestIn table set ts × Word ws place 0
+
 pub record AlternativesLeft (ws : List ℕ) (start place : ℕ) (table : Table) (set : List SetItem) : Type 0 where
   pub each : (end : ℕ) (ts : Trees) → ReadsBranch ws start end ts
-      → ((rest : Trees) × ReadsBranch ws place end rest × (EachTestIn table set rest → EachTestIn table set ts)
-      × (EachTestIn table set ts → EachTestIn table set rest))
-      ⊎ (EachTestIn table set ts × Word ws place 0)
+      → Left ws place end table set ts ⊎ Told ws place table set ts
 
 module _ (ws : List ℕ) (start : ℕ) (table : Table) (set : List SetItem) where
   pub alternatives_start : AlternativesLeft ws start start table set
@@ -162,9 +157,8 @@ module _ (ws : List ℕ) (start : ℕ) (table : Table) (set : List SetItem) wher
       → TellsEach ws start false (EachTestIn table set)
   alternatives_cut place l le = record {
     each = λ end ts r. ⊎_elim
-        (λ (x : (rest : Trees) × ReadsBranch ws place end rest × (EachTestIn table set rest → EachTestIn table set ts)
-        × (EachTestIn table set ts → EachTestIn table set rest)). absurd (omega (arith, there place end x.0 x.1)))
-        (λ (x : EachTestIn table set ts × Word ws place 0). absurd (omega (arith, word_within ws place 0 x.1)))
+        (λ (x : Left ws place end table set ts). absurd (omega (arith, there place end x.0 x.1)))
+        (λ (x : Told ws place table set ts). absurd (omega (arith, word_within ws place 0 x.1)))
         (l.each end ts r);
   }
 
@@ -172,10 +166,9 @@ module _ (ws : List ℕ) (start : ℕ) (table : Table) (set : List SetItem) wher
       → TellsEach ws start true (EachTestIn table set)
   alternatives_end place v l e z = record {
     each = λ end ts r. ⊎_elim
-        (λ (x : (rest : Trees) × ReadsBranch ws place end rest × (EachTestIn table set rest → EachTestIn table set ts)
-        × (EachTestIn table set ts → EachTestIn table set rest)).
+        (λ (x : Left ws place end table set ts).
         absurd (omega (arith, span_long place end v x.0 x.1 e)))
-        (λ (x : EachTestIn table set ts × Word ws place 0). (λ y. x.0, λ y. refl))
+        (λ (x : Told ws place table set ts). (λ y. x.0, λ y. refl))
         (l.each end ts r);
   }
 
@@ -187,9 +180,8 @@ module _ (ws : List ℕ) (start : ℕ) (table : Table) (set : List SetItem) wher
       → TellsEach ws start false (EachTestIn table set)
   alternatives_stop place v l e ne x = record {
     each = λ end ts r. ⊎_elim
-        (λ (y : (rest : Trees) × ReadsBranch ws place end rest × (EachTestIn table set rest → EachTestIn table set ts)
-        × (EachTestIn table set ts → EachTestIn table set rest)). refuted (λ z. none end y.0 y.1 (y.3 z)))
-        (λ (y : EachTestIn table set ts × Word ws place 0). absurd (not_last place v y.1 e ne))
+        (λ (y : Left ws place end table set ts). refuted (λ z. none end y.0 y.1 (y.3 z)))
+        (λ (y : Told ws place table set ts). absurd (not_last place v y.1 e ne))
         (l.each end ts r);
   }
     where
@@ -202,9 +194,8 @@ module _ (ws : List ℕ) (start : ℕ) (table : Table) (set : List SetItem) wher
       → AlternativesLeft ws start (place + v) table set
   alternatives_more place v l e ne x = record {
     each = λ end ts r. ⊎_elim
-        (λ (y : (rest : Trees) × ReadsBranch ws place end rest × (EachTestIn table set rest → EachTestIn table set ts)
-        × (EachTestIn table set ts → EachTestIn table set rest)). go end ts y.0 y.1 y.2 y.3)
-        (λ (y : EachTestIn table set ts × Word ws place 0). absurd (not_last place v y.1 e ne))
+        (λ (y : Left ws place end table set ts). go end ts y.0 y.1 y.2 y.3)
+        (λ (y : Told ws place table set ts). absurd (not_last place v y.1 e ne))
         (l.each end ts r);
   }
     where
@@ -214,10 +205,7 @@ module _ (ws : List ℕ) (start : ℕ) (table : Table) (set : List SetItem) wher
       go : (end : ℕ) (ts rest : Trees) → ReadsBranch ws place end rest
           → (EachTestIn table set rest → EachTestIn table set ts)
           → (EachTestIn table set ts → EachTestIn table set rest)
-          → ((left : Trees) × ReadsBranch ws (place + v) end left
-          × (EachTestIn table set left → EachTestIn table set ts)
-          × (EachTestIn table set ts → EachTestIn table set left))
-          ⊎ (EachTestIn table set ts × Word ws (place + v) 0)
+          → Left ws (place + v) end table set ts ⊎ Told ws (place + v) table set ts
       go end ts (Only t) q to from =
           inr (
             to ((x.each (skip ws place - 2) t opcode.JUMP q.0 q.1.0 refl).0 refl),

@@ -5,14 +5,14 @@ use Rattle.std.proofs.lemmas.List.{at_drop_more, at_drop_all}
 use Rattle.std.proofs.lemmas.Bool.Decides.{nat_tests}
 use Rattle.sre_chars.specs.declared.constants.SreOpcode.{SreOpcode}
 use Rattle.sre_chars.specs.declared.constants.SreOpcode.TheVariants as opcode
-use Rattle.sre_model.specs.Tree.{Tree, Empty, Then, Item, One, Mark, Literal, Fold, Plain, Ascii, Locale, Unicode}
-use Rattle.sre_model.specs.Roles.{OfLiteral, ToTest, ToMark, role}
+use Rattle.sre_model.specs.Tree.{Tree, Empty, Then, One, Mark, Literal, Plain}
+use Rattle.sre_model.specs.Roles.{role}
 use Rattle.sre_model.specs.FirstCharacters.{is_end}
-use Rattle.sre_model.specs.Grammar.{Word, word, Opcode, Reads, ReadsItem, literal_opcode, test_opcode}
+use Rattle.sre_model.specs.Grammar.{Word, word, Opcode, Reads, ReadsItem}
 use Rattle.sre_model.specs.Claims.{behind_marks, behind_adjacent, behind_spread, behind_literals, then_spread}
-use Rattle.sre_model.proofs.Words.{word_at, word_of, word_within, same_word, same_opcode, opcode_moved}
+use Rattle.sre_model.proofs.Words.{word_there, word_at, word_of, word_within, same_opcode, opcode_moved}
 use Rattle.sre_model.proofs.Places.{reads_moved}
-use Rattle.sre_model.proofs.Families.{HasRole, is_one, is_mark, is_literal, role_here}
+use Rattle.sre_model.proofs.Unique.{item_same}
 use Rattle.sre_code.specs.Prefixes.{Ends, IsLiteralAt, MarksPassed, LeftAt, NoneLeft, LeftBehind}
 
 -- Single words
@@ -31,13 +31,6 @@ pub not_at_end : (ws : List ℕ) (end : ℕ) (o p : SreOpcode) → Opcode ws end
 not_at_end ws end o p a e b = subst (λ x. is_end (role x) ≡ true) (same_opcode ws end o p a b) e
 
 -- Marks
-
--- an item that is a mark
-mark_first : (ws : List ℕ) (i k : ℕ) (x : Item) → Opcode ws i opcode.MARK → ReadsItem ws i k x
-    → (n : ℕ) × (x ≡ Mark n) × (k ≡ i + 2)
-mark_first ws i k x w r =
-    let f = is_mark ws i k x (role_here ws i opcode.MARK ToMark w refl) r in
-    (f.0, f.1, f.2.1.1)
 
 -- the items of a part behind some of its marks
 pub record SameMarks (ws : List ℕ) (i p : ℕ) : Type 0 where
@@ -66,8 +59,9 @@ marks_more ws i p s lt e = record {
         not_at_end ws end o opcode.MARK w h (opcode_moved ws p end opcode.MARK r mark) in
         absurd (cc)
     go end o (Then x rest) w h r =
-        let f = mark_first ws p r.0 x mark r.1 in
-        (rest, reads_moved ws r.0 (p + 2) end end rest f.2 refl r.2, ap (λ y. behind_marks (Then y rest)) f.1)
+        let own : ReadsItem ws p (p + 2) (Mark (word ws (p + 1))) = (mark, (word_there ws (p + 1) lt, refl)) in
+        let f = item_same x (Mark (word ws (p + 1))) ws p r.0 (p + 2) r.1 own in
+        (rest, reads_moved ws r.0 (p + 2) end end rest f.1 refl r.2, ap (λ y. behind_marks (Then y rest)) f.0)
 
 pub marks_end : (ws : List ℕ) (i p : ℕ) → SameMarks ws i p → p ≤ length ws
     → (p + 1 < length ws → word ws p ≢ 17) → MarksPassed ws i p
@@ -89,25 +83,6 @@ pub ruleset marks_laws = (marks_start, marks_more, marks_end)
 
 -- Literals
 
-plain_opcode : (f : Fold) → literal_opcode f ≡ opcode.LITERAL → f ≡ Plain
-plain_opcode Plain e = refl
-plain_opcode Ascii e = absurd (cc)
-plain_opcode Locale e = absurd (cc)
-plain_opcode Unicode e = absurd (cc)
-
--- an item that is a literal
-literal_first : (ws : List ℕ) (i k v : ℕ) (x : Item) → IsLiteralAt ws i v → ReadsItem ws i k x
-    → (x ≡ One (Literal Plain v)) × (k ≡ i + 2)
-literal_first ws i k v x l r =
-    let literal : HasRole ws i (ToTest OfLiteral) = role_here ws i opcode.LITERAL (ToTest OfLiteral) l.0 refl in
-    let f = is_one ws i k x literal r in
-    let g = is_literal ws i k f.0 literal f.2.0 f.2.1 in
-    let code : Opcode ws i (literal_opcode g.0) = subst (λ t. Opcode ws i (test_opcode t)) g.2 f.2.0 in
-    let plain : g.0 ≡ Plain =
-    plain_opcode g.0 (same_opcode ws i (literal_opcode g.0) opcode.LITERAL code l.0) in
-    let value : g.1 ≡ v = same_word ws (i + 1) g.1 v g.3.0 l.1 in
-    (f.1 ∙ ap One (g.2 ∙ ap (λ y. Literal y g.1) plain ∙ ap (Literal Plain) value), g.3.1)
-
 -- a tree whose items begin with a literal
 pub literal_tree : (ws : List ℕ) (i end v : ℕ) (o : SreOpcode) (t : Tree) → Opcode ws end o → is_end (role o) ≡ true
     → IsLiteralAt ws i v → Reads ws i end t
@@ -117,7 +92,7 @@ literal_tree ws i end v o Empty w h l r =
     not_at_end ws end o opcode.LITERAL w h (opcode_moved ws i end opcode.LITERAL r l.0) in
     absurd (cc)
 literal_tree ws i end v o (Then x rest) w h l r =
-    let f = literal_first ws i r.0 v x l r.1 in
+    let f = item_same x (One (Literal Plain v)) ws i r.0 (i + 2) r.1 (l.0, (l.1, refl)) in
     (rest, ap (λ y. Then y rest) f.0, reads_moved ws r.0 (i + 2) end end rest f.1 refl r.2)
 
 same_value : (v : ℕ) → nat_eq v v ≡ true

@@ -3,7 +3,7 @@ use Rattle.std.proofs.Common.{ℕ, ◌+◌, ◌*◌, ◌^◌, ◌≡◌, ◌<◌
 use Rattle.std.proofs.Common.{List, Option, Some, None, refl, sym, ap, ◌∙◌, subst, arith}
 use Rattle.std.proofs.lemmas.Bool.{true≢false}
 use Rattle.sre_model.specs.Tree.{Tree, Item, Fail, One, At, Mark, Branch, Loop, Run, PossessiveLoop}
-use Rattle.sre_model.specs.Tree.{Atomic, Look, Reference, Exists, ExistsElse, Sign, Test}
+use Rattle.sre_model.specs.Tree.{Atomic, Look, Sign, Test}
 use Rattle.sre_model.specs.Tree.{RunKind, GreedyRun, LazyRun, PossessiveRun}
 use Rattle.sre_model.specs.Grammar.{Operands, ReadsItem}
 use Rattle.sre_model.specs.Roles.{Role}
@@ -132,8 +132,4 @@ module _ (e depth : ℕ) (ws : List ℕ) where
     item_priced (Look sign back body) j r w plain told =
         look sign back body j r
         ((by_role _ kind.Look r (item_here ws i j (Look sign back body) w) refl told).each body j w.1.0 w.1.2 plain)
-    item_priced (Reference fold g) j r w plain told = referring r (Reference fold g) j plain
-    item_priced (Exists g there) j r w plain told =
-        referring r (Exists g there) j plain
-    item_priced (ExistsElse g there absent) j r w plain told =
-        referring r (ExistsElse g there absent) j plain
+    item_priced x j r w plain told = referring r x j plain

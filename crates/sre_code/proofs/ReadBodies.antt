@@ -1,84 +1,93 @@
 -- Bodies of loops: what the check reads of them is what the grammar says.
-use Rattle.std.proofs.Common.{ℕ, ◌+◌, ◌*◌, ◌≡◌, ◌≢◌, ◌<◌, ◌≤◌, List, length, refl, sym, ◌∙◌, ap, arith}
+use Rattle.std.proofs.Common.{ℕ, ◌+◌, ◌*◌, ◌≡◌, ◌≢◌, ◌<◌, ◌≤◌, List, length, refl, sym, ◌∙◌, ap, subst, arith}
 use Rattle.sre_chars.specs.Numbers.{opcode_number}
 use Rattle.sre_chars.specs.declared.constants.SreOpcode.{SreOpcode}
 use Rattle.sre_chars.specs.declared.constants.SreOpcode.TheVariants as opcode
 use Rattle.sre_model.specs.Tree.{Tree, Loop, Order, Greedy, Lazy}
-use Rattle.sre_model.specs.Grammar.{Opcode, word, skip, until_opcode}
+use Rattle.sre_model.specs.Grammar.{Word, Opcode, word, skip, until_opcode, Reads}
 use Rattle.sre_model.specs.Width.{capped, width, item_width}
 use Rattle.sre_model.specs.Roles.{ToRepeat}
 use Rattle.sre_code.specs.Reading.{NoCode, IsFault}
-use Rattle.sre_code.specs.Steps.{ItemAt, Closes, Unclosed, Exactly, Nowhere, IsEnd, IsInside}
+use Rattle.sre_code.specs.Steps.{ItemAt, IsUntil, Closes, Unclosed, Exactly, Nowhere, IsEnd, IsInside}
 use Rattle.sre_code.specs.declared.code.error.CodeError.{CodeError}
+use Rattle.sre_code.specs.declared.code.step.Part.{Part}
 use Rattle.sre_code.specs.declared.code.step.Part.TheVariants.{Body}
 use Rattle.sre_code.specs.declared.code.step.Step.TheVariants.{Past, Opens}
-use Rattle.sre_model.proofs.Words.{word_of, word_within, word_there, opcode_moved, same_opcode}
-use Rattle.sre_model.proofs.Places.{reads_moved, reads_nothing}
+use Rattle.sre_model.proofs.Words.{word_of, word_within, word_there, same_opcode}
+use Rattle.sre_model.proofs.Places.{reads_nothing}
 use Rattle.sre_model.proofs.Widths.{width_held}
-use Rattle.sre_model.proofs.Families.{HasRole, is_loop}
-
-loop_here : (ws : List ℕ) (i : ℕ) → Opcode ws i opcode.REPEAT → HasRole ws i ToRepeat
-loop_here ws i h = record { code = opcode.REPEAT; there = h; begins = refl }
+use Rattle.sre_model.proofs.Families.{role_here, is_loop}
 
 -- the width of a body, as the descent adds it up
 body_width : (t : Tree) → capped (0 + width t) ≡ width t
 body_width t = omega (arith, width_held t)
 
+-- a loop at i, by what ends its body: its counts, its body, where these are, and its width
+abbrev pub Looped : (ℕ → Type 0) → List ℕ → ℕ → ℕ → ℕ → Type 0
+Looped Ends ws i j w =
+    (low : ℕ) × (high : ℕ) × (body : Tree)
+    × (Word ws (i + 2) low × Word ws (i + 3) high × (low ≤ high) × Reads ws (i + 4) (skip ws (i + 1)) body
+    × Ends (skip ws (i + 1)) × (j ≡ skip ws (i + 1) + 1)) × (w ≡ capped (low * width body))
+
+-- a loop is read whose part is closed by what ends its body
+pub looped_exactly : (part : Part) (Ends : ℕ → Type 0) (ws : List ℕ) (i end low high : ℕ)
+    → ((k u j w : ℕ) → Closes ws part k u j w → (k ≡ end) × Ends k × (j ≡ k + 1) × (w ≡ capped (low * u)))
+    → ((k u j w : ℕ) → (k ≡ end) × Ends k × (j ≡ k + 1) × (w ≡ capped (low * u)) → Closes ws part k u j w)
+    → ((j w : ℕ) → ItemAt ws i j w → Looped Ends ws i j w) → ((j w : ℕ) → Looped Ends ws i j w → ItemAt ws i j w)
+    → end ≡ skip ws (i + 1) → low ≡ word ws (i + 2) → high ≡ word ws (i + 3) → i + 3 < length ws → low ≤ high
+    → Exactly ws (Opens part (i + 4)) (ItemAt ws i)
+looped_exactly part Ends ws i end low high opened closed form made ends lowest highest there le = record {
+  sound = λ j w f.
+      let c = opened _ _ j w f.1.2 in
+      let t : Tree = f.1.0 in
+      let P : ℕ → Type 0 = λ n. Reads ws (i + 4) n t × Ends n × (j ≡ n + 1) in
+      let r = subst P (c.0 ∙ ends) (f.1.1, c.1, c.2) in
+      made j w (
+        word ws (i + 2),
+        word ws (i + 3),
+        t,
+        (word_there ws (i + 2) (omega arith), word_there ws (i + 3) there, omega arith, r.0, r.1, r.2),
+        c.3 ∙ ap (λ n. capped (n * capped (0 + width t))) lowest
+            ∙ ap (λ n. capped (word ws (i + 2) * n)) (body_width t),
+      );
+  complete = λ j w y.
+      let f = form j w y in
+      let r = f.3 in
+      let same : f.0 ≡ low = sym (word_of ws (i + 2) f.0 r.0) ∙ sym lowest in
+      let wide = f.4 ∙ ap (λ n. capped (n * width f.2)) same ∙ ap (λ n. capped (low * n)) (sym (body_width f.2)) in
+      (skip ws (i + 1), (f.2, r.3, closed _ _ j w (sym ends, r.4, r.5, wide)));
+}
+
+pub looped_cut : (Ends : ℕ → Type 0) (ws : List ℕ) (i j w : ℕ) → Looped Ends ws i j w → i + 3 < length ws
+looped_cut Ends ws i j w f = word_within ws (i + 3) f.1 f.3.1
+
+pub looped_counts : (Ends : ℕ → Type 0) (ws : List ℕ) (i j w : ℕ) → Looped Ends ws i j w
+    → word ws (i + 2) ≤ word ws (i + 3)
+looped_counts Ends ws i j w f = omega (arith, word_of ws (i + 2) f.0 f.3.0, word_of ws (i + 3) f.1 f.3.1, f.3.2)
+
+-- REPEAT
+loop_here : (ws : List ℕ) (i : ℕ) → Opcode ws i opcode.REPEAT → (j w : ℕ) → ItemAt ws i j w
+    → Looped (IsUntil ws) ws i j w
+loop_here ws i h j w y =
+    let f = is_loop ws i j y.0 (role_here ws i opcode.REPEAT ToRepeat h refl) y.1 in
+    let r = f.5.1 in
+    (f.1, f.2, f.3, (r.0, r.1, r.2, r.3, (f.0, r.4), r.5), y.2 ∙ ap item_width f.4)
+
 pub loop_exactly : (ws : List ℕ) (i end low high : ℕ) → Opcode ws i opcode.REPEAT → end ≡ skip ws (i + 1)
     → low ≡ word ws (i + 2) → high ≡ word ws (i + 3) → i + 3 < length ws → low ≤ high
     → Exactly ws (Opens (Body end low) (i + 4)) (ItemAt ws i)
-loop_exactly ws i end low high h ends lowest highest there le = record {
-  sound = λ j w f.
-      let c = f.1.2 in
-      let at : f.0 ≡ skip ws (i + 1) = c.0 ∙ ends in (
-        Loop c.1.0 (word ws (i + 2)) (word ws (i + 3)) f.1.0,
-        (
-          h,
-          (
-            word_there ws (i + 2) (omega arith),
-            word_there ws (i + 3) there,
-            omega arith,
-            reads_moved ws (i + 4) (i + 4) f.0 (skip ws (i + 1)) f.1.0 refl at f.1.1,
-            opcode_moved ws f.0 (skip ws (i + 1)) (until_opcode c.1.0) at c.1.1,
-            c.2 ∙ ap (λ n. n + 1) at,
-          ),
-        ),
-        c.3 ∙ ap (λ n. capped (n * capped (0 + width f.1.0))) lowest
-            ∙ ap (λ n. capped (word ws (i + 2) * n)) (body_width f.1.0),
-      );
-  complete = λ j w y.
-      let f = is_loop ws i j y.0 (loop_here ws i h) y.1 in
-      let r = f.5.1 in
-      let same : f.1 ≡ low = sym (word_of ws (i + 2) f.1 r.0) ∙ sym lowest in (
-        skip ws (i + 1),
-        (
-          f.3,
-          r.3,
-          (
-            sym ends,
-            (f.0, r.4),
-            r.5,
-            y.2 ∙ ap item_width f.4 ∙ ap (λ n. capped (n * width f.3)) same
-                ∙ ap (λ n. capped (low * n)) (sym (body_width f.3)),
-          ),
-        ),
-      );
-}
+loop_exactly ws i end low high h =
+    looped_exactly (Body end low) (IsUntil ws) ws i end low high (λ k u j w c. c) (λ k u j w c. c) (loop_here ws i h)
+    (λ j w f. let r = f.3 in (Loop r.4.0 f.0 f.1 f.2, (h, (r.0, r.1, r.2, r.3, r.4.1, r.5)), f.4))
 
 pub loop_cut : (ws : List ℕ) (i : ℕ) → Opcode ws i opcode.REPEAT → length ws ≤ i + 3 → Nowhere (ItemAt ws i)
-loop_cut ws i h le = record {
-  none = λ j w y.
-      let f = is_loop ws i j y.0 (loop_here ws i h) y.1 in
-      omega (arith, word_within ws (i + 3) f.2 f.5.1.1);
-}
+loop_cut ws i h le =
+    record { none = λ j w y. omega (arith, looped_cut (IsUntil ws) ws i j w (loop_here ws i h j w y)) }
 
 pub loop_counts : (ws : List ℕ) (i low high : ℕ) → Opcode ws i opcode.REPEAT → low ≡ word ws (i + 2)
     → high ≡ word ws (i + 3) → high < low → Nowhere (ItemAt ws i)
-loop_counts ws i low high h lowest highest lt = record {
-  none = λ j w y.
-      let f = is_loop ws i j y.0 (loop_here ws i h) y.1 in
-      omega (arith, word_of ws (i + 2) f.1 f.5.1.0, word_of ws (i + 3) f.2 f.5.1.1, f.5.1.2);
-}
+loop_counts ws i low high h lowest highest lt =
+    record { none = λ j w y. omega (arith, looped_counts (IsUntil ws) ws i j w (loop_here ws i h j w y)) }
 
 -- MAX_UNTIL or MIN_UNTIL behind a body
 pub body_inside : (ws : List ℕ) (end least i : ℕ) → i ≢ end → IsInside ws (Body end least) i

@@ -1,32 +1,25 @@
 -- Branches: what the check reads of them is what the grammar says.
-use Rattle.std.proofs.Common.{ℕ, ◌+◌, ◌-◌, ◌≡◌, ◌≢◌, ◌<◌, ◌≤◌, List, length, min, Result, Ok, Err, ⊎_elim, refl, sym}
+use Rattle.std.proofs.Common.{ℕ, ◌+◌, ◌-◌, ◌≡◌, ◌≢◌, ◌<◌, ◌≤◌, List, length, min, Result, Ok, Err, refl, sym}
 use Rattle.std.proofs.Common.{◌∙◌, ap, subst, inl, inr, arith}
 use Rattle.sre_chars.specs.Numbers.{opcode_number}
 use Rattle.sre_chars.specs.declared.constants.SreOpcode.{SreOpcode}
 use Rattle.sre_chars.specs.declared.constants.SreOpcode.TheVariants as opcode
-use Rattle.sre_model.specs.Tree.{Branch, Trees, Only, Or}
-use Rattle.sre_model.specs.Grammar.{Opcode, Word, word, skip, JumpsTo, ReadsBranch}
+use Rattle.sre_model.specs.Tree.{Tree, Branch, Trees, Only, Or}
+use Rattle.sre_model.specs.Grammar.{Opcode, Word, word, skip, JumpsTo, Reads, ReadsBranch}
 use Rattle.sre_model.specs.Width.{capped, width, item_width, least_width}
 use Rattle.sre_model.specs.Roles.{ToBranch}
 use Rattle.sre_code.specs.Reading.{NoCode}
-use Rattle.sre_code.specs.Steps.{ItemAt, Closes, Remains, Exactly, Nowhere, IsEnd, IsInside, Leaves, EndGives, MoreAt}
-use Rattle.sre_code.specs.Steps.{TreesAt, BoundsExactly, NoTrees}
+use Rattle.sre_code.specs.Steps.{ItemAt, Closes, Exactly, Nowhere, IsEnd, IsInside, Leaves, EndGives, MoreAt}
+use Rattle.sre_code.specs.Steps.{More, TreesAt, BoundsExactly, NoTrees}
 use Rattle.sre_code.specs.declared.code.error.CodeError.{CodeError}
 use Rattle.sre_code.specs.declared.code.step.Part.TheVariants.{Alternative}
 use Rattle.sre_code.specs.declared.code.step.Bounds.{Bounds}
 use Rattle.sre_code.specs.declared.code.step.Step.{Step}
 use Rattle.sre_code.specs.declared.code.step.Step.TheVariants.{Past, Opens}
-use Rattle.sre_model.proofs.Words.{word_of, word_within, word_past, word_at, word_moved, same_opcode}
-use Rattle.sre_model.proofs.Places.{reads_within, alternative_long, reads_moved, reads_nothing}
+use Rattle.sre_model.proofs.Words.{word_of, word_within, word_past, word_at, same_opcode}
+use Rattle.sre_model.proofs.Places.{reads_within, alternative_long, reads_nothing}
 use Rattle.sre_model.proofs.Widths.{width_held, least_held}
-use Rattle.sre_model.proofs.Families.{HasRole, is_branch}
-
-branch_moved : (ws : List ℕ) (q q2 j j2 : ℕ) (ts : Trees) → q ≡ q2 → j ≡ j2 → ReadsBranch ws q j ts
-    → ReadsBranch ws q2 j2 ts
-branch_moved ws q q2 j j2 ts e f r =
-    let P : ℕ → Type 0 = λ n. ReadsBranch ws n j ts in
-    let Q : ℕ → Type 0 = λ n. ReadsBranch ws q2 n ts in
-    subst Q f (subst P e r)
+use Rattle.sre_model.proofs.Families.{role_here, is_branch}
 
 pub jump_moved : (ws : List ℕ) (k k2 j : ℕ) → k ≡ k2 → JumpsTo ws k j → JumpsTo ws k2 j
 jump_moved ws k k2 j e r = let P : ℕ → Type 0 = λ n. JumpsTo ws n j in subst P e r
@@ -38,75 +31,55 @@ Last ws q tail least w = Word ws q 0 × (tail ≡ q + 1) × (w ≡ least)
 abbrev Later : List ℕ → ℕ → ℕ → ℕ → ℕ → Type 0
 Later ws q tail least w = (ts : Trees) × ReadsBranch ws q tail ts × (w ≡ min least (least_width ts))
 
--- alternatives, by the bounds of the first
-trees_remain : (ws : List ℕ) (q e tail least j w : ℕ) (ts : Trees) → e ≡ skip ws q → q + 3 ≤ e → tail ≡ skip ws (e - 1)
-    → ReadsBranch ws q j ts → w ≡ min least (least_width ts)
-    → Remains ws (Opens (Alternative (e - 2) tail least) (q + 1)) j w
-trees_remain ws q e tail least j w (Only t) ee le te r wide =
-    let same : skip ws q - 2 ≡ e - 2 = omega arith in
-    let at : e - 2 + 1 ≡ e - 1 = omega arith in
-    let jump : JumpsTo ws (e - 2) j = jump_moved ws _ (e - 2) j same r.1 in
-    let ends : j ≡ tail = jump.1 ∙ (ap (λ n. n + word ws n) at ∙ sym te) in (
-      e - 2,
-      (
-        t,
-        reads_moved ws (q + 1) (q + 1) _ (e - 2) t refl same r.0,
-        (
-          refl,
-          (jump.0, sym ends ∙ jump.1),
-          inl (word_moved ws _ (e - 2 + 2) 0 (omega arith) r.2, omega arith, omega (arith, wide, width_held t)),
-          ends,
-        ),
-      ),
-    )
-trees_remain ws q e tail least j w (Or t ts) ee le te r wide =
-    let same : skip ws q - 2 ≡ e - 2 = omega arith in
-    let at : e - 2 + 1 ≡ e - 1 = omega arith in
-    let jump : JumpsTo ws (e - 2) j = jump_moved ws _ (e - 2) j same r.1 in
-    let ends : j ≡ tail = jump.1 ∙ (ap (λ n. n + word ws n) at ∙ sym te) in (
-      e - 2,
-      (
-        t,
-        reads_moved ws (q + 1) (q + 1) _ (e - 2) t refl same r.0,
-        (
-          refl,
-          (jump.0, sym ends ∙ jump.1),
-          inr (ts, branch_moved ws _ (e - 2 + 2) j tail ts (omega arith) ends r.2, omega (arith, wide, width_held t)),
-          ends,
-        ),
-      ),
-    )
+after : {R : Type 0} (ws : List ℕ) (q tail least w : ℕ) → More ws q tail least w → (Last ws q tail least w → R)
+    → (Later ws q tail least w → R) → R
+after ws q tail least w (inl last) f g = f last
+after ws q tail least w (inr later) f g = g later
+
+more_moved : (ws : List ℕ) (q q2 j j2 least least2 w : ℕ) → q ≡ q2 → j ≡ j2 → least ≡ least2 → More ws q j least w
+    → More ws q2 j2 least2 w
+more_moved ws q q2 j j2 least least2 w e f g m =
+    let P : ℕ → Type 0 = λ n. More ws n j least w in
+    let Q : ℕ → Type 0 = λ n. More ws q2 n least w in
+    let R : ℕ → Type 0 = λ n. More ws q2 j2 n w in
+    subst R g (subst Q f (subst P e m))
+
+-- alternatives are one that ends at k, its JUMP, and what comes after
+abbrev Parted : List ℕ → ℕ → ℕ → ℕ → ℕ → ℕ → Type 0
+Parted ws q k least j w =
+    (t : Tree) × Reads ws (q + 1) k t × JumpsTo ws k j × More ws (skip ws q) j (min least (width t)) w
+
+parted : (ws : List ℕ) (q least j w : ℕ) (ts : Trees) → ReadsBranch ws q j ts → w ≡ min least (least_width ts)
+    → Parted ws q (skip ws q - 2) least j w
+parted ws q least j w (Only t) r e = (t, r.0, r.1, inl (r.2, r.3, e))
+parted ws q least j w (Or t ts) r e = (t, r.0, r.1, inr (ts, r.2, omega (arith, e)))
+
+joined : (ws : List ℕ) (q least j w : ℕ) → Parted ws q (skip ws q - 2) least j w → TreesAt ws q least j w
+joined ws q least j w p = after ws (skip ws q) j (min least (width p.0)) w p.3
+    (λ last. (Only p.0, (p.1, p.2, last.0, last.1), last.2))
+    (λ later. (Or p.0 later.0, (p.1, p.2, later.1), omega (arith, later.2)))
 
 trees_exactly : (ws : List ℕ) (q e tail least : ℕ) → e ≡ skip ws q → q + 3 ≤ e → tail ≡ skip ws (e - 1)
     → Exactly ws (Opens (Alternative (e - 2) tail least) (q + 1)) (TreesAt ws q least)
 trees_exactly ws q e tail least ee le te = record {
   sound = λ j w r.
-      let same : r.0 ≡ skip ws q - 2 = omega arith in
-      let next : r.0 + 2 ≡ skip ws q = omega arith in
-      let jump : JumpsTo ws r.0 j = (r.1.2.1.0, r.1.2.3 ∙ r.1.2.1.1) in
-      let least_now : ℕ = min least (capped (0 + width r.1.0)) in
-      ⊎_elim
-      (λ (last : Last ws (r.0 + 2) tail least_now w). (
-        Only r.1.0,
-        (
-          reads_moved ws (q + 1) (q + 1) r.0 _ r.1.0 refl same r.1.1,
-          jump_moved ws r.0 _ j same jump,
-          word_moved ws (r.0 + 2) _ 0 next last.0,
-          omega arith,
-        ),
-        omega (arith, last.2, width_held r.1.0),
-      ))
-      (λ (more : Later ws (r.0 + 2) tail least_now w). (
-        Or r.1.0 more.0,
-        (
-          reads_moved ws (q + 1) (q + 1) r.0 _ r.1.0 refl same r.1.1,
-          jump_moved ws r.0 _ j same jump,
-          branch_moved ws (r.0 + 2) _ tail j more.0 next (sym r.1.2.3) more.1,
-        ),
-        omega (arith, more.2, width_held r.1.0),
-      ))
-      r.1.2.2;
-  complete = λ j w x. trees_remain ws q e tail least j w x.0 ee le te x.1 x.2;
+      let t : Tree = r.1.0 in
+      let c = r.1.2 in
+      let P : ℕ → Type 0 = λ k. Reads ws (q + 1) k t × JumpsTo ws k j in
+      let own : P (skip ws q - 2) = subst P (omega arith) (r.1.1, (c.1.0, c.3 ∙ c.1.1)) in
+      let more = more_moved ws (r.0 + 2) (skip ws q) tail j (min least (capped (0 + width t))) (min least (width t)) w
+      (omega arith) (sym c.3) (omega (arith, width_held t)) c.2 in
+      joined ws q least j w (t, own.0, own.1, more);
+  complete = λ j w x.
+      let f = parted ws q least j w x.0 x.1 x.2 in
+      let t : Tree = f.0 in
+      let P : ℕ → Type 0 = λ k. Reads ws (q + 1) k t × JumpsTo ws k j in
+      let own : P (e - 2) = subst P (omega arith) (f.1, f.2) in
+      let at : e - 2 + 1 ≡ e - 1 = omega arith in
+      let ends : j ≡ tail = own.1.1 ∙ (ap (λ n. n + word ws n) at ∙ sym te) in
+      let more = more_moved ws (skip ws q) (e - 2 + 2) j tail (min least (width t)) (min least (capped (0 + width t))) w
+      (omega arith) ends (omega (arith, width_held t)) f.3 in
+      (e - 2, (t, own.0, (refl, (own.1.0, sym ends ∙ own.1.1), more, ends)));
 }
 
 pub bounds_exactly : (ws : List ℕ) (q e tail : ℕ) → e ≡ skip ws q → q + 3 ≤ e → tail ≡ skip ws (e - 1)
@@ -132,9 +105,6 @@ pub trees_cut : (ws : List ℕ) (q e : ℕ) → e ≡ skip ws q → length ws �
 trees_cut ws q e ee le = record { none = λ j ts r. omega (arith, alternative_there ws q j ts r) }
 
 -- the item, by its alternatives
-branch_here : (ws : List ℕ) (i : ℕ) → Opcode ws i opcode.BRANCH → HasRole ws i ToBranch
-branch_here ws i h = record { code = opcode.BRANCH; there = h; begins = refl }
-
 pub branch_exactly : (ws : List ℕ) (i : ℕ) (b : Bounds) → Opcode ws i opcode.BRANCH → BoundsExactly ws (i + 1) b
     → Exactly ws (Opens (Alternative b.end b.tail 4294967295) (i + 2)) (ItemAt ws i)
 branch_exactly ws i b h x =
@@ -143,22 +113,23 @@ branch_exactly ws i b h x =
     let at : i + 1 + 1 ≡ i + 2 = omega arith in
     subst P at (record {
       sound = λ j w r. let ts = e.sound j w r in (Branch ts.0, (h, ts.1), omega (arith, ts.2, least_held ts.0));
-      complete = λ j w y. let f = is_branch ws i j y.0 (branch_here ws i h) y.1 in
+      complete = λ j w y. let f = is_branch ws i j y.0 (role_here ws i opcode.BRANCH ToBranch h refl) y.1 in
           let wide : w ≡ least_width f.0 = y.2 ∙ ap item_width f.1 in
           e.complete j w (f.0, f.2.1, omega (arith, wide, least_held f.0));
     })
 
 pub branch_nowhere : (ws : List ℕ) (i : ℕ) → Opcode ws i opcode.BRANCH → NoTrees ws (i + 1) → Nowhere (ItemAt ws i)
-branch_nowhere ws i h n =
-    record { none = λ j w y. let f = is_branch ws i j y.0 (branch_here ws i h) y.1 in n.none j f.0 f.2.1 }
+branch_nowhere ws i h n = record {
+  none = λ j w y.
+      let f = is_branch ws i j y.0 (role_here ws i opcode.BRANCH ToBranch h refl) y.1 in n.none j f.0 f.2.1;
+}
 
 -- what comes after an alternative
 pub more_short : (ws : List ℕ) (q tail least : ℕ) → length ws ≤ q → Nowhere (MoreAt ws q tail least)
 more_short ws q tail least le = record {
-  none = λ j w c. ⊎_elim
-      (λ (last : Last ws q tail least w). omega (arith, word_within ws q 0 last.0))
-      (λ (more : Later ws q tail least w). omega (arith, word_past ws q le, alternative_long ws q tail more.0 more.1))
-      c.0;
+  none = λ j w c. after ws q tail least w c.0
+      (λ last. omega (arith, word_within ws q 0 last.0))
+      (λ later. omega (arith, word_past ws q le, alternative_long ws q tail later.0 later.1));
 }
 
 pub more_last : (ws : List ℕ) (q tail least : ℕ) → q < length ws → word ws q ≡ 0 → tail ≡ q + 1
@@ -167,20 +138,22 @@ more_last ws q tail least there z e = record {
   sound = λ j w r. (inl (word_at ws q 0 there z, e, r.1), r.0);
   complete = λ j w c. (
     c.1,
-    ⊎_elim
-        (λ (last : Last ws q tail least w). last.2)
-        (λ (more : Later ws q tail least w). absurd (omega (arith, alternative_long ws q tail more.0 more.1)))
-        c.0,
+    after ws q tail least w c.0 (λ last. last.2)
+        (λ later. absurd (omega (arith, alternative_long ws q tail later.0 later.1))),
   );
 }
 
 pub more_unlike : (ws : List ℕ) (q tail least : ℕ) → word ws q ≡ 0 → tail ≢ q + 1 → Nowhere (MoreAt ws q tail least)
 more_unlike ws q tail least z ne = record {
-  none = λ j w c. ⊎_elim
-      (λ (last : Last ws q tail least w). ne last.1)
-      (λ (more : Later ws q tail least w). omega (arith, alternative_long ws q tail more.0 more.1))
-      c.0;
+  none = λ j w c. after ws q tail least w c.0 (λ last. ne last.1)
+      (λ later. omega (arith, alternative_long ws q tail later.0 later.1));
 }
+
+-- what comes after an alternative, where no 0 ends the branch
+trees_left : (ws : List ℕ) (q tail least j w : ℕ) → word ws q ≢ 0 → MoreAt ws q tail least j w
+    → TreesAt ws q least tail w
+trees_left ws q tail least j w ne c =
+    after ws q tail least w c.0 (λ last. absurd (ne (word_of ws q 0 last.0))) (λ later. later)
 
 pub more_next : (ws : List ℕ) (q tail least : ℕ) (b : Bounds) → word ws q ≢ 0 → BoundsExactly ws q b → b.tail ≡ tail
     → Exactly ws (Opens (Alternative b.end tail least) (q + 1)) (MoreAt ws q tail least)
@@ -189,27 +162,20 @@ more_next ws q tail least b ne bounds same =
     let x = subst Q same (bounds.opens least) in record {
       sound = λ j w r. let ts = x.sound j w r in let at : j ≡ tail = r.1.2.3 in
           let P : ℕ → Type 0 = λ n. TreesAt ws q least n w in (inr (subst P at ts), at);
-      complete = λ j w c. let P : ℕ → Type 0 = λ n. TreesAt ws q least n w in ⊎_elim
-          (λ (last : Last ws q tail least w). absurd (ne (word_of ws q 0 last.0)))
-          (λ (more : Later ws q tail least w). x.complete j w (subst P (sym c.1) more))
-          c.0;
+      complete = λ j w c. let P : ℕ → Type 0 = λ n. TreesAt ws q least n w in
+          x.complete j w (subst P (sym c.1) (trees_left ws q tail least j w ne c));
     }
 
 pub more_nowhere : (ws : List ℕ) (q tail least : ℕ) → word ws q ≢ 0 → NoTrees ws q → Nowhere (MoreAt ws q tail least)
-more_nowhere ws q tail least ne n = record {
-  none = λ j w c. ⊎_elim
-      (λ (last : Last ws q tail least w). ne (word_of ws q 0 last.0))
-      (λ (more : Later ws q tail least w). n.none tail more.0 more.1)
-      c.0;
-}
+more_nowhere ws q tail least ne n =
+    record { none = λ j w c. let x = trees_left ws q tail least j w ne c in n.none tail x.0 x.1 }
 
 pub more_wrong : (ws : List ℕ) (q tail least : ℕ) (b : Bounds) → word ws q ≢ 0 → BoundsExactly ws q b → b.tail ≢ tail
     → Nowhere (MoreAt ws q tail least)
 more_wrong ws q tail least b ne bounds unlike = record {
-  none = λ j w c. ⊎_elim
-      (λ (last : Last ws q tail least w). ne (word_of ws q 0 last.0))
-      (λ (more : Later ws q tail least w). unlike (sym ((bounds.opens least).complete tail w more).1.2.3))
-      c.0;
+  none = λ j w c.
+      let x = trees_left ws q tail least j w ne c in
+      unlike (sym ((bounds.opens least).complete tail w x).1.2.3);
 }
 
 -- JUMP after an alternative

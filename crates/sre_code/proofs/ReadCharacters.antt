@@ -13,37 +13,33 @@ use Rattle.sre_model.specs.Standing.{HasTest}
 use Rattle.sre_code.specs.declared.code.error.CodeError.TheVariants.{BadItem}
 use Rattle.sre_model.proofs.Words.{word_within, word_there, word_past, opcode_within, opcode_moved, same_opcode}
 use Rattle.sre_model.proofs.Places.{set_within, set_moved}
-use Rattle.sre_model.specs.Roles.{OfCategory, OfLiteral, OfNotLiteral, ToTest}
-use Rattle.sre_model.proofs.Families.{HasRole, test_here, is_any, is_any_all, is_category, is_literal}
+use Rattle.sre_model.proofs.Unique.{test_same}
+use Rattle.sre_model.specs.Roles.{OfCategory, ToTest}
+use Rattle.sre_model.proofs.Families.{role_here, test_here, is_category, is_literal}
 use Rattle.sre_model.proofs.Families.{is_not_literal, is_set}
+
+-- a test there is the one that is read, since one is at most
+exactly : (t : Test) (ws : List ℕ) (i e : ℕ) → ReadsTest ws i e t → TestExactly ws i e
+exactly t ws i e r = record { test = t; reads = r; only = λ k u s. (test_same u t ws i k e s.0 s.1 r.0 r.1).1 }
 
 -- ANY and ANY_ALL
 pub any_exactly : (ws : List ℕ) (i : ℕ) → Opcode ws i opcode.ANY → TestExactly ws i (i + 1)
-any_exactly ws i h =
-    record { test = Any; reads = (h, refl); only = λ k t r. (is_any ws i k t (test_here ws i Any h) r.0 r.1).1 }
+any_exactly ws i h = exactly Any ws i (i + 1) (h, refl)
 
 pub any_all_exactly : (ws : List ℕ) (i : ℕ) → Opcode ws i opcode.ANY_ALL → TestExactly ws i (i + 1)
-any_all_exactly ws i h = record {
-  test = AnyAll;
-  reads = (h, refl);
-  only = λ k t r. (is_any_all ws i k t (test_here ws i AnyAll h) r.0 r.1).1;
-}
+any_all_exactly ws i h = exactly AnyAll ws i (i + 1) (h, refl)
 
 -- CATEGORY
-category_here : (ws : List ℕ) (i : ℕ) → Opcode ws i opcode.CATEGORY → HasRole ws i (ToTest OfCategory)
-category_here ws i h = record { code = opcode.CATEGORY; there = h; begins = refl }
-
 pub category_exactly : (ws : List ℕ) (i : ℕ) (c : SreCatCode) → Opcode ws i opcode.CATEGORY
     → Word ws (i + 1) (category_number c) → TestExactly ws i (i + 2)
-category_exactly ws i c h w = record {
-  test = InCategory c;
-  reads = (h, (w, refl));
-  only = λ k t r. (is_category ws i k t (category_here ws i h) r.0 r.1).2.1;
-}
+category_exactly ws i c h w = exactly (InCategory c) ws i (i + 2) (h, (w, refl))
 
 pub category_cut : (ws : List ℕ) (i : ℕ) → Opcode ws i opcode.CATEGORY → NoCode category_number ws (i + 1) → NoTest ws i
-category_cut ws i h n =
-    record { none = λ k t r. let f = is_category ws i k t (category_here ws i h) r.0 r.1 in n.none f.0 f.2.0 }
+category_cut ws i h n = record {
+  none = λ k t r.
+      let f = is_category ws i k t (role_here ws i opcode.CATEGORY (ToTest OfCategory) h refl) r.0 r.1 in
+      n.none f.0 f.2.0;
+}
 
 -- one of the opcodes of a form is that of a folding
 abbrev pub IsFolded : (Fold → SreOpcode) → SreOpcode → Type 0
@@ -56,51 +52,28 @@ folded_at f ws i o h (inr (inl e)) = record { fold = Ascii; there = subst (Opcod
 folded_at f ws i o h (inr (inr (inl e))) = record { fold = Locale; there = subst (Opcode ws i) e h }
 folded_at f ws i o h (inr (inr (inr e))) = record { fold = Unicode; there = subst (Opcode ws i) e h }
 
-pub literal_at : (ws : List ℕ) (i : ℕ) (o : SreOpcode) → Opcode ws i o → IsFolded literal_opcode o
-    → FoldedAt literal_opcode ws i
-literal_at ws i o h e = folded_at literal_opcode ws i o h e
-
-pub not_literal_at : (ws : List ℕ) (i : ℕ) (o : SreOpcode) → Opcode ws i o → IsFolded not_literal_opcode o
-    → FoldedAt not_literal_opcode ws i
-not_literal_at ws i o h e = folded_at not_literal_opcode ws i o h e
-
-pub set_at : (ws : List ℕ) (i : ℕ) (o : SreOpcode) → Opcode ws i o → IsFolded set_opcode o → FoldedAt set_opcode ws i
-set_at ws i o h e = folded_at set_opcode ws i o h e
-
 -- LITERAL and NOT_LITERAL, under each folding
-literal_here : (ws : List ℕ) (i : ℕ) → FoldedAt literal_opcode ws i → HasRole ws i (ToTest OfLiteral)
-literal_here ws i h = test_here ws i (Literal h.fold 0) h.there
-
 pub literal_exactly : (ws : List ℕ) (i : ℕ) → FoldedAt literal_opcode ws i → i + 1 < length ws
     → TestExactly ws i (i + 2)
-literal_exactly ws i h there = record {
-  test = Literal h.fold (word ws (i + 1));
-  reads = (h.there, (word_there ws (i + 1) there, refl));
-  only = λ k t r. (is_literal ws i k t (literal_here ws i h) r.0 r.1).3.1;
-}
+literal_exactly ws i h there =
+    exactly (Literal h.fold (word ws (i + 1))) ws i (i + 2) (h.there, (word_there ws (i + 1) there, refl))
 
 pub literal_cut : (ws : List ℕ) (i : ℕ) → FoldedAt literal_opcode ws i → length ws ≤ i + 1 → NoTest ws i
 literal_cut ws i h le = record {
   none = λ k t r.
-      let f = is_literal ws i k t (literal_here ws i h) r.0 r.1 in
+      let f = is_literal ws i k t (test_here ws i (Literal h.fold 0) h.there) r.0 r.1 in
       omega (arith, word_within ws (i + 1) f.1 f.3.0);
 }
 
-not_literal_here : (ws : List ℕ) (i : ℕ) → FoldedAt not_literal_opcode ws i → HasRole ws i (ToTest OfNotLiteral)
-not_literal_here ws i h = test_here ws i (NotLiteral h.fold 0) h.there
-
 pub not_literal_exactly : (ws : List ℕ) (i : ℕ) → FoldedAt not_literal_opcode ws i → i + 1 < length ws
     → TestExactly ws i (i + 2)
-not_literal_exactly ws i h there = record {
-  test = NotLiteral h.fold (word ws (i + 1));
-  reads = (h.there, (word_there ws (i + 1) there, refl));
-  only = λ k t r. (is_not_literal ws i k t (not_literal_here ws i h) r.0 r.1).3.1;
-}
+not_literal_exactly ws i h there =
+    exactly (NotLiteral h.fold (word ws (i + 1))) ws i (i + 2) (h.there, (word_there ws (i + 1) there, refl))
 
 pub not_literal_cut : (ws : List ℕ) (i : ℕ) → FoldedAt not_literal_opcode ws i → length ws ≤ i + 1 → NoTest ws i
 not_literal_cut ws i h le = record {
   none = λ k t r.
-      let f = is_not_literal ws i k t (not_literal_here ws i h) r.0 r.1 in
+      let f = is_not_literal ws i k t (test_here ws i (NotLiteral h.fold 0) h.there) r.0 r.1 in
       omega (arith, word_within ws (i + 1) f.1 f.3.0);
 }
 
@@ -118,11 +91,7 @@ set_here ws i k t h r =
 
 pub set_exactly : (ws : List ℕ) (i t : ℕ) → FoldedAt set_opcode ws i → t ≡ skip ws (i + 1)
     → Opcode ws (t - 1) opcode.FAILURE → IsSet ws (i + 2) (t - 1) → TestExactly ws i t
-set_exactly ws i t h e closed s = record {
-  test = In h.fold s.set.0;
-  reads = (h.there, (e, s.set.1, closed));
-  only = λ k x r. (set_here ws i k x h r).ends ∙ sym e;
-}
+set_exactly ws i t h e closed s = exactly (In h.fold s.set.0) ws i t (h.there, (e, s.set.1, closed))
 
 pub set_wrong : (ws : List ℕ) (i t : ℕ) → FoldedAt set_opcode ws i → t ≡ skip ws (i + 1)
     → NoSet ws (i + 2) (t - 1) → NoTest ws i
@@ -173,4 +142,4 @@ pub ruleset not_literal_laws = (not_literal_exactly, not_literal_cut)
 pub ruleset in_set_laws = (set_exactly, set_cut, set_empty, set_open, set_ends_cut, set_wrong)
 
 -- what `test` answers
-pub ruleset test_laws = (any_exactly, any_all_exactly, literal_at, not_literal_at, set_at)
+pub ruleset test_laws = (any_exactly, any_all_exactly, folded_at)

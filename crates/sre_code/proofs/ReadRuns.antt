@@ -1,11 +1,10 @@
 -- Single-character repeats: what the check reads of them is what the grammar says.
-use Rattle.std.proofs.Common.{ℕ, ◌+◌, ◌-◌, ◌≡◌, ◌≢◌, ◌<◌, ◌≤◌, List, length, sym, ◌∙◌, subst, arith}
+use Rattle.std.proofs.Common.{ℕ, ◌+◌, ◌-◌, ◌≡◌, ◌≢◌, ◌<◌, ◌≤◌, List, length, subst, arith}
 use Rattle.sre_chars.specs.Numbers.{opcode_number}
 use Rattle.sre_chars.specs.declared.constants.SreOpcode.{SreOpcode}
 use Rattle.sre_chars.specs.declared.constants.SreOpcode.TheVariants as opcode
 use Rattle.sre_model.specs.Tree.{Item, Run, Test, RunKind, GreedyRun, LazyRun, PossessiveRun}
 use Rattle.sre_model.specs.Grammar.{Opcode, word, skip, run_opcode, test_opcode, TestOperands, ReadsItem}
-use Rattle.sre_model.specs.Width.{item_width}
 use Rattle.sre_model.specs.Roles.{ToRun}
 use Rattle.sre_code.specs.Reading.{NoCode, ReadsTest, TestExactly, NoTest}
 use Rattle.sre_code.specs.Steps.{RunAt, ItemAt, Exactly, Nowhere}
@@ -16,9 +15,8 @@ use Rattle.sre_model.proofs.Families.{item_role, role_at, run_role, HasRole, rol
 use Rattle.sre_code.proofs.ReadItems.{past}
 
 -- what is read of an item there
-record RunHere (ws : List ℕ) (i j : ℕ) (x : Item) : Type 0 where
+record RunHere (ws : List ℕ) (i j : ℕ) : Type 0 where
   test : Test
-  width : item_width x ≡ word ws (i + 2)
   ends : j ≡ skip ws (i + 1)
   counts : word ws (i + 2) ≤ word ws (i + 3)
   there : i + 4 < length ws
@@ -27,10 +25,9 @@ record RunHere (ws : List ℕ) (i j : ℕ) (x : Item) : Type 0 where
   longer : i + 4 < j - 1
 
 of_words : (ws : List ℕ) (i j low high : ℕ) (t : Test) (kind : RunKind) → ReadsItem ws i j (Run kind low high t)
-    → RunHere ws i j (Run kind low high t)
+    → RunHere ws i j
 of_words ws i j low high t kind r = record {
   test = t;
-  width = sym (word_of ws (i + 2) low r.1.1);
   ends = r.1.0;
   counts = omega (arith, word_of ws (i + 2) low r.1.1, word_of ws (i + 3) high r.1.2, r.1.3);
   there = word_within ws (i + 4) (opcode_number (test_opcode t)) r.1.4;
@@ -48,7 +45,7 @@ lazy_there ws i h = record { kind = LazyRun; there = h }
 pub possessive_there : (ws : List ℕ) (i : ℕ) → Opcode ws i opcode.POSSESSIVE_REPEAT_ONE → RunAt ws i
 possessive_there ws i h = record { kind = PossessiveRun; there = h }
 
-run_here : (ws : List ℕ) (i j : ℕ) (x : Item) → RunAt ws i → ReadsItem ws i j x → RunHere ws i j x
+run_here : (ws : List ℕ) (i j : ℕ) (x : Item) → RunAt ws i → ReadsItem ws i j x → RunHere ws i j
 run_here ws i j (Run kind low high t) h r = of_words ws i j low high t kind r
 run_here ws i j x h r =
     let here : HasRole ws i (ToRun h.kind) =
@@ -57,9 +54,9 @@ run_here ws i j x h r =
     absurd (cc)
 
 -- where the test ends, SUCCESS stands
-run_closed : (ws : List ℕ) (i j e : ℕ) (x : Item) → RunHere ws i j x → TestExactly ws (i + 4) e
+run_closed : (ws : List ℕ) (i j e : ℕ) → RunHere ws i j → TestExactly ws (i + 4) e
     → Opcode ws e opcode.SUCCESS
-run_closed ws i j e x f t = opcode_moved ws (j - 1) e opcode.SUCCESS (t.only (j - 1) f.test f.reads) f.closed
+run_closed ws i j e f t = opcode_moved ws (j - 1) e opcode.SUCCESS (t.only (j - 1) f.test f.reads) f.closed
 
 pub run_exactly : (ws : List ℕ) (i e t v high : ℕ) → RunAt ws i → t ≡ skip ws (i + 1) → v ≡ word ws (i + 2)
     → high ≡ word ws (i + 3) → i + 3 < length ws → v ≤ high → TestExactly ws (i + 4) e → Opcode ws e opcode.SUCCESS
@@ -79,7 +76,6 @@ run_exactly ws i e t v high h skips low highest there le x closed ends =
         opcode_moved ws e (t - 1) opcode.SUCCESS at closed,
       ),
     ) low
-    (λ j y r. let f = run_here ws i j y h r in (f.ends ∙ sym skips, f.width ∙ sym low))
 
 pub run_short : (ws : List ℕ) (i : ℕ) → RunAt ws i → length ws ≤ i + 4 → Nowhere (ItemAt ws i)
 run_short ws i h le = record { none = λ j w y. omega (arith, (run_here ws i j y.0 h y.1).there) }
@@ -98,12 +94,12 @@ run_nowhere ws i h n = record { none = λ j w y. let f = run_here ws i j y.0 h y
 pub run_ends_cut : (ws : List ℕ) (i e : ℕ) → RunAt ws i → TestExactly ws (i + 4) e → NoCode opcode_number ws e
     → Nowhere (ItemAt ws i)
 run_ends_cut ws i e h x n =
-    record { none = λ j w y. n.none opcode.SUCCESS (run_closed ws i j e y.0 (run_here ws i j y.0 h y.1) x) }
+    record { none = λ j w y. n.none opcode.SUCCESS (run_closed ws i j e (run_here ws i j y.0 h y.1) x) }
 
 pub run_open : (ws : List ℕ) (i e : ℕ) (o : SreOpcode) → RunAt ws i → TestExactly ws (i + 4) e → Opcode ws e o
     → o ≢ opcode.SUCCESS → Nowhere (ItemAt ws i)
 run_open ws i e o h x there ne = record {
-  none = λ j w y. ne (same_opcode ws e o opcode.SUCCESS there (run_closed ws i j e y.0 (run_here ws i j y.0 h y.1) x));
+  none = λ j w y. ne (same_opcode ws e o opcode.SUCCESS there (run_closed ws i j e (run_here ws i j y.0 h y.1) x));
 }
 
 pub run_skip : (ws : List ℕ) (i e t : ℕ) → RunAt ws i → TestExactly ws (i + 4) e → t ≡ skip ws (i + 1) → t ≢ e + 1

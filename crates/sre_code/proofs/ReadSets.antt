@@ -8,22 +8,27 @@ use Rattle.sre_chars.specs.declared.constants.SreOpcode.TheVariants as opcode
 use Rattle.sre_chars.specs.declared.constants.SreCatCode.{SreCatCode}
 use Rattle.sre_model.specs.Tree.{SetItem, Single, Range, RangeUniIgnore, Category, Charset, BigCharset, Negate}
 use Rattle.sre_model.specs.Grammar.{Opcode, Word, word, ReadsSet, BlocksBelow, bytes_of}
-use Rattle.sre_code.specs.Reading.{NoCode, SetItemExactly, NoSetItem, IsSet, NoSet, SameSets, SetItemEnds}
+use Rattle.sre_code.specs.Reading.{NoCode, SetAt, SetItemExactly, NoSetItem, IsSet, NoSet, SameSets, SetItemEnds}
 use Rattle.sre_code.specs.declared.code.error.CodeError.TheVariants.{BadSet}
-use Rattle.sre_model.proofs.Words.{word_within, word_there, opcode_within, same_opcode}
-use Rattle.sre_model.proofs.SetItems.{set_item_opcode, first, is_single, is_range, is_folded_range, is_set_category}
-use Rattle.sre_model.proofs.SetItems.{is_charset, is_big_charset, is_negate}
+use Rattle.sre_model.proofs.Words.{word_within, word_there, opcode_within}
+use Rattle.sre_model.proofs.SetItems.{set_item_opcode, first, begins, unlike, set_item_by, parted, category_at}
 use Rattle.sre_model.proofs.Places.{set_within}
+
+-- what is left behind an item, by its opcode
+left : (o : SreOpcode) (ws : List ℕ) (i j : ℕ) → Opcode ws i o → i < j → SetAt ws i j
+    → SetAt ws (set_item_by o ws i).1 j
+left o ws i j h lt s = let f = parted o ws i j s.0 h lt s.1 in (f.0, f.3)
 
 pub single_item : (ws : List ℕ) (i : ℕ) → Opcode ws i opcode.LITERAL → i + 1 < length ws → SetItemExactly ws i (i + 2)
 single_item ws i h there = record {
   sound = λ j s. (Single (word ws (i + 1)) ∷ s.0, (h, word_there ws (i + 1) there, s.1));
-  complete = λ j lt s. let f = is_single ws i j s.0 h lt s.1 in (f.1, f.3.2);
+  complete = λ j. left opcode.LITERAL ws i j h;
 }
 
 pub single_cut : (ws : List ℕ) (i : ℕ) → Opcode ws i opcode.LITERAL → length ws ≤ i + 1 → NoSetItem ws i
-single_cut ws i h le =
-    record { none = λ j lt s. let f = is_single ws i j s.0 h lt s.1 in omega (arith, word_within ws (i + 1) f.0 f.3.1) }
+single_cut ws i h le = record {
+  none = λ j lt s. omega (arith, word_within ws (i + 1) _ (parted opcode.LITERAL ws i j s.0 h lt s.1).2.1);
+}
 
 pub range_there : (ws : List ℕ) (i : ℕ) (o : SreOpcode) → Opcode ws i o
     → (o ≡ opcode.RANGE) ⊎ (o ≡ opcode.RANGE_UNI_IGNORE)
@@ -38,43 +43,46 @@ range_item ws i (inl h) there = record {
     Range (word ws (i + 1)) (word ws (i + 2)) ∷ s.0,
     (h, word_there ws (i + 1) (omega arith), word_there ws (i + 2) there, s.1),
   );
-  complete = λ j lt s. let f = is_range ws i j s.0 h lt s.1 in (f.2, f.4.3);
+  complete = λ j. left opcode.RANGE ws i j h;
 }
 range_item ws i (inr h) there = record {
   sound = λ j s. (
     RangeUniIgnore (word ws (i + 1)) (word ws (i + 2)) ∷ s.0,
     (h, word_there ws (i + 1) (omega arith), word_there ws (i + 2) there, s.1),
   );
-  complete = λ j lt s. let f = is_folded_range ws i j s.0 h lt s.1 in (f.2, f.4.3);
+  complete = λ j. left opcode.RANGE_UNI_IGNORE ws i j h;
 }
 
 pub range_cut : (ws : List ℕ) (i : ℕ) → Opcode ws i opcode.RANGE ⊎ Opcode ws i opcode.RANGE_UNI_IGNORE
     → length ws ≤ i + 2 → NoSetItem ws i
-range_cut ws i (inl h) le =
-    record { none = λ j lt s. let f = is_range ws i j s.0 h lt s.1 in omega (arith, word_within ws (i + 2) f.1 f.4.2) }
+range_cut ws i (inl h) le = record {
+  none = λ j lt s. omega (arith, word_within ws (i + 2) _ (parted opcode.RANGE ws i j s.0 h lt s.1).2.2);
+}
 range_cut ws i (inr h) le = record {
-  none = λ j lt s. let f = is_folded_range ws i j s.0 h lt s.1 in omega (arith, word_within ws (i + 2) f.1 f.4.2);
+  none = λ j lt s. omega (arith, word_within ws (i + 2) _ (parted opcode.RANGE_UNI_IGNORE ws i j s.0 h lt s.1).2.2);
 }
 
 pub category_item : (ws : List ℕ) (i : ℕ) (c : SreCatCode) → Opcode ws i opcode.CATEGORY
     → Word ws (i + 1) (category_number c) → SetItemExactly ws i (i + 2)
 category_item ws i c h w = record {
   sound = λ j s. (Category c ∷ s.0, (h, w, s.1));
-  complete = λ j lt s. let f = is_set_category ws i j s.0 h lt s.1 in (f.1, f.3.2);
+  complete = λ j. left opcode.CATEGORY ws i j h;
 }
 
 pub category_cut : (ws : List ℕ) (i : ℕ) → Opcode ws i opcode.CATEGORY → NoCode category_number ws (i + 1)
     → NoSetItem ws i
-category_cut ws i h n = record { none = λ j lt s. let f = is_set_category ws i j s.0 h lt s.1 in n.none f.0 f.3.1 }
+category_cut ws i h n =
+    record { none = λ j lt s. n.none (category_at ws (i + 1)) (parted opcode.CATEGORY ws i j s.0 h lt s.1).2.1 }
 
 pub charset_item : (ws : List ℕ) (i : ℕ) → Opcode ws i opcode.CHARSET → i + 8 < length ws → SetItemExactly ws i (i + 9)
 charset_item ws i h there = record {
   sound = λ j s. (Charset (slice_range ws (i + 1) (i + 9)) ∷ s.0, (h, refl, omega arith, s.1));
-  complete = λ j lt s. let f = is_charset ws i j s.0 h lt s.1 in (f.1, f.3.3);
+  complete = λ j. left opcode.CHARSET ws i j h;
 }
 
 pub charset_cut : (ws : List ℕ) (i : ℕ) → Opcode ws i opcode.CHARSET → length ws ≤ i + 8 → NoSetItem ws i
-charset_cut ws i h le = record { none = λ j lt s. let f = is_charset ws i j s.0 h lt s.1 in omega (arith, f.3.2) }
+charset_cut ws i h le =
+    record { none = λ j lt s. omega (arith, (parted opcode.CHARSET ws i j s.0 h lt s.1).2.2) }
 
 pub big_exactly : (ws : List ℕ) (i e : ℕ) → Opcode ws i opcode.BIGCHARSET
     → BlocksBelow (word ws (i + 1)) (slice_range ws (i + 2) (i + 66)) → e ≡ i + 66 + word ws (i + 1) * 8 → e ≤ length ws
@@ -85,17 +93,18 @@ big_exactly ws i e h below ee le = record {
         (slice_range ws (i + 66) (i + 66 + word ws (i + 1) * 8)) ∷ s.0,
     (h, refl, below, refl, omega arith, subst P ee s.1),
   );
-  complete = λ j lt s. let f = is_big_charset ws i j s.0 h lt s.1 in let P : ℕ → Type 0 = λ n. ReadsSet ws n j f.2 in
-      (f.2, subst P (sym ee) f.4.5);
+  complete = λ j lt s. subst (λ n. SetAt ws n j) (sym ee) (left opcode.BIGCHARSET ws i j h lt s);
 }
 
 pub big_blocks : (ws : List ℕ) (i : ℕ) → Opcode ws i opcode.BIGCHARSET
     → (BlocksBelow (word ws (i + 1)) (slice_range ws (i + 2) (i + 66)) → ⊥) → NoSetItem ws i
-big_blocks ws i h above = record { none = λ j lt s. let f = is_big_charset ws i j s.0 h lt s.1 in above f.4.2 }
+big_blocks ws i h above =
+    record { none = λ j lt s. above (parted opcode.BIGCHARSET ws i j s.0 h lt s.1).2.2 }
 
 pub big_cut : (ws : List ℕ) (i : ℕ) → Opcode ws i opcode.BIGCHARSET → length ws < i + 66 + word ws (i + 1) * 8
     → NoSetItem ws i
-big_cut ws i h short = record { none = λ j lt s. let f = is_big_charset ws i j s.0 h lt s.1 in omega (arith, f.4.4) }
+big_cut ws i h short =
+    record { none = λ j lt s. omega (arith, (parted opcode.BIGCHARSET ws i j s.0 h lt s.1).2.4) }
 
 pub big_short : (ws : List ℕ) (i : ℕ) → Opcode ws i opcode.BIGCHARSET → length ws < i + 66 → NoSetItem ws i
 big_short ws i h short = big_cut ws i h (omega arith)
@@ -103,7 +112,7 @@ big_short ws i h short = big_cut ws i h (omega arith)
 pub negate_item : (ws : List ℕ) (i : ℕ) → Opcode ws i opcode.NEGATE → SetItemExactly ws i (i + 1)
 negate_item ws i h = record {
   sound = λ j s. (Negate ∷ s.0, (h, s.1));
-  complete = λ j lt s. let f = is_negate ws i j s.0 h lt s.1 in (f.0, f.2.1);
+  complete = λ j. left opcode.NEGATE ws i j h;
 }
 
 -- where no opcode is, or another one
@@ -114,32 +123,18 @@ no_opcode ws i n = record { none = λ j lt s. unread s.0 j lt s.1 }
     unread [] j lt r = omega arith
     unread (x ∷ rest) j lt r = n.none (set_item_opcode x) (first x rest ws i j r)
 
-other_item : (ws : List ℕ) (i j : ℕ) (o : SreOpcode) (s : List SetItem) → Opcode ws i o → o ≢ opcode.LITERAL
-    → o ≢ opcode.RANGE → o ≢ opcode.RANGE_UNI_IGNORE → o ≢ opcode.CATEGORY → o ≢ opcode.CHARSET → o ≢ opcode.BIGCHARSET
-    → o ≢ opcode.NEGATE → i < j → ReadsSet ws i j s → ⊥
-other_item ws i j o [] h single range folded category charset big negate lt r = omega arith
-other_item ws i j o (Single v ∷ rest) h single range folded category charset big negate lt r =
-    single (same_opcode ws i o opcode.LITERAL h r.0)
-other_item ws i j o (Range low high ∷ rest) h single range folded category charset big negate lt r =
-    range (same_opcode ws i o opcode.RANGE h r.0)
-other_item ws i j o (RangeUniIgnore low high ∷ rest) h single range folded category charset big negate lt r =
-    folded (same_opcode ws i o opcode.RANGE_UNI_IGNORE h r.0)
-other_item ws i j o (Category c ∷ rest) h single range folded category charset big negate lt r =
-    category (same_opcode ws i o opcode.CATEGORY h r.0)
-other_item ws i j o (Charset bits ∷ rest) h single range folded category charset big negate lt r =
-    charset (same_opcode ws i o opcode.CHARSET h r.0)
-other_item ws i j o (BigCharset numbers bits ∷ rest) h single range folded category charset big negate lt r =
-    big (same_opcode ws i o opcode.BIGCHARSET h r.0)
-other_item ws i j o (Negate ∷ rest) h single range folded category charset big negate lt r =
-    negate (same_opcode ws i o opcode.NEGATE h r.0)
-
 pub no_item : (ws : List ℕ) (i : ℕ) (o : SreOpcode) → Opcode ws i o → o ≢ opcode.LITERAL → o ≢ opcode.RANGE
     → o ≢ opcode.RANGE_UNI_IGNORE → o ≢ opcode.CATEGORY → o ≢ opcode.CHARSET → o ≢ opcode.BIGCHARSET → o ≢ opcode.NEGATE
     → SetItemEnds ws i (Err (BadSet i))
 no_item ws i o h single range folded category charset big negate = (
-  record { none = λ j lt s. other_item ws i j o s.0 h single range folded category charset big negate lt s.1 },
+  record { none = λ j lt s. other s.0 j lt s.1 },
   (omega (arith, opcode_within ws i o h), λ e. absurd (cc)),
 )
+  where
+    other : (s : List SetItem) (j : ℕ) → i < j → ReadsSet ws i j s → ⊥
+    other [] j lt r = omega arith
+    other (x ∷ rest) j lt r =
+        unlike o single range folded category charset big negate x (begins ws i j o x rest h r)
 
 -- the items one after the other
 pub set_stops : (ws : List ℕ) (start place end : ℕ) → SameSets ws start place end → place < end → NoSetItem ws place

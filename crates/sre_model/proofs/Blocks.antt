@@ -1,14 +1,11 @@
 -- Bits of sets: where the words have a character's bit.
-use Rattle.std.proofs.Common.{ℕ, zero, suc, ◌+◌, ◌-◌, ◌*◌, ◌/◌, ◌%◌, ◌^◌, ◌≡◌, ◌<◌, ◌≤◌, List, [], ◌∷◌, length, take}
-use Rattle.std.proofs.Common.{drop, slice_index, slice_range, refl, sym, ◌∙◌, ap, arith, length-drop}
+use Rattle.std.proofs.Common.{ℕ, zero, suc, ◌+◌, ◌*◌, ◌/◌, ◌%◌, ◌^◌, ◌≡◌, ◌<◌, ◌≤◌, List, [], ◌∷◌, length, take}
+use Rattle.std.proofs.Common.{slice_index, slice_range, refl, sym, ◌∙◌, ap, arith}
 use Rattle.std.specs.List.{flat_map}
-use Rattle.std.proofs.lemmas.List.{get_or-take, get_or-drop, length-take-le}
+use Rattle.std.proofs.lemmas.List.{length-take-le}
 use Rattle.std.proofs.lemmas.List.Concat.{get_or-flat_map}
 use Rattle.sre_model.specs.Grammar.{bytes_of, BytesBelow, BlocksBelow}
-
--- a part of a list at k
-part_at : (ws : List ℕ) (a b k : ℕ) → a + k < b → slice_index (slice_range ws a b) k ≡ slice_index ws (a + k)
-part_at ws a b k l = get_or-take (b - a) (drop a ws) k 0 (omega arith) ∙ get_or-drop a ws k 0
+use Rattle.sre_model.proofs.StandingWords.{part_at, range_long}
 
 -- what holds of each number below four
 each_byte : (P : ℕ → Type 0) → P 0 → P 1 → P 2 → P 3 → (r : ℕ) → r < 4 → P r
@@ -38,19 +35,13 @@ number_at xs q r l k =
     ≡ slice_index (bytes_of (slice_index xs q)) r = get_or-flat_map bytes_of xs q r 0 0 l k in
     ap (λ n. slice_index (flat_map bytes_of xs) (n + r)) (sym e) ∙ f ∙ sym (byte_of (slice_index xs q) r k)
 
--- the 64 words of numbers
-numbers_room : (ws : List ℕ) (i : ℕ) → i + 66 ≤ length ws → length (slice_range ws (i + 2) (i + 66)) ≡ 64
-numbers_room ws i room =
-    let enough : i + 66 - (i + 2) ≤ length (drop (i + 2) ws) = omega (arith, length-drop (i + 2) ws) in
-    length-take-le (i + 66 - (i + 2)) (drop (i + 2) ws) enough ∙ omega arith
-
 pub block_number : (ws : List ℕ) (i c : ℕ) → c < 65536 → i + 66 ≤ length ws
     → slice_index ws (i + 2 + c / 256 / 4) / 2 ^ (8 * (c / 256 % 4)) % 256
     ≡ slice_index (flat_map bytes_of (slice_range ws (i + 2) (i + 66))) (c / 256)
 block_number ws i c l room =
     let q : ℕ = c / 256 / 4 in
     let xs : List ℕ = slice_range ws (i + 2) (i + 66) in
-    let there : q < length xs = omega (arith, numbers_room ws i room) in
+    let there : q < length xs = omega (arith, range_long ws (i + 2) (i + 66) room) in
     let split : 4 * q + c / 256 % 4 ≡ c / 256 = omega arith in
     let e : slice_index xs q ≡ slice_index ws (i + 2 + q) = part_at ws (i + 2) (i + 66) q (omega arith) in
     sym (ap (λ n. slice_index (flat_map bytes_of xs) n) (sym split) ∙ number_at xs q (c / 256 % 4) there (omega arith)
@@ -62,7 +53,7 @@ pub block_below : (ws : List ℕ) (i c count : ℕ) → c < 65536
 block_below ws i c count l room b =
     let q : ℕ = c / 256 / 4 in
     let xs : List ℕ = slice_range ws (i + 2) (i + 66) in
-    let there : q < length xs = omega (arith, numbers_room ws i room) in
+    let there : q < length xs = omega (arith, range_long ws (i + 2) (i + 66) room) in
     let e : slice_index xs q ≡ slice_index ws (i + 2 + q) = part_at ws (i + 2) (i + 66) q (omega arith) in
     let below : slice_index (bytes_of (slice_index xs q)) (c / 256 % 4) < count =
     byte_below count (slice_index xs q) (c / 256 % 4) (b q there) (omega arith) in

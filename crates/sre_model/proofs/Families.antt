@@ -7,7 +7,7 @@ use Rattle.sre_chars.specs.declared.constants.SreCatCode.{SreCatCode}
 use Rattle.sre_model.specs.Tree.{Tree, Item, Fail, One, At, Mark, Branch, Loop, Run, PossessiveLoop, Atomic, Look}
 use Rattle.sre_model.specs.Tree.{Reference, Exists, ExistsElse, Trees, Test, Any, AnyAll, InCategory, Literal}
 use Rattle.sre_model.specs.Tree.{NotLiteral, In, Order, RunKind, GreedyRun, Sign, Positive}
-use Rattle.sre_model.specs.Tree.{Fold, Plain, Ascii, Locale, Unicode, SetItem, Greedy}
+use Rattle.sre_model.specs.Tree.{Fold, Plain, SetItem, Greedy}
 use Rattle.sre_model.specs.Roles.{TestKind, OfAny, OfAnyAll, OfCategory, OfLiteral, OfNotLiteral, OfSet, Role, ToFail}
 use Rattle.sre_model.specs.Roles.{ToEnd, ToTest, ToCheckPosition, ToMark, ToBranch, ToJump, ToRun, ToRepeat, ToLoop}
 use Rattle.sre_model.specs.Roles.{ToRepeatPossessively, ToGroupAtomically, ToLook, ToRefer, ToCheckGroup, ToNothing}
@@ -27,21 +27,13 @@ test_kind (NotLiteral fold v) = OfNotLiteral
 test_kind (In fold set) = OfSet
 
 pub test_role : (t : Test) → role (test_opcode t) ≡ ToTest (test_kind t)
-test_role Any = refl
-test_role AnyAll = refl
-test_role (InCategory c) = refl
 test_role (Literal Plain v) = refl
-test_role (Literal Ascii v) = refl
-test_role (Literal Locale v) = refl
-test_role (Literal Unicode v) = refl
+test_role (Literal fold v) = refl
 test_role (NotLiteral Plain v) = refl
-test_role (NotLiteral Ascii v) = refl
-test_role (NotLiteral Locale v) = refl
-test_role (NotLiteral Unicode v) = refl
+test_role (NotLiteral fold v) = refl
 test_role (In Plain set) = refl
-test_role (In Ascii set) = refl
-test_role (In Locale set) = refl
-test_role (In Unicode set) = refl
+test_role (In fold set) = refl
+test_role t = refl
 
 pub run_role : (kind : RunKind) → role (run_opcode kind) ≡ ToRun kind
 run_role GreedyRun = refl
@@ -111,16 +103,6 @@ test_kind_at ws i kind t h a =
     let e : ToTest kind ≡ ToTest (test_kind t) =
     sym h.begins ∙ ap role (same_opcode ws i h.code (test_opcode t) h.there a) ∙ test_role t in
     cc
-
-pub is_any : (ws : List ℕ) (i k : ℕ) (t : Test) → HasRole ws i (ToTest OfAny) → Opcode ws i (test_opcode t)
-    → TestOperands ws i k t → (t ≡ Any) × TestOperands ws i k Any
-is_any ws i k Any h a r = (refl, r)
-is_any ws i k t h a r = let e : OfAny ≡ test_kind t = test_kind_at ws i OfAny t h a in absurd (cc)
-
-pub is_any_all : (ws : List ℕ) (i k : ℕ) (t : Test) → HasRole ws i (ToTest OfAnyAll) → Opcode ws i (test_opcode t)
-    → TestOperands ws i k t → (t ≡ AnyAll) × TestOperands ws i k AnyAll
-is_any_all ws i k AnyAll h a r = (refl, r)
-is_any_all ws i k t h a r = let e : OfAnyAll ≡ test_kind t = test_kind_at ws i OfAnyAll t h a in absurd (cc)
 
 pub is_category : (ws : List ℕ) (i k : ℕ) (t : Test) → HasRole ws i (ToTest OfCategory) → Opcode ws i (test_opcode t)
     → TestOperands ws i k t → (c : SreCatCode) × (t ≡ InCategory c) × TestOperands ws i k (InCategory c)

@@ -1,11 +1,34 @@
--- Two folds in one: its value of a tree is what each gives. And folds that compute whether some item is there: what
--- holds of each item holds of trees.
+-- Folds of trees: what holds of two folds' values of each item holds of trees.
 use Rattle.std.proofs.Common.{◌≡◌, Bool, true, false, ◌||◌, refl, ap, ap₂, ◌∙◌}
 use Rattle.std.proofs.lemmas.Bool.{true≢false}
-use Rattle.sre_model.specs.Tree.{Tree, Empty, Then, Item, Fail, One, At, Mark, Branch, Loop, Run, PossessiveLoop}
-use Rattle.sre_model.specs.Tree.{Atomic, Look, Reference, Exists, ExistsElse, Trees, Only, Or}
+use Rattle.sre_model.specs.Tree.{Tree, Empty, Then, Item, Branch, Loop, PossessiveLoop, Atomic, Look}
+use Rattle.sre_model.specs.Tree.{Exists, ExistsElse, Trees, Only, Or}
 use Rattle.sre_model.specs.Folding.{Folding, of_tree, of_parts, of_branch, of_item}
 
+-- two folds' values are related where what they have and make of nothing, of two parts and of an item is
+module _ {A B : Type 0} (f : Folding A) (g : Folding B) (R : A → B → Type 0) (nothing : R f.nothing g.nothing)
+    (both : (a c : A) (b d : B) → R a b → R c d → R (f.both a c) (g.both b d))
+    (item : (x : Item) (a : A) (b : B) → R a b → R (f.item x a) (g.item x b)) where
+  mutual
+    tree_related : (t : Tree) → R (of_tree f t) (of_tree g t)
+    tree_related Empty = nothing
+    tree_related (Then x rest) = both _ _ _ _ (item x _ _ (parts_related x)) (tree_related rest)
+
+    parts_related : (x : Item) → R (of_parts f x) (of_parts g x)
+    parts_related (Branch ts) = branch_related ts
+    parts_related (Loop o low high body) = tree_related body
+    parts_related (PossessiveLoop low high body) = tree_related body
+    parts_related (Atomic body) = tree_related body
+    parts_related (Look sign back body) = tree_related body
+    parts_related (Exists n there) = tree_related there
+    parts_related (ExistsElse n there absent) = both _ _ _ _ (tree_related there) (tree_related absent)
+    parts_related x = nothing
+
+    branch_related : (ts : Trees) → R (of_branch f ts) (of_branch g ts)
+    branch_related (Only t) = tree_related t
+    branch_related (Or t ts) = both _ _ _ _ (tree_related t) (branch_related ts)
+
+-- two folds in one: its value of a tree is what each gives
 module _ {A B : Type 0} (f : Folding A) (g : Folding B) where
   abbrev pub paired : Folding (A × B)
   paired = record {
@@ -14,94 +37,32 @@ module _ {A B : Type 0} (f : Folding A) (g : Folding B) where
     item = λ x a. (f.item x a.0, g.item x a.1);
   }
 
-  mutual
-    pub tree_paired : (t : Tree) → of_tree paired t ≡ (of_tree f t, of_tree g t)
-    tree_paired Empty = refl
-    tree_paired (Then x rest) = rw (parts_paired x, tree_paired rest) refl
-
-    parts_paired : (x : Item) → of_parts paired x ≡ (of_parts f x, of_parts g x)
-    parts_paired Fail = refl
-    parts_paired (One t) = refl
-    parts_paired (At a) = refl
-    parts_paired (Mark n) = refl
-    parts_paired (Branch ts) = branch_paired ts
-    parts_paired (Loop o low high body) = tree_paired body
-    parts_paired (Run kind low high t) = refl
-    parts_paired (PossessiveLoop low high body) = tree_paired body
-    parts_paired (Atomic body) = tree_paired body
-    parts_paired (Look sign back body) = tree_paired body
-    parts_paired (Reference fold n) = refl
-    parts_paired (Exists n there) = tree_paired there
-    parts_paired (ExistsElse n there absent) = rw (tree_paired there, tree_paired absent) refl
-
-    branch_paired : (ts : Trees) → of_branch paired ts ≡ (of_branch f ts, of_branch g ts)
-    branch_paired (Only t) = tree_paired t
-    branch_paired (Or t ts) = rw (tree_paired t, branch_paired ts) refl
+  pub tree_paired : (t : Tree) → of_tree paired t ≡ (of_tree f t, of_tree g t)
+  tree_paired t = ap₂ (λ a b. (a, b))
+      (tree_related paired f (λ p a. p.0 ≡ a) refl (λ p q a b. ap₂ f.both) (λ x p a. ap (f.item x)) t)
+      (tree_related paired g (λ p b. p.1 ≡ b) refl (λ p q a b. ap₂ g.both) (λ x p a. ap (g.item x)) t)
 
   pub item_paired : (x : Item) → of_item paired x ≡ (of_item f x, of_item g x)
-  item_paired x = rw (parts_paired x) refl
+  item_paired x = ap₂ (λ a b. (f.item x a, g.item x b))
+      (parts_related paired f (λ p a. p.0 ≡ a) refl (λ p q a b. ap₂ f.both) (λ y p a. ap (f.item y)) x)
+      (parts_related paired g (λ p b. p.1 ≡ b) refl (λ p q a b. ap₂ g.both) (λ y p a. ap (g.item y)) x)
 
 -- whether some item is there, by what an item makes of what is in its parts
 abbrev pub any_of : (Item → Bool → Bool) → Folding Bool
 any_of f = record { nothing = false; both = ◌||◌; item = f }
 
 -- what is the same of each item is the same of trees
-module _ (f g : Item → Bool → Bool) (same : (x : Item) (a : Bool) → f x a ≡ g x a) where
-  mutual
-    pub tree_same : (t : Tree) → of_tree (any_of f) t ≡ of_tree (any_of g) t
-    tree_same Empty = refl
-    tree_same (Then x rest) =
-        ap₂ (λ a b. a || b) (same x (of_parts (any_of f) x) ∙ ap (g x) (parts_same x)) (tree_same rest)
+pub tree_same : (f g : Item → Bool → Bool) → ((x : Item) (a : Bool) → f x a ≡ g x a) → (t : Tree)
+    → of_tree (any_of f) t ≡ of_tree (any_of g) t
+tree_same f g same = tree_related (any_of f) (any_of g) (λ a b. a ≡ b) refl (λ a c b d. ap₂ (λ x y. x || y))
+    (λ x a b e. same x a ∙ ap (g x) e)
 
-    parts_same : (x : Item) → of_parts (any_of f) x ≡ of_parts (any_of g) x
-    parts_same Fail = refl
-    parts_same (One t) = refl
-    parts_same (At a) = refl
-    parts_same (Mark n) = refl
-    parts_same (Branch ts) = branch_same ts
-    parts_same (Loop o low high body) = tree_same body
-    parts_same (Run kind low high t) = refl
-    parts_same (PossessiveLoop low high body) = tree_same body
-    parts_same (Atomic body) = tree_same body
-    parts_same (Look sign back body) = tree_same body
-    parts_same (Reference fold n) = refl
-    parts_same (Exists n there) = tree_same there
-    parts_same (ExistsElse n there absent) = ap₂ (λ a b. a || b) (tree_same there) (tree_same absent)
-
-    branch_same : (ts : Trees) → of_branch (any_of f) ts ≡ of_branch (any_of g) ts
-    branch_same (Only t) = tree_same t
-    branch_same (Or t ts) = ap₂ (λ a b. a || b) (tree_same t) (branch_same ts)
-
-pub neither : (a b : Bool) → a ≡ false → b ≡ false → (a || b) ≡ false
+neither : (a b : Bool) → a ≡ false → b ≡ false → (a || b) ≡ false
 neither false b x y = y
 neither true b x y = absurd (true≢false x)
 
 -- what no item has that its parts have not, no tree has
-module _ (f : Item → Bool → Bool) (none : (x : Item) (a : Bool) → a ≡ false → f x a ≡ false) where
-  mutual
-    pub tree_never : (t : Tree) → of_tree (any_of f) t ≡ false
-    tree_never Empty = refl
-    tree_never (Then x rest) =
-        neither (of_item (any_of f) x) (of_tree (any_of f) rest)
-        (none x (of_parts (any_of f) x) (parts_never x)) (tree_never rest)
-
-    parts_never : (x : Item) → of_parts (any_of f) x ≡ false
-    parts_never Fail = refl
-    parts_never (One t) = refl
-    parts_never (At a) = refl
-    parts_never (Mark n) = refl
-    parts_never (Branch ts) = branch_never ts
-    parts_never (Loop o low high body) = tree_never body
-    parts_never (Run kind low high t) = refl
-    parts_never (PossessiveLoop low high body) = tree_never body
-    parts_never (Atomic body) = tree_never body
-    parts_never (Look sign back body) = tree_never body
-    parts_never (Reference fold n) = refl
-    parts_never (Exists n there) = tree_never there
-    parts_never (ExistsElse n there absent) =
-        neither (of_tree (any_of f) there) (of_tree (any_of f) absent) (tree_never there) (tree_never absent)
-
-    branch_never : (ts : Trees) → of_branch (any_of f) ts ≡ false
-    branch_never (Only t) = tree_never t
-    branch_never (Or t ts) =
-        neither (of_tree (any_of f) t) (of_branch (any_of f) ts) (tree_never t) (branch_never ts)
+pub tree_never : (f : Item → Bool → Bool) → ((x : Item) (a : Bool) → a ≡ false → f x a ≡ false) → (t : Tree)
+    → of_tree (any_of f) t ≡ false
+tree_never f none = tree_related (any_of f) (any_of f) (λ a b. a ≡ false) refl (λ a c b d. neither a c)
+    (λ x a b. none x a)

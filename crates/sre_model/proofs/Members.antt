@@ -8,14 +8,14 @@ use Rattle.sre_chars.specs.Categories.{category}
 use Rattle.sre_chars.specs.declared.constants.SreOpcode.{SreOpcode}
 use Rattle.sre_chars.specs.declared.constants.SreOpcode.TheVariants as opcode
 use Rattle.sre_chars.specs.declared.constants.SreCatCode.{SreCatCode}
-use Rattle.sre_model.specs.Tree.{SetItem, Single, Range, RangeUniIgnore, Category, Charset, BigCharset, Negate}
+use Rattle.sre_model.specs.Tree.{SetItem, RangeUniIgnore, Charset, BigCharset, Negate}
 use Rattle.sre_model.specs.Characters.{item_holds, verdict, is_member}
 use Rattle.sre_model.specs.Grammar.{Word, Opcode, word, bytes_of, BlocksBelow, ReadsSet}
 use Rattle.sre_model.specs.Standing.{HasCategory, SetStands, HasSet, ItemSays, VerdictLeft}
-use Rattle.sre_model.proofs.Words.{same_word, same_opcode, opcode_within, opcode_moved}
+use Rattle.sre_model.proofs.Words.{word_of, same_opcode, opcode_within, opcode_moved}
 use Rattle.sre_model.proofs.Places.{set_within}
-use Rattle.sre_model.proofs.SetItems.{is_single, is_range, is_folded_range, is_set_category, is_charset, is_big_charset}
-use Rattle.sre_model.proofs.SetItems.{is_negate, set_item_opcode, first, begins}
+use Rattle.sre_model.proofs.SetItems.{set_item_opcode, first, begins, set_item_by, item_past, parted, category_at}
+use Rattle.sre_model.proofs.SetItems.{category-read, unlike}
 
 -- an opcode other than FAILURE begins an item
 begun : (ws : List ℕ) (i j : ℕ) (o : SreOpcode) (set : List SetItem) → Opcode ws i o → o ≢ opcode.FAILURE
@@ -41,113 +41,82 @@ decided table c taken holds x rest set e n h =
     go Negate m = absurd (m refl)
     go y m = refl
 
+-- the item at i, by its opcode: what is left behind it, where it has room, and what it says
+item_left : (o : SreOpcode) (ws : List ℕ) (i j : ℕ) (set : List SetItem) → Opcode ws i o → o ≢ opcode.FAILURE
+    → SetStands ws i j set → let x = set_item_by o ws i in
+    (rest : List SetItem) × (set ≡ x.0 ∷ rest) × ReadsSet ws i j (x.0 ∷ rest) × ReadsSet ws x.1 j rest
+item_left o ws i j set w n s = parted o ws i j set w (begun ws i j o set w n s) s.items
+
+room : (o : SreOpcode) (ws : List ℕ) (i : ℕ) → Opcode ws i o → o ≢ opcode.FAILURE → HasSet ws i
+    → (set_item_by o ws i).1 < length ws
+room o ws i w n h =
+    let f = item_left o ws i h.end h.set w n h.stands in
+    omega (
+      arith,
+      set_within ws (set_item_by o ws i).1 h.end f.0 f.3,
+      opcode_within ws h.end opcode.FAILURE h.stands.ends,
+    )
+
+says : (o : SreOpcode) (ws : List ℕ) (table : Table) (i c : ℕ) (holds : Bool) → Opcode ws i o → o ≢ opcode.FAILURE
+    → (set_item_by o ws i).0 ≢ Negate → holds ≡ item_holds table (set_item_by o ws i).0 c
+    → ItemSays ws table i c holds (set_item_by o ws i).1
+says o ws table i c holds w n m b = record {
+  later = item_past o ws i;
+  each = λ j set s.
+      let f = item_left o ws i j set w n s in
+      (f.0, behind ws j _ f.0 f.3 s.ends, λ taken. decided table c taken holds (set_item_by o ws i).0 f.0 set f.1 m b);
+}
+
 -- LITERAL
 pub single_room : (ws : List ℕ) (i : ℕ) → Opcode ws i opcode.LITERAL → HasSet ws i → i + 2 < length ws
-single_room ws i w h =
-    let f = is_single ws i h.end h.set w (begun ws i h.end opcode.LITERAL h.set w (λ e. cc) h.stands) h.stands.items in
-    omega (arith, set_within ws (i + 2) h.end f.1 f.3.2, opcode_within ws h.end opcode.FAILURE h.stands.ends)
+single_room ws i w h = room opcode.LITERAL ws i w (λ e. cc) h
 
 pub single_says : (ws : List ℕ) (table : Table) (i c v : ℕ) → Opcode ws i opcode.LITERAL → Word ws (i + 1) v
     → ItemSays ws table i c (nat_eq c v) (i + 2)
-single_says ws table i c v w o = record {
-  later = omega arith;
-  each = λ j set s.
-      let f = is_single ws i j set w (begun ws i j opcode.LITERAL set w (λ e. cc) s) s.items in (
-        f.1,
-        behind ws j (i + 2) f.1 f.3.2 s.ends,
-        λ taken. decided table c taken (nat_eq c v) (Single f.0) f.1 set f.2 (λ e. cc)
-            (ap (λ n. nat_eq c n) (same_word ws (i + 1) v f.0 o f.3.1)),
-      );
-}
+single_says ws table i c v w o =
+    says opcode.LITERAL ws table i c (nat_eq c v) w (λ e. cc) (λ e. cc) (rw (word_of ws (i + 1) v o) refl)
 
 -- RANGE
 pub range_room : (ws : List ℕ) (i : ℕ) → Opcode ws i opcode.RANGE → HasSet ws i → i + 3 < length ws
-range_room ws i w h =
-    let f = is_range ws i h.end h.set w (begun ws i h.end opcode.RANGE h.set w (λ e. cc) h.stands) h.stands.items in
-    omega (arith, set_within ws (i + 3) h.end f.2 f.4.3, opcode_within ws h.end opcode.FAILURE h.stands.ends)
+range_room ws i w h = room opcode.RANGE ws i w (λ e. cc) h
 
 pub range_says : (ws : List ℕ) (table : Table) (i c low high : ℕ) (holds : Bool) → Opcode ws i opcode.RANGE
     → Word ws (i + 1) low → Word ws (i + 2) high → holds ≡ is_between low high c → ItemSays ws table i c holds (i + 3)
-range_says ws table i c low high holds w ol oh b = record {
-  later = omega arith;
-  each = λ j set s.
-      let f = is_range ws i j set w (begun ws i j opcode.RANGE set w (λ e. cc) s) s.items in
-      let lows : low ≡ f.0 = same_word ws (i + 1) low f.0 ol f.4.1 in
-      let highs : high ≡ f.1 = same_word ws (i + 2) high f.1 oh f.4.2 in (
-        f.2,
-        behind ws j (i + 3) f.2 f.4.3 s.ends,
-        λ taken. decided table c taken holds (Range f.0 f.1) f.2 set f.3 (λ e. cc)
-            (b ∙ ap (λ v. is_between v high c) lows ∙ ap (λ v. is_between f.0 v c) highs),
-      );
-}
+range_says ws table i c low high holds w ol oh b =
+    says opcode.RANGE ws table i c holds w (λ e. cc) (λ e. cc)
+    (rw (word_of ws (i + 1) low ol, word_of ws (i + 2) high oh) b)
 
 -- RANGE_UNI_IGNORE
 pub folded_range_room : (ws : List ℕ) (i : ℕ) → Opcode ws i opcode.RANGE_UNI_IGNORE → HasSet ws i → i + 3 < length ws
-folded_range_room ws i w h =
-    let f = is_folded_range ws i h.end h.set w (begun ws i h.end opcode.RANGE_UNI_IGNORE h.set w (λ e. cc) h.stands)
-    h.stands.items in
-    omega (arith, set_within ws (i + 3) h.end f.2 f.4.3, opcode_within ws h.end opcode.FAILURE h.stands.ends)
+folded_range_room ws i w h = room opcode.RANGE_UNI_IGNORE ws i w (λ e. cc) h
 
 pub folded_range_says : (ws : List ℕ) (table : Table) (i c low high : ℕ) (holds : Bool)
     → Opcode ws i opcode.RANGE_UNI_IGNORE → Word ws (i + 1) low → Word ws (i + 2) high
     → holds ≡ item_holds table (RangeUniIgnore low high) c → ItemSays ws table i c holds (i + 3)
-folded_range_says ws table i c low high holds w ol oh b = record {
-  later = omega arith;
-  each = λ j set s.
-      let f = is_folded_range ws i j set w (begun ws i j opcode.RANGE_UNI_IGNORE set w (λ e. cc) s) s.items in
-      let lows : low ≡ f.0 = same_word ws (i + 1) low f.0 ol f.4.1 in
-      let highs : high ≡ f.1 = same_word ws (i + 2) high f.1 oh f.4.2 in (
-        f.2,
-        behind ws j (i + 3) f.2 f.4.3 s.ends,
-        λ taken. decided table c taken holds (RangeUniIgnore f.0 f.1) f.2 set f.3 (λ e. cc)
-            (b ∙ ap (λ v. item_holds table (RangeUniIgnore v high) c) lows
-            ∙ ap (λ v. item_holds table (RangeUniIgnore f.0 v) c) highs),
-      );
-}
+folded_range_says ws table i c low high holds w ol oh b =
+    says opcode.RANGE_UNI_IGNORE ws table i c holds w (λ e. cc) (λ e. cc)
+    (rw (word_of ws (i + 1) low ol, word_of ws (i + 2) high oh) b)
 
 -- CATEGORY
 pub category_there : (ws : List ℕ) (i : ℕ) → Opcode ws i opcode.CATEGORY → HasSet ws i
     → HasCategory ws (i + 1) × (i + 2 < length ws)
 category_there ws i w h =
-    let f =
-    is_set_category ws i h.end h.set w (begun ws i h.end opcode.CATEGORY h.set w (λ e. cc) h.stands) h.stands.items in (
-      record { code = f.0; there = f.3.1 },
-      omega (arith, set_within ws (i + 2) h.end f.1 f.3.2, opcode_within ws h.end opcode.FAILURE h.stands.ends),
-    )
+    let f = item_left opcode.CATEGORY ws i h.end h.set w (λ e. cc) h.stands in
+    (record { code = category_at ws (i + 1); there = f.2.1 }, room opcode.CATEGORY ws i w (λ e. cc) h)
 
 pub category_says : (ws : List ℕ) (table : Table) (i c : ℕ) (holds : Bool) (code : SreCatCode)
     → Opcode ws i opcode.CATEGORY → Word ws (i + 1) (category_number code)
     → holds ≡ category table (category_number code) c → ItemSays ws table i c holds (i + 2)
-category_says ws table i c holds code w v b = record {
-  later = omega arith;
-  each = λ j set s.
-      let f = is_set_category ws i j set w (begun ws i j opcode.CATEGORY set w (λ e. cc) s) s.items in
-      let same = same_word ws (i + 1) (category_number code) (category_number f.0) v f.3.1 in (
-        f.1,
-        behind ws j (i + 2) f.1 f.3.2 s.ends,
-        λ taken.
-            decided table c taken holds (Category f.0) f.1 set f.2 (λ e. cc) (b ∙ ap (λ n. category table n c) same),
-      );
-}
+category_says ws table i c holds code w v b =
+    says opcode.CATEGORY ws table i c holds w (λ e. cc) (λ e. cc) (rw (category-read ws (i + 1) code v) b)
 
 -- CHARSET
 pub charset_room : (ws : List ℕ) (i : ℕ) → Opcode ws i opcode.CHARSET → HasSet ws i → i + 9 < length ws
-charset_room ws i w h =
-    let f = is_charset ws i h.end h.set w (begun ws i h.end opcode.CHARSET h.set w (λ e. cc) h.stands) h.stands.items in
-    omega (arith, set_within ws (i + 9) h.end f.1 f.3.3, opcode_within ws h.end opcode.FAILURE h.stands.ends)
+charset_room ws i w h = room opcode.CHARSET ws i w (λ e. cc) h
 
 pub charset_says : (ws : List ℕ) (table : Table) (i c : ℕ) (holds : Bool) → Opcode ws i opcode.CHARSET
     → holds ≡ item_holds table (Charset (slice_range ws (i + 1) (i + 9))) c → ItemSays ws table i c holds (i + 9)
-charset_says ws table i c holds w b = record {
-  later = omega arith;
-  each = λ j set s.
-      let f = is_charset ws i j set w (begun ws i j opcode.CHARSET set w (λ e. cc) s) s.items in (
-        f.1,
-        behind ws j (i + 9) f.1 f.3.3 s.ends,
-        λ taken. decided table c taken holds (Charset f.0) f.1 set f.2 (λ e. cc)
-            (b ∙ ap (λ bits. item_holds table (Charset bits) c) (sym f.3.1)),
-      );
-}
+charset_says ws table i c holds w b = says opcode.CHARSET ws table i c holds w (λ e. cc) (λ e. cc) b
 
 -- BIGCHARSET
 abbrev pub numbers_at : List ℕ → ℕ → List ℕ
@@ -156,39 +125,21 @@ numbers_at ws i = flat_map bytes_of (slice_range ws (i + 2) (i + 66))
 pub big_charset_there : (ws : List ℕ) (i : ℕ) → Opcode ws i opcode.BIGCHARSET → HasSet ws i
     → (i + 66 + word ws (i + 1) * 8 < length ws) × BlocksBelow (word ws (i + 1)) (slice_range ws (i + 2) (i + 66))
 big_charset_there ws i w h =
-    let f =
-    is_big_charset ws i h.end h.set w (begun ws i h.end opcode.BIGCHARSET h.set w (λ e. cc) h.stands)
-    h.stands.items in (
-      omega (
-        arith,
-        set_within ws (i + 66 + word ws (i + 1) * 8) h.end f.2 f.4.5,
-        opcode_within ws h.end opcode.FAILURE h.stands.ends,
-      ),
-      f.4.2,
-    )
+    (room opcode.BIGCHARSET ws i w (λ e. cc) h, (item_left opcode.BIGCHARSET ws i h.end h.set w (λ e. cc) h.stands).2.2)
 
 pub big_charset_says : (ws : List ℕ) (table : Table) (i c count : ℕ) (holds : Bool) → Opcode ws i opcode.BIGCHARSET
     → word ws (i + 1) ≡ count
     → holds ≡ item_holds table (BigCharset (numbers_at ws i) (slice_range ws (i + 66) (i + 66 + word ws (i + 1) * 8))) c
     → ItemSays ws table i c holds (i + 66 + count * 8)
-big_charset_says ws table i c count holds w e b = rw (← e) (record {
-  later = omega arith;
-  each = λ j set s.
-      let f = is_big_charset ws i j set w (begun ws i j opcode.BIGCHARSET set w (λ e. cc) s) s.items in (
-        f.2,
-        behind ws j (i + 66 + word ws (i + 1) * 8) f.2 f.4.5 s.ends,
-        λ taken. decided table c taken holds (BigCharset f.0 f.1) f.2 set f.3 (λ e. cc)
-            (b ∙ ap (λ n. item_holds table (BigCharset n (slice_range ws (i + 66) (i + 66 + word ws (i + 1) * 8))) c)
-            (sym f.4.1) ∙ ap (λ bits. item_holds table (BigCharset f.0 bits) c) (sym f.4.3)),
-      );
-})
+big_charset_says ws table i c count holds w e b =
+    rw (← e) (says opcode.BIGCHARSET ws table i c holds w (λ f. cc) (λ f. cc) b)
 
 -- NEGATE
 pub negated : (ws : List ℕ) (i j : ℕ) (set : List SetItem) → Opcode ws i opcode.NEGATE → SetStands ws i j set
     → (rest : List SetItem) × SetStands ws (i + 1) j rest × (set ≡ Negate ∷ rest)
 negated ws i j set w s =
-    let f = is_negate ws i j set w (begun ws i j opcode.NEGATE set w (λ e. cc) s) s.items in
-    (f.0, behind ws j (i + 1) f.0 f.2.1 s.ends, f.1)
+    let f = item_left opcode.NEGATE ws i j set w (λ e. cc) s in
+    (f.0, behind ws j (i + 1) f.0 f.3 s.ends, f.1)
 
 -- the whole set
 pub set_begins : (ws : List ℕ) (i : ℕ) → HasSet ws i → (o : SreOpcode) × Opcode ws i o
@@ -207,13 +158,8 @@ only_items ws i o h w failure negate literal range folded category charset big =
     go : (set : List SetItem) → SetStands ws i h.end set → ⊥
     go [] s =
         failure (same_opcode ws i o opcode.FAILURE w (opcode_moved ws h.end i opcode.FAILURE (sym s.items) s.ends))
-    go (Single v ∷ rest) s = literal (same_opcode ws i o opcode.LITERAL w s.items.0)
-    go (Range low high ∷ rest) s = range (same_opcode ws i o opcode.RANGE w s.items.0)
-    go (RangeUniIgnore low high ∷ rest) s = folded (same_opcode ws i o opcode.RANGE_UNI_IGNORE w s.items.0)
-    go (Category n ∷ rest) s = category (same_opcode ws i o opcode.CATEGORY w s.items.0)
-    go (Charset bits ∷ rest) s = charset (same_opcode ws i o opcode.CHARSET w s.items.0)
-    go (BigCharset numbers bits ∷ rest) s = big (same_opcode ws i o opcode.BIGCHARSET w s.items.0)
-    go (Negate ∷ rest) s = negate (same_opcode ws i o opcode.NEGATE w s.items.0)
+    go (x ∷ rest) s =
+        unlike o literal range folded category charset big negate x (begins ws i h.end o x rest w s.items)
 
 -- what is left of the set as the loop begins, behind an item, and behind NEGATE
 pub left_all : (ws : List ℕ) (table : Table) (start c : ℕ) → VerdictLeft ws table start c start true

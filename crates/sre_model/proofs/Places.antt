@@ -1,29 +1,33 @@
 -- Where readings end.
-use Rattle.std.proofs.Common.{ℕ, ◌+◌, ◌*◌, ◌-◌, ◌≡◌, ◌<◌, ◌≤◌, List, [], ◌∷◌, refl, subst, arith}
-use Rattle.sre_model.specs.Tree.{Tree, Empty, Then, Item, Fail, One, At, Mark, Branch, Loop, Run, PossessiveLoop}
-use Rattle.sre_model.specs.Tree.{Atomic, Look, Reference, Exists, ExistsElse, Trees, Only, Or, Test, Any, AnyAll}
-use Rattle.sre_model.specs.Tree.{InCategory, Literal, NotLiteral, In, SetItem, Single, Range, RangeUniIgnore, Category}
+use Rattle.std.proofs.Common.{ℕ, ◌+◌, ◌*◌, ◌-◌, ◌≡◌, ◌<◌, ◌≤◌, List, [], ◌∷◌, length, refl, subst, arith}
+use Rattle.sre_model.specs.Tree.{Tree, Empty, Then, Item, One, Branch}
+use Rattle.sre_model.specs.Tree.{ExistsElse, Trees, Only, Or, Test, Any}
+use Rattle.sre_model.specs.Tree.{SetItem, Single, Range, RangeUniIgnore, Category}
 use Rattle.sre_model.specs.Tree.{Charset, BigCharset, Negate}
 use Rattle.sre_model.specs.Grammar.{word, skip, Reads, ReadsBranch, ReadsSet, Operands, TestOperands}
 
+-- each item of a set has a word at least
+set_long : (ws : List ℕ) (i j : ℕ) (s : List SetItem) → ReadsSet ws i j s → i + length s ≤ j
+set_long ws i j [] r = omega arith
+set_long ws i j (Single v ∷ rest) r = omega (arith, set_long ws (i + 2) j rest r.2)
+set_long ws i j (Range low high ∷ rest) r = omega (arith, set_long ws (i + 3) j rest r.3)
+set_long ws i j (RangeUniIgnore low high ∷ rest) r = omega (arith, set_long ws (i + 3) j rest r.3)
+set_long ws i j (Category c ∷ rest) r = omega (arith, set_long ws (i + 2) j rest r.2)
+set_long ws i j (Charset bits ∷ rest) r = omega (arith, set_long ws (i + 9) j rest r.3)
+set_long ws i j (BigCharset numbers bits ∷ rest) r =
+    omega (arith, set_long ws (i + 66 + word ws (i + 1) * 8) j rest r.5)
+set_long ws i j (Negate ∷ rest) r = omega (arith, set_long ws (i + 1) j rest r.1)
+
 pub set_within : (ws : List ℕ) (i j : ℕ) (s : List SetItem) → ReadsSet ws i j s → i ≤ j
-set_within ws i j [] r = omega arith
-set_within ws i j (Single v ∷ rest) r = omega (arith, set_within ws (i + 2) j rest r.2)
-set_within ws i j (Range low high ∷ rest) r = omega (arith, set_within ws (i + 3) j rest r.3)
-set_within ws i j (RangeUniIgnore low high ∷ rest) r = omega (arith, set_within ws (i + 3) j rest r.3)
-set_within ws i j (Category c ∷ rest) r = omega (arith, set_within ws (i + 2) j rest r.2)
-set_within ws i j (Charset bits ∷ rest) r = omega (arith, set_within ws (i + 9) j rest r.3)
-set_within ws i j (BigCharset numbers bits ∷ rest) r =
-    omega (arith, set_within ws (i + 66 + word ws (i + 1) * 8) j rest r.5)
-set_within ws i j (Negate ∷ rest) r = omega (arith, set_within ws (i + 1) j rest r.1)
+set_within ws i j s r = omega (arith, set_long ws i j s r)
+
+-- a set item is not empty
+pub set_past : (x : SetItem) (rest : List SetItem) (ws : List ℕ) (i j : ℕ) → ReadsSet ws i j (x ∷ rest) → i < j
+set_past x rest ws i j r = omega (arith, set_long ws i j (x ∷ rest) r)
 
 pub test_past : (t : Test) (ws : List ℕ) (i j : ℕ) → TestOperands ws i j t → i < j
 test_past Any ws i j r = omega arith
-test_past AnyAll ws i j r = omega arith
-test_past (InCategory c) ws i j r = omega arith
-test_past (Literal fold v) ws i j r = omega arith
-test_past (NotLiteral fold v) ws i j r = omega arith
-test_past (In fold set) ws i j r = omega arith
+test_past t ws i j r = omega arith
 
 mutual
   pub reads_within : (t : Tree) (ws : List ℕ) (i j : ℕ) → Reads ws i j t → i ≤ j
@@ -31,20 +35,11 @@ mutual
   reads_within (Then x rest) ws i j r = omega (arith, operands_past x ws i r.0 r.1.1, reads_within rest ws r.0 j r.2)
 
   pub operands_past : (x : Item) (ws : List ℕ) (i j : ℕ) → Operands ws i j x → i < j
-  operands_past Fail ws i j r = omega arith
   operands_past (One t) ws i j r = test_past t ws i j r
-  operands_past (At a) ws i j r = omega arith
-  operands_past (Mark n) ws i j r = omega arith
   operands_past (Branch ts) ws i j r = omega (arith, branch_past ts ws (i + 1) j r)
-  operands_past (Loop o low high body) ws i j r = omega arith
-  operands_past (Run kind low high t) ws i j r = omega arith
-  operands_past (PossessiveLoop low high body) ws i j r = omega arith
-  operands_past (Atomic body) ws i j r = omega arith
-  operands_past (Look sign back body) ws i j r = omega arith
-  operands_past (Reference fold g) ws i j r = omega arith
-  operands_past (Exists g there) ws i j r = omega arith
   operands_past (ExistsElse g there absent) ws i j r =
       omega (arith, reads_within absent ws (i + 1 + word ws (i + 2)) j r.3)
+  operands_past x ws i j r = omega arith
 
   pub branch_past : (ts : Trees) (ws : List ℕ) (q j : ℕ) → ReadsBranch ws q j ts → q < j
   branch_past (Only t) ws q j r = omega arith

@@ -3,8 +3,8 @@ use Rattle.std.proofs.Common.{ℕ, ◌+◌, ◌*◌, ◌-◌, ◌≡◌, List, [
 use Rattle.std.proofs.Props.{props}
 use mathlib.Core.HLevel.{is_prop→PathP}
 use Rattle.std.proofs.Math.Logic.{∥∥₁_elim}
-use Rattle.sre_model.specs.Tree.{Tree, Empty, Then, Item, Fail, One, At, Mark, Branch, Loop, Run, PossessiveLoop}
-use Rattle.sre_model.specs.Tree.{Atomic, Look, Reference, Exists, ExistsElse, Trees, Only, Or, Test, In, SetItem}
+use Rattle.sre_model.specs.Tree.{Tree, Empty, Then, Item, One, Branch, Loop, Run, PossessiveLoop}
+use Rattle.sre_model.specs.Tree.{Atomic, Look, Exists, ExistsElse, Trees, Only, Or, Test, In, SetItem}
 use Rattle.sre_model.specs.Tree.{Single, Range, RangeUniIgnore, Category, Charset, BigCharset, Negate}
 use Rattle.sre_model.specs.Grammar.{word, skip, Reads, ReadsItem, ReadsBranch, TestOperands, ReadsSet, Whole}
 use Rattle.sre_model.specs.Grammar.{WholeItems, behind_block}
@@ -43,23 +43,20 @@ mutual
       (λ k m r s. (item_same x x ws i k m r s).1) (λ k. item_prop x ws i k) (λ k. reads_prop t ws k j)
 
   item_prop : (x : Item) (ws : List ℕ) (i j : ℕ) → IsProp (ReadsItem ws i j x)
-  item_prop Fail ws i j = hlevel props
   item_prop (One t) ws i j = hlevel (props, test_prop t ws i j)
-  item_prop (At a) ws i j = hlevel props
-  item_prop (Mark n) ws i j = hlevel props
   item_prop (Branch ts) ws i j = hlevel (props, branch_prop ts ws (i + 1) j)
   item_prop (Loop o low high body) ws i j = hlevel (props, reads_prop body ws (i + 4) (skip ws (i + 1)))
   item_prop (Run kind low high t) ws i j = hlevel (props, test_prop t ws (i + 4) (j - 1))
   item_prop (PossessiveLoop low high body) ws i j = hlevel (props, reads_prop body ws (i + 4) (skip ws (i + 1)))
   item_prop (Atomic body) ws i j = hlevel (props, reads_prop body ws (i + 2) (j - 1))
   item_prop (Look sign back body) ws i j = hlevel (props, reads_prop body ws (i + 3) (j - 1))
-  item_prop (Reference fold g) ws i j = hlevel props
   item_prop (Exists g a) ws i j = hlevel (props, reads_prop a ws (i + 3) j)
   item_prop (ExistsElse g a b) ws i j = hlevel (
     props,
     reads_prop a ws (i + 3) (i + 1 + word ws (i + 2) - 2),
     reads_prop b ws (i + 1 + word ws (i + 2)) j,
   )
+  item_prop x ws i j = hlevel props
 
   branch_prop : (ts : Trees) (ws : List ℕ) (q j : ℕ) → IsProp (ReadsBranch ws q j ts)
   branch_prop (Only t) ws q j = hlevel (props, reads_prop t ws (q + 1) (skip ws q - 2))

@@ -1,11 +1,14 @@
--- What an item of a set is, by its opcode.
-use Rattle.std.proofs.Common.{ℕ, ◌≡◌, ◌<◌, List, [], ◌∷◌, refl, arith}
+-- What an item of a set is, by its opcode: what is read of it, and what is left behind it.
+use Rattle.std.proofs.Common.{ℕ, ◌+◌, ◌*◌, ◌≡◌, ◌≢◌, ◌<◌, List, [], ◌∷◌, slice_index_or, slice_range}
+use Rattle.std.proofs.Common.{flat_map, refl, ap, ◌∙◌, arith}
+use Rattle.sre_chars.specs.Numbers.{opcode_number, category_number}
 use Rattle.sre_chars.specs.declared.constants.SreOpcode.{SreOpcode}
 use Rattle.sre_chars.specs.declared.constants.SreOpcode.TheVariants as opcode
 use Rattle.sre_chars.specs.declared.constants.SreCatCode.{SreCatCode}
+use Rattle.sre_chars.specs.declared.constants.SreCatCode.TheVariants as category
 use Rattle.sre_model.specs.Tree.{SetItem, Single, Range, RangeUniIgnore, Category, Charset, BigCharset, Negate}
-use Rattle.sre_model.specs.Grammar.{Opcode, ReadsSet}
-use Rattle.sre_model.proofs.Words.{same_opcode}
+use Rattle.sre_model.specs.Grammar.{Word, word, Opcode, bytes_of, ReadsSet}
+use Rattle.sre_model.proofs.Words.{same_opcode, word_of, opcodes, opcode_back, categories, category_back}
 
 -- an item's first word
 abbrev pub set_item_opcode : SetItem → SreOpcode
@@ -26,64 +29,65 @@ pub begins : (ws : List ℕ) (i j : ℕ) (o : SreOpcode) (x : SetItem) (rest : L
     → ReadsSet ws i j (x ∷ rest) → o ≡ set_item_opcode x
 begins ws i j o x rest h r = same_opcode ws i o (set_item_opcode x) h (first x rest ws i j r)
 
-pub is_single : (ws : List ℕ) (i j : ℕ) (s : List SetItem) → Opcode ws i opcode.LITERAL → i < j → ReadsSet ws i j s
-    → (v : ℕ) × (rest : List SetItem) × (s ≡ Single v ∷ rest) × ReadsSet ws i j (Single v ∷ rest)
-is_single ws i j [] h lt r = absurd (omega arith)
-is_single ws i j (Single v ∷ rest) h lt r = (v, rest, refl, r)
-is_single ws i j (x ∷ rest) h lt r =
-    let e : opcode.LITERAL ≡ set_item_opcode x = begins ws i j opcode.LITERAL x rest h r in
-    absurd (cc)
+-- another opcode is no item's
+pub unlike : (o : SreOpcode) → o ≢ opcode.LITERAL → o ≢ opcode.RANGE → o ≢ opcode.RANGE_UNI_IGNORE
+    → o ≢ opcode.CATEGORY → o ≢ opcode.CHARSET → o ≢ opcode.BIGCHARSET → o ≢ opcode.NEGATE → (x : SetItem)
+    → o ≢ set_item_opcode x
+unlike o single range folded category charset big negate (Single v) = single
+unlike o single range folded category charset big negate (Range low high) = range
+unlike o single range folded category charset big negate (RangeUniIgnore low high) = folded
+unlike o single range folded category charset big negate (Category c) = category
+unlike o single range folded category charset big negate (Charset bits) = charset
+unlike o single range folded category charset big negate (BigCharset numbers bits) = big
+unlike o single range folded category charset big negate Negate = negate
 
-pub is_range : (ws : List ℕ) (i j : ℕ) (s : List SetItem) → Opcode ws i opcode.RANGE → i < j → ReadsSet ws i j s
-    → (low : ℕ) × (high : ℕ) × (rest : List SetItem) × (s ≡ Range low high ∷ rest)
-    × ReadsSet ws i j (Range low high ∷ rest)
-is_range ws i j [] h lt r = absurd (omega arith)
-is_range ws i j (Range low high ∷ rest) h lt r = (low, high, rest, refl, r)
-is_range ws i j (x ∷ rest) h lt r =
-    let e : opcode.RANGE ≡ set_item_opcode x = begins ws i j opcode.RANGE x rest h r in
-    absurd (cc)
+abbrev pub opcode_at : List ℕ → ℕ → SreOpcode
+opcode_at ws i = slice_index_or opcodes (word ws i) opcode.FAILURE
 
-pub is_folded_range : (ws : List ℕ) (i j : ℕ) (s : List SetItem) → Opcode ws i opcode.RANGE_UNI_IGNORE → i < j
-    → ReadsSet ws i j s
-    → (low : ℕ) × (high : ℕ) × (rest : List SetItem) × (s ≡ RangeUniIgnore low high ∷ rest)
-    × ReadsSet ws i j (RangeUniIgnore low high ∷ rest)
-is_folded_range ws i j [] h lt r = absurd (omega arith)
-is_folded_range ws i j (RangeUniIgnore low high ∷ rest) h lt r = (low, high, rest, refl, r)
-is_folded_range ws i j (x ∷ rest) h lt r =
-    let e : opcode.RANGE_UNI_IGNORE ≡ set_item_opcode x = begins ws i j opcode.RANGE_UNI_IGNORE x rest h r in
-    absurd (cc)
+abbrev pub category_at : List ℕ → ℕ → SreCatCode
+category_at ws i = slice_index_or categories (word ws i) category.DIGIT
 
-pub is_set_category : (ws : List ℕ) (i j : ℕ) (s : List SetItem)
-    → Opcode ws i opcode.CATEGORY → i < j → ReadsSet ws i j s
-    → (c : SreCatCode) × (rest : List SetItem) × (s ≡ Category c ∷ rest) × ReadsSet ws i j (Category c ∷ rest)
-is_set_category ws i j [] h lt r = absurd (omega arith)
-is_set_category ws i j (Category c ∷ rest) h lt r = (c, rest, refl, r)
-is_set_category ws i j (x ∷ rest) h lt r =
-    let e : opcode.CATEGORY ≡ set_item_opcode x = begins ws i j opcode.CATEGORY x rest h r in
-    absurd (cc)
+pub opcode-read : (ws : List ℕ) (i : ℕ) (o : SreOpcode) → Opcode ws i o → opcode_at ws i ≡ o
+opcode-read ws i o h =
+    ap (λ n. slice_index_or opcodes n opcode.FAILURE) (word_of ws i (opcode_number o) h) ∙ opcode_back o
 
-pub is_charset : (ws : List ℕ) (i j : ℕ) (s : List SetItem) → Opcode ws i opcode.CHARSET → i < j → ReadsSet ws i j s
-    → (bits : List ℕ) × (rest : List SetItem) × (s ≡ Charset bits ∷ rest) × ReadsSet ws i j (Charset bits ∷ rest)
-is_charset ws i j [] h lt r = absurd (omega arith)
-is_charset ws i j (Charset bits ∷ rest) h lt r = (bits, rest, refl, r)
-is_charset ws i j (x ∷ rest) h lt r =
-    let e : opcode.CHARSET ≡ set_item_opcode x = begins ws i j opcode.CHARSET x rest h r in
-    absurd (cc)
+pub category-read : (ws : List ℕ) (i : ℕ) (c : SreCatCode) → Word ws i (category_number c) → category_at ws i ≡ c
+category-read ws i c h =
+    ap (λ n. slice_index_or categories n category.DIGIT) (word_of ws i (category_number c) h) ∙ category_back c
 
-pub is_big_charset : (ws : List ℕ) (i j : ℕ) (s : List SetItem) → Opcode ws i opcode.BIGCHARSET → i < j
-    → ReadsSet ws i j s
-    → (numbers : List ℕ) × (bits : List ℕ) × (rest : List SetItem) × (s ≡ BigCharset numbers bits ∷ rest)
-    × ReadsSet ws i j (BigCharset numbers bits ∷ rest)
-is_big_charset ws i j [] h lt r = absurd (omega arith)
-is_big_charset ws i j (BigCharset numbers bits ∷ rest) h lt r = (numbers, bits, rest, refl, r)
-is_big_charset ws i j (x ∷ rest) h lt r =
-    let e : opcode.BIGCHARSET ≡ set_item_opcode x = begins ws i j opcode.BIGCHARSET x rest h r in
-    absurd (cc)
+-- the set item with this opcode at i, and where it ends
+abbrev pub set_item_by : SreOpcode → List ℕ → ℕ → SetItem × ℕ
+set_item_by opcode.LITERAL ws i = (Single (word ws (i + 1)), i + 2)
+set_item_by opcode.RANGE ws i = (Range (word ws (i + 1)) (word ws (i + 2)), i + 3)
+set_item_by opcode.RANGE_UNI_IGNORE ws i = (RangeUniIgnore (word ws (i + 1)) (word ws (i + 2)), i + 3)
+set_item_by opcode.CATEGORY ws i = (Category (category_at ws (i + 1)), i + 2)
+set_item_by opcode.CHARSET ws i = (Charset (slice_range ws (i + 1) (i + 9)), i + 9)
+set_item_by opcode.BIGCHARSET ws i =
+    let end = i + 66 + word ws (i + 1) * 8 in
+    (BigCharset (flat_map bytes_of (slice_range ws (i + 2) (i + 66))) (slice_range ws (i + 66) end), end)
+set_item_by o ws i = (Negate, i + 1)
 
-pub is_negate : (ws : List ℕ) (i j : ℕ) (s : List SetItem) → Opcode ws i opcode.NEGATE → i < j → ReadsSet ws i j s
-    → (rest : List SetItem) × (s ≡ Negate ∷ rest) × ReadsSet ws i j (Negate ∷ rest)
-is_negate ws i j [] h lt r = absurd (omega arith)
-is_negate ws i j (Negate ∷ rest) h lt r = (rest, refl, r)
-is_negate ws i j (x ∷ rest) h lt r =
-    let e : opcode.NEGATE ≡ set_item_opcode x = begins ws i j opcode.NEGATE x rest h r in
-    absurd (cc)
+pub item_past : (o : SreOpcode) (ws : List ℕ) (i : ℕ) → i < (set_item_by o ws i).1
+item_past opcode.LITERAL ws i = omega arith
+item_past o ws i = omega arith
+
+-- a set is the item that the opcode tells, and what is left behind it
+pub parted : (o : SreOpcode) (ws : List ℕ) (i j : ℕ) (s : List SetItem) → Opcode ws i o → i < j → ReadsSet ws i j s
+    → let x = set_item_by o ws i in
+    (rest : List SetItem) × (s ≡ x.0 ∷ rest) × ReadsSet ws i j (x.0 ∷ rest) × ReadsSet ws x.1 j rest
+parted o ws i j [] h lt r = absurd (omega arith)
+parted o ws i j (Single v ∷ rest) h lt r =
+    rw (same_opcode ws i o opcode.LITERAL h r.0, word_of ws (i + 1) v r.1) (rest, refl, r, r.2)
+parted o ws i j (Range low high ∷ rest) h lt r =
+    rw (same_opcode ws i o opcode.RANGE h r.0, word_of ws (i + 1) low r.1, word_of ws (i + 2) high r.2)
+    (rest, refl, r, r.3)
+parted o ws i j (RangeUniIgnore low high ∷ rest) h lt r =
+    rw (same_opcode ws i o opcode.RANGE_UNI_IGNORE h r.0, word_of ws (i + 1) low r.1, word_of ws (i + 2) high r.2)
+    (rest, refl, r, r.3)
+parted o ws i j (Category c ∷ rest) h lt r =
+    rw (same_opcode ws i o opcode.CATEGORY h r.0, category-read ws (i + 1) c r.1) (rest, refl, r, r.2)
+parted o ws i j (Charset bits ∷ rest) h lt r =
+    rw (same_opcode ws i o opcode.CHARSET h r.0, r.1) (rest, refl, (r.0, refl, r.2, r.3), r.3)
+parted o ws i j (BigCharset numbers bits ∷ rest) h lt r =
+    rw (same_opcode ws i o opcode.BIGCHARSET h r.0, r.1, r.3) (rest, refl, (r.0, refl, r.2, refl, r.4, r.5), r.5)
+parted o ws i j (Negate ∷ rest) h lt r = rw (same_opcode ws i o opcode.NEGATE h r.0) (rest, refl, r, r.1)

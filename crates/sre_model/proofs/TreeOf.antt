@@ -1,50 +1,30 @@
 -- The tree of bytecode, by a function: a run of the machine is measured by it.
-use Rattle.std.proofs.Common.{◌≡◌, ℕ, zero, suc, ◌+◌, ◌*◌, ◌-◌, ◌<◌, ◌≤◌, ◌⊎◌, inl, inr, Bool, true, false, nat_lt}
-use Rattle.std.proofs.Common.{nat_eq, List, [], ◌∷◌, length, Option, None, Some, slice_index_or, slice_range, flat_map}
-use Rattle.std.proofs.Common.{refl, ap, ◌∙◌, arith}
+use Rattle.std.proofs.Common.{◌≡◌, ℕ, zero, suc, ◌+◌, ◌-◌, ◌<◌, ◌≤◌, ◌⊎◌, inl, inr, Bool, true, false, nat_lt}
+use Rattle.std.proofs.Common.{nat_eq, List, [], ◌∷◌, length, Option, None, Some, slice_index_or}
+use Rattle.std.proofs.Common.{refl, sym, ap, ◌∙◌, arith}
 use Rattle.std.proofs.lemmas.Bool.Decides.{nat_tests}
-use Rattle.sre_chars.specs.Numbers.{opcode_number, at_number, category_number}
+use Rattle.sre_chars.specs.Numbers.{at_number}
 use Rattle.sre_chars.specs.declared.constants.SreOpcode.{SreOpcode}
 use Rattle.sre_chars.specs.declared.constants.SreOpcode.TheVariants as opcode
 use Rattle.sre_chars.specs.declared.constants.SreAtCode.{SreAtCode}
 use Rattle.sre_chars.specs.declared.constants.SreAtCode.TheVariants as at
-use Rattle.sre_chars.specs.declared.constants.SreCatCode.{SreCatCode}
-use Rattle.sre_chars.specs.declared.constants.SreCatCode.TheVariants as category
 use Rattle.sre_model.specs.Tree.{Tree, Empty, Then, Item, Fail, One, At, Mark, Branch, Loop, Run, PossessiveLoop}
 use Rattle.sre_model.specs.Tree.{Atomic, Look, Reference, Exists, ExistsElse, Trees, Only, Or, Test, Any, AnyAll}
 use Rattle.sre_model.specs.Tree.{InCategory, Literal, NotLiteral, In, Order, Greedy, Lazy, RunKind, GreedyRun, LazyRun}
 use Rattle.sre_model.specs.Tree.{PossessiveRun, Sign, Positive, Negative, Fold, Plain, Ascii, Locale, Unicode, SetItem}
-use Rattle.sre_model.specs.Tree.{Single, Range, RangeUniIgnore, Category, Charset, BigCharset, Negate}
-use Rattle.sre_model.specs.Grammar.{Word, word, Opcode, skip, bytes_of, test_opcode, item_opcode, until_opcode}
+use Rattle.sre_model.specs.Grammar.{Word, word, Opcode, skip, test_opcode, item_opcode, until_opcode}
 use Rattle.sre_model.specs.Grammar.{ReadsSet, TestOperands, Reads, Operands, ReadsBranch, WholeItems}
-use Rattle.sre_model.proofs.Words.{word_of, opcodes, opcode_back, opcode_within, at_codes, at_back, categories}
-use Rattle.sre_model.proofs.Words.{category_back}
-use Rattle.sre_model.proofs.Places.{reads_within, operands_past, branch_past, set_within, alternative_long}
+use Rattle.sre_model.proofs.Words.{word_of, opcode_within, at_codes, at_back}
+use Rattle.sre_model.proofs.SetItems.{set_item_opcode, first, opcode_at, category_at, set_item_by, item_past, parted}
+use Rattle.sre_model.proofs.SetItems.{opcode-read, category-read}
+use Rattle.sre_model.proofs.Places.{reads_within, operands_past, branch_past, set_past, alternative_long}
 
 -- The codes of words
-
-abbrev pub opcode_at : List ℕ → ℕ → SreOpcode
-opcode_at ws i = slice_index_or opcodes (word ws i) opcode.FAILURE
 
 abbrev pub at_code_at : List ℕ → ℕ → SreAtCode
 at_code_at ws i = slice_index_or at_codes (word ws i) at.BEGINNING
 
-abbrev pub category_at : List ℕ → ℕ → SreCatCode
-category_at ws i = slice_index_or categories (word ws i) category.DIGIT
-
 -- Functions that read: what they answer where the words are not in the grammar does not matter
-
--- the set item with this opcode at i, and where it ends
-abbrev pub set_item_by : SreOpcode → List ℕ → ℕ → SetItem × ℕ
-set_item_by opcode.LITERAL ws i = (Single (word ws (i + 1)), i + 2)
-set_item_by opcode.RANGE ws i = (Range (word ws (i + 1)) (word ws (i + 2)), i + 3)
-set_item_by opcode.RANGE_UNI_IGNORE ws i = (RangeUniIgnore (word ws (i + 1)) (word ws (i + 2)), i + 3)
-set_item_by opcode.CATEGORY ws i = (Category (category_at ws (i + 1)), i + 2)
-set_item_by opcode.CHARSET ws i = (Charset (slice_range ws (i + 1) (i + 9)), i + 9)
-set_item_by opcode.BIGCHARSET ws i =
-    let end = i + 66 + word ws (i + 1) * 8 in
-    (BigCharset (flat_map bytes_of (slice_range ws (i + 2) (i + 66))) (slice_range ws (i + 66) end), end)
-set_item_by o ws i = (Negate, i + 1)
 
 -- the set items from i to j
 unfoldable pub set_at : ℕ → List ℕ → ℕ → ℕ → List SetItem
@@ -166,75 +146,32 @@ tree_of ws = (items_at (length ws) ws 0 (length ws - 1)).0
 
 -- What they answer where the words are in the grammar
 
-opcode-read : (ws : List ℕ) (i : ℕ) (o : SreOpcode) → Opcode ws i o → opcode_at ws i ≡ o
-opcode-read ws i o h =
-    ap (λ n. slice_index_or opcodes n opcode.FAILURE) (word_of ws i (opcode_number o) h) ∙ opcode_back o
-
 at_code-read : (ws : List ℕ) (i : ℕ) (a : SreAtCode) → Word ws i (at_number a) → at_code_at ws i ≡ a
 at_code-read ws i a h = ap (λ n. slice_index_or at_codes n at.BEGINNING) (word_of ws i (at_number a) h) ∙ at_back a
 
-category-read : (ws : List ℕ) (i : ℕ) (c : SreCatCode) → Word ws i (category_number c) → category_at ws i ≡ c
-category-read ws i c h =
-    ap (λ n. slice_index_or categories n category.DIGIT) (word_of ws i (category_number c) h) ∙ category_back c
-
--- a set item is not empty
-set_past : (x : SetItem) (rest : List SetItem) (ws : List ℕ) (i j : ℕ) → ReadsSet ws i j (x ∷ rest) → i < j
-set_past (Single v) rest ws i j r = omega (arith, set_within ws (i + 2) j rest r.2)
-set_past (Range low high) rest ws i j r = omega (arith, set_within ws (i + 3) j rest r.3)
-set_past (RangeUniIgnore low high) rest ws i j r = omega (arith, set_within ws (i + 3) j rest r.3)
-set_past (Category c) rest ws i j r = omega (arith, set_within ws (i + 2) j rest r.2)
-set_past (Charset bits) rest ws i j r = omega (arith, set_within ws (i + 9) j rest r.3)
-set_past (BigCharset numbers bits) rest ws i j r =
-    omega (arith, set_within ws (i + 66 + word ws (i + 1) * 8) j rest r.5)
-set_past Negate rest ws i j r = omega (arith, set_within ws (i + 1) j rest r.1)
-
-set-first : (f : ℕ) (ws : List ℕ) (i j k : ℕ) (x : SetItem) (rest : List SetItem) → ReadsSet ws i j (x ∷ rest)
-    → set_item_by (opcode_at ws i) ws i ≡ (x, k) → set_at f ws k j ≡ rest → set_at (suc f) ws i j ≡ x ∷ rest
-unfolding set_at
-set-first f ws i j k x rest r first after =
-    let past : i < j = set_past x rest ws i j r in
-    let t : nat_lt i j ≡ true = grind (arith, nat_tests) in
-    rw (t, set_at) (rw (first, after) refl)
-
-set-read : (s : List SetItem) (f : ℕ) (ws : List ℕ) (i j : ℕ) → ReadsSet ws i j s → j ≤ i + f → set_at f ws i j ≡ s
+pub set-read : (s : List SetItem) (f : ℕ) (ws : List ℕ) (i j : ℕ) → ReadsSet ws i j s → j ≤ i + f
+    → set_at f ws i j ≡ s
 unfolding set_at
 set-read [] zero ws i j r l = refl
 set-read [] (suc f) ws i j r l =
     let t : nat_lt i j ≡ false = grind (arith, nat_tests) in
     rw (t, set_at) refl
 set-read (x ∷ rest) zero ws i j r l = absurd (omega (arith, set_past x rest ws i j r))
-set-read (Single v ∷ rest) (suc f) ws i j r l =
-    set-first f ws i j (i + 2) (Single v) rest r
-    (rw (opcode-read ws i opcode.LITERAL r.0, word_of ws (i + 1) v r.1) refl)
-    (set-read rest f ws (i + 2) j r.2 (omega arith))
-set-read (Range low high ∷ rest) (suc f) ws i j r l =
-    set-first f ws i j (i + 3) (Range low high) rest r
-    (rw (opcode-read ws i opcode.RANGE r.0, word_of ws (i + 1) low r.1, word_of ws (i + 2) high r.2) refl)
-    (set-read rest f ws (i + 3) j r.3 (omega arith))
-set-read (RangeUniIgnore low high ∷ rest) (suc f) ws i j r l =
-    set-first f ws i j (i + 3) (RangeUniIgnore low high) rest r
-    (rw (opcode-read ws i opcode.RANGE_UNI_IGNORE r.0, word_of ws (i + 1) low r.1, word_of ws (i + 2) high r.2) refl)
-    (set-read rest f ws (i + 3) j r.3 (omega arith))
-set-read (Category c ∷ rest) (suc f) ws i j r l =
-    set-first f ws i j (i + 2) (Category c) rest r
-    (rw (opcode-read ws i opcode.CATEGORY r.0, category-read ws (i + 1) c r.1) refl)
-    (set-read rest f ws (i + 2) j r.2 (omega arith))
-set-read (Charset bits ∷ rest) (suc f) ws i j r l =
-    set-first f ws i j (i + 9) (Charset bits) rest r (rw (opcode-read ws i opcode.CHARSET r.0, r.1) refl)
-    (set-read rest f ws (i + 9) j r.3 (omega arith))
-set-read (BigCharset numbers bits ∷ rest) (suc f) ws i j r l =
-    set-first f ws i j (i + 66 + word ws (i + 1) * 8) (BigCharset numbers bits) rest r
-    (rw (opcode-read ws i opcode.BIGCHARSET r.0, r.1, r.3) refl)
-    (set-read rest f ws (i + 66 + word ws (i + 1) * 8) j r.5 (omega arith))
-set-read (Negate ∷ rest) (suc f) ws i j r l =
-    set-first f ws i j (i + 1) Negate rest r (rw (opcode-read ws i opcode.NEGATE r.0) refl)
-    (set-read rest f ws (i + 1) j r.1 (omega arith))
+set-read (x ∷ rest) (suc f) ws i j r l =
+    let o : SreOpcode = set_item_opcode x in
+    let begun : Opcode ws i o = first x rest ws i j r in
+    let past : i < j = set_past x rest ws i j r in
+    let p = parted o ws i j (x ∷ rest) begun past r in
+    let k : ℕ = (set_item_by o ws i).1 in
+    let t : nat_lt i j ≡ true = grind (arith, nat_tests) in
+    let after = set-read p.0 f ws k j p.3 (omega (arith, item_past o ws i)) in
+    rw (t, set_at) (rw (opcode-read ws i o begun, after) (sym p.1))
 
 in-read : (fold : Fold) (set : List SetItem) (ws : List ℕ) (i j : ℕ) → TestOperands ws i j (In fold set)
     → in_at fold ws i ≡ (In fold set, j)
 in-read fold set ws i j r = rw (← r.0, set-read set (j - i) ws (i + 2) (j - 1) r.1 (omega arith)) refl
 
-test-read : (t : Test) (ws : List ℕ) (i j : ℕ) → TestOperands ws i j t → test_by (test_opcode t) ws i ≡ (t, j)
+pub test-read : (t : Test) (ws : List ℕ) (i j : ℕ) → TestOperands ws i j t → test_by (test_opcode t) ws i ≡ (t, j)
 test-read Any ws i j r = rw r refl
 test-read AnyAll ws i j r = rw r refl
 test-read (InCategory c) ws i j r = rw (category-read ws (i + 1) c r.0, r.1) refl
@@ -322,7 +259,7 @@ look-read sign back body f read ws i j h r l =
     let x : read (i + 3) (j - 1) ≡ (body, j - 1) = h (i + 3) (j - 1) (j - 1) body r.2 (inl refl) (omega arith) in
     rw (← r.0, word_of ws (i + 2) back r.1, x) refl
 
-item-read : (x : Item) (f : ℕ) (read : Reader) (ws : List ℕ) (i j : ℕ) → IsReader ws f read → Operands ws i j x
+pub item-read : (x : Item) (f : ℕ) (read : Reader) (ws : List ℕ) (i j : ℕ) → IsReader ws f read → Operands ws i j x
     → j ≤ i + suc f → item_by (item_opcode x) f read ws i ≡ Some (x, j)
 item-read Fail f read ws i j h r l = rw r refl
 item-read (One t) f read ws i j h r l = rw (item-test t f read ws i, test-read t ws i j r) refl
@@ -360,7 +297,7 @@ item-read (ExistsElse g there absent) f read ws i j h r l =
     let y : read tail j ≡ (absent, j) = h tail j j absent r.3 (inl refl) (omega arith) in
     rw (word_of ws (i + 1) g r.0, x, z, ← r.2.1, y) refl
 
-items-read : (f : ℕ) (ws : List ℕ) → IsReader ws f (items_at f ws)
+pub items-read : (f : ℕ) (ws : List ℕ) → IsReader ws f (items_at f ws)
 unfolding items_at
 items-read zero ws i j k t r s l = absurd (omega (arith, reads_within t ws i k r))
 items-read (suc f) ws i j k Empty r (inl e) l =

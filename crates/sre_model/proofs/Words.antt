@@ -103,12 +103,5 @@ pub category_low : (c : SreCatCode) → category_number c < 18
 category_low category.DIGIT = omega arith
 category_low c = omega arith
 
-pub same_category : (ws : List ℕ) (i : ℕ) (a b : SreCatCode) → Word ws i (category_number a)
-    → Word ws i (category_number b) → a ≡ b
-same_category ws i a b x y =
-    sym (category_back a)
-    ∙ ap (λ n. slice_index_or categories n category.DIGIT) (same_word ws i (category_number a) (category_number b) x y)
-    ∙ category_back b
-
 pub are_words : (ws : List ℕ) → ((i : ℕ) → word ws i < 4294967296) → AreWords ws
 are_words ws f = record { fits = λ i v w. omega (arith, f i, word_of ws i v w) }
