@@ -1,5 +1,6 @@
 -- The next instruction stands at one place, by what the instruction before it is.
 use Rattle.std.proofs.Common.{ℕ, ◌+◌, ◌≡◌, ◌⊎◌, inl, inr, ⊎_elim, List, Some, None, refl, sym, ap, ◌∙◌}
+use Rattle.sre_chars.specs.Numbers.{opcode_number}
 use Rattle.sre_chars.specs.declared.constants.SreOpcode.{SreOpcode}
 use Rattle.sre_model.specs.Tree.{Test}
 use Rattle.sre_model.specs.Roles.{Role, ToTest, ToCheckGroup, role}
@@ -7,7 +8,7 @@ use Rattle.sre_model.specs.Grammar.{Opcode, test_opcode}
 use Rattle.sre_model.proofs.Families.{HasRole, test_kind, test_role}
 use Rattle.sre_model.proofs.Words.{same_opcode}
 use Rattle.sre_model.proofs.Unique.{test_same}
-use Rattle.sre_code.specs.Reading.{ReadsTest}
+use Rattle.sre_code.specs.Reading.{ReadsTest, NoCode}
 use Rattle.sre_code.specs.Instructions.{own_words, Behind, NoneBehind}
 
 test_has_none : (t : Test) → own_words (role (test_opcode t)) ≡ None
@@ -52,7 +53,16 @@ module _ (ws : List ℕ) where
       z.4 ∙ sym (behind_own i l z.1 z.0 z.2 z.3 y))
       x.one
 
-  -- none is behind a condition
+  -- none is behind words that begin with no opcode, and behind a condition
+  pub none_unknown : (i : ℕ) → NoCode opcode_number ws i → NoneBehind ws i
+  none_unknown i unknown = record {
+    none = λ k b. ⊎_elim
+        (λ (x : (t : Test) × ReadsTest ws i k t). unknown.none (test_opcode x.0) x.1.0)
+        (λ (x : (o : SreOpcode) × (n : ℕ) × Opcode ws i o × (own_words (role o) ≡ Some n) × (k ≡ i + n)).
+        unknown.none x.0 x.2)
+        b.one;
+  }
+
   pub none_behind : (i : ℕ) → HasRole ws i ToCheckGroup → NoneBehind ws i
   none_behind i h = record { none = λ k b. by k b.one }
     where

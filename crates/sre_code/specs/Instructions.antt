@@ -36,7 +36,7 @@ pub record Behind (ws : List ℕ) (i k : ℕ) : Type 0 where
 pub record NoneBehind (ws : List ℕ) (i : ℕ) : Type 0 where
   pub none : (k : ℕ) → Behind ws i k → ⊥
 
--- where the next instruction stands, and the opcode at i, or that no such one is there
-abbrev pub NextAt : List ℕ → ℕ → Option (ℕ × SreOpcode) → Type 0
-NextAt ws i (Some p) = (i < p.0) × Behind ws i p.0 × Opcode ws i p.1
+-- where the next instruction stands, or that no such one is there
+abbrev pub NextAt : List ℕ → ℕ → Option ℕ → Type 0
+NextAt ws i (Some k) = (i < k) × Behind ws i k
 NextAt ws i None = NoneBehind ws i

@@ -22,14 +22,14 @@ pub record AreTold (most : ℕ) (ws : List ℕ) (i e : ℕ) (r : Option ℕ) : T
   pub each : (t : Tree) → Reads ws i e t → TreeTold most t r
 
 -- what is told of a loop with so many slots that ends at j
-abbrev pub SlotsTold : ℕ → ℕ → ℕ → Tree → Option Passed → Type 0
-SlotsTold most slots j body (Some p) = (p.behind ≡ j) × (p.slots ≡ slots) × (slots ≤ most)
-SlotsTold most slots j body None = refers body ≡ false → most < slots
+abbrev pub PassedTold : ℕ → ℕ → ℕ → Tree → Option Passed → Type 0
+PassedTold most slots j body (Some p) = (p.behind ≡ j) × (p.slots ≡ slots) × (slots ≤ most)
+PassedTold most slots j body None = refers body ≡ false → most < slots
 
 pub record LoopTold (most : ℕ) (ws : List ℕ) (i : ℕ) (r : Option Passed) : Type 0 where
   pub each :
       (o : Order) (low high : ℕ) (body : Tree) (j : ℕ) → Operands ws i j (Loop o low high body)
-      → SlotsTold most (loop_slots low high * most_slots body) j body r
+      → PassedTold most (loop_slots low high * most_slots body) j body r
 
 -- what is told of a possessive loop with so many slots, whose body begins at b: it has too many, or the words before
 -- the body are passed

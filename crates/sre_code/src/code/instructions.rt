@@ -5,10 +5,11 @@
 //! length word after it. The JUMP of a conditional is never reached.
 
 ghost use Rattle.std.specs.Prelude.{◌≡◌};
+ghost use Rattle.sre_model.specs.Grammar.{Opcode};
 ghost use Rattle.sre_model.specs.Roles.{role};
 ghost use Rattle.sre_code.specs.Instructions.{own_words, NextAt};
 
-use crate::code::{character, words};
+use crate::code::character;
 use sre_chars::constants::SreOpcode;
 
 /// The number of words from an instruction with this opcode to its body, or to the next instruction. The length word
@@ -38,17 +39,15 @@ fn own_words(code: SreOpcode) -> Option<usize>
     }
 }
 
-/// The address of the instruction after the one at `place`, and the opcode at `place`. `None` for a conditional.
-pub fn next(words: &[u32], place: usize) -> Option<(usize, SreOpcode)>
+/// The address of the instruction after the one at `place`, whose opcode is `code`. `None` for a conditional.
+pub fn next(words: &[u32], place: usize, code: SreOpcode) -> Option<usize>
+    requires { Opcode words.now place code }
     ensures { NextAt words.now place result }
 {
-    let Ok(code) = words::opcode(words, place) else {
-        return None;
-    };
     match own_words(code) {
-        Some(count) => Some((place + count, code)),
+        Some(count) => Some(place + count),
         None => match character::test(words, place, code) {
-            Ok(behind) => Some((behind, code)),
+            Ok(behind) => Some(behind),
             Err(_) => None,
         },
     }

@@ -5,6 +5,7 @@
 //! calls itself for each body.
 
 ghost use Rattle.std.specs.Prelude.{ℕ, ◌≡◌, ◌<◌, ◌≤◌, ◌+◌, ◌*◌, ◌^◌, length, Some, IfSome, false, cond};
+ghost use Rattle.sre_model.specs.Grammar.{Opcode};
 ghost use Rattle.sre_model.specs.Roles.{role};
 ghost use Rattle.sre_model.specs.TreePrices.{scan_price};
 ghost use Rattle.sre_code.specs.Saturating.{Held};
@@ -215,13 +216,14 @@ fn with_alternative(branch: Price, alternative: Price) -> Price
     )
 }
 
-/// A test, a position or a MARK; `None` for a back-reference or a conditional.
-fn one_step(words: &[u32], place: usize) -> Option<PricedItem>
+/// A test, a position or a MARK; `None` for a conditional.
+fn one_step(words: &[u32], place: usize, code: SreOpcode) -> Option<PricedItem>
+    requires { Opcode words.now place code }
     ensures told { StraightPriced words.now place result }
     ensures forward { IfSome result (λ p. place < p.behind) }
 {
-    match next(words, place) {
-        Some((behind, _)) => Some(PricedItem {
+    match next(words, place, code) {
+        Some(behind) => Some(PricedItem {
             behind,
             price: straight(1),
         }),
@@ -390,7 +392,7 @@ fn part(words: &[u32], place: usize, depth: u32, characters: u64) -> Option<Pric
         Kind::PossessiveLoop => possessive(words, place, depth, characters),
         Kind::AtomicGroup => scope(words, place, place + 2, depth, characters),
         Kind::Look => scope(words, place, place + 3, depth, characters),
-        Kind::Other => one_step(words, place),
+        Kind::Other => one_step(words, place, code),
     }
 }
 

@@ -9,6 +9,7 @@
 //! apart. A conditional ends the scan.
 
 ghost use Rattle.std.specs.Prelude.{◌≡◌, ◌<◌, ◌≤◌, length, IfSome};
+ghost use Rattle.sre_model.specs.Grammar.{Opcode};
 ghost use Rattle.sre_model.specs.Roles.{role};
 ghost use Rattle.sre_model.specs.Slots.{counted_to, loop_slots};
 ghost use Rattle.sre_code.specs.SlotScans.{kind_of, AreTold, LoopTold, OtherTold, PossessiveTold, ToldAt};
@@ -61,13 +62,14 @@ pub fn loop_slots(low: u32, high: u32) -> u64
 }
 
 /// Passes an instruction that is no loop; `None` for a conditional.
-fn other(words: &[u32], place: usize) -> Option<Passed>
+fn other(words: &[u32], place: usize, code: SreOpcode) -> Option<Passed>
+    requires { Opcode words.now place code }
     ensures told { OtherTold words.now place result }
     ensures forward { IfSome result (λ p. place < p.behind) }
     ensures one { IfSome result (λ p. p.slots ≡ 1) }
 {
-    match next(words, place) {
-        Some((behind, _)) => Some(Passed { behind, slots: 1 }),
+    match next(words, place, code) {
+        Some(behind) => Some(Passed { behind, slots: 1 }),
         None => None,
     }
 }
@@ -135,7 +137,7 @@ fn part(words: &[u32], place: usize, most: u64) -> Option<Passed>
     match kind_of(code) {
         Kind::Loop => looped(words, place, most),
         Kind::PossessiveLoop => possessive(words, place, most),
-        Kind::Other => other(words, place),
+        Kind::Other => other(words, place, code),
     }
 }
 

@@ -10,6 +10,7 @@ ghost use Rattle.sre_model.specs.Roles.{role};
 ghost use Rattle.sre_code.specs.Summaries.{noted, IsSummary};
 
 use crate::code::instructions::next;
+use crate::code::words;
 use crate::operands::word_or_zero;
 use sre_chars::constants::SreOpcode;
 
@@ -42,7 +43,6 @@ fn noted(sum: Summary, words: &[u32], place: usize, code: SreOpcode) -> Summary
     requires { place < length words.now }
     ensures { result ≡ noted (role code) place (word words.now (place + 1)) (word words.now (place + 2)) sum }
 {
-    let first = word_or_zero(words, place + 1);
     match code {
         SreOpcode::MARK => Summary {
             marks: place < sum.farthest || sum.marks,
@@ -58,17 +58,23 @@ fn noted(sum: Summary, words: &[u32], place: usize, code: SreOpcode) -> Summary
         },
         SreOpcode::POSSESSIVE_REPEAT => Summary {
             forks: true,
-            farthest: sum.farthest.max(place + 1 + first as usize),
+            farthest: sum
+                .farthest
+                .max(place + 1 + word_or_zero(words, place + 1) as usize),
             ..sum
         },
         SreOpcode::ATOMIC_GROUP => Summary {
-            farthest: sum.farthest.max(place + first as usize),
+            farthest: sum
+                .farthest
+                .max(place + word_or_zero(words, place + 1) as usize),
             ..sum
         },
         SreOpcode::ASSERT | SreOpcode::ASSERT_NOT => {
             let back = word_or_zero(words, place + 2);
             Summary {
-                farthest: sum.farthest.max(place + first as usize),
+                farthest: sum
+                    .farthest
+                    .max(place + word_or_zero(words, place + 1) as usize),
                 longest: sum.longest.max(back),
                 backs: sum.backs.saturating_add(back as usize),
                 ..sum
@@ -77,15 +83,30 @@ fn noted(sum: Summary, words: &[u32], place: usize, code: SreOpcode) -> Summary
         SreOpcode::GROUPREF
         | SreOpcode::GROUPREF_IGNORE
         | SreOpcode::GROUPREF_LOC_IGNORE
-        | SreOpcode::GROUPREF_UNI_IGNORE => Summary {
-            refers: true,
-            from: sum.from.min(first),
-            to: sum.to.max(first),
-            ..sum
-        },
+        | SreOpcode::GROUPREF_UNI_IGNORE => {
+            let group = word_or_zero(words, place + 1);
+            Summary {
+                refers: true,
+                from: sum.from.min(group),
+                to: sum.to.max(group),
+                ..sum
+            }
+        }
         _ => sum,
     }
 }
+
+/// Nothing is known of the items, as behind a conditional.
+const UNKNOWN: Summary = Summary {
+    refers: true,
+    from: 0,
+    to: NO_GROUP,
+    longest: 0,
+    backs: 0,
+    marks: true,
+    forks: true,
+    farthest: 0,
+};
 
 /// The summary of the items; SUCCESS is the last word.
 #[inline(always)]
@@ -105,17 +126,11 @@ pub fn summarize(words: &[u32]) -> Summary
         farthest: 0,
     };
     'instruction: while place < end {
-        let Some((behind, code)) = next(words, place) else {
-            return Summary {
-                refers: true,
-                from: 0,
-                to: NO_GROUP,
-                longest: 0,
-                backs: 0,
-                marks: true,
-                forks: true,
-                farthest: 0,
-            };
+        let Ok(code) = words::opcode(words, place) else {
+            return UNKNOWN;
+        };
+        let Some(behind) = next(words, place, code) else {
+            return UNKNOWN;
         };
         sum = noted(sum, words, place, code);
         place = behind;

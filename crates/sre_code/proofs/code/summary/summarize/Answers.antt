@@ -1,4 +1,5 @@
 use Rattle.std.proofs.Common.{arith}
+use Rattle.sre_code.proofs.Instructions.{none_unknown}
 use Rattle.sre_code.proofs.Summaries.{noted_start, noted_next, noted_stops, noted_ends}
 use Rattle.sre_code.proofs.code.summary.summarize.Goals as goal
 
@@ -8,12 +9,17 @@ instruction-init c = noted_start c.args.words.now
 pub returns-in_default : goal.returns-in_default
 returns-in_default c = λ t w.
     noted_stops c.args.words.now t w c.instruction.place c.instruction.sum c.instruction.invariant (omega arith)
-    c.in_default.ensures
+    (none_unknown c.args.words.now c.instruction.place c.in_default.ensures.0)
+
+pub returns-in_default-next : goal.returns-in_default-next
+returns-in_default-next c = λ t w.
+    noted_stops c.args.words.now t w c.instruction.place c.instruction.sum c.instruction.invariant (omega arith)
+    c.in_default-next.ensures
 
 pub instruction-preserved : goal.instruction-preserved
 instruction-preserved c =
-    noted_next c.args.words.now c.instruction.place c.in-Some.behind c.in-Some.code c.instruction.sum
-    c.noted-sum.result c.instruction.invariant (omega arith) c.in-Some.ensures.1 c.in-Some.ensures.2
+    noted_next c.args.words.now c.instruction.place c.in-Some.behind c.in-Ok.code c.instruction.sum
+    c.noted-sum.result c.instruction.invariant (omega arith) c.in-Some.ensures.1 c.in-Ok.ensures.1
     c.noted-sum.ensures
 
 pub returns : goal.returns
