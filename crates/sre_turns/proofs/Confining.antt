@@ -1,31 +1,20 @@
 -- Each step keeps the machine in its atomic scope's body, where no atomic scope of the bytecode sets a capture slot.
 -- The memo of body ends rests on this.
 use Rattle.std.proofs.Common.{◌≡◌, ℕ, Bool, true, List, [], ◌∷◌}
-use Rattle.sre_chars.specs.declared.string.StringCursor.{StringCursor}
 use Rattle.sre_model.specs.Marks.{Marks, no_marks}
-use Rattle.sre_model.specs.Subject.{Subject}
-use Rattle.sre_turns.specs.declared.Frame.{Frame}
-use Rattle.sre_turns.specs.declared.Region.TheVariants.{AtomicGroup, Ahead, NotAhead, Owed, Further}
-use Rattle.sre_turns.specs.declared.Region.{Region}
-use Rattle.sre_turns.specs.declared.Point.{Point}
-use Rattle.sre_turns.specs.Board.{Choice, Else, Keep, Trying, from_region}
-use Rattle.sre_turns.specs.Moves.{Spot, spot_at, Move, Stop, End, Go, Split, Enter}
-use Rattle.sre_turns.specs.Machine.{Moves}
+use Rattle.sre_turns.specs.Machine.{Frame, Point, Region, Further, Spot, spot_at, Move, Stop, End, Go, Split, Enter}
+use Rattle.sre_turns.specs.Machine.{Choice, Else, Keep, Trying, from_region, StringCursor, Subject, Moves}
 use Rattle.sre_turns.specs.Fruit.{is_inside}
 use Rattle.sre_turns.specs.Nested.{repeats, ClosesAt, LeadsTo}
 use Rattle.sre_turns.specs.Bodies.{LiesInBody, IsConfined, Confined}
-use Rattle.sre_turns.specs.Confining.{ConfinedInside, AllConfined, ChoicesConfined}
-use Rattle.sre_turns.specs.Confining.{StandsConfined, BothConfined}
+use Rattle.sre_turns.specs.Confining.{ConfinedInside, AllConfined, ChoicesConfined, StandsConfined, BothConfined}
 use Rattle.sre_turns.proofs.Bodies.{confined_moves}
 
 -- what holds of each point of one kind holds of another
 closes_map : (P Q : Point → List ℕ → Type 0) → ((pt : Point) (ks : List ℕ) → P pt ks → Q pt ks) → (g : Region)
     (fs : List Frame) → ClosesAt P g fs → ClosesAt Q g fs
-closes_map P Q f (AtomicGroup t) fs h = f _ _ h
-closes_map P Q f (Ahead t) fs h = f _ _ h
-closes_map P Q f (NotAhead t) fs h = f _ _ h
-closes_map P Q f Owed fs h = f _ _ h
 closes_map P Q f (Further t) fs h = (f _ _ h.0, f _ _ h.1)
+closes_map P Q f g fs h = f _ _ h
 
 leads_map : (P Q : Point → List ℕ → Type 0) → ((pt : Point) (ks : List ℕ) → P pt ks → Q pt ks) → (mv : Move)
     → LeadsTo P mv → LeadsTo Q mv
@@ -39,11 +28,8 @@ leads_map P Q f (Enter g y z) h = (f _ _ h.0, closes_map P Q f g y.frames h.1)
 module _ (ws : List ℕ) (inside : Bool) where
   closes_inside : (g : Region) (fs : List Frame) → (inside ≡ true → ClosesAt (IsConfined ws) g fs)
       → ClosesAt (ConfinedInside ws inside) g fs
-  closes_inside (AtomicGroup t) fs h = h
-  closes_inside (Ahead t) fs h = h
-  closes_inside (NotAhead t) fs h = h
-  closes_inside Owed fs h = h
   closes_inside (Further t) fs h = (λ e. (h e).0, λ e. (h e).1)
+  closes_inside g fs h = h
 
   leads_inside : (mv : Move) → (inside ≡ true → LeadsTo (IsConfined ws) mv) → LeadsTo (ConfinedInside ws inside) mv
   leads_inside Stop h = tt

@@ -1,6 +1,6 @@
 -- What a step leaves of the potential, in a search over bytecode whose steps are counted.
-use Rattle.std.proofs.Common.{◌≡◌, ℕ, ◌+◌, ◌-◌, ◌≤◌, Bool, length, List, [], ◌∷◌, drop, true, refl, sym, ap, ◌∙◌}
-use Rattle.std.proofs.Common.{subst, arith}
+use Rattle.std.proofs.Common.{◌≡◌, ℕ, ◌+◌, ◌-◌, ◌≤◌, Bool, length, List, [], ◌∷◌, drop, true, refl, sym, ap, ◌∙◌, subst}
+use Rattle.std.proofs.Common.{arith}
 use Rattle.std.specs.Bool.{⊤}
 use Rattle.sre_chars.specs.declared.constants.SreOpcode.{SreOpcode}
 use Rattle.sre_chars.specs.declared.constants.SreOpcode.TheVariants as opcode
@@ -20,11 +20,10 @@ use Rattle.sre_turns.specs.Prices.{price, price_of, toll, toll_by, split_toll, C
 use Rattle.sre_turns.specs.Lying.{repeats}
 use Rattle.sre_turns.specs.Settled.{Counted}
 use Rattle.sre_turns.specs.Attempts.{Attempt}
-use Rattle.sre_turns.specs.Limits.{Limit, earlier, raised, pool, CodeAt, tried_spots}
-use Rattle.sre_turns.specs.Limits.{Fares, FaresAt, FaresBack, FaresEnd, HereIn, Reopens, Settling, end_share}
+use Rattle.sre_turns.specs.Limits.{Limit, earlier, raised, pool, CodeAt, tried_spots, Fares, FaresAt, FaresBack}
+use Rattle.sre_turns.specs.Limits.{FaresEnd, HereIn, Reopens, Settling, end_share, FaresBoth, Wider}
 use Rattle.sre_turns.specs.Fruit.{is_inside}
 use Rattle.sre_turns.specs.Straight.{InBody}
-use Rattle.sre_turns.specs.Limits.{FaresBoth, Wider}
 use Rattle.sre_turns.specs.Turning.{MovesAt, Moves, Runs, turns}
 use Rattle.sre_turns.proofs.HereMoves.{OntoHere, here_moves}
 use Rattle.sre_turns.proofs.PriceMoves.{enters_at, step_covered, branch_some}
@@ -203,11 +202,8 @@ nothing_left r pl limit cs x (turns mv h d) f =
     fares_earlier r pl limit cs 0 _ (some_spent (enters_at code.0 x.point) _ mv l) at.fares
   where
     some_spent : (may : Bool) (n : ℕ) (mv : Move) → Covers may r.words r.subject.end n mv → 0 + 1 ≤ n
-    some_spent may n Stop l = omega (arith, l)
-    some_spent may n End l = omega (arith, l)
-    some_spent may n (Go y) l = omega (arith, l)
-    some_spent may n (Split y z) l = omega (arith, l)
     some_spent may n (Enter g y z) l = omega (arith, l.1)
+    some_spent may n mv l = omega (arith, l)
 
 -- what is left within a limit is left within a wider one
 pub fares_wider : (r : Run) (pl : Counted r) (limit more : Limit) (n : ℕ) (cs : List Choice) → Wider limit more

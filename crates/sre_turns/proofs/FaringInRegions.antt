@@ -1,17 +1,16 @@
 -- What is left of the potential where an atomic scope is left, in a search over bytecode whose steps are counted: the
 -- saved alternatives above it go, with what is tried inside.
 -- That the step bound suffices (`enough` of sre_engine) rests on this.
-use Rattle.std.proofs.Common.{◌≡◌, ℕ, ◌≤◌, length, List, [], ◌∷◌, drop, true, refl, sym, ap, ◌∙◌}
-use Rattle.std.proofs.Common.{◌++◌, subst, arith}
+use Rattle.std.proofs.Common.{◌≡◌, ℕ, ◌≤◌, length, List, [], ◌∷◌, drop, true, refl, sym, ap, ◌∙◌, ◌++◌, subst, arith}
 use Rattle.std.proofs.lemmas.Bool.{true≢false}
 use Rattle.sre_chars.specs.declared.string.StringCursor.{StringCursor}
 use Rattle.sre_model.specs.Marks.{Marks}
 use Rattle.sre_model.specs.Runs.{Run}
 use Rattle.sre_turns.specs.Attempts.{Attempt}
 use Rattle.sre_turns.specs.Board.{Choice, Else, Keep, Trying, from_region}
-use Rattle.sre_turns.specs.Limits.{Limit, earlier, without_open, Reopens, Settling, Fares, FaresAt, FaresBack}
+use Rattle.sre_turns.specs.Limits.{Limit, earlier, without_open, Reopens, Settling, Fares, FaresAt, FaresBack, FaresEnd}
+use Rattle.sre_turns.specs.Limits.{EndsIn, end_share, waiting, tried_spots, open_attempts}
 use Rattle.sre_turns.specs.Fruit.{is_inside}
-use Rattle.sre_turns.specs.Limits.{FaresEnd, EndsIn, end_share, waiting, tried_spots, open_attempts}
 use Rattle.sre_turns.specs.Moves.{spot_at}
 use Rattle.sre_turns.specs.Prices.{price}
 use Rattle.sre_turns.specs.OpenMarks.{open_spots}
@@ -19,67 +18,50 @@ use Rattle.sre_turns.specs.Settled.{Counted}
 use Rattle.sre_turns.specs.Straight.{point_behind}
 use Rattle.sre_turns.specs.declared.Frame.{Frame}
 use Rattle.sre_turns.specs.declared.Point.TheVariants.{Instruction}
+use Rattle.sre_turns.specs.declared.Point.{Point}
 use Rattle.sre_turns.specs.declared.Region.{Region}
 use Rattle.sre_turns.specs.declared.Region.TheVariants.{Further}
 use Rattle.sre_turns.proofs.Faring.{fares_earlier}
 use Rattle.sre_turns.proofs.PriceMoves.{behind_covered}
 
 -- above the innermost atomic scope there are choices that are settled, and what is tried
-module _ (r : Run) (pl : Counted r) (start : ℕ) (rest : List Choice) (g : Region) (fs : List Frame) (c : StringCursor)
-    (m : Marks) where
+module _ (rest : List Choice) (g : Region) (fs : List Frame) (c : StringCursor) (m : Marks) where
   abbrev kept : List Choice
   kept = Keep g fs c m ∷ rest
 
-  cut_settling : (cs : List Choice) → from_region cs ≡ kept → Settling r pl start cs → Settling r pl start kept
-  cut_settling [] e s = absurd (cc)
-  cut_settling (Else pt fs c m ∷ cs) e s = cut_settling cs e s.1
-  cut_settling (Keep h gs d j ∷ cs) e s = subst (λ x. Settling r pl start x) e s
-  cut_settling (Trying pt fs c m ∷ cs) e s = cut_settling cs e s.1
-
-  cut_waiting : (cs : List Choice) → from_region cs ≡ kept
-      → waiting r.words r.subject.end kept ≤ waiting r.words r.subject.end cs
-  cut_waiting [] e = absurd (cc)
-  cut_waiting (Else pt fs c m ∷ cs) e = omega (arith, cut_waiting cs e)
-  cut_waiting (Keep h gs d j ∷ cs) e =
-      omega (arith, ap (λ x. waiting r.words r.subject.end x) e)
-  cut_waiting (Trying pt fs c m ∷ cs) e = cut_waiting cs e
-
-  cut_tried : (cs : List Choice) → from_region cs ≡ kept
-      → drop (length (open_spots cs)) (tried_spots cs) ≡ tried_spots kept
-  cut_tried [] e = absurd (cc)
-  cut_tried (Else pt fs c m ∷ cs) e = cut_tried cs e
-  cut_tried (Keep h gs d j ∷ cs) e = ap (λ x. tried_spots x) e
-  cut_tried (Trying pt fs c m ∷ cs) e = cut_tried cs e
-
-  pub cut_share : (cs : List Choice) (n : ℕ) → from_region cs ≡ kept
-      → end_share n cs ≡ 0
-  cut_share [] n e = absurd (cc)
-  cut_share (Else pt fs c m ∷ cs) n e = cut_share cs n e
-  cut_share (Keep h gs d j ∷ cs) n e = refl
-  cut_share (Trying pt fs c m ∷ cs) n e = cut_share cs n e
-
-  pub cut_ends : (cs : List Choice) (p : ℕ) → from_region cs ≡ kept → EndsIn r cs p → EndsIn r kept p
-  cut_ends [] p e h = absurd (cc)
-  cut_ends (Else pt fs c m ∷ cs) p e h = cut_ends cs p e h
-  cut_ends (Keep k gs d j ∷ cs) p e h = subst (λ x. EndsIn r x p) e h
-  cut_ends (Trying pt fs c m ∷ cs) p e h = cut_ends cs p e h
+  -- what holds of choices, and of those below each that is no atomic scope, holds from there on
+  cut : (P : List Choice → Type 0)
+      → ((pt : Point) (gs : List Frame) (d : StringCursor) (j : Marks) (cs : List Choice)
+      → (P (Else pt gs d j ∷ cs) → P cs) × (P (Trying pt gs d j ∷ cs) → P cs)) → (cs : List Choice)
+      → from_region cs ≡ kept → P cs → P kept
+  cut P below [] e h = absurd (cc)
+  cut P below (Else pt gs d j ∷ cs) e h = cut P below cs e ((below pt gs d j cs).0 h)
+  cut P below (Keep k gs d j ∷ cs) e h = subst P e h
+  cut P below (Trying pt gs d j ∷ cs) e h = cut P below cs e ((below pt gs d j cs).1 h)
 
 -- so where it ends the same is left without them
 pub cut_fares : (r : Run) (pl : Counted r) (limit : Limit) (p : ℕ) (cs rest : List Choice) {g : Region}
     {fs : List Frame} {c : StringCursor} {m : Marks} → from_region cs ≡ Keep g fs c m ∷ rest
     → FaresEnd r pl limit p cs → FaresEnd r pl (without_open cs limit) p (Keep g fs c m ∷ rest)
 cut_fares r pl limit p cs rest {g} {fs} {c} {m} e f = record {
-  at = cut_ends r pl limit.start rest g fs c m cs p e f.at;
+  at =
+      cut rest g fs c m (λ x. EndsIn r x p) (λ pt gs d j xs. (λ h. h, λ h. h)) cs e f.at;
   fares = record {
-    settled = cut_settling r pl limit.start rest g fs c m cs e f.fares.settled;
+    settled =
+        cut rest g fs c m (λ x. Settling r pl limit.start x) (λ pt gs d j xs. (λ h. h.1, λ h. h.1)) cs e
+        f.fares.settled;
     trying =
-        sym (cut_tried r pl limit.start rest g fs c m cs e)
+        sym (cut rest g fs c m
+        (λ x. drop (length (open_spots cs)) (tried_spots cs) ≡ drop (length (open_spots x)) (tried_spots x))
+        (λ pt gs d j xs. (λ h. h, λ h. h)) cs e refl)
         ∙ ap (λ xs. drop (length (open_spots cs)) xs) f.fares.trying;
     left = omega (
       arith,
       f.fares.left,
-      cut_waiting r pl limit.start rest g fs c m cs e,
-      cut_share r pl limit.start rest g fs c m cs 1 e,
+      cut rest g fs c m
+          (λ x. waiting r.words r.subject.end x ≤ waiting r.words r.subject.end cs)
+          (λ pt gs d j xs. (λ h. omega (arith, h), λ h. h)) cs e (omega arith),
+      cut rest g fs c m (λ x. end_share 1 cs ≡ end_share 1 x) (λ pt gs d j xs. (λ h. h, λ h. h)) cs e refl,
     );
   };
 }

@@ -6,7 +6,7 @@ use Rattle.std.proofs.lemmas.List.Elements.{filter-append}
 use Rattle.sre_model.specs.Ways.{Way, first}
 use Rattle.sre_model.proofs.MarksApart.{SameStops}
 use Rattle.sre_turns.specs.declared.Region.{Region}
-use Rattle.sre_turns.specs.declared.Region.TheVariants.{AtomicGroup, Ahead, NotAhead, Owed, Further}
+use Rattle.sre_turns.specs.declared.Region.TheVariants.{NotAhead}
 use Rattle.sre_turns.specs.Moves.{Spot, closing_move}
 
 -- a test that looks at where an outcome stops
@@ -53,11 +53,8 @@ closes_same g x (v ∷ xs) [] h = absurd (cc)
 closes_same g x (v ∷ xs) (w ∷ ys) h = go g (cc)
   where
     go : (g : Region) → v ≡ w → closing_move g x (v ∷ xs) ≡ closing_move g x (w ∷ ys)
-    go (AtomicGroup t) e = rw e refl
-    go (Ahead t) e = rw e refl
     go (NotAhead t) e = refl
-    go Owed e = rw e refl
-    go (Further t) e = rw e refl
+    go g e = rw e refl
 
 -- of outcomes with the same stops none passes where none does of the others
 pub none_passes : (test : Way → Bool) → ByStop test → (xs ys : List Way) → SameStops xs ys → filter test xs ≡ []

@@ -1,15 +1,9 @@
 -- Steps that take the newest saved alternative.
 use Rattle.std.proofs.Common.{◌≡◌, ℕ, ◌+◌, ◌≤◌, List, [], ◌∷◌, refl, sym, ap, ◌∙◌, subst, arith}
-use Rattle.sre_chars.specs.declared.string.StringCursor.{StringCursor}
-use Rattle.sre_model.specs.Ways.{Way}
 use Rattle.sre_turns.specs.Board.{Else, Keep, choice, BoardValue}
-use Rattle.sre_turns.specs.declared.Region.{Region}
-use Rattle.sre_turns.specs.declared.Point.TheVariants.{Instruction, Again, Inside}
-use Rattle.sre_turns.specs.declared.Point.{Point}
 use Rattle.sre_turns.specs.Limits.{Limit, earlier, Wider, FaresBack}
-use Rattle.sre_turns.specs.Machine.{spot, Waits, outermost, otherwise, Goes, Arrives, Backs, Stands, Later}
-use Rattle.sre_turns.specs.Machine.{without_outcome}
-use Rattle.sre_model.specs.Runs.{Run}
+use Rattle.sre_turns.specs.Machine.{Point, Instruction, Again, Inside, Region, Run, StringCursor, Way, spot, Waits}
+use Rattle.sre_turns.specs.Machine.{outermost, otherwise, Goes, Arrives, Backs, Stands, Later, without_outcome}
 use Rattle.sre_turns.specs.Machine.{without_loop, IsBack, HasRun}
 use Rattle.sre_turns.specs.Confining.{ChoicesConfined}
 use Rattle.sre_turns.specs.declared.Next.{Next}

@@ -2,27 +2,20 @@
 -- for, but for a repeat without a greatest count. Where there is one way to go on, there are none.
 -- That the step bound suffices (`enough` of sre_engine) rests on this.
 use Rattle.std.proofs.Common.{◌≡◌, ℕ, ◌+◌, ◌-◌, ◌*◌, ◌≤◌, ◌⊎◌, inl, inr, Bool, true, false, cond, min, nat_eq, List}
-use Rattle.std.proofs.Common.{refl}
-use Rattle.std.proofs.Common.{subst, sym, ap, ◌∙◌, arith, add-mul, one-mul, mul-le-mul_right}
+use Rattle.std.proofs.Common.{refl, subst, sym, ap, ◌∙◌, arith, add-mul, one-mul, mul-le-mul_right}
 use Rattle.std.proofs.lemmas.Bool.Decides.{nat_tests}
 use Rattle.sre_chars.specs.declared.constants.SreOpcode.{SreOpcode}
 use Rattle.sre_chars.specs.declared.constants.SreOpcode.TheVariants as opcode
 use Rattle.sre_model.specs.Tree.{RunKind, GreedyRun, LazyRun, PossessiveRun}
 use Rattle.sre_model.specs.Ways.{Way, unlimited}
 use Rattle.sre_model.specs.Grammar.{word, Opcode, Word}
-use Rattle.sre_model.specs.Marks.{Marks}
 use Rattle.sre_model.specs.Roles.{Role, ToBranch, ToRun, ToRepeat, ToLoop, ToRepeatPossessively, role}
-use Rattle.sre_model.specs.Subject.{Subject}
 use Rattle.sre_model.specs.TreePrices.{other_ends}
 use Rattle.sre_model.proofs.Words.{word_of}
-use Rattle.sre_turns.specs.declared.Frame.{Frame}
-use Rattle.sre_turns.specs.declared.Point.TheVariants.{Instruction, Again}
-use Rattle.sre_turns.specs.declared.Point.{Point}
 use Rattle.sre_turns.specs.Limits.{has_toll, CodeAt}
-use Rattle.sre_turns.specs.Machine.{Runs}
-use Rattle.sre_turns.specs.Moves.{spot_at}
-use Rattle.sre_turns.specs.Prices.{toll, toll_by, bit_by, bit_toll, end_price, ends_beside, split_toll}
-use Rattle.sre_turns.specs.Prices.{split_by, scan_by, scan_toll, role_at}
+use Rattle.sre_turns.specs.Machine.{Frame, Point, Instruction, Again, spot_at, Marks, Subject, Runs}
+use Rattle.sre_turns.specs.Prices.{toll, toll_by, bit_by, bit_toll, end_price, ends_beside, split_toll, split_by}
+use Rattle.sre_turns.specs.Prices.{scan_by, scan_toll, role_at}
 use Rattle.sre_turns.specs.RunEnds.{RunsOn}
 use Rattle.sre_turns.specs.Straight.{forking}
 use Rattle.sre_turns.proofs.Moving.{in_role}

@@ -3,18 +3,13 @@
 use Rattle.std.proofs.Common.{◌≡◌, ℕ, Bool, true, false, List, [], ◌∷◌, refl, sym, ◌∙◌, subst, inl, inr}
 use Rattle.std.specs.List.{filter}
 use Rattle.std.proofs.lemmas.Bool.{true≢false}
-use Rattle.sre_model.specs.Marks.{Marks}
 use Rattle.sre_model.specs.Tree.{Tree}
 use Rattle.sre_model.specs.References.{refers}
-use Rattle.sre_model.specs.Ways.{Way}
 use Rattle.sre_model.specs.Found.{Asked, is_accepted}
 use Rattle.sre_model.specs.Grammar.{WholeItems}
-use Rattle.sre_model.specs.Runs.{Run}
 use Rattle.sre_model.proofs.MarksApart.{SameStops}
-use Rattle.sre_turns.specs.Board.{Choice, from_region}
-use Rattle.sre_turns.specs.Moves.{Spot}
 use Rattle.sre_turns.specs.MovesAtReferences.{HasReference}
-use Rattle.sre_turns.specs.Machine.{Runs, Waits}
+use Rattle.sre_turns.specs.Machine.{Spot, Choice, from_region, Run, Marks, Way, Runs, Waits}
 use Rattle.sre_turns.specs.Alike.{Alike}
 use Rattle.sre_turns.specs.Hopeless.{Fruitless, Hopeless, MarksServe, AcceptsByStop, is_inside}
 use Rattle.sre_turns.proofs.FirstOutcomes.{none_passes}

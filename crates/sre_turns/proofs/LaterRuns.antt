@@ -1,86 +1,50 @@
 -- The ends that are left of a lazy repeat without a greatest count are those of the same repeat from later on. So what
 -- was saved of it before failures were memoized goes on as that repeat, which is looked up and tried like any other
 -- instruction.
-use Rattle.std.proofs.Common.{◌≡◌, ℕ, ◌+◌, ◌-◌, ◌<◌, ◌≤◌, ◌⊎◌, inl, inr, true, List, [], ◌∷◌, refl}
-use Rattle.std.proofs.Common.{arith, ap}
+use Rattle.std.proofs.Common.{◌≡◌, ℕ, ◌+◌, ◌<◌, ◌≤◌, inl, inr, true, List, [], refl, arith}
 use Rattle.sre_chars.specs.declared.constants.SreOpcode.TheVariants as opcode
-use Rattle.sre_chars.specs.declared.string.StringCursor.{StringCursor}
-use Rattle.sre_model.specs.Tree.{Tree, Empty, Then, Item, Fail, One, At, Mark, Branch, Loop, Run, PossessiveLoop}
-use Rattle.sre_model.specs.Tree.{LazyRun, Atomic, Look, Reference, Exists, ExistsElse, Trees, Only, Or}
-use Rattle.sre_model.specs.Marks.{Marks}
-use Rattle.sre_model.specs.Subject.{passes}
+use Rattle.sre_model.specs.Tree.{Tree, Item, LazyRun}
 use Rattle.sre_model.specs.Ways.{Way, unlimited}
-use Rattle.sre_model.specs.Grammar.{word, skip, Word, Opcode, Reads, Operands, ReadsBranch}
+use Rattle.sre_model.specs.Grammar.{Word, Opcode, Reads, Operands}
 use Rattle.sre_model.specs.Runs as runs
 use Rattle.sre_model.specs.Standing.{HasTest}
 use Rattle.sre_model.proofs.Bounds.{passes-below}
-use Rattle.sre_turns.specs.Board.{Choice}
 use Rattle.sre_turns.specs.Limits.{Limit, HereIn, FaresBoth}
-use Rattle.sre_turns.specs.Machine.{GoesBoth}
-use Rattle.sre_turns.specs.Moves.{Spot, spot_at}
+use Rattle.sre_turns.specs.Machine.{Frame, Point, Instruction, Longer, Spot, spot_at, Choice, Counted, StringCursor}
+use Rattle.sre_turns.specs.Machine.{Marks, passes, GoesBoth}
 use Rattle.sre_turns.specs.Bodies.{IsConfined}
-use Rattle.sre_turns.specs.Nested.{IsAt, LiesIn, LiesInItem, LiesInBranch, repeats}
+use Rattle.sre_turns.specs.Nested.{IsAt, LiesIn, repeats}
 use Rattle.sre_turns.specs.Prices.{price_of}
 use Rattle.sre_turns.proofs.PriceMoves.{later_run_covered}
 use Rattle.sre_turns.specs.RunEnds.{AllPass}
-use Rattle.sre_turns.specs.Settled.{Counted}
-use Rattle.sre_turns.specs.declared.Frame.{Frame}
-use Rattle.sre_turns.specs.declared.Point.TheVariants.{Instruction, Longer}
 use Rattle.sre_turns.proofs.Faring.{fares_less}
 use Rattle.sre_turns.proofs.HereMoves.{here_reached}
 use Rattle.sre_turns.proofs.LazyRunEnds.{longer_run}
 use Rattle.sre_turns.proofs.Onward.{all_later}
+use Rattle.sre_turns.proofs.Parts.{Own, Law, lies_law, longer}
 
 -- where the longer counts of a repeat lie in the words of a tree, its instruction does
-mutual
-  lies : (ws : List ℕ) (i j : ℕ) (t : Tree) (r : Reads ws i j t) (js : List ℕ) (at n : ℕ) (ks : List ℕ)
+module _ (ws : List ℕ) where
+  abbrev Anew : (i j : ℕ) (t : Tree) → Reads ws i j t → List ℕ → Point → List ℕ → Type 0
+  Anew i j t r js pt ks = (at n : ℕ) → pt ≡ Longer at n → LiesIn ws i j t r js (Instruction at) ks
+
+  own_anew : {i j : ℕ} {js : List ℕ} {x : Item} {r : Operands ws i j x} {pt : Point} {ks : List ℕ} (at n : ℕ)
+      → Own ws i j js x r pt ks → pt ≡ Longer at n → IsAt (Instruction i) js (Instruction at) ks
+  own_anew at n (longer m) e = (cc, refl)
+  own_anew at n o e = absurd (cc e)
+
+  later_lies : Law ws Anew
+  later_lies = record {
+    end = λ i j r js at n e. absurd (cc e);
+    first = λ i j x rest r js at n e. absurd (cc e);
+    own = λ i j x rest r js pt ks o at n e. inl (own_anew at n o e);
+    rest = λ i j x rest r js pt ks y h at n e. inr (inr (h at n e));
+    part = λ i j x rest r js a b t s ls p pt ks y h at n e. inr (inl (p.2 (Instruction at) ks (h at n e)));
+  }
+
+  lies : (i j : ℕ) (t : Tree) (r : Reads ws i j t) (js : List ℕ) (at n : ℕ) (ks : List ℕ)
       → LiesIn ws i j t r js (Longer at n) ks → LiesIn ws i j t r js (Instruction at) ks
-  lies ws i j Empty r js at n ks h = absurd (cc (h.0))
-  lies ws i j (Then x rest) r js at n ks h = elim h [
-    | inl e ↦ absurd (cc (e.0))
-    | inr (inl y) ↦ elim (lies_in_item ws i r.0 x r.1.1 js at n ks y) [ inl z ↦ inl z | inr z ↦ inr (inl z) ]
-    | inr (inr y) ↦ inr (inr (lies ws r.0 j rest r.2 js at n ks y))
-  ]
-
-  lies_in_item : (ws : List ℕ) (i j : ℕ) (x : Item) (r : Operands ws i j x) (js : List ℕ) (at n : ℕ) (ks : List ℕ)
-      → LiesInItem ws i j x r js (Longer at n) ks
-      → IsAt (Instruction i) js (Instruction at) ks ⊎ LiesInItem ws i j x r js (Instruction at) ks
-  lies_in_item ws i j Fail r js at n ks h = absurd h
-  lies_in_item ws i j (One t) r js at n ks h = absurd h
-  lies_in_item ws i j (At a) r js at n ks h = absurd h
-  lies_in_item ws i j (Mark k) r js at n ks h = absurd h
-  lies_in_item ws i j (Branch ts) r js at n ks h = inr (lies_in_branch ws (i + 1) j ts r js at n ks h)
-  lies_in_item ws i j (Loop o low high body) r js at n ks h =
-      inr (lies ws (i + 4) (skip ws (i + 1)) body r.3 (i ∷ js) at n ks h)
-  lies_in_item ws i j (Run kind low high t) r js at n ks h = elim h [
-    | inl e ↦ absurd (cc (e.1.0))
-    | inr e ↦ let same = e.1.0 in let place : at ≡ i = cc in inl (ap (λ k. Instruction k) place, e.1.1)
-  ]
-  lies_in_item ws i j (PossessiveLoop low high body) r js at n ks h = elim h [
-    | inl e ↦ absurd (cc (e.0))
-    | inr y ↦ inr (inr (lies ws (i + 4) (skip ws (i + 1)) body r.3 [] at n ks y))
-  ]
-  lies_in_item ws i j (Atomic body) r js at n ks h = inr (lies ws (i + 2) (j - 1) body r.1 [] at n ks h)
-  lies_in_item ws i j (Look sign back body) r js at n ks h = inr (lies ws (i + 3) (j - 1) body r.2 [] at n ks h)
-  lies_in_item ws i j (Reference fold g) r js at n ks h = absurd h
-  lies_in_item ws i j (Exists g there) r js at n ks h = inr (lies ws (i + 3) j there r.2 js at n ks h)
-  lies_in_item ws i j (ExistsElse g there absent) r js at n ks h = elim h [
-    | inl y ↦ inr (inl (lies ws (i + 3) (i + 1 + word ws (i + 2) - 2) there r.1 js at n ks y))
-    | inr y ↦ inr (inr (lies ws (i + 1 + word ws (i + 2)) j absent r.3 js at n ks y))
-  ]
-
-  lies_in_branch : (ws : List ℕ) (q j : ℕ) (ts : Trees) (r : ReadsBranch ws q j ts) (js : List ℕ) (at n : ℕ)
-      (ks : List ℕ) → LiesInBranch ws q j ts r js (Longer at n) ks → LiesInBranch ws q j ts r js (Instruction at) ks
-  lies_in_branch ws q j (Only t) r js at n ks h = elim h [
-    | inl e ↦ absurd (cc (e.0))
-    | inr (inl y) ↦ inr (inl (lies ws (q + 1) (skip ws q - 2) t r.0 js at n ks y))
-    | inr (inr e) ↦ absurd (cc (e.0))
-  ]
-  lies_in_branch ws q j (Or t ts) r js at n ks h = elim h [
-    | inl e ↦ absurd (cc (e.0))
-    | inr (inl y) ↦ inr (inl (lies ws (q + 1) (skip ws q - 2) t r.0 js at n ks y))
-    | inr (inr y) ↦ inr (inr (lies_in_branch ws (skip ws q) j ts r.2 js at n ks y))
-  ]
+  lies i j t r js at n ks y = lies_law ws Anew later_lies i j t r js (Longer at n) ks y at n refl
 
 -- a lazy repeat without a greatest count, of which the longer counts behind n characters wait at a position, where one
 -- more character passes; and the same repeat from a later position, where its first end is theirs

@@ -1,28 +1,20 @@
 -- The outcomes of a lazy repeat without a greatest count: where more than its least count passes, those of its own
 -- first end, and then those of the repeat from the next character on. And its step where it has one end, or none.
-use Rattle.std.proofs.Common.{◌≡◌, ℕ, zero, suc, ◌+◌, ◌-◌, ◌<◌, ◌≤◌, Bool, true, false, List, ◌++◌}
-use Rattle.std.proofs.Common.{refl, sym, subst, arith, nat_lt}
-use Rattle.std.proofs.lemmas.Bool.Decides.{nat_tests}
+use Rattle.std.proofs.Common.{◌≡◌, ℕ, zero, suc, ◌+◌, ◌-◌, ◌<◌, ◌≤◌, Bool, true, false, List, ◌++◌, refl, sym, ap}
+use Rattle.std.proofs.Common.{subst, arith}
 use Rattle.sre_chars.specs.declared.constants.SreOpcode.TheVariants as opcode
-use Rattle.sre_model.specs.Tree.{Test, LazyRun}
-use Rattle.sre_model.specs.Marks.{Marks}
-use Rattle.sre_model.specs.Subject.{Subject, passes}
+use Rattle.sre_model.specs.Tree.{Test}
 use Rattle.sre_model.specs.Ways.{Way, unlimited, run_length}
-use Rattle.sre_model.specs.Grammar.{Word, Opcode}
-use Rattle.sre_model.specs.Roles.{ToRun}
-use Rattle.sre_model.specs.Runs.{Run}
 use Rattle.sre_model.specs.Standing.{HasTest}
 use Rattle.sre_model.proofs.Bounds.{passes-below}
 use Rattle.sre_model.proofs.Longest.{run_has}
 use Rattle.sre_model.proofs.Words.{word_of}
-use Rattle.sre_turns.specs.Machine.{Moves, Runs, turns, Comes, stops, splits}
-use Rattle.sre_turns.specs.Moves.{Spot, spot_at, Stop, Split}
+use Rattle.sre_turns.specs.Machine.{Frame, Instruction, Longer, Spot, spot_at, Stop, Split, Run, Marks, Subject, passes}
+use Rattle.sre_turns.specs.Machine.{Word, Opcode, skip, Moves, Runs, turns, stops}
 use Rattle.sre_turns.specs.MovesInRuns.{RunOperands}
 use Rattle.sre_turns.specs.RunEnds.{AllPass}
-use Rattle.sre_turns.specs.declared.Frame.{Frame}
-use Rattle.sre_turns.specs.declared.Point.TheVariants.{Instruction, Longer}
-use Rattle.sre_turns.proofs.Moving.{at_instruction}
-use Rattle.sre_turns.proofs.OneTurn.{comes}
+use Rattle.sre_turns.proofs.AtRuns.{lazy_none, lazy_splits, longer_none, longer_splits}
+use Rattle.sre_turns.proofs.AfterTurns.{stopped, parted, split}
 
 -- the least count is there where so many characters pass
 pub least_passed : (s : Subject) (t : Test) (low p : ℕ) → AllPass s t p (p + low) → run_length s t low p ≡ low
@@ -50,59 +42,27 @@ module _ (r : Run) (i low v : ℕ) (fs : List Frame) (m : Marks) (w : Opcode r.w
   operands : RunOperands r.words i low unlimited there.end there.test
   operands = record { lowest = wl; highest = wh; stands = there.stands }
 
+  leads : i + 1 + v ≡ skip r.words (i + 1)
+  leads = ap (λ k. i + 1 + k) (sym (word_of r.words (i + 1) v wv))
+
   -- where fewer characters pass than the least count it comes to nothing
   pub lazy_stops : (p : ℕ) → run_length r.subject there.test low p < low → Moves r.words r.subject (starts_at p) Stop
-  lazy_stops p l =
-      let short : nat_lt (run_length r.subject there.test low p) low ≡ true = grind (arith, nat_tests) in
-      at_instruction opcode.MIN_REPEAT_ONE (ToRun LazyRun) refl w (record {
-        low = low;
-        high = unlimited;
-        end = there.end;
-        test = there.test;
-        operands = operands;
-        is = rw short refl;
-      })
+  lazy_stops p l = lazy_none operands w l
 
   -- where so many pass, its first end is tried before the longer ones
   pub lazy_moves : (p : ℕ) → AllPass r.subject there.test p (p + low)
       → Moves r.words r.subject (starts_at p) (Split (ends_at (p + low)) (longer_at low (p + low)))
-  lazy_moves p all_pass =
-      let full = least_passed r.subject there.test low p all_pass in
-      let enough : nat_lt low low ≡ false = grind (arith, nat_tests) in
-      at_instruction opcode.MIN_REPEAT_ONE (ToRun LazyRun) refl w (record {
-        low = low;
-        high = unlimited;
-        end = there.end;
-        test = there.test;
-        operands = operands;
-        is = rw (full, enough, word_of r.words (i + 1) v wv) refl;
-      })
+  lazy_moves p all_pass = lazy_splits operands w leads (least_passed r.subject there.test low p all_pass) refl
 
   -- where the next character does not pass the longer counts come to nothing
   pub longer_stops : (n p : ℕ) → n ≤ p → passes r.subject there.test p ≡ false
       → Moves r.words r.subject (longer_at n p) Stop
-  longer_stops n p past e = record {
-    low = low;
-    high = unlimited;
-    end = there.end;
-    test = there.test;
-    operands = operands;
-    past = past;
-    is = rw e refl;
-  }
+  longer_stops n p past e = longer_none operands past e
 
   -- where it passes, the end behind it is tried before the longer ones
   longer_moves : (n p : ℕ) → n ≤ p → passes r.subject there.test p ≡ true
       → Moves r.words r.subject (longer_at n p) (Split (ends_at (p + 1)) (longer_at (n + 1) (p + 1)))
-  longer_moves n p past e = record {
-    low = low;
-    high = unlimited;
-    end = there.end;
-    test = there.test;
-    operands = operands;
-    past = past;
-    is = rw (e, word_of r.words (i + 1) v wv) refl;
-  }
+  longer_moves n p past e = longer_splits operands leads past e refl
 
   -- they lie behind as many characters as they say
   longer_within : {n p k : ℕ} {os : List Way} → Runs r.words r.subject (longer_at n p) os k → n ≤ p
@@ -111,11 +71,9 @@ module _ (r : Run) (i low v : ℕ) (fs : List Frame) (m : Marks) (w : Opcode r.w
   -- where they come to nothing, so do those behind another number of characters
   longer_stopped : (a b p : ℕ) (os : List Way) (n : ℕ) → b ≤ p → passes r.subject there.test p ≡ false
       → Runs r.words r.subject (longer_at a p) os n → Runs r.words r.subject (longer_at b p) os n
-  longer_stopped a b p os n past e x = go (comes Stop (longer_stops a p (longer_within x) e) x)
-    where
-      go : {os : List Way} {n : ℕ} → Comes r.words r.subject (longer_at a p) Stop os n
-          → Runs r.words r.subject (longer_at b p) os n
-      go stops = turns Stop (longer_stops b p past e) stops
+  longer_stopped a b p os n past e x =
+      let none = stopped (longer_stops a p (longer_within x) e) x in
+      rw (none.0, none.1) (turns Stop (longer_stops b p past e) stops)
 
   -- the longer counts do not tell how many characters came before them
   longer_same : (left a b p : ℕ) (os : List Way) (n : ℕ) → r.subject.end ≤ p + left → b ≤ p
@@ -133,14 +91,8 @@ module _ (r : Run) (i low v : ℕ) (fs : List Frame) (m : Marks) (w : Opcode r.w
           → ((us : List Way) (k : ℕ) → Runs r.words r.subject (longer_at (a + 1) (p + 1)) us k
           → Runs r.words r.subject (longer_at (b + 1) (p + 1)) us k) → Runs r.words r.subject (longer_at b p) os n
       go true y later =
-          split (comes (Split (ends_at (p + 1)) (longer_at (a + 1) (p + 1))) (longer_moves a p (longer_within x) y) x)
-        where
-          split : {os : List Way} {n : ℕ}
-              → Comes r.words r.subject (longer_at a p) (Split (ends_at (p + 1)) (longer_at (a + 1) (p + 1))) os n
-              → Runs r.words r.subject (longer_at b p) os n
-          split (splits {os₂ = os₂} {n₂ = n₂} x₁ x₂) =
-              turns (Split (ends_at (p + 1)) (longer_at (b + 1) (p + 1))) (longer_moves b p past y)
-              (splits x₁ (later os₂ n₂ x₂))
+          let c = parted (longer_moves a p (longer_within x) y) x in
+          split (longer_moves b p past y) c.runs (later c.next c.further c.others) c.both c.sum
       go false y later = longer_stopped a b p os n past y x
 
   -- where one more character passes, they are what comes of a run from later in the stretch
@@ -148,17 +100,12 @@ module _ (r : Run) (i low v : ℕ) (fs : List Frame) (m : Marks) (w : Opcode r.w
       → AllPass r.subject there.test q (p + 1) → passes r.subject there.test p ≡ true
       → Runs r.words r.subject (longer_at n p) os k → Runs r.words r.subject (starts_at q) os k
   longer_run n p q os k e all_pass taken x =
-      go (comes (Split (ends_at (p + 1)) (longer_at (n + 1) (p + 1))) (longer_moves n p (longer_within x) taken) x)
-    where
-      go : {os : List Way} {k : ℕ}
-          → Comes r.words r.subject (longer_at n p) (Split (ends_at (p + 1)) (longer_at (n + 1) (p + 1))) os k
-          → Runs r.words r.subject (starts_at q) os k
-      go (splits {os₁ = os₁} {os₂ = os₂} {n₁ = n₁} {n₂ = n₂} x₁ x₂) =
-          turns (Split (ends_at (q + low)) (longer_at low (q + low))) (lazy_moves q (rw e all_pass))
-          (splits
-          (subst (λ z. Runs r.words r.subject (ends_at z) os₁ n₁) (sym e) x₁)
-          (subst (λ z. Runs r.words r.subject (longer_at low z) os₂ n₂) (sym e)
-          (longer_same (r.subject.end - (p + 1)) (n + 1) low (p + 1) os₂ n₂ (omega arith) (omega (arith, e)) x₂)))
+      let c = parted (longer_moves n p (longer_within x) taken) x in
+      split (lazy_moves q (rw e all_pass))
+      (subst (λ z. Runs r.words r.subject (ends_at z) c.now c.turns) (sym e) c.runs)
+      (subst (λ z. Runs r.words r.subject (longer_at low z) c.next c.further) (sym e)
+      (longer_same (r.subject.end - (p + 1)) (n + 1) low (p + 1) c.next c.further (omega arith) (omega (arith, e))
+      c.others)) c.both c.sum
 
   -- what comes of the run: what comes of its own first end, and then of the one that begins one character later
   pub record LazyNext (p : ℕ) (os : List Way) (n : ℕ) : Type 0 where
@@ -175,21 +122,17 @@ module _ (r : Run) (i low v : ℕ) (fs : List Frame) (m : Marks) (w : Opcode r.w
   pub lazy_next : (p : ℕ) (os : List Way) (n : ℕ) → AllPass r.subject there.test p (p + low + 1)
       → Runs r.words r.subject (starts_at p) os n → LazyNext p os n
   lazy_next p os n all_pass x =
-      go (comes (Split (ends_at (p + low)) (longer_at low (p + low)))
-      (lazy_moves p (λ c from to. all_pass c from (omega (arith, to)))) x)
-    where
-      go : {os : List Way} {n : ℕ}
-          → Comes r.words r.subject (starts_at p) (Split (ends_at (p + low)) (longer_at low (p + low))) os n
-          → LazyNext p os n
-      go (splits {os₁ = os₁} {os₂ = os₂} {n₁ = n₁} {n₂ = n₂} x₁ x₂) = record {
-        own = os₁;
-        again = os₂;
-        both = refl;
-        own_turns = n₁;
-        again_turns = n₂;
-        own_runs = x₁;
+      let c = parted (lazy_moves p (λ c from to. all_pass c from (omega (arith, to)))) x in
+      record {
+        own = c.now;
+        again = c.next;
+        both = c.both;
+        own_turns = c.turns;
+        again_turns = c.further;
+        own_runs = c.runs;
         again_runs =
-            longer_run low (p + low) (p + 1) os₂ n₂ (omega arith)
-            (λ c from to. all_pass c (omega (arith, from)) to) (all_pass (p + low) (omega arith) (omega arith)) x₂;
-        sum = omega arith;
+            longer_run low (p + low) (p + 1) c.next c.further (omega arith)
+            (λ d from to. all_pass d (omega (arith, from)) to) (all_pass (p + low) (omega arith) (omega arith))
+            c.others;
+        sum = omega (arith, c.sum);
       }

@@ -8,6 +8,8 @@ pub mod Faring
 pub mod Placed
 pub mod StepsAtItems
 pub mod StepsInBranches
+pub mod AfterTurns
+pub mod AtRuns
 pub mod StepsInRuns
 pub mod StepsInLoops
 pub mod StepsInRegions
@@ -17,13 +19,11 @@ pub mod Outcomes
 pub mod RanAtItems
 pub mod RanInRuns
 pub mod RanInLoops
-pub mod RanInRegions
-pub mod RanAtReferences
-pub mod RanInPossessiveLoops
 pub mod Ran
 pub mod GoingBack
 pub mod Start
 pub mod Onward
+pub mod Parts
 pub mod NestedMoves
 pub mod NestedStarts
 pub mod NestedPlaces
@@ -49,7 +49,6 @@ pub mod Admitting
 pub mod AskedPlaces
 pub mod Straight
 pub mod HereMoves
-pub mod BodyStops
 pub mod FaringInRegions
 pub mod Strides
 pub mod Steps

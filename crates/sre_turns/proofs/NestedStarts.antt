@@ -1,16 +1,14 @@
 -- A run begins at a configuration in the bytecode of its tree, also after leading literals.
 -- That the step bound suffices (`enough` of sre_engine) rests on this.
-use Rattle.std.proofs.Common.{◌≡◌, ℕ, zero, suc, ◌*◌, ◌-◌, ◌≤◌, inr, List, [], length, refl, subst, arith}
+use Rattle.std.proofs.Common.{◌≡◌, ℕ, zero, suc, ◌*◌, ◌-◌, ◌≤◌, inr, List, [], length, refl, subst, arith, sym}
 use Rattle.sre_model.specs.Tree.{Tree, Empty, Then}
-use Rattle.sre_model.specs.Marks.{Marks}
 use Rattle.sre_model.specs.Prefixes.{behind_items, ReadsBehind}
 use Rattle.sre_model.specs.Grammar.{Reads, WholeItems}
 use Rattle.sre_model.specs.Standing.{AreWords}
 use Rattle.sre_model.proofs.ReadBack.{read_tree}
-use Rattle.sre_turns.specs.declared.Point.TheVariants.{Instruction}
-use Rattle.sre_turns.specs.Moves.{spot_at}
 use Rattle.sre_turns.specs.Nested.{LiesIn, Lies}
 use Rattle.sre_turns.proofs.NestedMoves.{begins}
+use Rattle.sre_turns.specs.Machine.{Instruction, spot_at, Marks}
 
 -- the place behind some items lies there
 after_items : (ws : List ℕ) (i j : ℕ) (t : Tree) (r : Reads ws i j t) (js : List ℕ) (n : ℕ)

@@ -2,21 +2,17 @@
 -- later, and of its own first end; of a possessive one, of one of the two. While failures are memoized the machine goes
 -- by that, so that each end is tried once, from wherever the repeat is reached. Such a step has two ways to go on at
 -- most, so the credits of one step pay for it.
-use Rattle.std.proofs.Common.{◌≡◌, ℕ, suc, ◌+◌, ◌-◌, ◌<◌, ◌≤◌, false, List, ◌∷◌, ◌++◌, refl, sym, ap, ◌∙◌}
-use Rattle.std.proofs.Common.{subst, arith, append-nil}
+use Rattle.std.proofs.Common.{◌≡◌, ℕ, suc, ◌+◌, ◌-◌, ◌<◌, ◌≤◌, false, List, ◌∷◌, ◌++◌, refl, sym, ap, ◌∙◌, subst, arith}
+use Rattle.std.proofs.Common.{append-nil}
 use Rattle.sre_chars.specs.declared.constants.SreOpcode.{SreOpcode}
 use Rattle.sre_chars.specs.declared.constants.SreOpcode.TheVariants as opcode
-use Rattle.sre_chars.specs.declared.string.StringCursor.{StringCursor}
-use Rattle.sre_model.specs.Subject.{Subject, passes}
 use Rattle.sre_model.specs.Ways.{Way, unlimited, run_length, longest_run}
-use Rattle.sre_model.specs.Grammar.{Word, Opcode, skip}
-use Rattle.sre_model.specs.Runs.{Run}
 use Rattle.sre_model.specs.Standing.{HasTest}
 use Rattle.sre_model.proofs.Bounds.{passes-below}
-use Rattle.sre_turns.specs.Board.{Choice, Else, BoardValue}
 use Rattle.sre_turns.specs.Limits.{Limit, earlier, HereIn, Fares, FaresAt, FaresBoth, Splitting}
-use Rattle.sre_turns.specs.Machine.{Moves, Runs, Comes, splits, Tries, GoesBoth, Later, Waits, otherwise, spot}
-use Rattle.sre_turns.specs.Moves.{Spot, spot_at, Stop, Split}
+use Rattle.sre_turns.specs.Machine.{Frame, Instruction, Shorter, Longer, Spot, spot_at, Stop, Split, Choice, Else}
+use Rattle.sre_turns.specs.Machine.{BoardValue, Counted, Run, StringCursor, Subject, passes, Word, Opcode, skip, Moves}
+use Rattle.sre_turns.specs.Machine.{Runs, Tries, GoesBoth, Later, Waits, otherwise, spot, Placed}
 use Rattle.sre_turns.specs.MovesInRuns.{RunOperands}
 use Rattle.sre_turns.specs.Prices.{price_of, end_price, split_toll, steps}
 use Rattle.sre_model.specs.Tree.{RunKind, GreedyRun, LazyRun, PossessiveRun}
@@ -24,16 +20,14 @@ use Rattle.sre_model.specs.Roles.{ToRun, role}
 use Rattle.sre_turns.proofs.PriceMoves.{split_is}
 use Rattle.sre_model.proofs.Words.{word_of}
 use Rattle.sre_turns.specs.RunEnds.{AllPass}
-use Rattle.sre_turns.specs.Settled.{Counted}
-use Rattle.sre_turns.specs.declared.Frame.{Frame}
 use Rattle.sre_turns.specs.declared.Next.TheVariants as next
-use Rattle.sre_turns.specs.declared.Point.TheVariants.{Instruction, Shorter, Longer}
-use Rattle.sre_turns.specs.Confining.{StandsConfined}
+use Rattle.sre_turns.specs.Bodies.{MarklessRegions}
+use Rattle.sre_turns.specs.Confining.{StandsConfined, BothConfined}
 use Rattle.sre_turns.proofs.Confining.{splits_confined, first_confined, first_left}
 use Rattle.sre_turns.proofs.Faring.{fares_less, fares_earlier, first_waits, run_code, place_left}
 use Rattle.sre_turns.proofs.HereMoves.{here_moves, here_reached, here_first}
 use Rattle.sre_turns.proofs.Moving.{run_nothing, some_turns, sooner}
-use Rattle.sre_turns.proofs.OneTurn.{comes}
+use Rattle.sre_turns.proofs.AfterTurns.{parted}
 use Rattle.sre_turns.proofs.Onward.{Reaches, all_later}
 use Rattle.sre_turns.proofs.StepsInRuns.{shorter_stop}
 use Rattle.sre_turns.proofs.RunEnds.{longest_reaches, run_moves, run_next, run_only_moves, run_short_moves}
@@ -77,48 +71,35 @@ tries_first : (r : Run) (i j : ℕ) (z : Spot) (c d : StringCursor) (b : BoardVa
     → Moves r.words r.subject z Stop → steps r.words j + 2 ≡ split_toll r.words (Instruction i)
     → r.stands d d.position → (all : List Way) (limit : Limit)
     → Tries r all limit (Instruction i) c b → Later r all limit (next.At j d) b
-tries_first r i j z c d b mv none tail stands all limit g = go (comes (Split y z) mv g.runs) g.waits g.within
-  where
-    x : Spot
-    x = spot (Instruction i) c b
-
-    y : Spot
-    y = spot (Instruction j) d b
-
-    first_fares : (pl : Counted r)
-        → FaresAt r pl (earlier limit) (price_of r.words r.subject.end y) y b.choices
-    first_fares pl =
-        let code = run_code r x g.runs in
-        let f = g.fares pl code.0 code.1 in
-        let on = here_moves r pl limit.start b.choices x (Split y z) f.here mv in
-        record {
-          here = on.0;
-          fares =
-              fares_earlier r pl limit b.choices _ _ (omega arith) f.fares;
-        }
-
-    go : {os : List Way} {n k : ℕ} → Comes r.words r.subject x (Split y z) os n
-        → Waits r b.choices (n + 0) os all k → n + k ≤ limit.turns → Later r all limit (next.At j d) b
-    go {os} {n} {k} (splits {os₁ = os₁} {os₂ = os₂} {n₁ = n₁} {n₂ = n₂} x₁ x₂) wt l =
-        let same : os₁ ++ os₂ ≡ os₁ = ap (λ us. os₁ ++ us) (run_nothing none x₂) ∙ append-nil os₁ in (
-          omega arith,
-          record {
-            now = os₁;
-            turns = n₁;
-            later = k;
-            stands = stands;
-            placed = g.placed;
-            runs = x₁;
-            waits =
-                sooner (suc (suc (n₁ + n₂)) + 0) (n₁ + 1) (omega arith)
-                (subst (λ us. Waits r b.choices (suc (suc (n₁ + n₂)) + 0) us all k) same wt);
-            within = omega arith;
-            fares = λ pl o w. first_fares pl;
-            confined = λ none.
-                first_left r.words y z b.choices
-                (splits_confined r.words r.subject x y z b.choices mv (g.confined none));
-          },
-        )
+tries_first r i j z c d b mv none tail stands all limit g =
+    let x : Spot = spot (Instruction i) c b in
+    let y : Spot = spot (Instruction j) d b in
+    let p = parted mv g.runs in
+    let same : g.now ≡ p.now = p.both ∙ ap (λ us. p.now ++ us) (run_nothing none p.others) ∙ append-nil p.now in (
+      omega (arith, p.sum, g.within),
+      record {
+        now = p.now;
+        turns = p.turns;
+        later = g.later;
+        stands = stands;
+        placed = g.placed;
+        runs = p.runs;
+        waits =
+            sooner (g.turns + 0) (p.turns + 1) (omega (arith, p.sum))
+            (subst (λ us. Waits r b.choices (g.turns + 0) us all g.later) same g.waits);
+        within = omega (arith, p.sum, g.within);
+        fares = λ pl o w.
+            let code = run_code r x g.runs in
+            let f = g.fares pl code.0 code.1 in
+            record {
+              here = (here_moves r pl limit.start b.choices x (Split y z) f.here mv).0;
+              fares = fares_earlier r pl limit b.choices _ _ (omega (arith, tail)) f.fares;
+            };
+        confined = λ none.
+            first_left r.words y z b.choices
+            (splits_confined r.words r.subject x y z b.choices mv (g.confined none));
+      },
+    )
 
 -- two configurations that are reached by a step of which so much is left
 pub both_fare : (r : Run) (pl : Counted r) (limit : Limit) (n : ℕ) (x y : Spot) (cs : List Choice)
@@ -129,6 +110,31 @@ both_fare r pl limit n x y cs first second l f = record {
   first = first;
   second = second;
   fares = fares_less r pl limit cs _ n l f;
+}
+
+-- two configurations at which the same waits come of one that is tried
+tries_both : (r : Run) (i : ℕ) (x y : Spot) (c d : StringCursor) (b : BoardValue) (all : List Way) (limit : Limit)
+    → (g : Tries r all limit (Instruction i) c b) → (os us : List Way) (n k : ℕ) → g.now ≡ os ++ us
+    → n + k + 2 ≡ g.turns → Runs r.words r.subject x os n → Runs r.words r.subject y us k → x.marks ≡ b.marks
+    → y.marks ≡ b.marks → r.stands d d.position → ((pl : Counted r) → FaresBoth r pl limit x y b.choices)
+    → (MarklessRegions r.words → BothConfined r.words x y b.choices) → GoesBoth r all limit x y d b.choices
+tries_both r i x y c d b all limit g os us n k both sum one other ex ey stands fares confined = record {
+  now = os;
+  next = us;
+  turns = n;
+  further = k;
+  later = g.later;
+  stands = stands;
+  placed = subst (λ m. Placed r.subject m) (sym ex) g.placed;
+  others_placed = subst (λ m. Placed r.subject m) (sym ey) g.placed;
+  runs = one;
+  others = other;
+  waits =
+      sooner (g.turns + 0) (n + k + 2) (omega (arith, sum))
+      (subst (λ us. Waits r b.choices (g.turns + 0) us all g.later) both g.waits);
+  within = omega (arith, sum, g.within);
+  fares = fares;
+  confined = confined;
 }
 
 -- a greedy repeat without a greatest count
@@ -179,27 +185,13 @@ module _ (r : Run) (i low v : ℕ) (w : Opcode r.words i opcode.REPEAT_ONE) (the
       → GoesBoth r all limit (run_at (c.position + 1)) (tail_at (c.position + low)) d b.choices
   greedy_both d all_pass stands all limit g =
       let y = run_next r i low v b.frames b.marks w there wv wl wh c.position g.now g.turns all_pass g.runs in
-      record {
-        now = y.again;
-        next = y.own;
-        turns = y.again_turns;
-        further = y.own_turns;
-        later = g.later;
-        stands = stands;
-        placed = g.placed;
-        others_placed = g.placed;
-        runs = y.again_runs;
-        others = y.own_runs;
-        waits =
-            sooner (g.turns + 0) (y.again_turns + y.own_turns + 2) (omega (arith, y.sum))
-            (subst (λ us. Waits r b.choices (g.turns + 0) us all g.later) y.both g.waits);
-        within = omega (arith, y.sum, g.within);
-        fares = λ pl. greedy_fare pl limit all_pass (g.fares pl opcode.REPEAT_ONE w);
-        confined = λ none.
-            let f = splits_confined r.words r.subject (run_at c.position) _ _ b.choices (greedy_moves all_pass)
-            (g.confined none) in
-            record { first = (g.confined none).here; second = f.first; others = f.others };
-      }
+      tries_both r i (run_at (c.position + 1)) (tail_at (c.position + low)) c d b all limit g y.again y.own
+      y.again_turns y.own_turns y.both y.sum y.again_runs y.own_runs refl refl stands
+      (λ pl. greedy_fare pl limit all_pass (g.fares pl opcode.REPEAT_ONE w))
+      (λ none.
+      let f = splits_confined r.words r.subject (run_at c.position) _ _ b.choices (greedy_moves all_pass)
+      (g.confined none) in
+      record { first = (g.confined none).here; second = f.first; others = f.others })
 
   -- where no more passes, its first end is its only one
   pub greedy_only : (d : StringCursor) → AllPass r.subject there.test c.position (c.position + low)
@@ -258,28 +250,14 @@ module _ (r : Run) (i low v : ℕ) (w : Opcode r.words i opcode.MIN_REPEAT_ONE) 
       → GoesBoth r all limit (tail_of (c.position + low)) (lazy_at (c.position + 1)) d b.choices
   lazy_both d all_pass stands all limit g =
       let y = lazy_next r i low v b.frames b.marks w there wv wl wh c.position g.now g.turns all_pass g.runs in
-      record {
-        now = y.own;
-        next = y.again;
-        turns = y.own_turns;
-        further = y.again_turns;
-        later = g.later;
-        stands = stands;
-        placed = g.placed;
-        others_placed = g.placed;
-        runs = y.own_runs;
-        others = y.again_runs;
-        waits =
-            sooner (g.turns + 0) (y.own_turns + y.again_turns + 2) (omega (arith, y.sum))
-            (subst (λ us. Waits r b.choices (g.turns + 0) us all g.later) y.both g.waits);
-        within = omega (arith, y.sum, g.within);
-        fares = λ pl. lazy_fare pl limit all_pass (g.fares pl opcode.MIN_REPEAT_ONE w);
-        confined = λ none.
-            let f = splits_confined r.words r.subject (lazy_at c.position) _ _ b.choices
-            (lazy_moves r i low v b.frames b.marks w there wv wl wh c.position
-            (λ d from to. all_pass d from (omega (arith, to)))) (g.confined none) in
-            record { first = f.first; second = (g.confined none).here; others = f.others };
-      }
+      tries_both r i (tail_of (c.position + low)) (lazy_at (c.position + 1)) c d b all limit g y.own y.again
+      y.own_turns y.again_turns y.both y.sum y.own_runs y.again_runs refl refl stands
+      (λ pl. lazy_fare pl limit all_pass (g.fares pl opcode.MIN_REPEAT_ONE w))
+      (λ none.
+      let f = splits_confined r.words r.subject (lazy_at c.position) _ _ b.choices
+      (lazy_moves r i low v b.frames b.marks w there wv wl wh c.position
+      (λ d from to. all_pass d from (omega (arith, to)))) (g.confined none) in
+      record { first = f.first; second = (g.confined none).here; others = f.others })
 
   -- where no more passes, its first end is its only one
   pub lazy_only : (d : StringCursor) → AllPass r.subject there.test c.position (c.position + low)

@@ -1,19 +1,13 @@
 -- No configuration is reached that is equivalent to one whose marker waits: equivalent ones take as many steps, and the
 -- one reached has fewer to come than the one that is tried. That the step bound suffices rests on this.
 use Rattle.std.proofs.Common.{ℕ, ◌+◌, ◌≤◌, List, [], ◌∷◌, arith}
-use Rattle.sre_chars.specs.declared.string.StringCursor.{StringCursor}
-use Rattle.sre_model.specs.Ways.{Way}
-use Rattle.sre_model.specs.Runs.{Run}
-use Rattle.sre_turns.specs.Board.{Choice, Else, Keep, Trying, BoardValue}
-use Rattle.sre_turns.specs.Moves.{Spot}
 use Rattle.sre_turns.specs.MovesAtReferences.{HasReference}
-use Rattle.sre_turns.specs.declared.Point.{Point}
-use Rattle.sre_turns.specs.Limits.{Limit}
-use Rattle.sre_turns.specs.Machine.{Runs, Waits, otherwise, kept, tried, Arrives, spot}
+use Rattle.sre_turns.specs.Limits.{Limit, tried_spots}
+use Rattle.sre_turns.specs.Machine.{Point, Spot, Choice, Else, Keep, Trying, BoardValue, Run, StringCursor, Way, Runs}
+use Rattle.sre_turns.specs.Machine.{Waits, otherwise, kept, tried, Arrives, spot}
 use Rattle.std.specs.List.{AllByRecursion}
 use Rattle.sre_turns.specs.Alike.{Alike}
 use Rattle.sre_turns.specs.Attempts.{Attempt}
-use Rattle.sre_turns.specs.Limits.{tried_spots}
 use Rattle.sre_turns.proofs.SameComes.{same_comes}
 
 -- what is tried is of no spot that is alike to this one

@@ -3,15 +3,9 @@ use Rattle.std.proofs.Common.{◌≡◌, ℕ, ◌≤◌, List, [], ◌∷◌, �
 use Rattle.std.specs.List.{flat_map}
 use Rattle.std.proofs.lemmas.List.{append-nil}
 use Rattle.sre_chars.specs.declared.constants.SreOpcode.TheVariants as opcode
-use Rattle.sre_model.specs.Marks.{Marks}
-use Rattle.sre_model.specs.Subject.{Subject}
 use Rattle.sre_model.specs.Ways.{Way, Body, here}
-use Rattle.sre_model.specs.Grammar.{Opcode}
-use Rattle.sre_turns.specs.declared.Frame.{Frame}
-use Rattle.sre_turns.specs.declared.Point.TheVariants.{Instruction}
-use Rattle.sre_turns.specs.declared.Point.{Point}
-use Rattle.sre_turns.specs.Moves.{Spot, spot_at, End}
-use Rattle.sre_turns.specs.Machine.{Runs, turns, ends}
+use Rattle.sre_turns.specs.Machine.{Frame, Point, Instruction, Spot, spot_at, End, Marks, Subject, Opcode, Runs, turns}
+use Rattle.sre_turns.specs.Machine.{ends}
 use Rattle.sre_model.specs.Roles.{ToEnd}
 use Rattle.sre_turns.proofs.Moving.{at_instruction}
 use Rattle.sre_model.specs.Cost.{Costs, ending}

@@ -6,21 +6,15 @@ use Rattle.std.proofs.Common.{nat_lt}
 use Rattle.std.proofs.lemmas.Bool.Decides.{nat_tests}
 use Rattle.sre_chars.specs.declared.constants.SreOpcode.TheVariants as opcode
 use Rattle.sre_model.specs.Tree.{Test, PossessiveRun}
-use Rattle.sre_model.specs.Marks.{Marks}
-use Rattle.sre_model.specs.Subject.{Subject, passes}
 use Rattle.sre_model.specs.Ways.{Way, unlimited, run_length, longest_run}
-use Rattle.sre_model.specs.Grammar.{Opcode, skip}
-use Rattle.sre_model.specs.Roles.{ToRun}
 use Rattle.sre_model.proofs.Longest.{run_passes, run_stopped, run_has}
 use Rattle.sre_model.proofs.Passing.{past_end}
-use Rattle.sre_turns.specs.Machine.{Moves, Runs, turns, Comes, goes}
-use Rattle.sre_turns.specs.Moves.{Spot, spot_at, Move, Stop, Go}
+use Rattle.sre_turns.specs.Machine.{Frame, Instruction, Spot, spot_at, Move, Stop, Go, Marks, Subject, passes, Opcode}
+use Rattle.sre_turns.specs.Machine.{skip, Moves, Runs, turns, goes}
 use Rattle.sre_turns.specs.MovesInRuns.{RunOperands, onward_turn}
 use Rattle.sre_turns.specs.RunEnds.{AllPass}
-use Rattle.sre_turns.specs.declared.Frame.{Frame}
-use Rattle.sre_turns.specs.declared.Point.TheVariants.{Instruction}
-use Rattle.sre_turns.proofs.Moving.{at_instruction}
-use Rattle.sre_turns.proofs.OneTurn.{comes}
+use Rattle.sre_turns.proofs.AtRuns.{at_run}
+use Rattle.sre_turns.proofs.AfterTurns.{went}
 use Rattle.sre_turns.proofs.LazyRunEnds.{least_passed}
 use Rattle.sre_turns.proofs.RunEnds.{passed}
 
@@ -46,6 +40,25 @@ longest_lacks s t low p l =
     (λ c less. run_passes s t (s.end - p) p c less) (λ less. longest_ended s t p) in
     omega (arith, same, l)
 
+-- what each step that goes to another configuration keeps is so of y where it is so of x, and what comes of x comes of
+-- y, in fewer steps
+pub record ComesTo (ws : List ℕ) (s : Subject) (x y : Spot) : Type 1 where
+  pub keeps : (P : Spot → Type 0) → ((x y : Spot) → Moves ws s x (Go y) → P x → P y) → P x → P y
+  pub runs : (os : List Way) (n : ℕ) → Runs ws s x os n → (k : ℕ) × (k + 1 ≤ n) × Runs ws s y os k
+
+-- so it is behind one such step, and behind two
+pub one_turn : {ws : List ℕ} {s : Subject} {x y : Spot} → Moves ws s x (Go y) → ComesTo ws s x y
+one_turn {x = x} {y = y} mv = record {
+  keeps = λ P keeps. keeps x y mv;
+  runs = λ os n d. let c = went mv d in (c.0, omega (arith, c.1), c.2);
+}
+
+and_on : {ws : List ℕ} {s : Subject} {x y z : Spot} → ComesTo ws s x y → ComesTo ws s y z → ComesTo ws s x z
+and_on a b = record {
+  keeps = λ P keeps h. b.keeps P keeps (a.keeps P keeps h);
+  runs = λ os n d. let c = a.runs os n d in let e = b.runs os c.0 c.2 in (e.0, omega (arith, c.1, e.1), e.2);
+}
+
 -- a possessive run without a greatest count
 module _ (ws : List ℕ) (s : Subject) (i low end : ℕ) (t : Test) (fs : List Frame) (m : Marks)
     (w : Opcode ws i opcode.POSSESSIVE_REPEAT_ONE) (o : RunOperands ws i low unlimited end t) where
@@ -58,9 +71,7 @@ module _ (ws : List ℕ) (s : Subject) (i low end : ℕ) (t : Test) (fs : List F
   ends_at q = spot_at (Instruction (skip ws (i + 1))) fs q m
 
   moves : (p : ℕ) (mv : Move) → mv ≡ onward_turn s i (skip ws (i + 1)) low t (starts_at p) → Moves ws s (starts_at p) mv
-  moves p mv e =
-      at_instruction opcode.POSSESSIVE_REPEAT_ONE (ToRun PossessiveRun) refl w
-      (record { low = low; high = unlimited; end = end; test = t; operands = o; is = e })
+  moves p mv e = at_run PossessiveRun w o e
 
   -- where fewer characters pass than the least count it comes to nothing
   pub onward_stops : (p : ℕ) → run_length s t low p < low → Moves ws s (starts_at p) Stop
@@ -108,37 +119,12 @@ module _ (ws : List ℕ) (s : Subject) (i low end : ℕ) (t : Test) (fs : List F
     subst (λ q. passes s t q ≡ false) (sym (nearer more p)) h.1,
   )
 
-  -- what each of its turns keeps is so at its tail
-  pub stretch_keeps : (P : Spot → Type 0) → ((x y : Spot) → Moves ws s x (Go y) → P x → P y) → (more p : ℕ)
-      → Stretch more p → P (starts_at p) → P (ends_at (p + low + more))
-  stretch_keeps P keeps zero p h x = keeps (starts_at p) (ends_at (p + low + 0)) (at_last p h) x
-  stretch_keeps P keeps (suc more) p h x =
-      subst (λ q. P (ends_at q)) (nearer more p)
-      (stretch_keeps P keeps more (p + 1) (behind_first more p h)
-      (keeps (starts_at p) (starts_at (p + 1)) (at_first more p h) x))
-
-  -- what comes of it comes of its tail, in fewer turns
-  pub stretch_over : (more p : ℕ) (os : List Way) (n : ℕ) → Stretch more p → Runs ws s (starts_at p) os n
-      → (k : ℕ) × (k + 1 ≤ n) × Runs ws s (ends_at (p + low + more)) os k
-  stretch_over zero p os n h x = go (comes (Go (ends_at (p + low + 0))) (at_last p h) x)
-    where
-      go : {n : ℕ} → Comes ws s (starts_at p) (Go (ends_at (p + low + 0))) os n
-          → (k : ℕ) × (k + 1 ≤ n) × Runs ws s (ends_at (p + low + 0)) os k
-      go (goes {n = k} y) = (k, omega arith, y)
-  stretch_over (suc more) p os n h x =
-      go (comes (Go (starts_at (p + 1))) (at_first more p h) x)
-      (λ k y. stretch_over more (p + 1) os k (behind_first more p h) y)
-    where
-      go : {n : ℕ} → Comes ws s (starts_at p) (Go (starts_at (p + 1))) os n
-          → ((k : ℕ) → Runs ws s (starts_at (p + 1)) os k
-          → (j : ℕ) × (j + 1 ≤ k) × Runs ws s (ends_at (p + 1 + low + more)) os j)
-          → (k : ℕ) × (k + 1 ≤ n) × Runs ws s (ends_at (p + low + suc more)) os k
-      go (goes {n = k} y) later =
-          let rest = later k y in (
-            rest.0,
-            omega (arith, rest.1),
-            subst (λ q. Runs ws s (ends_at q) os rest.0) (nearer more p) rest.2,
-          )
+  -- it comes to its tail
+  pub stretch_comes : (more p : ℕ) → Stretch more p → ComesTo ws s (starts_at p) (ends_at (p + low + more))
+  stretch_comes zero p h = one_turn (at_last p h)
+  stretch_comes (suc more) p h =
+      subst (λ q. ComesTo ws s (starts_at p) (ends_at q)) (nearer more p)
+      (and_on (one_turn (at_first more p h)) (stretch_comes more (p + 1) (behind_first more p h)))
 
   -- and what comes of its tail comes of it, by a turn more for each of these characters and one for the tail
   pub stretch_runs : (more p : ℕ) (os : List Way) (n : ℕ) → Stretch more p

@@ -3,24 +3,20 @@ use Rattle.std.proofs.Common.{◌≡◌, ℕ, suc, ◌+◌, ◌-◌, ◌<◌, �
 use Rattle.std.proofs.lemmas.Bool.{or_left, or_right, or_parts}
 use Rattle.std.proofs.lemmas.Grind.{flat_map-append}
 use Rattle.sre_chars.specs.declared.constants.SreOpcode.TheVariants as opcode
-use Rattle.sre_model.specs.Tree.{Tree, Atomic, Look, Positive, Negative, Empty, Then, Item, Fail, One, At, Mark, Branch}
-use Rattle.sre_model.specs.Tree.{Run, GreedyRun, Trees, Only, Or, Loop, LazyRun, PossessiveRun, PossessiveLoop}
-use Rattle.sre_model.specs.Tree.{Reference, Exists, ExistsElse}
-use Rattle.sre_model.specs.References.{refers, by_references}
+use Rattle.sre_model.specs.Tree.{Tree, Atomic, Look, Empty, Then, Item, Fail, One, At, Mark, Branch, Run, GreedyRun}
+use Rattle.sre_model.specs.Tree.{Trees, Only, Or, Loop, LazyRun, PossessiveRun, PossessiveLoop, Reference, Exists}
+use Rattle.sre_model.specs.Tree.{ExistsElse}
+use Rattle.sre_model.specs.References.{refers, by_references, asked_from, asked_to, by_groups, by_last_groups}
 use Rattle.sre_model.specs.Folding.{of_item, of_branch}
-use Rattle.sre_model.specs.References.{asked_from, asked_to, by_groups, by_last_groups}
 use Rattle.sre_model.specs.Marks.{Marks, group}
-use Rattle.sre_model.specs.Subject.{Subject}
 use Rattle.sre_model.specs.Ways.{Way, Body, here, ways, item_ways, branch_ways}
 use Rattle.sre_model.specs.MarksSet.{sets_mark, marks_in_regions, by_marked_regions}
 use Rattle.sre_model.specs.Grammar.{word, skip, Opcode, Reads, ReadsItem, ReadsBranch}
-use Rattle.sre_turns.specs.declared.Frame.{Frame}
-use Rattle.sre_turns.specs.declared.Point.TheVariants.{Instruction, Alternatives}
 use Rattle.sre_model.specs.Standing.{AreWords}
 use Rattle.sre_turns.specs.Bodies.{IsConfined, MarklessRegions}
-use Rattle.sre_turns.specs.Moves.{spot_at, Stop, Go}
 use Rattle.sre_turns.specs.MovesAtReferences.{MayAsk}
-use Rattle.sre_turns.specs.Machine.{Runs, turns, stops, goes}
+use Rattle.sre_turns.specs.Machine.{Frame, Instruction, Alternatives, spot_at, Stop, Go, Subject, Runs, turns, stops}
+use Rattle.sre_turns.specs.Machine.{goes}
 use Rattle.sre_model.specs.Roles.{ToFail, ToBranch}
 use Rattle.sre_turns.proofs.Moving.{at_instruction}
 use Rattle.sre_turns.proofs.NestedMoves.{begins}
@@ -31,12 +27,9 @@ use Rattle.sre_model.proofs.Places.{reads_within, alternative_long, branch_past}
 use Rattle.sre_model.specs.Cost.{Costs, cost, item_cost, branch_cost}
 use Rattle.sre_turns.proofs.Outcomes.{followed, Follows, Ran, moved, alone}
 use Rattle.sre_turns.proofs.RanAtItems.{one-ran, at-ran, mark-ran, alternative-ran, last_alternative, skip_there}
-use Rattle.sre_turns.proofs.RanAtItems.{jump-ran}
+use Rattle.sre_turns.proofs.RanAtItems.{jump-ran, atomic-ran, look-ran, reference-ran, condition-ran, present-followed}
 use Rattle.sre_turns.proofs.RanInRuns.{run-ran, lazy-run-ran, longest-run-ran}
-use Rattle.sre_turns.proofs.RanInLoops.{loop-ran}
-use Rattle.sre_turns.proofs.RanInPossessiveLoops.{possessive-ran}
-use Rattle.sre_turns.proofs.RanInRegions.{atomic-ran, ahead-ran, not_ahead-ran}
-use Rattle.sre_turns.proofs.RanAtReferences.{reference-ran, condition-ran, present-followed}
+use Rattle.sre_turns.proofs.RanInLoops.{loop-ran, possessive-ran}
 
 -- what a part of the words asks for, the words do, and where no region of the words sets a mark none of the part does
 abbrev pub PartOf : List ℕ → Tree → Type 0
@@ -134,16 +127,11 @@ mutual
       atomic-ran ws s i j (i + 2) (λ q k. ways s body q k) (λ D q k. cost s body D q k)
       (ran ws s (i + 2) (j - 1) body v (body_part ws body has.0 has.1) b.1) b.2 b.0
       (body_lies ws (i + 2) (j - 1) body b.1 b.2 has.1) h.0 there refl (ways-bounded s body) fs K C p m e f
-  item-ran ws s i j (Look Positive back body) v has h fs K C p m e f =
+  item-ran ws s i j (Look sign back body) v has h fs K C p m e f =
       let b = h.1 in
-      ahead-ran ws s i j (i + 3) (λ q k. ways s body q k) (λ D q k. cost s body D q k)
+      look-ran ws s i j (i + 3) (λ q k. ways s body q k) (λ D q k. cost s body D q k)
       (ran ws s (i + 3) (j - 1) body v (body_part ws body has.0 has.1) b.2) b.3 b.0
-      (body_lies ws (i + 3) (j - 1) body b.2 b.3 has.1) back b.1 refl h.0 fs K C p m e f
-  item-ran ws s i j (Look Negative back body) v has h fs K C p m e f =
-      let b = h.1 in
-      not_ahead-ran ws s i j (i + 3) (λ q k. ways s body q k) (λ D q k. cost s body D q k)
-      (ran ws s (i + 3) (j - 1) body v (body_part ws body has.0 has.1) b.2) b.3 b.0
-      (body_lies ws (i + 3) (j - 1) body b.2 b.3 has.1) back b.1 refl h.0 fs K C p m e f
+      (body_lies ws (i + 3) (j - 1) body b.2 b.3 has.1) back b.1 refl sign h.0 fs K C p m e f
   item-ran ws s i j (Reference fold g) v has h fs K C p m e f =
       reference-ran ws s i j g fold (has.0 g refl (omega arith) (omega arith)) h.0 h.1.0 h.1.1 fs K C p m e f
   item-ran ws s i j (Exists g there) v has h fs K C p m e f =

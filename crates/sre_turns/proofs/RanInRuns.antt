@@ -4,18 +4,13 @@ use Rattle.std.proofs.Common.{nat_eq, List, map, refl, sym, subst, arith, nat_le
 use Rattle.std.proofs.lemmas.Bool.Decides.{nat_tests}
 use Rattle.sre_chars.specs.declared.constants.SreOpcode.TheVariants as opcode
 use Rattle.sre_model.specs.Tree.{GreedyRun, Test, LazyRun, PossessiveRun}
-use Rattle.sre_model.specs.Marks.{Marks}
-use Rattle.sre_model.specs.Subject.{Subject}
 use Rattle.sre_model.specs.Ways.{Body, unlimited, run_length, longest_run, falling, rising, run_ways}
 use Rattle.sre_model.specs.Grammar.{Word, Opcode, skip, test_opcode, TestOperands}
-use Rattle.sre_turns.specs.declared.Frame.{Frame}
-use Rattle.sre_turns.specs.declared.Point.TheVariants.{Instruction, Shorter, Longer}
-use Rattle.sre_model.specs.Standing.{TestStands}
-use Rattle.sre_turns.specs.Moves.{Spot, spot_at, Stop, Split, Go}
 use Rattle.sre_turns.specs.MovesInRuns.{RunOperands}
-use Rattle.sre_turns.specs.Machine.{Moves, Runs, turns, stops, splits, goes}
-use Rattle.sre_model.specs.Roles.{ToRun}
-use Rattle.sre_turns.proofs.Moving.{at_instruction}
+use Rattle.sre_turns.specs.Machine.{Frame, Instruction, Shorter, Longer, Spot, spot_at, Stop, Go, Marks, Subject, Runs}
+use Rattle.sre_turns.specs.Machine.{turns, stops, splits, goes}
+use Rattle.sre_turns.proofs.AtRuns.{greedy_stops, greedy_splits, lazy_none, lazy_splits, longer_none, longer_splits}
+use Rattle.sre_turns.proofs.AtRuns.{bounded_stops, bounded_goes}
 use Rattle.sre_model.proofs.Bounds.{longest_run-fits}
 use Rattle.sre_model.proofs.Longest.{goes_on, longest_goes_on, longest_stops, least_there, least_short}
 use Rattle.sre_model.specs.Cost.{Costs, shorter_cost, run_cost, longer_cost, lazy_run_cost, longest_run_cost}
@@ -31,8 +26,7 @@ shorter-ran ws s j low (suc n) fs K C p m e f =
     let before : p + (low + suc n) - 1 ≡ p + (low + n) = omega arith in
     let less : suc n - 1 ≡ n = omega arith in
     let more : nat_eq (suc n) 0 ≡ false = grind (arith, nat_tests) in
-    turns (Split (spot_at (Instruction j) fs (p + (low + n)) m) (spot_at (Shorter j n) fs (p + (low + n)) m))
-    (record { past = omega arith; is = rw (more, before, less) refl })
+    turns _ (record { past = omega arith; is = rw (more, before, less) refl })
     (splits (f (p + (low + n)) m (omega arith) (omega arith)) (shorter-ran ws s j low n fs K C p m (omega arith) f))
 
 pub run-ran : (ws : List ℕ) (s : Subject) (i j low high : ℕ) (t : Test)
@@ -45,8 +39,8 @@ run-ran ws s i j low high t w tail wl wh wt h fs K C p m e f = go (nat_lt (longe
     k : ℕ
     k = longest_run s t high p
 
-    st : TestStands ws (i + 4) (j - 1) t
-    st = record { code = wt; operands = h }
+    o : RunOperands ws i low high (j - 1) t
+    o = record { lowest = wl; highest = wh; stands = record { code = wt; operands = h } }
 
     fits : p + longest_run s t high p ≤ s.end
     fits = longest_run-fits s t high p e
@@ -57,16 +51,7 @@ run-ran ws s i j low high t w tail wl wh wt h fs K C p m e f = go (nat_lt (longe
         (cond y 1 (suc (suc (C (p + k) m + shorter_cost C low (k - low) p m))))
     go true y =
         let l : k < low = grind (arith, nat_tests) in let z : k + 1 - low ≡ 0 = omega arith in
-        let move : Moves ws s (spot_at (Instruction i) fs p m) Stop =
-        at_instruction opcode.REPEAT_ONE (ToRun GreedyRun) refl w (record {
-          low = low;
-          high = high;
-          end = j - 1;
-          test = t;
-          operands = record { lowest = wl; highest = wh; stands = st };
-          is = rw y refl;
-        }) in
-        rw z (turns Stop move stops)
+        rw z (turns Stop (greedy_stops o w refl l) stops)
     go false y =
         let l : low ≤ k = grind (arith, nat_tests) in
         let d : k + 1 - low ≡ suc (k - low) = omega arith in
@@ -75,18 +60,8 @@ run-ran ws s i j low high t w tail wl wh wt h fs K C p m e f = go (nat_lt (longe
         (followed K (map (λ c. record { stop = p + c; marks = m }) (falling low (k - low))))
         (shorter_cost C low (k - low) p m) =
         rw b at (shorter-ran ws s j low (k - low) fs K C p m (omega (arith, fits)) f) in
-        let move : Moves ws s (spot_at (Instruction i) fs p m)
-        (Split (spot_at (Instruction j) fs (p + k) m) (spot_at (Shorter j (k - low)) fs (p + k) m)) =
-        at_instruction opcode.REPEAT_ONE (ToRun GreedyRun) refl w (record {
-          low = low;
-          high = high;
-          end = j - 1;
-          test = t;
-          operands = record { lowest = wl; highest = wh; stands = st };
-          is = rw (y, ← tail) refl;
-        }) in
         rw (d, b)
-        (turns (Split (spot_at (Instruction j) fs (p + k) m) (spot_at (Shorter j (k - low)) fs (p + k) m)) move
+        (turns _ (greedy_splits o w tail refl l refl)
         (splits (f (p + k) m (omega arith) fits) others))
 
 -- the longer counts of a lazy run, behind c characters of it
@@ -99,25 +74,11 @@ longer-ran : (ws : List ℕ) (s : Subject) (i j low high : ℕ) (t : Test) (n c 
 longer-ran ws s i j low high t zero c fs K C p m tail o e k f =
     let all : longest_run s t high p ≡ c = omega (arith, k) in
     let last : goes_on s t high c (p + c) ≡ false = rw all at (longest_stops s t high p e) in
-    let move : Moves ws s (spot_at (Longer i c) fs (p + c) m) Stop =
-    record { low = low; high = high; end = j - 1; test = t; operands = o; past = omega arith; is = rw last refl } in
-    turns Stop move stops
+    turns Stop (longer_none o (omega arith) last) stops
 longer-ran ws s i j low high t (suc n) c fs K C p m tail o e k f =
     let more : goes_on s t high c (p + c) ≡ true = longest_goes_on s t high p e c (omega (arith, k)) in
-    let one : p + c + 1 ≡ p + (c + 1) = omega arith in
     let fits : p + longest_run s t high p ≤ s.end = longest_run-fits s t high p e in
-    let move : Moves ws s (spot_at (Longer i c) fs (p + c) m)
-    (Split (spot_at (Instruction j) fs (p + (c + 1)) m) (spot_at (Longer i (c + 1)) fs (p + (c + 1)) m)) =
-    record {
-      low = low;
-      high = high;
-      end = j - 1;
-      test = t;
-      operands = o;
-      past = omega arith;
-      is = rw (more, one, ← tail) refl;
-    } in
-    turns (Split (spot_at (Instruction j) fs (p + (c + 1)) m) (spot_at (Longer i (c + 1)) fs (p + (c + 1)) m)) move
+    turns _ (longer_splits o tail (omega arith) more (omega arith))
     (splits (f (p + (c + 1)) m (omega arith) (omega (arith, k, fits)))
     (longer-ran ws s i j low high t n (c + 1) fs K C p m tail o e (omega (arith, k)) f))
 
@@ -142,27 +103,15 @@ lazy-run-ran ws s i j low high t w tail wl wh le wt h fs K C p m e f = go (nat_l
         let l : k < low = grind (arith, nat_tests) in
         let z : k + 1 - low ≡ 0 = omega arith in
         let short : run_length s t low p ≡ k = least_short s t high p e low le l in
-        let move : Moves ws s (spot_at (Instruction i) fs p m) Stop =
-        at_instruction opcode.MIN_REPEAT_ONE (ToRun LazyRun) refl w
-        (record { low = low; high = high; end = j - 1; test = t; operands = o; is = rw (short, y) refl }) in
-        rw z (turns Stop move stops)
+        let few : run_length s t low p < low = omega (arith, short, l) in
+        rw z (turns Stop (lazy_none o w few) stops)
     go false y =
         let l : low ≤ k = grind (arith, nat_tests) in
         let d : k + 1 - low ≡ suc (k - low) = omega arith in
         let fits : p + k ≤ s.end = longest_run-fits s t high p e in
         let there : run_length s t low p ≡ low = least_there s t high p e low l in
-        let enough : nat_lt low low ≡ false = grind (arith, nat_tests) in
-        let move : Moves ws s (spot_at (Instruction i) fs p m)
-        (Split (spot_at (Instruction j) fs (p + low) m) (spot_at (Longer i low) fs (p + low) m)) =
-        at_instruction opcode.MIN_REPEAT_ONE (ToRun LazyRun) refl w (record {
-          low = low;
-          high = high;
-          end = j - 1;
-          test = t;
-          operands = o;
-          is = rw (there, enough, ← tail) refl;
-        }) in
-        rw d (turns (Split (spot_at (Instruction j) fs (p + low) m) (spot_at (Longer i low) fs (p + low) m)) move
+        rw d
+        (turns _ (lazy_splits o w tail there refl)
         (splits (f (p + low) m (omega arith) (omega (arith, fits)))
         (longer-ran ws s i j low high t (k - low) low fs K C p m tail o e (omega (arith, l)) f)))
 
@@ -188,19 +137,17 @@ bounded-ran ws s i j low high t w tail o bounded fs K C p m e f = go (nat_lt k l
         (cond y 1 (cond (nat_eq high unlimited) (k - low) 0 + suc (C (p + k) m)))
     go true y =
         let few : nat_le low k ≡ false = grind (arith, nat_tests) in
-        let move : Moves ws s x Stop = at_instruction opcode.POSSESSIVE_REPEAT_ONE (ToRun PossessiveRun) refl w
-        (record { low = low; high = high; end = j - 1; test = t; operands = o; is = rw (y, bounded) refl }) in
-        rw few (turns Stop move stops)
+        let short : k < low = grind (arith, nat_tests) in
+        rw few (turns Stop (bounded_stops o w bounded refl short) stops)
     go false y =
         let enough : nat_le low k ≡ true = grind (arith, nat_tests) in
         let there : Spot = spot_at (Instruction j) fs (p + k) m in
-        let move : Moves ws s x (Go there) = at_instruction opcode.POSSESSIVE_REPEAT_ONE (ToRun PossessiveRun) refl w
-        (record { low = low; high = high; end = j - 1; test = t; operands = o; is = rw (y, bounded, ← tail) refl }) in
         let cost : suc (C (p + k) m) ≡ cond (nat_eq high unlimited) (k - low) 0 + suc (C (p + k) m) =
         subst (λ b. suc (C (p + k) m) ≡ cond b (k - low) 0 + suc (C (p + k) m)) (sym bounded) (omega arith) in
         rw enough
         (subst (λ n. Runs ws s x (K (p + k) m ++ []) n) cost
-        (turns (Go there) move (goes (alone (f (p + k) m (omega arith) fits)))))
+        (turns (Go there) (bounded_goes o w tail bounded refl (grind (arith, nat_tests)) refl)
+        (goes (alone (f (p + k) m (omega arith) fits)))))
 
 -- and of one without, turn by turn
 unbounded-ran : (ws : List ℕ) (s : Subject) (i j low : ℕ) (t : Test)

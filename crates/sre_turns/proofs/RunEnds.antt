@@ -1,101 +1,65 @@
 -- The outcomes of a greedy repeat without a greatest count: where more than its least count passes, those of the repeat
 -- from the next character on, and then those of its own first end. And its step where it has one end, or none.
-use Rattle.std.proofs.Common.{◌≡◌, ℕ, zero, suc, ◌+◌, ◌-◌, ◌<◌, ◌≤◌, Bool, true, false, List, [], ◌++◌}
-use Rattle.std.proofs.Common.{refl, sym, ◌∙◌, ap, subst, arith, append-nil, nat_lt}
+use Rattle.std.proofs.Common.{◌≡◌, ℕ, zero, suc, ◌+◌, ◌-◌, ◌<◌, ◌≤◌, Bool, true, false, List, [], ◌++◌, refl, sym, ◌∙◌}
+use Rattle.std.proofs.Common.{ap, subst, arith, append-nil, nat_lt}
 use Rattle.std.proofs.lemmas.List.{append_assoc}
 use Rattle.std.proofs.lemmas.Bool.Decides.{nat_tests}
 use Rattle.sre_chars.specs.declared.constants.SreOpcode.TheVariants as opcode
-use Rattle.sre_model.specs.Tree.{Test, GreedyRun}
-use Rattle.sre_model.specs.Marks.{Marks}
-use Rattle.sre_model.specs.Subject.{Subject, passes}
+use Rattle.sre_model.specs.Tree.{Test}
 use Rattle.sre_model.specs.Ways.{Way, unlimited, run_length, longest_run}
-use Rattle.sre_model.specs.Grammar.{Word, Opcode}
-use Rattle.sre_model.specs.Roles.{ToRun}
-use Rattle.sre_model.specs.Runs.{Run}
 use Rattle.sre_model.specs.Standing.{HasTest}
 use Rattle.sre_model.proofs.Bounds.{passes-below}
 use Rattle.sre_model.proofs.Longest.{run_passes, run_stopped, run_at_most, run_has}
 use Rattle.sre_model.proofs.Words.{word_of}
-use Rattle.sre_turns.specs.Machine.{Moves, Runs, turns, Comes, stops, splits}
-use Rattle.sre_turns.specs.Moves.{Spot, spot_at, Stop, Split}
+use Rattle.sre_turns.specs.Machine.{Frame, Instruction, Shorter, Spot, spot_at, Stop, Split, Run, Marks, Subject}
+use Rattle.sre_turns.specs.Machine.{passes, Word, Opcode, skip, Moves, Runs, turns, stops}
+use Rattle.sre_turns.specs.MovesInRuns.{RunOperands}
 use Rattle.sre_turns.specs.RunEnds.{AllPass}
-use Rattle.sre_turns.specs.declared.Frame.{Frame}
-use Rattle.sre_turns.specs.declared.Point.TheVariants.{Instruction, Shorter}
-use Rattle.sre_turns.proofs.Moving.{at_instruction}
-use Rattle.sre_turns.proofs.OneTurn.{comes}
+use Rattle.sre_turns.proofs.AtRuns.{greedy_stops, greedy_splits}
+use Rattle.sre_turns.proofs.AfterTurns.{Parted, stopped, parted, split}
 use Rattle.sre_turns.proofs.StepsInRuns.{shorter_stop, shorter_moves, shorter_within}
 
--- the shorter counts of a run behind p: all but the last of them, and the last, which ends at q
-record LastApart (r : Run) (t j p q : ℕ) (fs : List Frame) (m : Marks) (os : List Way) (n : ℕ) : Type 0 where
-  before : List Way
-  last : List Way
-  both : os ≡ before ++ last
-  before_turns : ℕ
-  last_turns : ℕ
-  before_runs : Runs r.words r.subject (spot_at (Shorter t j) fs p m) before before_turns
-  last_runs : Runs r.words r.subject (spot_at (Instruction t) fs q m) last last_turns
-  sum : before_turns + last_turns + 2 ≡ n
-
 -- what comes apart does so behind what comes first
-joined : (us vs before last : List Way) → vs ≡ before ++ last → us ++ vs ≡ (us ++ before) ++ last
-joined us vs before last e = ap (λ ws. us ++ ws) e ∙ sym (append_assoc us before last)
+joined : (all us vs before last : List Way) → all ≡ us ++ vs → vs ≡ before ++ last → all ≡ (us ++ before) ++ last
+joined all us vs before last both e = both ∙ ap (λ ws. us ++ ws) e ∙ sym (append_assoc us before last)
 
--- some shorter counts come apart so
+-- of the shorter counts of a run behind p: all but the last of them, and the last, which ends at q
+abbrev LastApart : (r : Run) (t j p q : ℕ) → List Frame → Marks → List Way → ℕ → Type 0
+LastApart r t j p q fs m os n =
+    Parted r.words r.subject (spot_at (Shorter t j) fs p m) (spot_at (Instruction t) fs q m) os n
+
 last_apart : (r : Run) (t j a p q : ℕ) (fs : List Frame) (m : Marks) (os : List Way) (n : ℕ) → a ≡ j + 1
     → q + j + 1 ≡ p → Runs r.words r.subject (spot_at (Shorter t a) fs p m) os n → LastApart r t j p q fs m os n
 last_apart r t zero a p q fs m os n e back d =
-    go (comes (Split (spot_at (Instruction t) fs q m) (spot_at (Shorter t 0) fs q m))
-    (shorter_moves r t a 0 p q fs m (omega (arith, e)) (omega (arith, back)) (shorter_within r d)) d)
-  where
-    none : {us : List Way} {k : ℕ} → Comes r.words r.subject (spot_at (Shorter t 0) fs q m) Stop us k
-        → (us ≡ []) × (k ≡ 1)
-    none stops = (refl, refl)
-
-    go : {os : List Way} {n : ℕ}
-        → Comes r.words r.subject (spot_at (Shorter t a) fs p m)
-        (Split (spot_at (Instruction t) fs q m) (spot_at (Shorter t 0) fs q m)) os n
-        → LastApart r t zero p q fs m os n
-    go (splits {os₁ = os₁} {os₂ = os₂} {n₁ = n₁} {n₂ = n₂} d₁ d₂) =
-        let end = none (comes Stop (shorter_stop r t 0 q fs m refl) d₂) in
-        record {
-          before = [];
-          last = os₁;
-          both = ap (λ us. os₁ ++ us) end.0 ∙ append-nil os₁;
-          before_turns = 1;
-          last_turns = n₁;
-          before_runs = turns Stop (shorter_stop r t 0 p fs m refl) stops;
-          last_runs = d₁;
-          sum = omega (arith, end.1);
-        }
+    let c = parted (shorter_moves r t a 0 p q fs m (omega (arith, e)) (omega (arith, back)) (shorter_within r d)) d in
+    let end = stopped (shorter_stop r t 0 q fs m refl) c.others in
+    record {
+      now = [];
+      next = c.now;
+      both = c.both ∙ ap (λ us. c.now ++ us) end.0 ∙ append-nil c.now;
+      turns = 1;
+      further = c.turns;
+      sum = omega (arith, c.sum, end.1);
+      runs = turns Stop (shorter_stop r t 0 p fs m refl) stops;
+      others = c.runs;
+    }
 last_apart r t (suc j) a p q fs m os n e back d =
-    go (comes (Split (spot_at (Instruction t) fs (p - 1) m) (spot_at (Shorter t (a - 1)) fs (p - 1) m))
-    (shorter_moves r t a (a - 1) p (p - 1) fs m (omega (arith, e)) (omega (arith, back)) within) d)
-    (λ us k f. last_apart r t j (a - 1) (p - 1) q fs m us k (omega (arith, e)) (omega (arith, back)) f)
-  where
-    within : a ≤ p
-    within = shorter_within r d
-
-    go : {os : List Way} {n : ℕ}
-        → Comes r.words r.subject (spot_at (Shorter t a) fs p m)
-        (Split (spot_at (Instruction t) fs (p - 1) m) (spot_at (Shorter t (a - 1)) fs (p - 1) m)) os n
-        → ((us : List Way) (k : ℕ) → Runs r.words r.subject (spot_at (Shorter t (a - 1)) fs (p - 1) m) us k
-        → LastApart r t j (p - 1) q fs m us k)
-        → LastApart r t (suc j) p q fs m os n
-    go (splits {os₁ = os₁} {os₂ = os₂} {n₁ = n₁} {n₂ = n₂} d₁ d₂) later =
-        let rest = later os₂ n₂ d₂ in
-        record {
-          before = os₁ ++ rest.before;
-          last = rest.last;
-          both = joined os₁ os₂ rest.before rest.last rest.both;
-          before_turns = suc (suc (n₁ + rest.before_turns));
-          last_turns = rest.last_turns;
-          before_runs =
-              turns (Split (spot_at (Instruction t) fs (p - 1) m) (spot_at (Shorter t j) fs (p - 1) m))
-              (shorter_moves r t (suc j) j p (p - 1) fs m refl (omega (arith, back)) (omega (arith, e, within)))
-              (splits d₁ rest.before_runs);
-          last_runs = rest.last_runs;
-          sum = omega (arith, rest.sum);
-        }
+    let within : a ≤ p = shorter_within r d in
+    let c = parted (shorter_moves r t a (a - 1) p (p - 1) fs m (omega (arith, e)) (omega (arith, back)) within) d in
+    let rest = last_apart r t j (a - 1) (p - 1) q fs m c.next c.further (omega (arith, e)) (omega (arith, back))
+    c.others in
+    record {
+      now = c.now ++ rest.now;
+      next = rest.next;
+      both = joined os c.now c.next rest.now rest.next c.both rest.both;
+      turns = suc (suc (c.turns + rest.turns));
+      further = rest.further;
+      sum = omega (arith, c.sum, rest.sum);
+      runs =
+          split (shorter_moves r t (suc j) j p (p - 1) fs m refl (omega (arith, back)) (omega (arith, e, within)))
+          c.runs rest.runs refl (omega arith);
+      others = rest.others;
+    }
 
 -- the characters of a run pass
 pub passed : (s : Subject) (t : Test) (n p q : ℕ) → q ≤ p + run_length s t n p → AllPass s t p q
@@ -170,33 +134,17 @@ module _ (r : Run) (i low v : ℕ) (fs : List Frame) (m : Marks) (w : Opcode r.w
   abbrev shorter_at : ℕ → ℕ → Spot
   shorter_at k q = spot_at (Shorter (i + 1 + v) k) fs q m
 
-  -- where its longest is too short it comes to nothing
-  run_stops : (p count : ℕ) → longest_run r.subject there.test unlimited p ≡ count → count < low
-      → Moves r.words r.subject (starts_at p) Stop
-  run_stops p count is l =
-      let short : nat_lt count low ≡ true = grind (arith, nat_tests) in
-      at_instruction opcode.REPEAT_ONE (ToRun GreedyRun) refl w (record {
-        low = low;
-        high = unlimited;
-        end = there.end;
-        test = there.test;
-        operands = record { lowest = wl; highest = wh; stands = there.stands };
-        is = rw (is, short) refl;
-      })
+  -- its operands
+  operands : RunOperands r.words i low unlimited there.end there.test
+  operands = record { lowest = wl; highest = wh; stands = there.stands }
+
+  leads : i + 1 + v ≡ skip r.words (i + 1)
+  leads = ap (λ k. i + 1 + k) (sym (word_of r.words (i + 1) v wv))
 
   -- where its longest is long enough, that is tried before the shorter ones
   pub run_moves : (p count : ℕ) → longest_run r.subject there.test unlimited p ≡ count → low ≤ count
       → Moves r.words r.subject (starts_at p) (Split (ends_at (p + count)) (shorter_at (count - low) (p + count)))
-  run_moves p count is l =
-      let enough : nat_lt count low ≡ false = grind (arith, nat_tests) in
-      at_instruction opcode.REPEAT_ONE (ToRun GreedyRun) refl w (record {
-        low = low;
-        high = unlimited;
-        end = there.end;
-        test = there.test;
-        operands = record { lowest = wl; highest = wh; stands = there.stands };
-        is = rw (is, enough, word_of r.words (i + 1) v wv) refl;
-      })
+  run_moves p count is l = greedy_splits operands w leads is l refl
 
   -- what comes of the run: what comes of the one that begins one character later, and then of its own first end
   pub record Next (p : ℕ) (os : List Way) (n : ℕ) : Type 0 where
@@ -214,44 +162,30 @@ module _ (r : Run) (i low v : ℕ) (fs : List Frame) (m : Marks) (w : Opcode r.w
       → low ≤ count → end ≡ p + count → Runs r.words r.subject (ends_at end) us n
       → Runs r.words r.subject (shorter_at (count - low) end) vs k
       → Runs r.words r.subject (starts_at p) (us ++ vs) (suc (suc (n + k)))
-  run_comes p count end us vs n k is l e x y =
-      turns (Split (ends_at (p + count)) (shorter_at (count - low) (p + count))) (run_moves p count is l)
-      (splits
-      (subst (λ q. Runs r.words r.subject (ends_at q) us n) e x)
-      (subst (λ q. Runs r.words r.subject (shorter_at (count - low) q) vs k) e y))
+  run_comes p count end us vs n k is l e x y = split (greedy_splits operands w leads is l e) x y refl (omega arith)
 
   -- it is so where more than the least count passes
   pub run_next : (p : ℕ) (os : List Way) (n : ℕ) → AllPass r.subject there.test p (p + low + 1)
       → Runs r.words r.subject (starts_at p) os n → Next p os n
   run_next p os n all_pass x =
-      go (comes (Split (ends_at (p + count)) (shorter_at (count - low) (p + count)))
-      (run_moves p count refl (omega (arith, reaches))) x)
-    where
-      count : ℕ
-      count = longest_run r.subject there.test unlimited p
-
-      reaches : p + low + 1 ≤ p + count
-      reaches = longest_reaches r there.test p (p + low + 1) all_pass
-
-      go : {os : List Way} {n : ℕ}
-          → Comes r.words r.subject (starts_at p)
-          (Split (ends_at (p + count)) (shorter_at (count - low) (p + count))) os n → Next p os n
-      go (splits {os₁ = os₁} {os₂ = os₂} {n₁ = n₁} {n₂ = n₂} x₁ x₂) =
-          let rest = last_apart r (i + 1 + v) (count - 1 - low) (count - low) (p + count) (p + low) fs m os₂ n₂
-          (omega (arith, reaches)) (omega (arith, reaches)) x₂ in
-          record {
-            again = os₁ ++ rest.before;
-            own = rest.last;
-            both = joined os₁ os₂ rest.before rest.last rest.both;
-            again_turns = suc (suc (n₁ + rest.before_turns));
-            own_turns = rest.last_turns;
-            again_runs =
-                run_comes (p + 1) (count - 1) (p + count) os₁ rest.before n₁ rest.before_turns
-                (longest_later r there.test p count refl (omega (arith, reaches))) (omega (arith, reaches))
-                (omega (arith, reaches)) x₁ rest.before_runs;
-            own_runs = rest.last_runs;
-            sum = omega (arith, rest.sum);
-          }
+      let count : ℕ = longest_run r.subject there.test unlimited p in
+      let reaches : p + low + 1 ≤ p + count = longest_reaches r there.test p (p + low + 1) all_pass in
+      let c = parted (run_moves p count refl (omega (arith, reaches))) x in
+      let rest = last_apart r (i + 1 + v) (count - 1 - low) (count - low) (p + count) (p + low) fs m c.next c.further
+      (omega (arith, reaches)) (omega (arith, reaches)) c.others in
+      record {
+        again = c.now ++ rest.now;
+        own = rest.next;
+        both = joined os c.now c.next rest.now rest.next c.both rest.both;
+        again_turns = suc (suc (c.turns + rest.turns));
+        own_turns = rest.further;
+        again_runs =
+            run_comes (p + 1) (count - 1) (p + count) c.now rest.now c.turns rest.turns
+            (longest_later r there.test p count refl (omega (arith, reaches))) (omega (arith, reaches))
+            (omega (arith, reaches)) c.runs rest.runs;
+        own_runs = rest.others;
+        sum = omega (arith, c.sum, rest.sum);
+      }
 
   -- where the next character behind the least count does not pass the run is no longer
   pub run_only_moves : (p : ℕ) → AllPass r.subject there.test p (p + low)
@@ -276,7 +210,7 @@ module _ (r : Run) (i low v : ℕ) (fs : List Frame) (m : Marks) (w : Opcode r.w
   -- where its least count is not there it comes to nothing
   pub run_short_moves : (p : ℕ) → run_length r.subject there.test low p < low
       → Moves r.words r.subject (starts_at p) Stop
-  run_short_moves p short = run_stops p count refl (few (nat_lt count low) refl)
+  run_short_moves p short = greedy_stops operands w refl (few (nat_lt count low) refl)
     where
       count : ℕ
       count = longest_run r.subject there.test unlimited p

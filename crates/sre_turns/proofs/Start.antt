@@ -3,7 +3,6 @@ use Rattle.std.proofs.Common.{◌≡◌, ℕ, ◌-◌, ◌≤◌, ◌++◌, Bool
 use Rattle.std.proofs.Common.{arith, length, zero, suc}
 use Rattle.std.proofs.lemmas.Bool.{or_right, or_parts, true≢false}
 use Rattle.sre_chars.specs.declared.constants.SreOpcode.TheVariants as opcode
-use Rattle.sre_chars.specs.declared.string.StringCursor.{StringCursor}
 use Rattle.sre_model.specs.Tree.{Tree, Empty, Then}
 use Rattle.sre_model.specs.References.{refers, by_references, asked_from, asked_to}
 use Rattle.sre_model.specs.Folding.{of_item}
@@ -15,16 +14,12 @@ use Rattle.sre_model.specs.Grammar.{Opcode, Reads, WholeItems}
 use Rattle.sre_model.specs.Standing.{AreWords}
 use Rattle.sre_turns.specs.Board.{Choice, Else, Keep, Trying, from_region, BoardValue, bare}
 use Rattle.sre_turns.specs.Fruit.{SameFruit, is_inside}
-use Rattle.sre_turns.specs.declared.Point.TheVariants.{Instruction}
-use Rattle.sre_turns.specs.Limits.{Limit}
-use Rattle.sre_turns.specs.Moves.{spot_at}
 use Rattle.sre_turns.specs.MovesAtReferences.{MayAsk}
 use Rattle.sre_turns.specs.Prices.{price}
 use Rattle.sre_turns.specs.Settled.{Counted, SettledIn}
 use Rattle.sre_turns.proofs.FaringInRegions.{end_refused}
-use Rattle.sre_turns.specs.Machine.{Waits, outermost, otherwise, tried, Arrives, Ends, Stands, Later}
-use Rattle.sre_turns.specs.Machine.{SaysAccepted, outcomes}
-use Rattle.sre_model.specs.Runs.{Run}
+use Rattle.sre_turns.specs.Machine.{Instruction, spot_at, Limit, Run, StringCursor, Waits, outermost, otherwise, tried}
+use Rattle.sre_turns.specs.Machine.{Arrives, Ends, Stands, Later, SaysAccepted, outcomes}
 use Rattle.sre_turns.specs.declared.Next.{Next}
 use Rattle.sre_turns.specs.declared.Next.TheVariants as next
 use Rattle.sre_model.specs.Cost.{cost, ending}
@@ -91,8 +86,7 @@ pub started : (r : Run) (i : ℕ) (t : Tree) (c : StringCursor) (b : BoardValue)
     → ((pl : Counted r) → SettledIn r pl start (spot_at (Instruction i) [] c.position no_marks))
     → Arrives r (outcomes r t c.position) (first_limit r i t c start) (Instruction i) c b
 started r i t c b start v has reads ends stands inside fresh settled =
-    subst (λ x. Arrives r (outcomes r t c.position) (first_limit r i t c start) (Instruction i) c x)
-    (sym fresh)
+    rw fresh
     (record {
       now = ways r.subject t c.position no_marks;
       turns = cost r.subject t ending c.position no_marks;

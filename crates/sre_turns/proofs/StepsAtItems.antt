@@ -1,35 +1,26 @@
 -- Steps at tests, positions, MARKs, jumps, and at the ends of an atomic scope.
 use Rattle.std.proofs.Common.{◌≡◌, ◌≢◌, ℕ, ◌+◌, ◌<◌, ◌≤◌, Bool, true, false, nat_eq, nat_lt, ◌&&◌, List, length, refl}
-use Rattle.std.proofs.Common.{sym, ap, ◌∙◌, subst, arith}
+use Rattle.std.proofs.Common.{sym, ◌∙◌, arith}
 use Rattle.std.proofs.lemmas.Bool.Decides.{nat_tests}
 use Rattle.sre_chars.specs.Numbers.{at_number}
 use Rattle.sre_chars.specs.declared.constants.SreAtCode.{SreAtCode}
 use Rattle.sre_chars.specs.declared.constants.SreOpcode.{SreOpcode}
 use Rattle.sre_chars.specs.declared.constants.SreOpcode.TheVariants as opcode
-use Rattle.sre_chars.specs.declared.string.StringCursor.{StringCursor}
 use Rattle.sre_model.specs.Tree.{Test, Literal, Plain}
 use Rattle.sre_model.specs.Marks.{Marks, set_mark}
 use Rattle.sre_model.specs.Characters.{holds}
 use Rattle.sre_model.specs.Subject.{Subject, passes, char_at, holds_at}
-use Rattle.sre_model.specs.Ways.{Way}
-use Rattle.sre_model.specs.Grammar.{Word, Opcode}
-use Rattle.sre_turns.specs.Board.{BoardValue}
-use Rattle.sre_turns.specs.declared.Frame.{Frame}
-use Rattle.sre_turns.specs.declared.Point.TheVariants.{Instruction}
-use Rattle.sre_turns.specs.Moves.{spot_at, Go}
-use Rattle.sre_turns.specs.Limits.{Limit}
 use Rattle.sre_turns.specs.Lying.{repeats}
-use Rattle.sre_turns.specs.Machine.{Moves, Goes, Later, HasRun, Refuses, Demands, Continues}
-use Rattle.sre_model.specs.Runs.{Run}
+use Rattle.sre_turns.specs.Machine.{Frame, Instruction, spot_at, Go, BoardValue, Limit, Run, StringCursor, Way, Word}
+use Rattle.sre_turns.specs.Machine.{Opcode, Moves, Goes, Later, HasRun, Refuses, Demands, Continues}
 use Rattle.sre_model.specs.Standing.{TestStands, HasTest}
 use Rattle.sre_model.specs.Roles.{ToFail, ToEnd, ToCheckPosition, ToMark, ToJump, begins_test}
 use Rattle.sre_turns.specs.declared.Next.TheVariants as next
 use Rattle.sre_model.proofs.Words.{same_word, at_low, word_of, word_within}
 use Rattle.sre_turns.proofs.Faring.{next_less, test_pool}
 use Rattle.sre_turns.proofs.Moving.{in_role, in_test, at_instruction, at_test, run_nothing, run_goes, run_on}
-use Rattle.sre_turns.proofs.Moving.{nothing_after, has_run}
+use Rattle.sre_turns.proofs.Moving.{nothing_after, has_run, turn_stops, turn_ends, turn_goes}
 use Rattle.sre_turns.proofs.Confining.{turn_confines}
-use Rattle.sre_turns.proofs.Moving.{turn_stops, turn_ends, turn_goes}
 use Rattle.sre_model.proofs.Passing.{past_end, read_passes, stands_at_own}
 use Rattle.sre_turns.proofs.Placed.{set_placed}
 use Rattle.sre_model.proofs.Families.{is_literal}
@@ -133,10 +124,8 @@ pub mark_step : (r : Run) (i v p : ℕ) (c : StringCursor) (b b' : BoardValue) �
     → b' ≡ record b { marks = set_mark b.marks v p }
     → (all : List Way) (limit : Limit) → Goes r all limit (Instruction i) c b → Later r all limit (next.At (i + 2) c) b'
 mark_step r i v p c b b' w wv same_place inside eb all limit g =
-    let set : BoardValue = record b { marks = set_mark b.marks v c.position } in
-    subst (λ x. Later r all limit (next.At (i + 2) c) x)
-    (sym (eb ∙ ap (λ q. record b { marks = set_mark b.marks v q }) same_place))
-    (turn_goes r (Instruction i) c b (Instruction (i + 2)) c set
+    rw (eb, same_place)
+    (turn_goes r (Instruction i) c b (Instruction (i + 2)) c _
     (at_instruction opcode.MARK ToMark refl w (record { number = v; there = wv; is = refl }))
     g.stands (set_placed r.subject b.marks v c.position g.placed inside) refl all limit g)
 
@@ -158,17 +147,17 @@ pub jump_continues : (r : Run) (i v : ℕ) (c : StringCursor) → Opcode r.words
     → r.stands c c.position → Continues r (Instruction i) c (Instruction (i + 1 + v)) c
 jump_continues r i v c w wv stands = record {
   stands = stands;
-  runs = λ fs m os n d. run_on (spot_at (Instruction (i + 1 + v)) fs c.position m)
-      (at_instruction opcode.JUMP ToJump refl w
-      (record { there = word_within r.words (i + 1) v wv; is = rw (word_of r.words (i + 1) v wv) refl })) d;
+  runs = λ fs m os n d. run_on (spot_at (Instruction (i + 1 + v)) fs c.position m) (moves fs m) d;
   fares = λ pl start cs fs m h. next_less r pl start cs (spot_at (Instruction i) fs c.position m)
-      (spot_at (Instruction (i + 1 + v)) fs c.position m) opcode.JUMP w (omega arith)
-      (at_instruction opcode.JUMP ToJump refl w
-      (record { there = word_within r.words (i + 1) v wv; is = rw (word_of r.words (i + 1) v wv) refl })) h;
-  confines = turn_confines r.words r.subject (Instruction i) (Instruction (i + 1 + v)) c.position c.position
-      (λ fs m. at_instruction opcode.JUMP ToJump refl w
-      (record { there = word_within r.words (i + 1) v wv; is = rw (word_of r.words (i + 1) v wv) refl }));
+      (spot_at (Instruction (i + 1 + v)) fs c.position m) opcode.JUMP w (omega arith) (moves fs m) h;
+  confines = turn_confines r.words r.subject (Instruction i) (Instruction (i + 1 + v)) c.position c.position moves;
 }
+  where
+    moves : (fs : List Frame) (m : Marks) → Moves r.words r.subject (spot_at (Instruction i) fs c.position m)
+        (Go (spot_at (Instruction (i + 1 + v)) fs c.position m))
+    moves fs m =
+        at_instruction opcode.JUMP ToJump refl w
+        (record { there = word_within r.words (i + 1) v wv; is = rw (word_of r.words (i + 1) v wv) refl })
 
 -- a LITERAL that is not the character, or that stands at the range's end
 pub literal_there : (ws : List ℕ) (i v : ℕ) → Opcode ws i opcode.LITERAL → Word ws (i + 1) v
@@ -205,29 +194,20 @@ module _ (r : Run) (i ch : ℕ) (o : SreOpcode) (takes : Bool) (c : StringCursor
       → r.stands after after.position → Continues r (Instruction i) c (Instruction end) after
   test_continues end after y ends moved_on stands = record {
     stands = stands;
-    runs = λ fs m os n d. run_on (spot_at (Instruction end) fs after.position m)
-        (at_test o f w (record {
-          end = there.end;
-          test = there.test;
-          stands = there.stands;
-          is = rw (passes_as_read ∙ y, moved_on, ends there.end there.test there.stands) refl;
-        })) d;
+    runs = λ fs m os n d. run_on (spot_at (Instruction end) fs after.position m) (moves fs m) d;
     fares = λ pl start cs fs m h. next_less r pl start cs (spot_at (Instruction i) fs c.position m)
-        (spot_at (Instruction end) fs after.position m) o w (test_pool r i c.position o (repeats fs) f)
-        (at_test o f w (record {
-          end = there.end;
-          test = there.test;
-          stands = there.stands;
-          is = rw (passes_as_read ∙ y, moved_on, ends there.end there.test there.stands) refl;
-        })) h;
-    confines = turn_confines r.words r.subject (Instruction i) (Instruction end) c.position after.position
-        (λ fs m. at_test o f w (record {
-          end = there.end;
-          test = there.test;
-          stands = there.stands;
-          is = rw (passes_as_read ∙ y, moved_on, ends there.end there.test there.stands) refl;
-        }));
+        (spot_at (Instruction end) fs after.position m) o w (test_pool r i c.position o (repeats fs) f) (moves fs m) h;
+    confines = turn_confines r.words r.subject (Instruction i) (Instruction end) c.position after.position moves;
   }
+    where
+      moves : (fs : List Frame) (m : Marks) → Moves r.words r.subject (spot_at (Instruction i) fs c.position m)
+          (Go (spot_at (Instruction end) fs after.position m))
+      moves fs m = at_test o f w (record {
+        end = there.end;
+        test = there.test;
+        stands = there.stands;
+        is = rw (passes_as_read ∙ y, moved_on, ends there.end there.test there.stands) refl;
+      })
 
 -- a literal demands its character, and nothing comes of a mark behind which nothing comes
 pub literal_demands : (r : Run) (i v : ℕ) → Opcode r.words i opcode.LITERAL → Word r.words (i + 1) v → Demands r i v

@@ -1,22 +1,16 @@
 -- Steps at a back-reference to a group, and at a conditional on one.
-use Rattle.std.proofs.Common.{◌≡◌, ℕ, ◌+◌, ◌-◌, ◌<◌, true, false, nat_le, List, length, Some}
-use Rattle.std.proofs.Common.{None, refl, sym, ◌∙◌, subst}
+use Rattle.std.proofs.Common.{◌≡◌, ℕ, ◌+◌, ◌-◌, ◌<◌, true, false, nat_le, List, length, Some, None, refl, sym, ◌∙◌}
+use Rattle.std.proofs.Common.{subst}
 use Rattle.sre_chars.specs.declared.constants.SreOpcode.{SreOpcode}
 use Rattle.sre_chars.specs.declared.constants.SreOpcode.TheVariants as opcode
-use Rattle.sre_chars.specs.declared.string.StringCursor.{StringCursor}
 use Rattle.sre_model.specs.Tree.{Fold}
 use Rattle.sre_model.specs.Marks.{group}
 use Rattle.sre_model.specs.Subject.{same_folded}
-use Rattle.sre_model.specs.Ways.{Way}
 use Rattle.sre_model.specs.Grammar.{Word, Opcode, reference_opcode}
-use Rattle.sre_turns.specs.Board.{BoardValue}
-use Rattle.sre_turns.specs.declared.Point.TheVariants.{Instruction}
-use Rattle.sre_turns.specs.Moves.{Move, Stop, Go}
 use Rattle.sre_turns.specs.MovesAtReferences.{Asks, reference_turn, condition_place}
 use Rattle.sre_model.specs.Roles.{ToRefer, role, ToCheckGroup}
-use Rattle.sre_turns.specs.Limits.{Limit}
-use Rattle.sre_turns.specs.Machine.{Moves, Goes, Later, spot, HasRun}
-use Rattle.sre_model.specs.Runs.{Run}
+use Rattle.sre_turns.specs.Machine.{Instruction, Move, Stop, Go, BoardValue, Limit, Run, StringCursor, Way, Moves, Goes}
+use Rattle.sre_turns.specs.Machine.{Later, spot, HasRun}
 use Rattle.sre_model.proofs.Families.{reference_role}
 use Rattle.sre_turns.specs.declared.Next.TheVariants as next
 use Rattle.sre_model.proofs.Words.{same_opcode, word_of, word_within}

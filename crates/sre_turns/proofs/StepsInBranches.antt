@@ -2,25 +2,19 @@
 use Rattle.std.proofs.Common.{◌≡◌, ℕ, zero, suc, ◌+◌, ◌<◌, ◌≤◌, false, nat_eq, List, length, refl, arith}
 use Rattle.std.proofs.lemmas.Bool.Decides.{nat_tests}
 use Rattle.sre_chars.specs.declared.constants.SreOpcode.TheVariants as opcode
-use Rattle.sre_chars.specs.declared.string.StringCursor.{StringCursor}
-use Rattle.sre_model.specs.Ways.{Way}
-use Rattle.sre_model.specs.Grammar.{Word, Opcode}
-use Rattle.sre_model.specs.Subject.{Subject}
-use Rattle.sre_turns.specs.Board.{BoardValue}
-use Rattle.sre_turns.specs.declared.Point.TheVariants.{Instruction, Alternatives}
 use Rattle.sre_turns.specs.Moves.{Spot, spot_at, Stop, Go, Split, to_point}
-use Rattle.sre_turns.specs.Limits.{Limit, earlier}
-use Rattle.sre_turns.specs.Machine.{Moves, Runs, turns, Goes, GoesBoth, Later, spot, HasRun, Refuses, Exhausted}
-use Rattle.sre_model.specs.Runs.{Run}
-use Rattle.sre_turns.specs.Machine.{Continues}
+use Rattle.sre_turns.specs.Machine.{Instruction, Alternatives, BoardValue, Limit, earlier, Run, StringCursor, Subject}
+use Rattle.sre_turns.specs.Machine.{Way, Word, Opcode, Moves, Runs, turns, Goes, GoesBoth, Later, spot, HasRun, Refuses}
+use Rattle.sre_turns.specs.Machine.{Exhausted, Continues}
 use Rattle.sre_model.specs.Roles.{ToBranch}
 use Rattle.sre_turns.specs.declared.Next.TheVariants as next
 use Rattle.sre_model.proofs.Words.{word_within}
 use Rattle.sre_turns.proofs.Faring.{second_less, alternatives_free}
 use Rattle.sre_model.specs.Marks.{no_marks}
+use Rattle.sre_turns.proofs.AfterTurns.{both_run}
 use Rattle.sre_turns.proofs.Confining.{confined_leads}
-use Rattle.sre_turns.proofs.Moving.{at_instruction, has_run, run_goes, run_splits, turn_stops, turn_goes, turn_splits}
-use Rattle.sre_turns.proofs.Moving.{run_nothing, run_second, arrived}
+use Rattle.sre_turns.proofs.Moving.{at_instruction, has_run, run_goes, turn_stops, turn_goes, turn_splits, run_nothing}
+use Rattle.sre_turns.proofs.Moving.{run_second, arrived}
 
 pub positive : (n : ℕ) → (n ≡ 0 → ⊥) → 0 < n
 positive zero no_ = absurd (no_ refl)
@@ -78,10 +72,8 @@ alternatives_both r q v c b w l all limit g =
 pub alternatives_run : (r : Run) (q v : ℕ) (c : StringCursor) → Word r.words q v → 0 < v → HasRun r (Alternatives q) c
     → HasRun r (Instruction (q + 1)) c × HasRun r (Alternatives (q + v)) c
 alternatives_run r q v c w l x =
-    let t = run_splits _ _ (alternatives_move r.words r.subject q v _ refl w l) x.runs in (
-      has_run r (Instruction (q + 1)) x.frames x.marks c x.stands t.0,
-      has_run r (Alternatives (q + v)) x.frames x.marks c x.stands t.1,
-    )
+    both_run r (Alternatives q) (Instruction (q + 1)) (Alternatives (q + v)) c c
+    (λ fs m. alternatives_move r.words r.subject q v _ refl w l) x.stands x
 
 pub alternatives_exhausted : (r : Run) (q v p : ℕ) → Word r.words q v → v ≡ 0 → Exhausted r (Alternatives q) p
 alternatives_exhausted r q v p w e fs m os n d =

@@ -1,20 +1,15 @@
 -- Steps at a loop: its REPEAT, and the MAX_UNTIL or MIN_UNTIL that ends a body.
-use Rattle.std.proofs.Common.{◌≡◌, ℕ, ◌+◌, ◌<◌, ◌≤◌, true, false, nat_lt, List, ◌∷◌, length, drop, Some, refl}
-use Rattle.std.proofs.Common.{sym, ap, ◌∙◌, subst, arith}
+use Rattle.std.proofs.Common.{◌≡◌, ℕ, ◌+◌, ◌<◌, ◌≤◌, true, false, nat_lt, List, ◌∷◌, length, drop, Some, refl, sym, ap}
+use Rattle.std.proofs.Common.{◌∙◌, subst, arith}
 use Rattle.std.proofs.lemmas.Bool.Decides.{nat_tests}
 use Rattle.sre_chars.specs.declared.constants.SreOpcode.TheVariants as opcode
-use Rattle.sre_chars.specs.declared.string.StringCursor.{StringCursor}
 use Rattle.sre_model.specs.Tree.{Order, Greedy, Lazy}
 use Rattle.sre_model.specs.Ways.{Way, may_repeat}
 use Rattle.sre_model.specs.Grammar.{Word, Opcode, until_opcode, skip}
-use Rattle.sre_turns.specs.Board.{Else, BoardValue}
-use Rattle.sre_turns.specs.declared.Frame.{Frame}
-use Rattle.sre_turns.specs.declared.Point.TheVariants.{Instruction}
-use Rattle.sre_turns.specs.Moves.{Spot, Move, Go}
 use Rattle.sre_turns.specs.MovesInLoops.{first_frame, next_frame, at_body, behind, in_order, until_move}
 use Rattle.sre_turns.specs.Limits.{Limit, earlier, share, Going}
-use Rattle.sre_turns.specs.Machine.{Moves, Goes, Later, spot, HasRun, IsAt, Refuses, with_loop}
-use Rattle.sre_model.specs.Runs.{Run}
+use Rattle.sre_turns.specs.Machine.{Frame, Instruction, Spot, Move, Else, BoardValue, Run, StringCursor, Moves, Goes}
+use Rattle.sre_turns.specs.Machine.{Later, spot, HasRun, IsAt, Refuses, with_loop}
 use Rattle.sre_turns.specs.declared.Next.{Next}
 use Rattle.sre_model.specs.Roles.{ToRepeat, ToLoop, role}
 use Rattle.sre_turns.specs.Prices.{steps, toll, toll_by, loop_toll}
@@ -31,9 +26,8 @@ pub repeat_step : (r : Run) (i v : ℕ) (c : StringCursor) (b b' : BoardValue) �
     → Word r.words (i + 1) v → b' ≡ record b { frames = first_frame i ∷ b.frames } → (all : List Way) (limit : Limit)
     → Goes r all limit (Instruction i) c b → Later r all limit (next.At (i + 1 + v) c) b'
 repeat_step r i v c b b' w wv eb all limit g =
-    let entered : BoardValue = record b { frames = first_frame i ∷ b.frames } in
-    subst (λ x. Later r all limit (next.At (i + 1 + v) c) x) (sym eb)
-    (turn_goes r (Instruction i) c b (Instruction (i + 1 + v)) c entered (at_instruction opcode.REPEAT ToRepeat refl w
+    rw eb
+    (turn_goes r (Instruction i) c b (Instruction (i + 1 + v)) c _ (at_instruction opcode.REPEAT ToRepeat refl w
     (record { there = word_within r.words (i + 1) v wv; is = rw (word_of r.words (i + 1) v wv) refl }))
     g.stands g.placed refl all limit g)
 
@@ -150,12 +144,10 @@ pub until_below : (r : Run) (o : Order) (u low high : ℕ) (c : StringCursor) (b
     → (all : List Way) (limit : Limit) → Goes r all limit (Instruction u) c b
     → Later r all limit (next.At (f.repeat + 4) c) b'
 until_below r o u low high c b b' f h l eb all limit g =
-    let entered : BoardValue = record b { frames = next_frame f f.last ∷ drop 1 b.frames } in
     let below : nat_lt f.count low ≡ true = grind (arith, nat_tests) in
-    subst (λ x. Later r all limit (next.At (f.repeat + 4) c) x) (sym eb)
-    (turn_goes r (Instruction u) c b (Instruction (f.repeat + 4)) c entered
-    (until_at r o u low high c b f (Go (spot (Instruction (f.repeat + 4)) c entered)) h (rw below refl))
-    g.stands g.placed refl all limit g)
+    rw eb
+    (turn_goes r (Instruction u) c b (Instruction (f.repeat + 4)) c _
+    (until_at r o u low high c b f _ h (rw below refl)) g.stands g.placed refl all limit g)
 
 -- the loop ends where no further one may be tried
 pub until_done : (r : Run) (o : Order) (u low high : ℕ) (c : StringCursor) (b b' : BoardValue) (f : Frame)
@@ -164,12 +156,10 @@ pub until_done : (r : Run) (o : Order) (u low high : ℕ) (c : StringCursor) (b 
     → Goes r all limit (Instruction u) c b
     → Later r all limit (next.At (u + 1) c) b'
 until_done r o u low high c b b' f h l no_ eb all limit g =
-    let left : BoardValue = record b { frames = drop 1 b.frames } in
     let beyond : nat_lt f.count low ≡ false = grind (arith, nat_tests) in
-    subst (λ x. Later r all limit (next.At (u + 1) c) x) (sym eb)
-    (turn_goes r (Instruction u) c b (Instruction (u + 1)) c left
-    (until_at r o u low high c b f (Go (spot (Instruction (u + 1)) c left)) h (rw (beyond, no_) refl))
-    g.stands g.placed refl all limit g)
+    rw eb
+    (turn_goes r (Instruction u) c b (Instruction (u + 1)) c _
+    (until_at r o u low high c b f _ h (rw (beyond, no_) refl)) g.stands g.placed refl all limit g)
 
 -- else there are two configurations, in order
 abbrev pub body_spot : ℕ → StringCursor → BoardValue → Frame → Spot
@@ -203,17 +193,15 @@ pub until_refused : (r : Run) (o : Order) (u low high : ℕ) (c : StringCursor) 
     → (all : List Way) (limit : Limit)
     → Goes r all limit (Instruction u) c b → Later r all limit (next.At (u + 1) c) b'
 until_refused r Greedy u low high c b b' f h l y no_ eb all limit g =
-    subst (λ x. Later r all limit (next.At (u + 1) c) x) (sym eb)
-    (both_second r (body_spot u c b f) (u + 1) c
-    (record b { frames = drop 1 b.frames }) b.choices (λ os n x. no_ _ _ os n x) refl all limit
-    (turn_splits r (Instruction u) c b _ _ c (until_splits r Greedy u low high c b f h l y) g.stands refl refl all
-    limit g))
+    rw eb
+    (both_second r (body_spot u c b f) (u + 1) c _ b.choices (λ os n x. no_ _ _ os n x) refl all limit
+    (turn_splits r (Instruction u) c b _ _ c (until_splits r Greedy u low high c b f h l y) g.stands refl refl all limit
+    g))
 until_refused r Lazy u low high c b b' f h l y no_ eb all limit g =
-    subst (λ x. Later r all limit (next.At (u + 1) c) x) (sym eb)
-    (both_first r (body_spot u c b f) (u + 1) c
-    (record b { frames = drop 1 b.frames }) b.choices (λ os n x. no_ _ _ os n x) refl all limit
-    (turn_splits r (Instruction u) c b _ _ c (until_splits r Lazy u low high c b f h l y) g.stands refl refl all
-    limit g))
+    rw eb
+    (both_first r (body_spot u c b f) (u + 1) c _ b.choices (λ os n x. no_ _ _ os n x) refl all limit
+    (turn_splits r (Instruction u) c b _ _ c (until_splits r Lazy u low high c b f h l y) g.stands refl refl all limit
+    g))
 
 -- nothing comes of the loop's end
 pub until_alone : (r : Run) (o : Order) (u low high : ℕ) (c : StringCursor) (b b' : BoardValue) (f : Frame)
@@ -222,19 +210,15 @@ pub until_alone : (r : Run) (o : Order) (u low high : ℕ) (c : StringCursor) (b
     → (all : List Way) (limit : Limit) → Goes r all limit (Instruction u) c b
     → Later r all limit (next.At (f.repeat + 4) c) b'
 until_alone r Greedy u low high c b b' f h l y no_ eb all limit g =
-    subst (λ x. Later r all limit (next.At (f.repeat + 4) c) x) (sym eb)
-    (both_first r (end_spot u c b) (f.repeat + 4) c
-    (record b { frames = next_frame f (Some c.position) ∷ drop 1 b.frames })
-    b.choices (λ os n x. no_ _ _ os n x) refl all limit
-    (turn_splits r (Instruction u) c b _ _ c (until_splits r Greedy u low high c b f h l y) g.stands refl refl all
-    limit g))
+    rw eb
+    (both_first r (end_spot u c b) (f.repeat + 4) c _ b.choices (λ os n x. no_ _ _ os n x) refl all limit
+    (turn_splits r (Instruction u) c b _ _ c (until_splits r Greedy u low high c b f h l y) g.stands refl refl all limit
+    g))
 until_alone r Lazy u low high c b b' f h l y no_ eb all limit g =
-    subst (λ x. Later r all limit (next.At (f.repeat + 4) c) x) (sym eb)
-    (both_second r (end_spot u c b) (f.repeat + 4) c
-    (record b { frames = next_frame f (Some c.position) ∷ drop 1 b.frames })
-    b.choices (λ os n x. no_ _ _ os n x) refl all limit
-    (turn_splits r (Instruction u) c b _ _ c (until_splits r Lazy u low high c b f h l y) g.stands refl refl all
-    limit g))
+    rw eb
+    (both_second r (end_spot u c b) (f.repeat + 4) c _ b.choices (λ os n x. no_ _ _ os n x) refl all limit
+    (turn_splits r (Instruction u) c b _ _ c (until_splits r Lazy u low high c b f h l y) g.stands refl refl all limit
+    g))
 
 -- the other waits on the backtrack stack
 pub until_greedy : (r : Run) (u low high : ℕ) (c : StringCursor) (b b' : BoardValue) (f : Frame)
@@ -245,13 +229,10 @@ pub until_greedy : (r : Run) (u low high : ℕ) (c : StringCursor) (b b' : Board
     } → (all : List Way) (limit : Limit) → Goes r all limit (Instruction u) c b
     → Later r all limit (next.At (f.repeat + 4) c) b'
 until_greedy r u low high c b b' f h l y eb all limit g =
-    subst (λ x. Later r all limit (next.At (f.repeat + 4) c) x) (sym eb)
-    (both_wait r (f.repeat + 4) (end_spot u c b) c b (record b {
-      frames = next_frame f (Some c.position) ∷ drop 1 b.frames;
-      choices = Else (Instruction (u + 1)) (drop 1 b.frames) c b.marks ∷ b.choices;
-    }) b.choices refl refl all limit
-    (turn_splits r (Instruction u) c b _ _ c (until_splits r Greedy u low high c b f h l y) g.stands refl refl all
-    limit g))
+    rw eb
+    (both_wait r (f.repeat + 4) (end_spot u c b) c b _ b.choices refl refl all limit
+    (turn_splits r (Instruction u) c b _ _ c (until_splits r Greedy u low high c b f h l y) g.stands refl refl all limit
+    g))
 
 pub until_lazy : (r : Run) (u low high : ℕ) (c : StringCursor) (b b' : BoardValue) (f : Frame)
     → InLoop r Lazy u low high b f → low ≤ f.count → may_repeat high f.count f.last c.position ≡ true → b' ≡ record b {
@@ -261,14 +242,10 @@ pub until_lazy : (r : Run) (u low high : ℕ) (c : StringCursor) (b b' : BoardVa
     } → (all : List Way) (limit : Limit) → Goes r all limit (Instruction u) c b
     → Later r all limit (next.At (u + 1) c) b'
 until_lazy r u low high c b b' f h l y eb all limit g =
-    subst (λ x. Later r all limit (next.At (u + 1) c) x) (sym eb)
-    (both_wait r (u + 1) (body_spot u c b f) c b (record b {
-      frames = drop 1 b.frames;
-      choices =
-          Else (Instruction (f.repeat + 4)) (next_frame f (Some c.position) ∷ drop 1 b.frames) c b.marks ∷ b.choices;
-    }) b.choices refl refl all limit
-    (turn_splits r (Instruction u) c b _ _ c (until_splits r Lazy u low high c b f h l y) g.stands refl refl all
-    limit g))
+    rw eb
+    (both_wait r (u + 1) (body_spot u c b f) c b _ b.choices refl refl all limit
+    (turn_splits r (Instruction u) c b _ _ c (until_splits r Lazy u low high c b f h l y) g.stands refl refl all limit
+    g))
 
 -- boards, as they are changed
 pub entered_board : (b left entered : BoardValue) (f g : Frame) → left ≡ record b { frames = drop 1 b.frames }

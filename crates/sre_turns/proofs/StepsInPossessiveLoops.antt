@@ -3,20 +3,11 @@ use Rattle.std.proofs.Common.{◌≡◌, ℕ, ◌+◌, ◌<◌, ◌≤◌, true,
 use Rattle.std.proofs.Common.{refl, sym, ap, ◌∙◌, subst, arith}
 use Rattle.std.proofs.lemmas.Bool.Decides.{nat_tests}
 use Rattle.sre_chars.specs.declared.constants.SreOpcode.TheVariants as opcode
-use Rattle.sre_chars.specs.declared.string.StringCursor.{StringCursor}
 use Rattle.sre_model.specs.Ways.{Way, may_repeat}
-use Rattle.sre_model.specs.Grammar.{Word, Opcode}
-use Rattle.sre_turns.specs.Board.{Keep, BoardValue}
-use Rattle.sre_turns.specs.declared.Frame.{Frame}
-use Rattle.sre_turns.specs.declared.Region.{Region}
-use Rattle.sre_turns.specs.declared.Region.TheVariants.{Owed, Further}
-use Rattle.sre_turns.specs.declared.Point.TheVariants.{Instruction, Again}
-use Rattle.sre_turns.specs.Moves.{Move, Go}
 use Rattle.sre_turns.specs.Nested.{repeats, place_under, place_of}
 use Rattle.sre_turns.specs.MovesInLoops.{first_frame, next_frame, enter_body, again_move}
-use Rattle.sre_turns.specs.Limits.{Limit}
-use Rattle.sre_turns.specs.Machine.{Moves, Runs, turns, Goes, Later, spot, IsAt}
-use Rattle.sre_model.specs.Runs.{Run}
+use Rattle.sre_turns.specs.Machine.{Frame, Instruction, Again, Region, Owed, Further, Move, Keep, BoardValue, Limit}
+use Rattle.sre_turns.specs.Machine.{Run, StringCursor, Word, Opcode, Moves, Runs, turns, Goes, Later, spot, IsAt}
 use Rattle.sre_model.specs.Roles.{ToRepeatPossessively}
 use Rattle.sre_turns.specs.declared.Next.TheVariants as next
 use Rattle.sre_model.proofs.Words.{word_of, word_within}
@@ -27,9 +18,8 @@ pub possessive_step : (r : Run) (i : ℕ) (c : StringCursor) (b b' : BoardValue)
     → Opcode r.words i opcode.POSSESSIVE_REPEAT → b' ≡ record b { frames = first_frame i ∷ b.frames }
     → (all : List Way) (limit : Limit) → Goes r all limit (Instruction i) c b → Later r all limit (next.Again c) b'
 possessive_step r i c b b' w eb all limit g =
-    let begun : BoardValue = record b { frames = first_frame i ∷ b.frames } in
-    subst (λ x. Later r all limit (next.Again c) x) (sym eb)
-    (turn_goes r (Instruction i) c b Again c begun
+    rw eb
+    (turn_goes r (Instruction i) c b Again c _
     (at_instruction opcode.POSSESSIVE_REPEAT ToRepeatPossessively refl w refl) g.stands g.placed refl all limit g)
 
 -- the innermost loop, and its counts
@@ -83,12 +73,10 @@ pub again_done : (r : Run) (v low high : ℕ) (c : StringCursor) (b b' : BoardVa
     → b' ≡ record b { frames = drop 1 b.frames } → (all : List Way) (limit : Limit) → Goes r all limit Again c b
     → Later r all limit (next.At (f.repeat + 1 + v + 1) c) b'
 again_done r v low high c b b' f h l no_ eb all limit g =
-    let left : BoardValue = record b { frames = drop 1 b.frames } in
     let beyond : nat_lt f.count low ≡ false = grind (arith, nat_tests) in
-    let end : Move = Go (spot (Instruction (f.repeat + 1 + v + 1)) c left) in
-    subst (λ x. Later r all limit (next.At (f.repeat + 1 + v + 1) c) x) (sym eb)
-    (turn_goes r Again c b (Instruction (f.repeat + 1 + v + 1)) c left
-    (again_at r v low high c b f end h (rw (beyond, no_) refl)) g.stands g.placed refl all limit g)
+    rw eb
+    (turn_goes r Again c b (Instruction (f.repeat + 1 + v + 1)) c _
+    (again_at r v low high c b f _ h (rw (beyond, no_) refl)) g.stands g.placed refl all limit g)
 
 -- a body is entered, counted on the board, and the loops are put aside
 abbrev begun : Region → Frame → Option ℕ → StringCursor → BoardValue → BoardValue
@@ -102,10 +90,9 @@ again_enters : (r : Run) (k : Region) (last : Option ℕ) (c : StringCursor) (b 
     → b' ≡ begun k f last c b
     → (all : List Way) (limit : Limit) → Goes r all limit Again c b → Later r all limit (next.At (f.repeat + 4) c) b'
 again_enters r k last c b b' f h eb all limit g =
-    subst (λ x. Later r all limit (next.At (f.repeat + 4) c) x) (sym eb)
-    (turn_enters r Again
-    (next_frame f last ∷ drop 1 b.frames) (f.repeat + 4) k c c b (begun k f last c b) h g.stands refl refl all
-    limit g)
+    rw eb
+    (turn_enters r Again (next_frame f last ∷ drop 1 b.frames) (f.repeat + 4) k c c b _ h g.stands refl refl all limit
+    g)
 
 -- below the least count one is owed
 pub again_owed : (r : Run) (v low high : ℕ) (c : StringCursor) (b b' : BoardValue) (f : Frame)

@@ -1,57 +1,34 @@
 -- Steps at a possessive repeat of one test. One without a greatest count goes on step by step; the machine may go over
 -- all these steps at once.
-use Rattle.std.proofs.Common.{◌≡◌, ℕ, ◌+◌, ◌-◌, ◌<◌, ◌≤◌, Bool, true, false, nat_eq, nat_lt, List}
-use Rattle.std.proofs.Common.{refl, sym, subst, arith}
+use Rattle.std.proofs.Common.{◌≡◌, ℕ, ◌+◌, ◌-◌, ◌<◌, ◌≤◌, Bool, true, false, nat_eq, List, refl, sym, subst, arith}
 use Rattle.std.proofs.lemmas.Bool.Decides.{nat_tests}
 use Rattle.sre_chars.specs.declared.constants.SreOpcode.{SreOpcode}
 use Rattle.sre_chars.specs.declared.constants.SreOpcode.TheVariants as opcode
-use Rattle.sre_chars.specs.declared.string.StringCursor.{StringCursor}
-use Rattle.sre_model.specs.Tree.{Test, PossessiveRun}
-use Rattle.sre_model.specs.Subject.{passes}
+use Rattle.sre_model.specs.Tree.{Test}
 use Rattle.sre_model.specs.Ways.{Way, unlimited, longest_run}
-use Rattle.sre_model.specs.Grammar.{Opcode, skip}
-use Rattle.sre_model.specs.Roles.{ToRun}
-use Rattle.sre_model.specs.Runs.{Run}
-use Rattle.sre_turns.specs.Board.{BoardValue}
 use Rattle.sre_turns.specs.Confining.{StandsConfined}
 use Rattle.sre_turns.specs.Limits.{Limit, Stage, share, Going, spare, HereIn}
 use Rattle.sre_turns.specs.Prices.{steps}
 use Rattle.sre_turns.proofs.Steps.{some_steps}
-use Rattle.sre_turns.specs.Machine.{Moves, Runs, Comes, goes, Goes, GoesWith, Later, spot}
-use Rattle.sre_turns.specs.Moves.{Spot, spot_at, Stop, Go}
+use Rattle.sre_turns.specs.Machine.{Instruction, spot_at, Stop, Go, BoardValue, Run, StringCursor, passes, Opcode}
+use Rattle.sre_turns.specs.Machine.{skip, Moves, Goes, GoesWith, Later, spot}
 use Rattle.sre_turns.specs.MovesInRuns.{RunOperands}
 use Rattle.sre_turns.specs.OperandsOfRuns.{OperandsOfRun}
 use Rattle.sre_turns.specs.RunEnds.{AllPass}
 use Rattle.sre_turns.specs.declared.Next.TheVariants as next
-use Rattle.sre_turns.specs.declared.Point.TheVariants.{Instruction}
 use Rattle.sre_turns.proofs.Confining.{goes_confined}
 use Rattle.sre_turns.proofs.Faring.{fares_earlier}
 use Rattle.sre_turns.proofs.HereMoves.{here_moves}
-use Rattle.sre_turns.proofs.Moving.{at_instruction, sooner, turn_goes, turn_stops}
-use Rattle.sre_turns.proofs.OneTurn.{comes}
+use Rattle.sre_turns.proofs.Moving.{sooner, turn_goes, turn_stops}
 use Rattle.sre_turns.proofs.PossessiveRunEnds.{longest_lacks, longest_stretch, onward_stops, onward_goes}
-use Rattle.sre_turns.proofs.PossessiveRunEnds.{stretch_keeps, stretch_over}
+use Rattle.sre_turns.proofs.PossessiveRunEnds.{ComesTo, one_turn, stretch_comes}
+use Rattle.sre_turns.proofs.AtRuns.{bounded_stops, bounded_goes}
 use Rattle.sre_turns.proofs.StepsInRuns.{CountsRun, stands_of}
 
--- what each step that goes to another configuration keeps is so of y where it is so of x, and what comes of x comes of
--- y, in fewer steps
-pub record ComesTo (r : Run) (x y : Spot) : Type 1 where
-  pub keeps : (P : Spot → Type 0) → ((x y : Spot) → Moves r.words r.subject x (Go y) → P x → P y) → P x → P y
-  pub runs : (os : List Way) (n : ℕ) → Runs r.words r.subject x os n
-      → (k : ℕ) × (k + 1 ≤ n) × Runs r.words r.subject y os k
-
--- so it is behind one such step
-one_turn : (r : Run) (x y : Spot) → Moves r.words r.subject x (Go y) → ComesTo r x y
-one_turn r x y mv = record { keeps = λ P keeps. keeps x y mv; runs = λ os n d. go (comes (Go y) mv d) }
-  where
-    go : {os : List Way} {n : ℕ} → Comes r.words r.subject x (Go y) os n
-        → (k : ℕ) × (k + 1 ≤ n) × Runs r.words r.subject y os k
-    go (goes {n = k} e) = (k, omega arith, e)
-
--- and the machine may go there at once, if it has enough for an instruction there
+-- where all steps go on, the machine may go there at once, if it has enough for an instruction there
 pub comes_at_once : (stage : Stage) (r : Run) (i j : ℕ) (c d : StringCursor) (b : BoardValue) (o : SreOpcode)
     → Opcode r.words i o → steps r.words j + 1 ≤ share stage r.words r.subject.end o (spot (Instruction i) c b)
-    → ComesTo r (spot (Instruction i) c b) (spot (Instruction j) d b) → r.stands d d.position
+    → ComesTo r.words r.subject (spot (Instruction i) c b) (spot (Instruction j) d b) → r.stands d d.position
     → (all : List Way) (limit : Limit) → GoesWith stage r all limit (Instruction i) c b
     → Later r all limit (next.At j d) b
 comes_at_once stage r i j c d b o w enough on stands all limit g =
@@ -98,14 +75,9 @@ module _ (r : Run) (i low end : ℕ) (t : Test) (w : Opcode r.words i opcode.POS
   over_stretch stage enough more all_pass stopped there =
       let tail : ℕ = skip r.words (i + 1) in
       comes_at_once stage r i tail c d b opcode.POSSESSIVE_REPEAT_ONE w enough.1
-      (subst (λ q. ComesTo r (spot (Instruction i) c b) (spot_at (Instruction tail) b.frames q b.marks)) (sym there)
-      (record {
-        keeps = λ P keeps x.
-            stretch_keeps r.words r.subject i low end t b.frames b.marks w o P keeps more c.position (all_pass, stopped)
-            x;
-        runs = λ os n x.
-            stretch_over r.words r.subject i low end t b.frames b.marks w o more c.position os n (all_pass, stopped) x;
-      })) stands
+      (subst (λ q. ComesTo r.words r.subject (spot (Instruction i) c b)
+      (spot_at (Instruction tail) b.frames q b.marks)) (sym there)
+      (stretch_comes r.words r.subject i low end t b.frames b.marks w o more c.position (all_pass, stopped))) stands
 
   -- where more than its least count passes, it goes on to the run from the next character on
   pub goes_onward : (stage : Stage) → pays stage → AllPass r.subject t c.position (c.position + low + 1)
@@ -113,11 +85,8 @@ module _ (r : Run) (i low end : ℕ) (t : Test) (w : Opcode r.words i opcode.POS
       → GoesWith stage r all limit (Instruction i) c b → Later r all limit (next.At i d) b
   goes_onward stage enough all_pass there =
       let mv : Moves r.words r.subject (spot (Instruction i) c b) (Go (spot (Instruction i) d b)) =
-      subst (λ q. Moves r.words r.subject (spot (Instruction i) c b)
-      (Go (spot_at (Instruction i) b.frames q b.marks))) (sym there)
-      (onward_goes r.words r.subject i low end t b.frames b.marks w o c.position all_pass) in
-      comes_at_once stage r i i c d b opcode.POSSESSIVE_REPEAT_ONE w enough.0
-      (one_turn r (spot (Instruction i) c b) (spot (Instruction i) d b) mv) stands
+      rw there (onward_goes r.words r.subject i low end t b.frames b.marks w o c.position all_pass) in
+      comes_at_once stage r i i c d b opcode.POSSESSIVE_REPEAT_ONE w enough.0 (one_turn mv) stands
 
 -- POSSESSIVE_REPEAT_ONE, gone over at once
 module _ (r : Run) (i tail low high count : ℕ) (c : StringCursor) (b : BoardValue)
@@ -149,15 +118,7 @@ module _ (r : Run) (i tail low high count : ℕ) (c : StringCursor) (b : BoardVa
           onward_stops r.words r.subject i low o.test.end o.test.test b.frames b.marks w x.0 c.position
           (longest_lacks r.subject o.test.test low c.position (omega (arith, x.1, l)))
       go false y =
-          let short : nat_lt count low ≡ true = grind (arith, nat_tests) in
-          at_instruction opcode.POSSESSIVE_REPEAT_ONE (ToRun PossessiveRun) refl w (record {
-            low = low;
-            high = high;
-            end = o.test.end;
-            test = o.test.test;
-            operands = stands_of r.words i tail low high o;
-            is = rw (longest_is, y, short) refl;
-          })
+          bounded_stops (stands_of r.words i tail low high o) w y longest_is l
 
   pub longest_step : (after : StringCursor) → low ≤ count → after.position ≡ c.position + count
       → r.stands after after.position → (all : List Way) (limit : Limit) → Goes r all limit (Instruction i) c b
@@ -170,20 +131,12 @@ module _ (r : Run) (i tail low high count : ℕ) (c : StringCursor) (b : BoardVa
           let t : Test = o.test.test in
           let more : ℕ = longest_run r.subject t unlimited c.position - low in
           let all_of_it = longest_stretch r.subject t low c.position (omega (arith, x.1, l)) in
-          subst (λ j. Later r all limit (next.At j after) b) (sym o.leads)
+          rw o.leads
           (over_stretch r i low o.test.end t w x.0 c after b there Going
           (omega (arith, some_steps r.words (skip r.words (i + 1))), omega (arith, some_steps r.words i)) more
           all_of_it.0 all_of_it.1
           (omega (arith, moved_on, x.1, l)) all limit g)
       go false y =
-          let enough : nat_lt count low ≡ false = grind (arith, nat_tests) in
-          let move : Moves r.words r.subject (spot (Instruction i) c b) (Go (spot (Instruction tail) after b)) =
-          at_instruction opcode.POSSESSIVE_REPEAT_ONE (ToRun PossessiveRun) refl w (record {
-            low = low;
-            high = high;
-            end = o.test.end;
-            test = o.test.test;
-            operands = stands_of r.words i tail low high o;
-            is = rw (longest_is, y, enough, moved_on, o.leads) refl;
-          }) in
-          turn_goes r (Instruction i) c b (Instruction tail) after b move there g.placed refl all limit g
+          turn_goes r (Instruction i) c b (Instruction tail) after b
+          (bounded_goes (stands_of r.words i tail low high o) w o.leads y longest_is l moved_on) there g.placed refl all
+          limit g

@@ -3,32 +3,23 @@ use Rattle.std.proofs.Common.{◌≡◌, ℕ, ◌+◌, ◌-◌, ◌<◌, ◌≤�
 use Rattle.std.proofs.Common.{suc, subst, arith}
 use Rattle.std.proofs.lemmas.Bool.Decides.{nat_tests}
 use Rattle.sre_chars.specs.declared.constants.SreOpcode.TheVariants as opcode
-use Rattle.sre_chars.specs.declared.string.StringCursor.{StringCursor}
 use Rattle.sre_model.specs.Tree.{Sign, Positive, Negative}
-use Rattle.sre_model.specs.Marks.{Marks}
-use Rattle.sre_model.specs.Ways.{Way}
 use Rattle.sre_model.specs.Grammar.{Word, Opcode, look_opcode}
 use Rattle.sre_turns.specs.Board.{Keep, Cuts, BoardValue}
-use Rattle.sre_turns.specs.declared.Region.TheVariants.{AtomicGroup, Ahead, NotAhead, Owed, Further}
-use Rattle.sre_turns.specs.declared.Region.{Region}
-use Rattle.sre_turns.specs.declared.Point.TheVariants.{Instruction, Again}
-use Rattle.sre_turns.specs.declared.Point.{Point}
-use Rattle.sre_turns.specs.declared.Frame.{Frame}
-use Rattle.sre_turns.specs.Moves.{Spot, spot_at, Stop, Go, Enter, closing_move}
 use Rattle.sre_turns.specs.MovesInRegions.{look}
 use Rattle.sre_turns.specs.Bodies.{MarklessRegions}
-use Rattle.sre_turns.specs.Confining.{ConfinedInside, AllConfined, ChoicesConfined, StandsConfined}
+use Rattle.sre_turns.specs.Confining.{ConfinedInside, AllConfined}
 use Rattle.sre_turns.specs.Fruit.{is_inside}
 use Rattle.sre_turns.specs.Nested.{repeats, ClosesAt}
 use Rattle.sre_turns.specs.Straight.{point_behind}
-use Rattle.sre_turns.specs.Settled.{Counted}
 use Rattle.sre_turns.proofs.Confining.{region_confined}
 use Rattle.sre_turns.proofs.FaringInRegions.{cut_fares, region_on, region_off, loop_left}
 use Rattle.sre_turns.specs.Limits.{Limit, earlier, without_open, FaresAt, FaresBack, FaresEnd}
 use Rattle.sre_turns.specs.Prices.{price, price_of}
-use Rattle.sre_turns.specs.Machine.{Moves, Runs, Comes, stops, goes, Waits, kept, Goes, Arrives, Placed, Ends}
-use Rattle.sre_model.specs.Runs.{Run}
-use Rattle.sre_turns.specs.Machine.{Later, spot, HasRun, after_outcome, without_outcome, without_loop}
+use Rattle.sre_turns.specs.Machine.{Frame, Point, Instruction, Region, AtomicGroup, Ahead, NotAhead, Further, Spot}
+use Rattle.sre_turns.specs.Machine.{spot_at, Stop, Go, closing_move, Counted, Run, StringCursor, Marks, Way, Moves}
+use Rattle.sre_turns.specs.Machine.{Comes, stops, goes, Waits, kept, Goes, Arrives, Placed, Ends, Later, spot, HasRun}
+use Rattle.sre_turns.specs.Machine.{after_outcome, without_outcome, without_loop}
 use Rattle.sre_model.specs.Roles.{ToGroupAtomically, ToLook}
 use Rattle.sre_model.proofs.Families.{look_role}
 use Rattle.sre_turns.specs.declared.Next.TheVariants as next
@@ -48,14 +39,11 @@ pub atomic_step : (r : Run) (i v : ℕ) (c : StringCursor) (b b' : BoardValue) �
     → Word r.words (i + 1) v → b' ≡ entered (AtomicGroup (i + 1 + v)) c b → (all : List Way) (limit : Limit)
     → Goes r all limit (Instruction i) c b → Later r all limit (next.At (i + 2) c) b'
 atomic_step r i v c b b' w wv eb all limit g =
-    let group : Region = AtomicGroup (i + 1 + v) in
-    let body : Spot = spot_at (Instruction (i + 2)) [] c.position b.marks in
-    let move : Moves r.words r.subject (spot (Instruction i) c b) (Enter group (spot (Instruction i) c b) body) =
-    at_instruction opcode.ATOMIC_GROUP ToGroupAtomically refl w
-    (record { there = word_within r.words (i + 1) v wv; is = rw (word_of r.words (i + 1) v wv) refl }) in
-    subst (λ x. Later r all limit (next.At (i + 2) c) x) (sym eb)
-    (turn_enters r (Instruction i) b.frames (i + 2) group c c b (entered group c b) move g.stands refl refl all
-    limit g)
+    rw eb
+    (turn_enters r (Instruction i) b.frames (i + 2) (AtomicGroup (i + 1 + v)) c c b _
+    (at_instruction opcode.ATOMIC_GROUP ToGroupAtomically refl w
+    (record { there = word_within r.words (i + 1) v wv; is = rw (word_of r.words (i + 1) v wv) refl }))
+    g.stands refl refl all limit g)
 
 -- ASSERT, ASSERT_NOT
 pub look_operand : (r : Run) (sign : Sign) (i : ℕ) (c : StringCursor) → Opcode r.words i (look_opcode sign)
@@ -98,72 +86,70 @@ pub look_step : (r : Run) (sign : Sign) (i v back : ℕ) (c c' : StringCursor) (
     → b' ≡ entered (look sign (i + 1 + v)) c b → (all : List Way) (limit : Limit) → Goes r all limit (Instruction i) c b
     → Later r all limit (next.At (i + 3) c') b'
 look_step r sign i v back c c' b b' h l place there eb all limit g =
-    let region : Region = look sign (i + 1 + v) in
     let late : nat_lt c.position back ≡ false = grind (arith, nat_tests) in
-    let move : Moves r.words r.subject (spot (Instruction i) c b)
-    (Enter region (spot (Instruction i) c b) (spot_at (Instruction (i + 3)) [] c'.position b.marks)) =
-    at_instruction (look_opcode sign) (ToLook sign) (look_role sign) h.code
-    (record { back = back; there = h.there; is = rw (word_of r.words (i + 1) v h.leads, late, place) refl }) in
-    subst (λ x. Later r all limit (next.At (i + 3) c') x) (sym eb)
-    (turn_enters r (Instruction i) b.frames (i + 3) region c c' b (entered region c b) move there refl refl all
-    limit g)
+    rw eb
+    (turn_enters r (Instruction i) b.frames (i + 3) (look sign (i + 1 + v)) c c' b _
+    (at_instruction (look_opcode sign) (ToLook sign) (look_role sign) h.code
+    (record { back = back; there = h.there; is = rw (word_of r.words (i + 1) v h.leads, late, place) refl }))
+    there refl refl all limit g)
 
--- a body has an outcome at a cursor: what comes of the atomic scope that is cut
-module _ (r : Run) (c d : StringCursor) (b b' : BoardValue) where
-  -- where it goes on, and what waits, as the atomic scope told it
-  abbrev Closing : Region → Type 0
-  Closing g = MarklessRegions r.words
-      → ClosesAt (ConfinedInside r.words (is_inside b'.choices)) g b'.frames × AllConfined r.words b'.choices
-
-  goes_on : {x : Spot}
-      → ConfinedInside r.words (is_inside b'.choices) x.point (repeats x.frames) × AllConfined r.words b'.choices
-      → StandsConfined r.words x b'.choices
-  goes_on f = record { here = f.0; others = record { each = f.1 } }
-
+-- an atomic scope is left on a board
+module _ (r : Run) (b' : BoardValue) {all : List Way} (limit : Limit) where
   -- nothing comes of it
-  ends_stop : {all : List Way} (limit : Limit) → ((pl : Counted r) → FaresBack r pl (earlier limit) b'.choices)
-      → (MarklessRegions r.words → ChoicesConfined r.words b'.choices)
-      → {x : Spot} {os : List Way} {n k j later : ℕ} → Comes r.words r.subject x Stop os n
-      → Waits r b'.choices (0 + n) os all k → n + k ≤ j → j ≤ later → later + 1 ≤ limit.turns
-      → Later r all limit next.Back b'
-  ends_stop limit left lies stops wt e l m = (
+  stop : ((pl : Counted r) → FaresBack r pl (earlier limit) b'.choices)
+      → (MarklessRegions r.words → AllConfined r.words b'.choices)
+      → {x : Spot} {os : List Way} {n k : ℕ} → Comes r.words r.subject x Stop os n
+      → Waits r b'.choices (0 + n) os all k → n + k ≤ limit.turns → Later r all limit next.Back b'
+  stop left lies stops wt l = (
     omega arith,
     record {
       later = _;
       waits = sooner (0 + 1) 0 (omega arith) wt;
       within = omega arith;
       fares = left;
-      confined = lies;
+      confined = λ none. record { each = lies none };
     },
   )
 
   -- it goes on at a cursor
-  ends_go : {all : List Way} (limit : Limit) (pt : Point) (at : StringCursor)
+  goes_on : (pt : Point) (at : StringCursor)
       → ((pl : Counted r) → FaresAt r pl (earlier limit) (price_of r.words r.subject.end (spot pt at b'))
       (spot pt at b') b'.choices)
-      → (MarklessRegions r.words → StandsConfined r.words (spot pt at b') b'.choices)
-      → r.stands at at.position → Placed r.subject b.marks → b'.marks ≡ b.marks
-      → {x : Spot} {os : List Way} {n k j later : ℕ}
-      → Comes r.words r.subject x (Go (spot_at pt b'.frames at.position b.marks)) os n
-      → Waits r b'.choices (0 + n) os all k → n + k ≤ j → j ≤ later → later + 1 ≤ limit.turns
-      → (1 ≤ limit.turns) × Arrives r all (earlier limit) pt at b'
-  ends_go limit pt at left lies there placed em {os = os} {k = k} (goes {n = n'} e) wt same l m =
-      let moved : Runs r.words r.subject (spot pt at b') os n' =
-      subst (λ ms. Runs r.words r.subject (spot_at pt b'.frames at.position ms) os n') (sym em) e in (
-        omega arith,
-        record {
-          now = os;
-          turns = n';
-          later = k;
-          stands = there;
-          placed = subst (λ ms. Placed r.subject ms) (sym em) placed;
-          runs = moved;
-          waits = sooner (0 + suc n') (n' + 1) (omega arith) wt;
-          within = omega arith;
-          fares = λ pl o w. left pl;
-          confined = lies;
-        },
-      )
+      → (MarklessRegions r.words
+      → ConfinedInside r.words (is_inside b'.choices) pt (repeats b'.frames) × AllConfined r.words b'.choices)
+      → r.stands at at.position → Placed r.subject b'.marks → {x : Spot} {os : List Way} {n k : ℕ}
+      → Comes r.words r.subject x (Go (spot pt at b')) os n → Waits r b'.choices (0 + n) os all k
+      → n + k ≤ limit.turns → (1 ≤ limit.turns) × Arrives r all (earlier limit) pt at b'
+  goes_on pt at left lies there placed (goes {n = n'} e) wt l = (
+    omega arith,
+    record {
+      now = _;
+      turns = n';
+      later = _;
+      stands = there;
+      placed = placed;
+      runs = e;
+      waits = sooner (0 + suc n') (n' + 1) (omega arith) wt;
+      within = omega arith;
+      fares = λ pl o w. left pl;
+      confined = λ none. let f = lies none in record { here = f.0; others = record { each = f.1 } };
+    },
+  )
+
+-- where one goes on behind it
+behind_is : (P : Point → List ℕ → Type 0) (g : Region) (fs : List Frame) → ClosesAt P g fs
+    → P (point_behind g) (repeats fs)
+behind_is P (Further t) fs h = h.0
+behind_is P g fs h = h
+
+-- a body has an outcome at a cursor: what comes of the atomic scope that is cut
+module _ (r : Run) (c d : StringCursor) (b b' : BoardValue) where
+  abbrev Inside : Point → List ℕ → Type 0
+  Inside pt ks = ConfinedInside r.words (is_inside b'.choices) pt ks
+
+  -- where it goes on, and what waits, as the atomic scope told it
+  abbrev Closing : Region → Type 0
+  Closing g = MarklessRegions r.words → ClosesAt Inside g b'.frames × AllConfined r.words b'.choices
 
   -- what is left where the atomic scope is in progress, and where its body ends
   abbrev Ending : Limit → Region → Marks → Type 0
@@ -176,28 +162,21 @@ module _ (r : Run) (c d : StringCursor) (b b' : BoardValue) where
       (spot_at (point_behind g) b'.frames q b'.marks) b'.choices
   ends_on limit g m left pl q = region_on r pl limit g b'.frames d m b'.choices (left pl).fares q b'.marks
 
-  region_ends : (g : Region) → Closing g → (m : Marks) (us all : List Way) (limit : Limit) (j later : ℕ)
-      → Ending limit g m → b'.marks ≡ b.marks → r.stands c c.position → Placed r.subject b.marks
-      → Waits r (Keep g b'.frames d m ∷ b'.choices) 0 (record { stop = c.position; marks = b.marks } ∷ us) all j
-      → j ≤ later → later + 1 ≤ limit.turns → Later r all limit (after_outcome g c d) b'
-  region_ends (AtomicGroup t) lies m us all limit j later left em there placed (kept at _ f wt) l k =
-      ends_go limit (Instruction t) c
-      (λ pl. ends_on limit (AtomicGroup t) m left pl c.position ((left pl).at.0 refl) (left pl).at.1)
-      (λ none. goes_on (lies none)) there placed em f wt (omega arith) l k
-  region_ends (Ahead t) lies m us all limit j later left em there placed (kept at _ f wt) l k =
-      ends_go limit (Instruction t) d
-      (λ pl. ends_on limit (Ahead t) m left pl d.position (omega arith) (left pl).fares.settled.0.inside)
-      (λ none. goes_on (lies none)) at placed em f wt (omega arith) l k
-  region_ends (NotAhead t) lies m us all limit j later left em there placed (kept at _ f wt) l k =
-      ends_stop limit (λ pl. region_off r pl limit (NotAhead t) b'.frames d m b'.choices (left pl).fares)
-      (λ none. record { each = (lies none).1 }) f wt (omega arith) l k
-  region_ends Owed lies m us all limit j later left em there placed (kept at _ f wt) l k =
-      ends_go limit Again c (λ pl. ends_on limit Owed m left pl c.position ((left pl).at.0 refl) (left pl).at.1)
-      (λ none. goes_on (lies none)) there placed em f wt (omega arith) l k
-  region_ends (Further t) lies m us all limit j later left em there placed (kept at _ f wt) l k =
-      ends_go limit Again c
-      (λ pl. ends_on limit (Further t) m left pl c.position ((left pl).at.0 refl) (left pl).at.1)
-      (λ none. goes_on ((lies none).0.0, (lies none).1)) there placed em f wt (omega arith) l k
+  region_ends : (g : Region) → Closing g → (m : Marks) (us all : List Way) (limit : Limit) (j : ℕ)
+      → Ending limit g m → r.stands c c.position → Placed r.subject b'.marks
+      → Waits r (Keep g b'.frames d m ∷ b'.choices) 0 (record { stop = c.position; marks = b'.marks } ∷ us) all j
+      → j ≤ limit.turns → Later r all limit (after_outcome g c d) b'
+  region_ends (Ahead t) lies m us all limit j left there placed (kept at _ f wt) l =
+      goes_on r b' limit (Instruction t) d
+      (λ pl. ends_on limit (Ahead t) m left pl d.position (omega arith) (left pl).fares.settled.0.inside) lies at placed
+      f wt (omega (arith, l))
+  region_ends (NotAhead t) lies m us all limit j left there placed (kept at _ f wt) l =
+      stop r b' limit (λ pl. region_off r pl limit (NotAhead t) b'.frames d m b'.choices (left pl).fares)
+      (λ none. (lies none).1) f wt (omega (arith, l))
+  region_ends g lies m us all limit j left there placed (kept at _ f wt) l =
+      goes_on r b' limit (point_behind g) c
+      (λ pl. ends_on limit g m left pl c.position ((left pl).at.0 refl) (left pl).at.1)
+      (λ none. let k = lies none in (behind_is Inside g b'.frames k.0, k.1)) there placed f wt (omega (arith, l))
 
   pub region_closes : (g : Region) → Cuts b g d b' → (all : List Way) (limit : Limit) → Ends r all limit c b
       → Later r all (without_open b.choices limit) (after_outcome g c d) b'
@@ -206,53 +185,14 @@ module _ (r : Run) (c d : StringCursor) (b b' : BoardValue) where
       (record { stop = c.position; marks = b.marks }) [] all e.later cut.region e.waits in
       region_ends g
       (λ none. subst (λ x. AllConfined r.words x) cut.region (region_confined r.words b.choices (e.confined none).each))
-      cut.entered u.0 all (without_open b.choices limit) u.1 e.later
-      (λ pl. cut_fares r pl limit c.position b.choices b'.choices cut.region (e.fares pl))
-      cut.marks e.stands e.placed u.3 u.2 e.within
+      cut.entered u.0 all (without_open b.choices limit) u.1
+      (λ pl. cut_fares r pl limit c.position b.choices b'.choices cut.region (e.fares pl)) e.stands
+      (subst (λ ms. Placed r.subject ms) (sym cut.marks) e.placed)
+      (subst (λ ms. Waits r (Keep g b'.frames d cut.entered ∷ b'.choices) 0
+      (record { stop = c.position; marks = ms } ∷ u.0) all u.1) (sym cut.marks) u.3) (omega (arith, u.2, e.within))
 
 -- a body has no outcome
 module _ (r : Run) (c : StringCursor) (b' : BoardValue) where
-  back_stop : {all : List Way} (limit : Limit) → ((pl : Counted r) → FaresBack r pl (earlier limit) b'.choices)
-      → (MarklessRegions r.words → ChoicesConfined r.words b'.choices)
-      → {x : Spot} {os : List Way} {n k : ℕ} → Comes r.words r.subject x Stop os n
-      → Waits r b'.choices (0 + n) os all k → n + k ≤ limit.turns → Later r all limit next.Back b'
-  back_stop limit left lies stops wt l = (
-    omega arith,
-    record {
-      later = _;
-      waits = sooner (0 + 1) 0 (omega arith) wt;
-      within = omega arith;
-      fares = left;
-      confined = lies;
-    },
-  )
-
-  back_go : {all : List Way} (limit : Limit) (t : ℕ) (fs : List Frame)
-      → ((pl : Counted r) → FaresAt r pl (earlier limit) (price r.words r.subject.end (Instruction t) c.position)
-      (spot_at (Instruction t) fs c.position b'.marks) b'.choices)
-      → (MarklessRegions r.words
-      → ConfinedInside r.words (is_inside b'.choices) (Instruction t) (repeats fs) × AllConfined r.words b'.choices)
-      → r.stands c c.position → Placed r.subject b'.marks
-      → {x : Spot} {os : List Way} {n k : ℕ}
-      → Comes r.words r.subject x (Go (spot_at (Instruction t) fs c.position b'.marks)) os n
-      → Waits r b'.choices (0 + n) os all k → n + k ≤ limit.turns → Later r all limit (next.At t c)
-      (record b' { frames = fs })
-  back_go limit t fs left lies there placed (goes {n = n'} e) wt l = (
-    omega arith,
-    record {
-      now = _;
-      turns = _;
-      later = _;
-      stands = there;
-      placed = placed;
-      runs = e;
-      waits = sooner (0 + suc n') (n' + 1) (omega arith) wt;
-      within = omega arith;
-      fares = λ pl o w. left pl;
-      confined = λ none. let f = lies none in record { here = f.0; others = record { each = f.1 } };
-    },
-  )
-
   -- what is left where the atomic scope is in progress
   abbrev Going : Limit → Region → Type 0
   Going limit g = (pl : Counted r) → FaresBack r pl limit (Keep g b'.frames c b'.marks ∷ b'.choices)
@@ -266,18 +206,13 @@ module _ (r : Run) (c : StringCursor) (b' : BoardValue) where
       → (all : List Way) (limit : Limit) (k : ℕ) → Going limit g
       → Waits r (Keep g b'.frames c b'.marks ∷ b'.choices) 0 [] all k → k ≤ limit.turns
       → Later r all limit (without_outcome g c) (without_loop g b')
-  region_back (AtomicGroup t) lies all limit k left (kept at _ f wt) l =
-      back_stop limit (back_off limit (AtomicGroup t) left) (λ none. record { each = (lies none).1 }) f wt l
-  region_back (Ahead t) lies all limit k left (kept at _ f wt) l =
-      back_stop limit (back_off limit (Ahead t) left) (λ none. record { each = (lies none).1 }) f wt l
   region_back (NotAhead t) lies all limit k left (kept at placed f wt) l =
-      back_go limit t b'.frames
+      goes_on r b' limit (Instruction t) c
       (λ pl. region_on r pl limit (NotAhead t) b'.frames c b'.marks b'.choices (left pl) c.position b'.marks
-      (omega arith) (left pl).settled.0.inside)
-      lies at placed f wt l
-  region_back Owed lies all limit k left (kept at _ f wt) l =
-      back_stop limit (back_off limit Owed left) (λ none. record { each = (lies none).1 }) f wt l
+      (omega arith) (left pl).settled.0.inside) lies at placed f wt l
   region_back (Further t) lies all limit k left (kept at placed f wt) l =
-      back_go limit t (drop 1 b'.frames)
+      goes_on r (record b' { frames = drop 1 b'.frames }) limit (Instruction t) c
       (λ pl. loop_left r pl limit t b'.frames c b'.marks b'.choices (left pl) b'.marks)
       (λ none. ((lies none).0.1, (lies none).1)) at placed f wt l
+  region_back g lies all limit k left (kept at _ f wt) l =
+      stop r b' limit (back_off limit g left) (λ none. (lies none).1) f wt l

@@ -3,24 +3,16 @@ use Rattle.std.proofs.Common.{◌≡◌, ◌⊎◌, inl, inr, ℕ, zero, suc, �
 use Rattle.std.proofs.Common.{nat_eq, nat_lt, List, [], length, Option, refl, sym, subst, arith}
 use Rattle.std.proofs.lemmas.Bool.Decides.{nat_tests}
 use Rattle.sre_chars.specs.declared.constants.SreOpcode.TheVariants as opcode
-use Rattle.sre_chars.specs.declared.string.StringCursor.{StringCursor}
-use Rattle.sre_model.specs.Tree.{Test, RunKind, GreedyRun, LazyRun}
-use Rattle.sre_model.specs.Marks.{Marks}
+use Rattle.sre_model.specs.Tree.{Test, RunKind, GreedyRun}
 use Rattle.sre_model.specs.Subject.{passes, char_at}
 use Rattle.sre_model.specs.Characters.{holds}
 use Rattle.sre_model.specs.Ways.{Way, unlimited, run_length, longest_run}
 use Rattle.sre_model.specs.Grammar.{Word, Opcode, test_opcode, run_opcode}
-use Rattle.sre_turns.specs.Board.{BoardValue}
-use Rattle.sre_turns.specs.declared.Frame.{Frame}
-use Rattle.sre_turns.specs.declared.Point.{Point}
-use Rattle.sre_turns.specs.declared.Point.TheVariants.{Instruction, Shorter, Longer}
-use Rattle.sre_turns.specs.Moves.{spot_at, Stop, Split}
 use Rattle.sre_turns.specs.MovesInRuns.{RunOperands}
 use Rattle.sre_turns.specs.OperandsOfRuns.{OperandsOfRun}
-use Rattle.sre_turns.specs.Limits.{Limit}
-use Rattle.sre_turns.specs.Machine.{Moves, Runs, turns, Goes, GoesBoth, Later, spot, HasRun, Skips, SkipsBoth}
-use Rattle.sre_model.specs.Runs.{Run}
-use Rattle.sre_turns.specs.Machine.{Exhausted, Refuses, Demands, DemandsAny, Excludes}
+use Rattle.sre_turns.specs.Machine.{Frame, Point, Instruction, Shorter, Longer, spot_at, Stop, Split, BoardValue, Limit}
+use Rattle.sre_turns.specs.Machine.{Run, StringCursor, Marks, Moves, Runs, turns, Goes, GoesBoth, Later, spot, HasRun}
+use Rattle.sre_turns.specs.Machine.{Skips, SkipsBoth, Exhausted, Refuses, Demands, DemandsAny, Excludes}
 use Rattle.sre_model.specs.Standing.{TestStands, HasTest}
 use Rattle.sre_model.specs.Roles.{ToRun}
 use Rattle.sre_model.proofs.Families.{run_role}
@@ -28,8 +20,9 @@ use Rattle.sre_turns.specs.declared.Next.TheVariants as next
 use Rattle.sre_model.proofs.Words.{opcode_within}
 use Rattle.sre_model.proofs.Passing.{past_end, read_passes, other_taken}
 use Rattle.sre_model.proofs.Longest.{goes_on, run_passes, run_at_most, run_inside, run_none}
-use Rattle.sre_turns.proofs.Moving.{in_role, at_instruction, has_run, run_splits, turn_stops, turn_splits, both_last}
-use Rattle.sre_turns.proofs.Moving.{run_nothing, run_second}
+use Rattle.sre_turns.proofs.Moving.{in_role, turn_stops, turn_splits, both_last, run_nothing, run_second}
+use Rattle.sre_turns.proofs.AfterTurns.{both_run}
+use Rattle.sre_turns.proofs.AtRuns.{greedy_stops, greedy_splits, lazy_none, lazy_splits, longer_none, longer_splits}
 use Rattle.sre_turns.proofs.StepsInBranches.{positive}
 
 -- shorter counts
@@ -69,9 +62,8 @@ shorter_both r t k j c c' b e place there all limit g =
 shorter_run : (r : Run) (t k j : ℕ) (c c' : StringCursor) → k ≡ suc j → c.position ≡ c'.position + 1
     → r.stands c' c'.position → HasRun r (Shorter t k) c → HasRun r (Instruction t) c' × HasRun r (Shorter t j) c'
 shorter_run r t k j c c' e place there x =
-    let s = run_splits _ _
-    (shorter_moves r t k j c.position c'.position x.frames x.marks e place (shorter_within r x.runs)) x.runs in
-    (has_run r (Instruction t) x.frames x.marks c' there s.0, has_run r (Shorter t j) x.frames x.marks c' there s.1)
+    both_run r (Shorter t k) (Instruction t) (Shorter t j) c c'
+    (λ fs m. shorter_moves r t k j c.position c'.position fs m e place (shorter_within r x.runs)) there x
 
 -- the tail one character back, and the counts that are shorter still
 pub shorter_skips : (r : Run) (pt : Point) (start : StringCursor) (t k : ℕ) (c c' : StringCursor) → (k ≡ 0 → ⊥)
@@ -133,15 +125,7 @@ pub run_short : (r : Run) (i tail low high count : ℕ) (c : StringCursor) (b : 
 run_short r i tail low high count c b w o k l =
     let longest : longest_run r.subject o.test.test high c.position ≡ count =
     sym (k o.test.end o.test.test o.test.stands) in
-    let short : nat_lt count low ≡ true = grind (arith, nat_tests) in
-    turn_stops r (Instruction i) c b (at_instruction opcode.REPEAT_ONE (ToRun GreedyRun) refl w (record {
-      low = low;
-      high = high;
-      end = o.test.end;
-      test = o.test.test;
-      operands = stands_of r.words i tail low high o;
-      is = rw (longest, short) refl;
-    }))
+    turn_stops r (Instruction i) c b (greedy_stops (stands_of r.words i tail low high o) w longest l)
 
 -- a run that may not be empty refuses where its test does not take the character that was read
 pub run_misses : (r : Run) (i low ch : ℕ) (c : StringCursor) → Opcode r.words i opcode.REPEAT_ONE
@@ -154,15 +138,9 @@ run_misses r i low ch c w there wl some inside read says fs m os k d =
     let missed : passes r.subject there.test c.position ≡ false =
     read_passes r.subject there.test c.position ch false inside read (sym (says there.end there.test there.stands)) in
     let none : longest_run r.subject there.test h.high c.position ≡ 0 = run_none r.subject there.test _ _ missed in
-    let short : nat_lt 0 low ≡ true = grind (arith, nat_tests, positive low some) in
-    run_nothing (at_instruction opcode.REPEAT_ONE (ToRun GreedyRun) refl w (record {
-      low = low;
-      high = h.high;
-      end = there.end;
-      test = there.test;
-      operands = record { lowest = wl; highest = h.operands.highest; stands = there.stands };
-      is = rw (none, short) refl;
-    })) d
+    run_nothing
+    (greedy_stops (record { lowest = wl; highest = h.operands.highest; stands = there.stands }) w none
+    (positive low some)) d
 
 module _ (r : Run) (i tail low high count : ℕ) (c after : StringCursor) (w : Opcode r.words i opcode.REPEAT_ONE)
     (o : OperandsOfRun r.words i tail low high) (k : CountsRun r i high c.position count) (l : low ≤ count)
@@ -172,17 +150,8 @@ module _ (r : Run) (i tail low high count : ℕ) (c after : StringCursor) (w : O
       (Split (spot_at (Instruction tail) fs after.position m)
       (spot_at (Shorter tail (count - low)) fs after.position m))
   run_moves fs m =
-      let longest : longest_run r.subject o.test.test high c.position ≡ count =
-      sym (k o.test.end o.test.test o.test.stands) in
-      let enough : nat_lt count low ≡ false = grind (arith, nat_tests) in
-      at_instruction opcode.REPEAT_ONE (ToRun GreedyRun) refl w (record {
-        low = low;
-        high = high;
-        end = o.test.end;
-        test = o.test.test;
-        operands = stands_of r.words i tail low high o;
-        is = rw (longest, enough, moved_on, o.leads) refl;
-      })
+      greedy_splits (stands_of r.words i tail low high o) w o.leads (sym (k o.test.end o.test.test o.test.stands)) l
+      moved_on
 
   pub run_both : (b : BoardValue) (all : List Way) (limit : Limit) → Goes r all limit (Instruction i) c b
       → GoesBoth r all limit (spot (Instruction tail) after b) (spot (Shorter tail (count - low)) after b) after
@@ -193,11 +162,7 @@ module _ (r : Run) (i tail low high count : ℕ) (c after : StringCursor) (w : O
 
   pub run_runs : HasRun r (Instruction i) c
       → HasRun r (Instruction tail) after × HasRun r (Shorter tail (count - low)) after
-  run_runs x =
-      let s = run_splits _ _ (run_moves x.frames x.marks) x.runs in (
-        has_run r (Instruction tail) x.frames x.marks after there s.0,
-        has_run r (Shorter tail (count - low)) x.frames x.marks after there s.1,
-      )
+  run_runs = both_run r (Instruction i) (Instruction tail) (Shorter tail (count - low)) c after run_moves there
 
   -- where none is left, or the tail asks for a character that the test does not take
   pub run_only : (wanted : Option ℕ) → ((count - low ≡ 0) ⊎ Excludes r.words (i + 4) wanted)
@@ -229,28 +194,12 @@ run_refuses r i tail low high p w o none fs m os n d =
     short_or_enough a b = grind arith
 
     by : (count : ℕ) → longest_run r.subject o.test.test high p ≡ count → (count < low) ⊎ (low ≤ count) → os ≡ []
-    by count longest (inl l) =
-        let short : nat_lt count low ≡ true = grind (arith, nat_tests) in
-        run_nothing (at_instruction opcode.REPEAT_ONE (ToRun GreedyRun) refl w (record {
-          low = low;
-          high = high;
-          end = o.test.end;
-          test = o.test.test;
-          operands = stands_of r.words i tail low high o;
-          is = rw (longest, short) refl;
-        })) d
+    by count longest (inl l) = run_nothing (greedy_stops (stands_of r.words i tail low high o) w longest l) d
     by count longest (inr l) =
-        let enough : nat_lt count low ≡ false = grind (arith, nat_tests) in
         let rest =
         run_second (spot_at (Instruction tail) fs (p + count) m) (spot_at (Shorter tail (count - low)) fs (p + count) m)
-        (at_instruction opcode.REPEAT_ONE (ToRun GreedyRun) refl w (record {
-          low = low;
-          high = high;
-          end = o.test.end;
-          test = o.test.test;
-          operands = stands_of r.words i tail low high o;
-          is = rw (longest, enough, o.leads) refl;
-        })) (λ os' n' e. none (p + count) (omega arith) fs m os' n' e) d in
+        (greedy_splits (stands_of r.words i tail low high o) w o.leads longest l refl)
+        (λ os' n' e. none (p + count) (omega arith) fs m os' n' e) d in
         shorter_exhausted r tail (count - low) (p + count) (λ q from to. none q (omega (arith, from, l))) fs m os rest.0
         rest.2
 
@@ -264,16 +213,7 @@ module _ (r : Run) (i tail low high : ℕ) (c : StringCursor) (w : Opcode r.word
   lazy_stops : (b : BoardValue) → run_length r.subject o.test.test low c.position < low
       → (all : List Way) (limit : Limit)
       → Goes r all limit (Instruction i) c b → Later r all limit next.Back b
-  lazy_stops b l =
-      let short : nat_lt (run_length r.subject o.test.test low c.position) low ≡ true = grind (arith, nat_tests) in
-      turn_stops r (Instruction i) c b (at_instruction opcode.MIN_REPEAT_ONE (ToRun LazyRun) refl w (record {
-        low = low;
-        high = high;
-        end = o.test.end;
-        test = o.test.test;
-        operands = stands_of r.words i tail low high o;
-        is = rw short refl;
-      }))
+  lazy_stops b l = turn_stops r (Instruction i) c b (lazy_none (stands_of r.words i tail low high o) w l)
 
   -- the window is too short, or a character does not pass
   pub lazy_cut : (b : BoardValue) → r.subject.end - c.position < low → (all : List Way) (limit : Limit)
@@ -293,16 +233,7 @@ module _ (r : Run) (i tail low high : ℕ) (c : StringCursor) (w : Opcode r.word
         let is_count = k o.test.end o.test.test o.test.stands in
         let all_ : run_length r.subject o.test.test low c.position ≡ low =
         omega (arith, is_count, run_at_most r.subject o.test.test low c.position) in
-        let enough : nat_lt low low ≡ false = grind (arith, nat_tests) in
-        let place : after.position ≡ c.position + low = omega (arith, all_, is_count) in
-        at_instruction opcode.MIN_REPEAT_ONE (ToRun LazyRun) refl w (record {
-          low = low;
-          high = high;
-          end = o.test.end;
-          test = o.test.test;
-          operands = stands_of r.words i tail low high o;
-          is = rw (all_, enough, place, o.leads) refl;
-        })
+        lazy_splits (stands_of r.words i tail low high o) w o.leads all_ (omega (arith, all_, is_count, moved_on))
 
     pub lazy_both : (b : BoardValue) (all : List Way) (limit : Limit) → Goes r all limit (Instruction i) c b
         → GoesBoth r all limit (spot (Instruction tail) after b) (spot (Longer i low) after b) after b.choices
@@ -311,11 +242,7 @@ module _ (r : Run) (i tail low high : ℕ) (c : StringCursor) (w : Opcode r.word
         (lazy_moves b.frames b.marks) there refl refl all limit g
 
     pub lazy_runs : HasRun r (Instruction i) c → HasRun r (Instruction tail) after × HasRun r (Longer i low) after
-    lazy_runs x =
-        let s = run_splits _ _ (lazy_moves x.frames x.marks) x.runs in (
-          has_run r (Instruction tail) x.frames x.marks after there s.0,
-          has_run r (Longer i low) x.frames x.marks after there s.1,
-        )
+    lazy_runs = both_run r (Instruction i) (Instruction tail) (Longer i low) c after lazy_moves there
 
 -- longer counts
 longer_within : (r : Run) {i n p k : ℕ} {fs : List Frame} {m : Marks} {os : List Way}
@@ -332,31 +259,13 @@ module _ (r : Run) (i tail low high n : ℕ) (c : StringCursor) (o : OperandsOfR
     (past : n ≤ c.position) where
   longer_stops : (b : BoardValue) → goes_on r.subject o.test.test high n c.position ≡ false
       → (all : List Way) (limit : Limit) → Goes r all limit (Longer i n) c b → Later r all limit next.Back b
-  longer_stops b e = turn_stops r (Longer i n) c b (record {
-    low = low;
-    high = high;
-    end = o.test.end;
-    test = o.test.test;
-    operands = stands_of r.words i tail low high o;
-    past = past;
-    is = rw e refl;
-  })
+  longer_stops b e = turn_stops r (Longer i n) c b (longer_none (stands_of r.words i tail low high o) past e)
 
   -- the greatest count is reached, or the window's end, or a character does not pass
   pub longer_full : (b : BoardValue) → (nat_eq high unlimited || nat_lt n high) ≡ false
       → (all : List Way) (limit : Limit)
       → Goes r all limit (Longer i n) c b → Later r all limit next.Back b
   longer_full b e = longer_stops b (rw e refl)
-
-  pub longer_end : (b : BoardValue) → r.subject.end ≤ c.position → (all : List Way) (limit : Limit)
-      → Goes r all limit (Longer i n) c b → Later r all limit next.Back b
-  longer_end b l =
-      longer_stops b
-      (rw (past_end r.subject o.test.test c.position l) (and_false (nat_eq high unlimited || nat_lt n high)))
-    where
-      and_false : (a : Bool) → (a && false) ≡ false
-      and_false true = refl
-      and_false false = refl
 
   pub longer_unlike : (b : BoardValue) → passes r.subject o.test.test c.position ≡ false
       → (all : List Way) (limit : Limit)
@@ -367,21 +276,19 @@ module _ (r : Run) (i tail low high n : ℕ) (c : StringCursor) (o : OperandsOfR
       and_false true = refl
       and_false false = refl
 
+  pub longer_end : (b : BoardValue) → r.subject.end ≤ c.position → (all : List Way) (limit : Limit)
+      → Goes r all limit (Longer i n) c b → Later r all limit next.Back b
+  longer_end b l =
+      longer_unlike b (past_end r.subject o.test.test c.position l)
+
   module _ (after : StringCursor) (more : (nat_eq high unlimited || nat_lt n high) ≡ true)
       (taken : passes r.subject o.test.test c.position ≡ true) (moved_on : after.position ≡ c.position + 1)
       (there : r.stands after after.position) where
     longer_moves : (fs : List Frame) (m : Marks)
         → Moves r.words r.subject (spot_at (Longer i n) fs c.position m)
         (Split (spot_at (Instruction tail) fs after.position m) (spot_at (Longer i (n + 1)) fs after.position m))
-    longer_moves fs m = record {
-      low = low;
-      high = high;
-      end = o.test.end;
-      test = o.test.test;
-      operands = stands_of r.words i tail low high o;
-      past = past;
-      is = rw (more, taken, moved_on, o.leads) refl;
-    }
+    longer_moves fs m =
+        longer_splits (stands_of r.words i tail low high o) o.leads past (rw (more, taken) refl) moved_on
 
     longer_both : (b : BoardValue) (all : List Way) (limit : Limit) → Goes r all limit (Longer i n) c b
         → GoesBoth r all limit (spot (Instruction tail) after b) (spot (Longer i (n + 1)) after b) after b.choices
@@ -392,12 +299,8 @@ module _ (r : Run) (i tail low high n : ℕ) (c : StringCursor) (o : OperandsOfR
     pub longer_skips : HasRun r (Longer i n) c
         → SkipsBoth r (Longer i n) c (Instruction tail) (Longer i (n + 1)) after
     longer_skips x =
-        let s = run_splits _ _ (longer_moves x.frames x.marks) x.runs in
-        record {
-          runs = has_run r (Instruction tail) x.frames x.marks after there s.0;
-          others = has_run r (Longer i (n + 1)) x.frames x.marks after there s.1;
-          skips = longer_both;
-        }
+        let s = both_run r (Longer i n) (Instruction tail) (Longer i (n + 1)) c after longer_moves there x in
+        record { runs = s.0; others = s.1; skips = longer_both }
 
 -- what was read tells whether the test passes
 pub longer_passes : (r : Run) (i ch : ℕ) (takes : Bool) (c : StringCursor) (t : HasTest r.words (i + 4))

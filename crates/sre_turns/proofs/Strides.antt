@@ -1,35 +1,25 @@
 -- Batched loop iterations: bodies of one character each, gone over in one step.
 use Rattle.std.proofs.Common.{◌≡◌, ℕ, ◌+◌, ◌<◌, ◌≤◌, ◌⊎◌, inl, inr, Bool, true, false, nat_eq, nat_lt, ◌++◌, List, []}
-use Rattle.std.proofs.Common.{◌∷◌, Some, refl, sym, ap}
-use Rattle.std.proofs.Common.{◌∙◌, subst, arith}
+use Rattle.std.proofs.Common.{◌∷◌, Some, refl, sym, ap, ◌∙◌, subst, arith}
 use Rattle.std.proofs.lemmas.Bool.Decides.{nat_tests}
 use Rattle.std.proofs.lemmas.List.{append-nil}
 use Rattle.sre_chars.specs.declared.constants.SreOpcode.{SreOpcode}
 use Rattle.sre_chars.specs.declared.constants.SreOpcode.TheVariants as opcode
-use Rattle.sre_chars.specs.declared.string.StringCursor.{StringCursor}
-use Rattle.sre_model.specs.Grammar.{Word, Opcode}
-use Rattle.sre_model.specs.Marks.{Marks}
-use Rattle.sre_model.specs.Runs.{Run}
 use Rattle.sre_model.specs.Subject.{Subject, passes, char_at}
 use Rattle.sre_model.specs.Tree.{Greedy, Test, Literal, Plain}
 use Rattle.sre_model.specs.Characters.{holds}
 use Rattle.sre_model.specs.Roles.{begins_test}
 use Rattle.sre_model.specs.Standing.{HasTest, TestStands}
 use Rattle.sre_model.specs.Ways.{Way, unlimited}
-use Rattle.sre_turns.specs.Board.{BoardValue}
 use Rattle.sre_turns.specs.Limits.{Limit, Fares}
 use Rattle.sre_turns.specs.Prices.{price, toll}
 use Rattle.sre_turns.specs.Lying.{repeats}
-use Rattle.sre_turns.specs.Machine.{Moves, Runs, Comes, splits, Goes, HasRun, IsAt, Exhausted, Refuses, Continues}
-use Rattle.sre_turns.specs.Machine.{Demands}
-use Rattle.sre_turns.specs.Machine.{with_loop, spot}
-use Rattle.sre_turns.specs.Moves.{Spot, spot_at, Go, Split}
+use Rattle.sre_turns.specs.Machine.{Frame, Point, Instruction, Alternatives, Spot, spot_at, Go, Split, BoardValue, Run}
+use Rattle.sre_turns.specs.Machine.{StringCursor, Marks, Word, Opcode, Moves, Runs, Comes, splits, Goes, HasRun, IsAt}
+use Rattle.sre_turns.specs.Machine.{Exhausted, Refuses, Continues, Demands, with_loop, spot}
 use Rattle.sre_turns.specs.MovesInLoops.{next_frame}
-use Rattle.sre_turns.specs.Strides.{Yields, YieldsTo, MayRepeat, EndsBody, Strides}
-use Rattle.sre_turns.specs.Strides.{ReadsAscii, TellsTest, TellsAlternatives, TellsBodies}
-use Rattle.sre_turns.specs.declared.Frame.{Frame}
-use Rattle.sre_turns.specs.declared.Point.TheVariants.{Instruction, Alternatives}
-use Rattle.sre_turns.specs.declared.Point.{Point}
+use Rattle.sre_turns.specs.Strides.{Yields, YieldsTo, MayRepeat, EndsBody, Strides, ReadsAscii, TellsTest}
+use Rattle.sre_turns.specs.Strides.{TellsAlternatives, TellsBodies}
 use Rattle.sre_turns.proofs.Confining.{confined_leads}
 use Rattle.sre_turns.proofs.Moving.{Barren, run_on, sooner, continues_then, continues_exhausted}
 use Rattle.sre_turns.proofs.OneTurn.{comes}

@@ -1,9 +1,9 @@
 -- What memoized failures pay for at one position is no more than what the tree says: by the instructions of its
 -- bytecode, each of which has at most as many failures as its loops have states.
 -- That the step bound suffices (`enough` of sre_engine) rests on this.
-use Rattle.std.proofs.Common.{◌≡◌, ℕ, zero, suc, ◌+◌, ◌-◌, ◌*◌, ◌<◌, ◌≤◌, ◌⊎◌, inl, inr, Bool, true, false, cond}
-use Rattle.std.proofs.Common.{List, [], ◌∷◌, length, refl, sym, ap, ◌∙◌, subst, arith, nat_eq}
-use Rattle.std.proofs.Common.{mul-le-mul, mul-le-mul_right, add-mul, map, ◌||◌}
+use Rattle.std.proofs.Common.{◌≡◌, ℕ, zero, suc, ◌+◌, ◌-◌, ◌*◌, ◌<◌, ◌≤◌, ◌⊎◌, inl, inr, Bool, true, false, cond, List}
+use Rattle.std.proofs.Common.{[], ◌∷◌, length, refl, sym, ap, ◌∙◌, subst, arith, nat_eq, mul-le-mul, mul-le-mul_right}
+use Rattle.std.proofs.Common.{add-mul, map, ◌||◌}
 use Rattle.std.proofs.Math.Dec.{eqb}
 use Rattle.std.proofs.lemmas.Bool.{eqb-true}
 use Rattle.std.specs.Bool.{⊤}
@@ -14,15 +14,13 @@ use Rattle.std.proofs.lemmas.Map.Steps.{length-le_from_distinct_below}
 use Rattle.std.specs.List.{AllByRecursion, IsDistinct, list_any, sum_by}
 use Rattle.sre_model.proofs.Each.{each-weaken, each-both, each-map}
 use Rattle.sre_chars.specs.declared.constants.SreOpcode.TheVariants as opcode
-use Rattle.sre_model.specs.Tree.{Tree, Empty, Then, Item, Fail, One, At, Mark, Branch, Loop, Run, PossessiveLoop}
-use Rattle.sre_model.specs.Tree.{Atomic, Look, Reference, Exists, ExistsElse, Trees, Only, Or, GreedyRun, LazyRun}
-use Rattle.sre_model.specs.Tree.{PossessiveRun}
-use Rattle.sre_model.specs.Grammar.{word, skip, Opcode, Reads, ReadsItem, ReadsBranch, JumpsTo}
-use Rattle.sre_model.specs.Grammar.{WholeItems, until_opcode}
+use Rattle.sre_model.specs.Tree.{Tree, Empty, Then, Item, Branch, Loop, Run, PossessiveLoop, Atomic, Look, Exists}
+use Rattle.sre_model.specs.Tree.{ExistsElse, Trees, Only, Or, PossessiveRun}
+use Rattle.sre_model.specs.Grammar.{word, skip, Opcode, Reads, ReadsItem, ReadsBranch, JumpsTo, WholeItems}
+use Rattle.sre_model.specs.Grammar.{until_opcode}
 use Rattle.sre_model.specs.Roles.{Role, ToEnd, ToJump, ToLoop}
 use Rattle.sre_model.specs.Slots.{loop_slots}
-use Rattle.sre_model.specs.TreePrices.{steps_of, branch_steps, cost_of, item_cost, branch_cost, other_ends}
-use Rattle.sre_model.specs.TreePrices.{scan_price}
+use Rattle.sre_model.specs.TreePrices.{steps_of, branch_steps, cost_of, item_cost, branch_cost, other_ends, scan_price}
 use Rattle.sre_model.proofs.Families.{HasRole, role_here, item_role, item_here, until_role}
 use Rattle.sre_model.proofs.Words.{word_of}
 use Rattle.sre_turns.specs.declared.Point.TheVariants.{Instruction, Alternatives, Shorter, Longer, Again}
@@ -32,6 +30,12 @@ use Rattle.sre_turns.specs.Prices.{steps, branch_in, bit_by, bit_toll, end_price
 use Rattle.sre_turns.proofs.NestedMoves.{begins}
 use Rattle.sre_turns.proofs.Steps.{role_there, steps_told}
 use Rattle.sre_turns.proofs.TreePrices.{tree_steps, body_steps, body_end, jump_steps}
+
+regrouped : {A B C D : Type 0} → A ⊎ ((B ⊎ C) ⊎ D) → A ⊎ (B ⊎ (C ⊎ D))
+regrouped (inl x) = inl x
+regrouped (inr (inl (inl x))) = inr (inl x)
+regrouped (inr (inl (inr x))) = inr (inr (inl x))
+regrouped (inr (inr x)) = inr (inr (inr x))
 
 -- Failures, each of a point under loops: how many of one point there may be, one for each state of its loops and line.
 -- `at` is which of these it is.
@@ -352,12 +356,6 @@ module _ (ws : List ℕ) (e : ℕ) {A : Type 0} (point : A → Point) (loops : A
         → steps ws j ≡ b → (Rest : Point → List ℕ → Type 0) (n : ℕ) → Costs Rest n → Rest (Instruction j) js
         → Costs (λ pt ks. IsAt (Instruction i) js pt ks ⊎ (LiesInItem ws i j x r.1 js pt ks ⊎ Rest pt ks))
         (item_cost e s x b + n)
-    item_costs i j Fail r js s b same behind Rest n rest at = plain i j Fail r js refl Rest n rest
-    item_costs i j (One t) r js s b same behind Rest n rest at = plain i j (One t) r js refl Rest n rest
-    item_costs i j (At a) r js s b same behind Rest n rest at = plain i j (At a) r js refl Rest n rest
-    item_costs i j (Mark m) r js s b same behind Rest n rest at = plain i j (Mark m) r js refl Rest n rest
-    item_costs i j (Reference fold g) r js s b same behind Rest n rest at =
-        plain i j (Reference fold g) r js refl Rest n rest
     item_costs i j (Branch ts) r js s b same behind Rest n rest at =
         let few = branch_most (length ws - (i + 1)) (i + 1) j ts r.1 in
         wider (omega arith) (λ pt ks y. y)
@@ -379,17 +377,13 @@ module _ (ws : List ℕ) (e : ℕ) {A : Type 0} (point : A → Point) (loops : A
         (λ pt ks. IsAt (Instruction u) (i ∷ js) pt ks ⊎ Rest pt ks) _
         (with_one u (ToLoop o) (i ∷ js) (loop_slots low high * s) (steps_of body 1 + b + 1) end states
         (omega (arith, inner, tail, behind)) rest) (inl (refl, refl))))
-    item_costs i j (Run GreedyRun low high t) r js s b same behind Rest n rest at =
-        own i j (Run GreedyRun low high t) r js s ((1 + other_ends e low high) * (b + 2) + scan_price e low high) same
-        (ends_few i j low high b r.1.0 (word_of ws (i + 2) low r.1.1) (word_of ws (i + 3) high r.1.2) behind)
-        (ends_free i j js Rest n rest)
-    item_costs i j (Run LazyRun low high t) r js s b same behind Rest n rest at =
-        own i j (Run LazyRun low high t) r js s ((1 + other_ends e low high) * (b + 2) + scan_price e low high) same
-        (ends_few i j low high b r.1.0 (word_of ws (i + 2) low r.1.1) (word_of ws (i + 3) high r.1.2) behind)
-        (ends_free i j js Rest n rest)
     item_costs i j (Run PossessiveRun low high t) r js s b same behind Rest n rest at =
         own i j (Run PossessiveRun low high t) r js s (b + 2 + scan_price e low high) same
         (end_few i j low high b r.1.0 (word_of ws (i + 2) low r.1.1) (word_of ws (i + 3) high r.1.2) behind)
+        (ends_free i j js Rest n rest)
+    item_costs i j (Run kind low high t) r js s b same behind Rest n rest at =
+        own i j (Run kind low high t) r js s ((1 + other_ends e low high) * (b + 2) + scan_price e low high) same
+        (ends_few i j low high b r.1.0 (word_of ws (i + 2) low r.1.1) (word_of ws (i + 3) high r.1.2) behind)
         (ends_free i j js Rest n rest)
     item_costs i j (PossessiveLoop low high body) r js s b same behind Rest n rest at =
         let u : ℕ = skip ws (i + 1) in
@@ -397,13 +391,7 @@ module _ (ws : List ℕ) (e : ℕ) {A : Type 0} (point : A → Point) (loops : A
         let states = more_states i low high s js same (word_of ws (i + 2) low r.1.0) (word_of ws (i + 3) high r.1.1) in
         let few : bit_toll ws e Again (i ∷ js) ≤ v =
         omega (arith, body_steps ws (i + 4) u body r.1.3 r.1.4, ap (λ k. steps ws k) r.1.5, behind) in
-        wider (omega arith)
-        (λ pt ks y. elim y [
-          | inl z ↦ inl z
-          | inr (inl (inl z)) ↦ inr (inl z)
-          | inr (inl (inr z)) ↦ inr (inr (inl z))
-          | inr (inr z) ↦ inr (inr (inr z))
-        ])
+        wider (omega arith) (λ pt ks y. regrouped y)
         (own i j (PossessiveLoop low high body) r js s 1 same (omega arith)
         (beside (one Again (i ∷ js) (loop_slots low high * s * v)
         (subst (λ k. k * bit_toll ws e Again (i ∷ js) ≤ loop_slots low high * s * v) states
@@ -426,19 +414,14 @@ module _ (ws : List ℕ) (e : ℕ) {A : Type 0} (point : A → Point) (loops : A
         (tree_costs (i + 3) j there r.1.2 js s b same behind Rest n rest at))
     item_costs i j (ExistsElse g there absent) r js s b same behind Rest n rest at =
         let k : ℕ = i + 1 + word ws (i + 2) in
-        wider (omega arith)
-        (λ pt ks y. elim y [
-          | inl z ↦ inl z
-          | inr (inl (inl z)) ↦ inr (inl z)
-          | inr (inl (inr z)) ↦ inr (inr (inl z))
-          | inr (inr z) ↦ inr (inr (inr z))
-        ])
+        wider (omega arith) (λ pt ks y. regrouped y)
         (with_free i _ js (item_here ws i j (ExistsElse g there absent) r) refl
         (jump_ended _ (k - 2) j js _ r.1.2
         (tree_costs (i + 3) (k - 2) there r.1.1 js s (1 + b) same
         (jump_steps ws (k - 2) j r.1.2 ∙ ap (λ n. 1 + n) behind))
         (λ pt ks. LiesIn ws k j absent r.1.3 js pt ks ⊎ Rest pt ks) _
         (tree_costs k j absent r.1.3 js s b same behind Rest n rest at)))
+    item_costs i j x r js s b same behind Rest n rest at = plain i j x r js refl Rest n rest
 
     branch_costs : (q j : ℕ) (ts : Trees) (r : ReadsBranch ws q j ts) (js : List ℕ) (s b : ℕ) → s ≡ slots ws js
         → steps ws j ≡ b → (Rest : Point → List ℕ → Type 0) (n : ℕ) → Costs Rest n

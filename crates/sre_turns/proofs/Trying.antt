@@ -1,17 +1,9 @@
 -- An instruction or a possessive loop that is tried: a marker waits below all its outcomes, and where that marker is
 -- reached again, it has failed, and always will.
 use Rattle.std.proofs.Common.{◌≡◌, ℕ, ◌+◌, ◌≤◌, Bool, List, [], ◌∷◌, drop, ap, refl, sym, subst, arith}
-use Rattle.sre_chars.specs.declared.string.StringCursor.{StringCursor}
-use Rattle.sre_model.specs.Marks.{Marks}
-use Rattle.sre_model.specs.Ways.{Way}
-use Rattle.sre_model.specs.Runs.{Run}
-use Rattle.sre_turns.specs.Board.{Trying, BoardValue}
-use Rattle.sre_turns.specs.Moves.{Spot}
-use Rattle.sre_turns.specs.declared.Frame.{Frame}
-use Rattle.sre_turns.specs.declared.Point.{Point}
 use Rattle.sre_turns.specs.declared.Next.TheVariants as next
 use Rattle.sre_turns.specs.Limits.{Limit, attempt, with_tried, without_tried, Stage, Going, Splitting, spare, FaresBack}
-use Rattle.sre_turns.specs.Settled.{Counted}
+use Rattle.sre_turns.specs.Machine.{Frame, Point, Spot, Trying, BoardValue, Counted, Run, StringCursor, Marks, Way}
 use Rattle.sre_turns.specs.Machine.{Runs, Waits, tried, GoesWith, Goes, Arrives, Tries, Backs, Later, spot}
 use Rattle.sre_turns.specs.Confining.{ChoicesConfined}
 use Rattle.sre_turns.specs.Fruit.{Fruitless, is_inside}

@@ -1,24 +1,16 @@
 -- What waits twice: where the newest saved alternative is to continue right where the machine continues, it may go. All
 -- its outcomes come of continuing, too, and before.
-use Rattle.std.proofs.Common.{◌≡◌, ◌∙◌, inl, inr, ℕ, ◌+◌, ◌≤◌, Bool, true, false, List, [], ◌∷◌, ◌++◌, refl, sym}
-use Rattle.std.proofs.Common.{subst, arith}
-use Rattle.sre_chars.specs.declared.string.StringCursor.{StringCursor}
-use Rattle.sre_model.specs.Marks.{Marks}
-use Rattle.sre_model.specs.Subject.{Subject}
-use Rattle.sre_model.specs.Ways.{Way}
-use Rattle.sre_model.specs.Runs.{Run}
+use Rattle.std.proofs.Common.{◌≡◌, ◌∙◌, inl, inr, ℕ, ◌+◌, ◌≤◌, Bool, true, false, List, [], ◌∷◌, ◌++◌, refl, sym, subst}
+use Rattle.std.proofs.Common.{arith}
 use Rattle.sre_model.proofs.MarksApart.{SameStops}
 use Rattle.sre_turns.specs.Board.{Choice, Else, Keep, Trying, BoardValue, Dropped}
-use Rattle.sre_turns.specs.declared.Point.TheVariants.{Instruction}
 use Rattle.sre_turns.specs.declared.Next.TheVariants as next
-use Rattle.sre_turns.specs.Limits.{Limit, earlier}
-use Rattle.sre_turns.specs.Moves.{Spot, Move, Stop, End, Go, Split, Enter, closing_move}
 use Rattle.sre_turns.specs.MovesAtReferences.{HasReference}
 use Rattle.sre_turns.specs.Hopeless.{AcceptsByStop, SameFruit, is_inside}
-use Rattle.sre_turns.specs.Machine.{Runs, turns, Comes, stops, ends, goes, splits, enters, Waits, outermost, otherwise}
-use Rattle.sre_turns.specs.Machine.{kept, tried, Arrives, Later, spot}
-use Rattle.sre_turns.proofs.FirstOutcomes.{SameFirsts, firsts_append, firsts_begin, closes_same}
-use Rattle.sre_turns.proofs.FirstOutcomes.{firsts_again}
+use Rattle.sre_turns.specs.Machine.{Instruction, Spot, Move, Stop, End, Go, Split, Enter, closing_move, Limit, earlier}
+use Rattle.sre_turns.specs.Machine.{Run, StringCursor, Marks, Subject, Way, Runs, turns, Comes, stops, ends, goes}
+use Rattle.sre_turns.specs.Machine.{splits, enters, Waits, outermost, otherwise, kept, tried, Arrives, Later, spot}
+use Rattle.sre_turns.proofs.FirstOutcomes.{SameFirsts, firsts_append, firsts_begin, closes_same, firsts_again}
 use Rattle.sre_turns.proofs.Moving.{sooner}
 use Rattle.sre_turns.proofs.OneTurn.{comes}
 use Rattle.sre_turns.proofs.SameComes.{marks_apart}

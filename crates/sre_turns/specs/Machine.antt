@@ -1,33 +1,39 @@
--- The machine: the outcomes at a point of the bytecode, and what a step preserves.
+-- The machine: the outcomes at a point of the bytecode, and what a step preserves. With it come the names that its
+-- definitions speak of.
 -- Definitions for the machine's contracts; what sre_engine makes public does not rest on it.
 use Rattle.std.specs.Prelude.{⊤, ℕ, suc, ◌+◌, ◌≡◌, ◌<◌, ◌≤◌, Bool, false, List, [], ◌∷◌, ◌++◌, drop, length}
 use Rattle.std.specs.Prelude.{Option, Some, None}
 use Rattle.std.specs.List.{filter}
 use Rattle.sre_chars.specs.declared.constants.SreOpcode.{SreOpcode}
-use Rattle.sre_chars.specs.declared.string.StringCursor.{StringCursor}
+pub use Rattle.sre_chars.specs.declared.string.StringCursor.{StringCursor}
 use Rattle.sre_chars.specs.Tables.{Table}
 use Rattle.sre_model.specs.Tree.{Tree, Test, Literal, Plain}
 use Rattle.sre_model.specs.Characters.{holds}
-use Rattle.sre_model.specs.Marks.{Marks, mark_at, no_marks}
-use Rattle.sre_model.specs.Subject.{Subject, char_at, passes}
-use Rattle.sre_model.specs.Ways.{Way, first, here, ways}
-use Rattle.sre_model.specs.Runs.{Run}
+use Rattle.sre_model.specs.Marks.{mark_at, no_marks}
+pub use Rattle.sre_model.specs.Marks.{Marks}
+use Rattle.sre_model.specs.Subject.{char_at}
+pub use Rattle.sre_model.specs.Subject.{Subject, passes}
+use Rattle.sre_model.specs.Ways.{first, here, ways}
+pub use Rattle.sre_model.specs.Ways.{Way}
+pub use Rattle.sre_model.specs.Grammar.{Word, Opcode, skip}
+pub use Rattle.sre_model.specs.Runs.{Run}
 use Rattle.sre_model.specs.Standing.{TestStands}
-use Rattle.sre_turns.specs.Board.{Choice, Else, Keep, Trying, BoardValue}
+pub use Rattle.sre_turns.specs.Board.{Choice, Else, Keep, Trying, BoardValue, from_region}
 use Rattle.sre_turns.specs.Bodies.{IsConfined, MarklessRegions}
 use Rattle.sre_turns.specs.Lying.{repeats}
 use Rattle.sre_turns.specs.Confining.{ChoicesConfined, StandsConfined, BothConfined}
 use Rattle.sre_turns.specs.Fruit.{SameFruit, is_inside}
-use Rattle.sre_turns.specs.declared.Frame.{Frame}
-use Rattle.sre_turns.specs.declared.Region.TheVariants.{AtomicGroup, Ahead, NotAhead, Owed, Further}
-use Rattle.sre_turns.specs.declared.Region.{Region}
-use Rattle.sre_turns.specs.declared.Point.TheVariants.{Instruction, Again}
-use Rattle.sre_turns.specs.declared.Point.{Point}
-use Rattle.sre_turns.specs.Moves.{Spot, spot_at, closing_move}
+pub use Rattle.sre_turns.specs.declared.Frame.{Frame}
+pub use Rattle.sre_turns.specs.declared.Region.TheVariants.{AtomicGroup, Ahead, NotAhead, Owed, Further}
+pub use Rattle.sre_turns.specs.declared.Region.{Region}
+pub use Rattle.sre_turns.specs.declared.Point.TheVariants.{Instruction, Alternatives, Shorter, Longer, Inside, Again}
+pub use Rattle.sre_turns.specs.declared.Point.{Point}
+pub use Rattle.sre_turns.specs.Moves.{Spot, spot_at, Move, Stop, End, Go, Split, Enter, closing_move}
 pub use Rattle.sre_turns.specs.Turning.{InRole, MovesAt, Moves, Runs, turns, Comes, stops, ends, goes, splits, enters}
 use Rattle.sre_turns.specs.Prices.{price_of}
-use Rattle.sre_turns.specs.Settled.{Counted}
-use Rattle.sre_turns.specs.Limits.{Limit, earlier, without_open, Stage, Coming, Going, Splitting, spare, share, CodeAt}
+pub use Rattle.sre_turns.specs.Settled.{Counted}
+pub use Rattle.sre_turns.specs.Limits.{Limit, earlier}
+use Rattle.sre_turns.specs.Limits.{without_open, Stage, Coming, Going, Splitting, spare, share, CodeAt}
 use Rattle.sre_turns.specs.Limits.{HereIn, FaresAt, FaresBoth, FaresBack, FaresEnd}
 use Rattle.sre_turns.specs.declared.Next.{Next}
 use Rattle.sre_turns.specs.declared.Next.TheVariants as next
