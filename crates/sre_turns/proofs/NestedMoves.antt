@@ -1,7 +1,7 @@
 -- Each step of a configuration in the bytecode of a tree leads to configurations there.
 -- That the step bound suffices (`enough` of sre_engine) rests on this.
 use Rattle.std.proofs.Common.{◌≡◌, ℕ, ◌+◌, ◌-◌, inl, inr, Bool, true, false, cond, ◌&&◌, ◌||◌, nat_lt, nat_eq, nat_le}
-use Rattle.std.proofs.Common.{List, [], ◌∷◌, length, Option, Some, None, refl, sym, ap, ◌∙◌, subst}
+use Rattle.std.proofs.Common.{List, [], ◌∷◌, Option, Some, None, refl, sym, ap, ◌∙◌, subst}
 use Rattle.sre_chars.specs.declared.constants.SreOpcode.{SreOpcode}
 use Rattle.sre_chars.specs.declared.constants.SreOpcode.TheVariants as opcode
 use Rattle.sre_model.specs.Tree.{Tree, Empty, Then, Item, Fail, One, At, Mark, Branch, Loop, Run, PossessiveLoop}
@@ -9,8 +9,8 @@ use Rattle.sre_model.specs.Tree.{Atomic, Look, Reference, Exists, ExistsElse, Te
 use Rattle.sre_model.specs.Tree.{PossessiveRun, Order, Greedy, Lazy, Sign, Positive, Negative, Fold}
 use Rattle.sre_model.specs.Marks.{group}
 use Rattle.sre_model.specs.Subject.{Subject, passes, holds_at, same_folded}
-use Rattle.sre_model.specs.Ways.{Way, unlimited, may_repeat, longest_run, run_length}
-use Rattle.sre_model.specs.Grammar.{word, skip, Word, Opcode, Reads, ReadsItem, Operands, WholeItems, JumpsTo}
+use Rattle.sre_model.specs.Ways.{unlimited, may_repeat, longest_run, run_length}
+use Rattle.sre_model.specs.Grammar.{word, skip, Word, Opcode, Reads, ReadsItem, Operands, JumpsTo}
 use Rattle.sre_model.specs.Grammar.{test_opcode, run_opcode, look_opcode, reference_opcode, until_opcode}
 use Rattle.sre_model.specs.Roles.{Role, ToFail, ToEnd, ToTest, ToCheckPosition, ToMark, ToBranch, ToJump, ToRun}
 use Rattle.sre_model.specs.Roles.{ToRepeat, ToLoop, ToRepeatPossessively, ToGroupAtomically, ToLook, ToRefer}
@@ -18,15 +18,15 @@ use Rattle.sre_model.specs.Roles.{ToCheckGroup, role}
 use Rattle.sre_model.proofs.Words.{same_opcode, same_word, word_of}
 use Rattle.sre_model.proofs.Unique.{test_same}
 use Rattle.sre_model.proofs.Families.{test_kind, test_role, run_role, until_role, look_role, reference_role}
-use Rattle.sre_turns.specs.Moves.{Spot, to_place, into_region, Move, Stop, End, Go, Split, Enter, closing_move}
+use Rattle.sre_turns.specs.Moves.{Spot, to_place, into_region, Move, Stop, Go, Enter, closing_move}
 use Rattle.sre_turns.specs.Moves.{AlternativesMove}
 use Rattle.sre_turns.specs.MovesInRuns.{run_turn, ShorterMove, LongerMove}
 use Rattle.sre_turns.specs.MovesInLoops.{at_body, behind, in_order, AgainMove}
 use Rattle.sre_turns.specs.MovesInRegions.{look}
 use Rattle.sre_turns.specs.MovesAtReferences.{reference_turn, condition_place}
-use Rattle.sre_turns.specs.Machine.{Frame, Point, Instruction, Alternatives, Shorter, Longer, Again, Region, NotAhead}
-use Rattle.sre_turns.specs.Machine.{Further, InRole, MovesAt, Moves}
-use Rattle.sre_turns.specs.Nested.{repeats, IsAt, LiesIn, LiesInItem, Lies, Onto, Leads, ClosesAt, LeadsTo}
+use Rattle.sre_turns.specs.Machine.{Frame, Point, Instruction, Alternatives, Shorter, Longer, Again}
+use Rattle.sre_turns.specs.Machine.{InRole, MovesAt, Moves}
+use Rattle.sre_turns.specs.Nested.{repeats, IsAt, LiesIn, LiesInItem, LeadsTo}
 pub use Rattle.sre_turns.proofs.Parts.{begins}
 use Rattle.sre_turns.proofs.Parts.{branch_begins, Own, Ends, Law, lies_law, alternative, no_more, shorter, longer}
 use Rattle.sre_turns.proofs.Parts.{possessive, with_item, jump, until, success}
@@ -54,25 +54,6 @@ leads_order : (P : Point → List ℕ → Type 0) (o : Order) (y z : Spot) → P
     → P z.point (repeats z.frames) → LeadsTo P (in_order o y z)
 leads_order P Greedy y z k l = (k, l)
 leads_order P Lazy y z k l = (l, k)
-
--- where a region closes, whatever its body has
-closing : (P : Point → List ℕ → Type 0) (g : Region) (y : Spot) (now : List Way) → ClosesAt P g y.frames
-    → Onto (λ (z : Spot). P z.point (repeats z.frames)) (closing_move g y now)
-closing P (NotAhead t) y [] c = c
-closing P (NotAhead t) y (w ∷ os) c = tt
-closing P (Further t) y [] c = c.1
-closing P (Further t) y (w ∷ os) c = c.0
-closing P g y [] c = tt
-closing P g y (w ∷ os) c = c
-
--- so what a turn leads to is that of spots
-pub leads_on : (ws : List ℕ) (s : Subject) (P : Point → List ℕ → Type 0) (mv : Move) → LeadsTo P mv
-    → Leads ws s (λ (y : Spot). P y.point (repeats y.frames)) mv
-leads_on ws s P Stop h = tt
-leads_on ws s P End h = tt
-leads_on ws s P (Go y) h = h
-leads_on ws s P (Split y z) h = h
-leads_on ws s P (Enter g y z) h = (h.0, λ now n d. closing P g y now h.1)
 
 -- a spot, a turn there, and a kind of points and loops
 module _ (ws : List ℕ) (s : Subject) (x : Spot) (mv : Move) (h : Moves ws s x mv)
@@ -340,9 +321,3 @@ body_moves ws s i j t r w x mv y h =
     let P : Point → List ℕ → Type 0 = λ pt ks. LiesIn ws i j t r [] pt ks in
     lies_law ws (Led ws s x mv h P) (led ws s x mv h P) i j t r [] x.point (repeats x.frames) y (λ pt ks z. z)
     (λ z. success_leads ws s x mv h P j [] z w) (refl, refl)
-
-pub lies_moves : (ws : List ℕ) (s : Subject) (t : Tree) (w : WholeItems ws t) (x : Spot) (mv : Move) → Lies ws t w x
-    → Moves ws s x mv → Leads ws s (Lies ws t w) mv
-lies_moves ws s t w x mv y h =
-    leads_on ws s (λ pt ks. LiesIn ws 0 (length ws - 1) t w.0 [] pt ks) mv
-    (body_moves ws s 0 (length ws - 1) t w.0 w.1 x mv y h)

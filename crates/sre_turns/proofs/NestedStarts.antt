@@ -1,6 +1,6 @@
 -- A run begins at a configuration in the bytecode of its tree, also after leading literals.
 -- That the step bound suffices (`enough` of sre_engine) rests on this.
-use Rattle.std.proofs.Common.{◌≡◌, ℕ, zero, suc, ◌*◌, ◌-◌, ◌≤◌, inr, List, [], length, refl, subst, arith, sym}
+use Rattle.std.proofs.Common.{◌≡◌, ℕ, zero, suc, ◌*◌, ◌-◌, ◌≤◌, inr, List, [], length, refl, subst, arith}
 use Rattle.sre_model.specs.Tree.{Tree, Empty, Then}
 use Rattle.sre_model.specs.Prefixes.{behind_items, ReadsBehind}
 use Rattle.sre_model.specs.Grammar.{Reads, WholeItems}

@@ -6,7 +6,6 @@ use Rattle.std.specs.Prelude.{◌*◌, Bool, true, false}
 use Rattle.std.specs.List.{AllByRecursion}
 use Rattle.sre_model.specs.Tree.{Tree}
 use Rattle.sre_model.specs.Subject.{Subject}
-use Rattle.sre_model.specs.Ways.{Way}
 use Rattle.sre_model.specs.Grammar.{word, WholeItems}
 use Rattle.sre_turns.specs.declared.Frame.{Frame}
 use Rattle.sre_turns.specs.declared.Point.TheVariants.{Instruction, Again}
@@ -14,8 +13,7 @@ use Rattle.sre_turns.specs.declared.Point.{Point}
 use Rattle.sre_turns.specs.declared.Region.TheVariants.{AtomicGroup, Ahead, NotAhead, Owed, Further}
 use Rattle.sre_turns.specs.declared.Region.{Region}
 pub use Rattle.sre_turns.specs.Lying.{repeats, IsAt, LiesIn, LiesInItem, LiesInBranch}
-use Rattle.sre_turns.specs.Moves.{Spot, Move, Stop, End, Go, Split, Enter, closing_move}
-use Rattle.sre_turns.specs.Turning.{Runs}
+use Rattle.sre_turns.specs.Moves.{Spot, Move, Stop, End, Go, Split, Enter}
 use Rattle.sre_turns.specs.Alike.{least_from}
 pub use Rattle.sre_model.specs.Slots.{loop_slots, most_slots, by_slots}
 
@@ -37,22 +35,6 @@ is_again pt = false
 -- a spot lies in the words of a tree: its point and its loops do
 abbrev pub Lies : (ws : List ℕ) (t : Tree) → WholeItems ws t → Spot → Type 0
 Lies ws t w x = LiesIn ws 0 (length ws - 1) t w.0 [] x.point (repeats x.frames)
-
--- each spot to which a turn leads is one of some kind, where no region is entered
-abbrev pub Onto : (Spot → Type 0) → Move → Type 0
-Onto P Stop = ⊤
-Onto P End = ⊤
-Onto P (Go y) = P y
-Onto P (Split y z) = P y × P z
-Onto P (Enter g y z) = ⊥
-
--- the same of any turn: of a region also the spot at which one goes on when it closes
-abbrev pub Leads : List ℕ → Subject → (Spot → Type 0) → Move → Type 0
-Leads ws s P Stop = ⊤
-Leads ws s P End = ⊤
-Leads ws s P (Go y) = P y
-Leads ws s P (Split y z) = P y × P z
-Leads ws s P (Enter g y z) = P z × ((now : List Way) (n : ℕ) → Runs ws s z now n → Onto P (closing_move g y now))
 
 -- a point at which one goes on when a region closes is of some kind, under the loops under which it was entered; a
 -- possessive loop is left where a further body has no outcome
