@@ -13,7 +13,7 @@ use Rattle.sre_turns.specs.Alike.{LoopsAlike, Alike, least_from}
 use Rattle.sre_turns.specs.Moves.{Spot}
 use Rattle.sre_turns.specs.declared.Frame.{Frame}
 use Rattle.sre_turns.specs.Nested.{repeats, place_of, is_again}
-use Rattle.sre_turns.proofs.NestedPlaces.{same_point, placed_from}
+use Rattle.sre_turns.proofs.bound.NestedPlaces.{same_point, placed_from}
 use Rattle.sre_board.specs.Failures.{Kept, kept_of, Entry, HoldsNoMore, HoldsOneMore, HasSlot, Laid, radix, digit}
 use Rattle.sre_board.specs.Failures.{HasNoRow}
 use Rattle.sre_board.specs.declared.failures.Row.{Row}

@@ -5,7 +5,7 @@ use Rattle.sre_model.specs.Grammar.{Reads, Operands, WholeItems}
 use Rattle.sre_turns.specs.declared.Point.{Point}
 use Rattle.sre_turns.specs.Moves.{Spot}
 use Rattle.sre_turns.specs.Nested.{repeats, Lies}
-use Rattle.sre_turns.proofs.Parts.{Own, Ends, Law, lies_law, possessive, until, success}
+use Rattle.sre_turns.proofs.semantics.Parts.{Own, Ends, Law, lies_law, possessive, until, success}
 use Rattle.sre_board.specs.Failures.{WordsThere}
 use Rattle.sre_board.proofs.RowNumbers.{got_in}
 

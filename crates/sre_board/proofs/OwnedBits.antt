@@ -16,7 +16,7 @@ use Rattle.sre_turns.specs.declared.Point.{Point}
 use Rattle.sre_turns.specs.Nested.{place_under, Lies, LiesIn, repeats, slots}
 use Rattle.sre_model.specs.TreePrices.{cost_of}
 use Rattle.sre_turns.specs.Settled.{Counted}
-use Rattle.sre_turns.proofs.TreeCosts.{Distinct, whole_costs}
+use Rattle.sre_turns.proofs.bound.TreeCosts.{Distinct, whole_costs}
 use Rattle.sre_board.specs.Accounts.{BitOf, IsOwned, RowLies, positions_of, toll_at, charge}
 use Rattle.sre_board.specs.Apart.{IsIn, Apart}
 use Rattle.sre_board.specs.Failures.{Kept, HasSlot, RowsStay, Laid, radix, digit}

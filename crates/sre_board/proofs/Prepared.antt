@@ -9,8 +9,8 @@ use Rattle.sre_turns.specs.Attempts.{Attempt}
 use Rattle.sre_turns.specs.Moves.{Spot}
 use Rattle.sre_turns.specs.Nested.{repeats, slots, most_slots, place_of, is_again}
 use Rattle.sre_turns.specs.Settled.{Counted, SettledIn}
-use Rattle.sre_turns.proofs.NestedPlaces.{same_station, same_number, placed_from}
-use Rattle.sre_turns.proofs.NestedSlots.{slots_within}
+use Rattle.sre_turns.proofs.bound.NestedPlaces.{same_station, same_number, placed_from}
+use Rattle.sre_turns.proofs.bound.NestedSlots.{slots_within}
 use Rattle.sre_board.specs.Accounts.{Account, RowLies, Room}
 use Rattle.sre_board.specs.Ends.{EndsTable}
 use Rattle.sre_board.specs.Failures.{Kept, HasRow, HasNoRow, NewRow, Capacity, BitsStay, BitsKept, Laid, Roomy, HasBit}

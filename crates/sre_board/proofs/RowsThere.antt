@@ -3,7 +3,7 @@ use Rattle.std.proofs.Common.{◌≡◌, ℕ, ◌+◌, ◌-◌, ◌*◌, ◌/◌
 use Rattle.std.proofs.Common.{slice_get, arith}
 use Rattle.std.proofs.Math.Nat.{mul-le-mul_right}
 use Rattle.sre_turns.specs.declared.Frame.{Frame}
-use Rattle.sre_turns.proofs.NestedPlaces.{placed_from}
+use Rattle.sre_turns.proofs.bound.NestedPlaces.{placed_from}
 use Rattle.sre_turns.specs.Moves.{Spot}
 use Rattle.sre_turns.specs.Nested.{repeats, AllBegunBy, Passed, slots, place_of, is_again}
 use Rattle.sre_board.specs.declared.failures.Row.{Row}

@@ -6,7 +6,7 @@ use Rattle.sre_code.specs.declared.ascii_set.AsciiSet.{AsciiSet}
 use Rattle.sre_model.specs.Grammar.{WholeItems, behind_block}
 use Rattle.sre_model.specs.Subject.{Subject, holds_at}
 use Rattle.sre_model.specs.Tree.{Test}
-use Rattle.sre_reading.specs.AsciiSets.{TakesAscii}
+use Rattle.sre_request.specs.AsciiSets.{TakesAscii}
 use Rattle.sre_engine.specs.Beginnings.{BeginsIn, BeginsAtLines, KnowsTest, KnowsLines, has_ascii, IsAsciiOf}
 use Rattle.sre_engine.specs.Beginnings.{is_line_start}
 use Rattle.sre_engine.specs.Leading.{Wants, WantsFirst}

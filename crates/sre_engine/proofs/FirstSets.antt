@@ -13,7 +13,7 @@ use Rattle.sre_model.specs.FirstCharacters.{NoWay, NoneOf, NotPassed, TreeStands
 use Rattle.sre_model.proofs.Words.{same_word, word_of, word_within, opcode_within}
 use Rattle.sre_model.proofs.Places.{alternative_long}
 use Rattle.sre_model.proofs.FirstCharacters.{stands_up_to, only_none, or_none}
-use Rattle.sre_reading.specs.AsciiSets.{TakesAscii}
+use Rattle.sre_request.specs.AsciiSets.{TakesAscii}
 use Rattle.sre_engine.specs.Starts.{NotAmong}
 
 -- a test that takes the ASCII characters of a set alone does not pass where none of them is, and none past ASCII

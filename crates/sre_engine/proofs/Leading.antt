@@ -17,7 +17,7 @@ use Rattle.sre_model.specs.FirstCharacters.{TreeStands}
 use Rattle.sre_model.proofs.Words.{same_word, same_opcode, opcode_low}
 use Rattle.sre_model.proofs.Families.{HasRole, item_role, role_same, test_kind, test_role, run_role}
 use Rattle.sre_model.proofs.FirstCharacters.{stands_up_to, whole_stands}
-use Rattle.sre_reading.specs.AsciiSets.{TakesAscii, is_told}
+use Rattle.sre_request.specs.AsciiSets.{TakesAscii, is_told}
 use Rattle.sre_engine.specs.Beginnings.{first_test, first_code, has_ascii, IsAsciiOf}
 use Rattle.sre_engine.specs.Leading.{is_passed, IsPast, Ahead, LeadsToTest, LeadsToCode, IsTestAt, Wants, WantsFirst}
 use Rattle.sre_engine.specs.declared.engine.first_characters.First.{First}

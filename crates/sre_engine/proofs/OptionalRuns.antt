@@ -16,7 +16,7 @@ use Rattle.sre_model.proofs.Families.{HasRole, is_run, role_here}
 use Rattle.sre_model.proofs.FirstCharacters.{stands_up_to}
 use Rattle.sre_code.specs.AsciiSet.{contains}
 use Rattle.sre_code.specs.declared.ascii_set.AsciiSet.{AsciiSet}
-use Rattle.sre_reading.specs.AsciiSets.{TakesAscii}
+use Rattle.sre_request.specs.AsciiSets.{TakesAscii}
 use Rattle.sre_engine.specs.Starts.{PassesRun, NotAmong}
 use Rattle.sre_engine.proofs.FirstSets.{union_lacks, taken_bars}
 

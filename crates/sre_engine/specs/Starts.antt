@@ -13,7 +13,7 @@ use Rattle.sre_model.specs.Subject.{Subject, after, holds_at}
 use Rattle.sre_model.specs.Runs.{Run}
 use Rattle.sre_model.specs.Standing.{HasTest}
 use Rattle.sre_model.specs.FirstCharacters.{NoWay, NotPassed, TreeStands}
-use Rattle.sre_reading.specs.AsciiSets.{TakesAscii}
+use Rattle.sre_request.specs.AsciiSets.{TakesAscii}
 use Rattle.sre_engine.specs.declared.engine.first_characters.First.{First}
 use Rattle.sre_engine.specs.declared.engine.first_characters.Wanted.{Wanted}
 use Rattle.sre_engine.specs.declared.engine.first_characters.Wanted.TheVariants.{Anything, Test, Set, Characters}

@@ -14,8 +14,8 @@ use Rattle.sre_model.specs.Ways.{ways}
 use Rattle.sre_model.specs.Found.{Asked, subject_of, at_start, first_accepted}
 use Rattle.sre_code.specs.Codes.{words_of, items_of, uni_of}
 use Rattle.sre_code.specs.declared.code.Code.{Code}
-use Rattle.sre_shape.specs.Covers.{CoversStart}
-use Rattle.sre_shape.specs.Exact.{ExactTree}
+use Rattle.sre_patterns.specs.Covers.{CoversStart}
+use Rattle.sre_patterns.specs.Exact.{ExactTree}
 use Rattle.sre_patterns.specs.Patterns.{view_of}
 use Rattle.sre_patterns.specs.declared.encoding.Encoding.{Encoding}
 use Rattle.sre_automata.specs.Told.{NoneLeft, NoneUpTo}

@@ -10,10 +10,10 @@ use Rattle.sre_chars.specs.Tables.{ascii_table}
 use Rattle.sre_chars.specs.declared.constants.EmptyRule.TheVariants.{Never}
 use Rattle.sre_model.specs.Subject.{Subject, char_at}
 use Rattle.sre_patterns.specs.declared.encoding.Encoding.TheVariants.{Bytes, Ascii, Utf8}
-use Rattle.sre_shape.specs.Covers.{InBytes, InUtf8, read_utf8}
-use Rattle.sre_shape.proofs.OverBytes.{bytes-seen, bytes-places}
-use Rattle.sre_shape.proofs.OverUtf8.{utf8-seen}
-use Rattle.sre_shape.proofs.AsciiSeen.{ascii-of-utf8}
+use Rattle.sre_patterns.specs.Covers.{InBytes, InUtf8, read_utf8}
+use Rattle.sre_patterns.proofs.OverBytes.{bytes-seen, bytes-places}
+use Rattle.sre_patterns.proofs.OverUtf8.{utf8-seen}
+use Rattle.sre_patterns.proofs.AsciiSeen.{ascii-of-utf8}
 use Rattle.sre_finder.specs.Views.{SeenAs}
 
 -- bytes up to a position

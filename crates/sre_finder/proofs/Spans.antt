@@ -28,8 +28,8 @@ use Rattle.sre_request.specs.Requests.{start_of, code_of, must_advance_of, asked
 use Rattle.sre_engine.specs.Answers.{Shown, match_shown, answer_of}
 use Rattle.sre_engine.specs.Walks.{StepsTo, GoesOn}
 use Rattle.sre_engine.specs.Searches.{WalksOn}
-use Rattle.sre_shape.specs.Exact.{ExactTree}
-use Rattle.sre_shape.proofs.FirstFound.{FoundAt, found_by, none-found_by}
+use Rattle.sre_patterns.specs.Exact.{ExactTree}
+use Rattle.sre_patterns.proofs.FirstFound.{FoundAt, found_by, none-found_by}
 use Rattle.sre_patterns.proofs.SidesSeen.{rises}
 use Rattle.sre_patterns.specs.Patterns.{view_of}
 use Rattle.sre_patterns.specs.declared.encoding.Encoding.{Encoding}

@@ -9,7 +9,7 @@ use Rattle.sre_model.specs.Tree.{Tree}
 use Rattle.sre_model.specs.Grammar.{WholeItems}
 use Rattle.sre_code.specs.Codes.{items_of, uni_of}
 use Rattle.sre_code.specs.declared.code.Code.{Code}
-use Rattle.sre_shape.specs.Covers.{CoversStart}
+use Rattle.sre_patterns.specs.Covers.{CoversStart}
 use Rattle.sre_patterns.specs.Patterns.{view_of}
 use Rattle.sre_automata.specs.Told.{NoneLeft}
 use Rattle.sre_patterns.specs.declared.encoding.Encoding.{Encoding}

@@ -16,7 +16,7 @@ use Rattle.sre_code.specs.declared.code.Code.{Code}
 use Rattle.sre_request.specs.declared.request.Request.{Request}
 use Rattle.sre_request.specs.Requests.{string_of, start_of, end_of, code_of, asked_of, stands_in}
 use Rattle.sre_engine.specs.Answers.{Shown, match_shown}
-use Rattle.sre_shape.specs.Exact.{ExactTree}
+use Rattle.sre_patterns.specs.Exact.{ExactTree}
 use Rattle.sre_patterns.specs.Patterns.{view_of}
 use Rattle.sre_patterns.specs.declared.encoding.Encoding.{Encoding}
 use Rattle.sre_finder.specs.declared.span_finder.Known.{Known}

@@ -11,7 +11,7 @@ use Rattle.sre_model.specs.Roles.{role}
 use Rattle.sre_model.specs.Standing.{HasTest}
 use Rattle.sre_turns.specs.declared.Point.TheVariants.{Instruction}
 use Rattle.sre_turns.specs.Admitting.{AdmitsOnly, TestsOnly, RepeatsOnly, RunsOnly, LeadsOnly}
-use Rattle.sre_turns.proofs.Admitting.{leads_admit}
+use Rattle.sre_turns.proofs.analyses.Admitting.{leads_admit}
 
 -- a test stands where its opcode and its operand do
 pub category_here : (ws : List ℕ) (i v : ℕ) (o : SreOpcode) (code : SreCatCode) → Opcode ws i o → o ≡ opcode.CATEGORY

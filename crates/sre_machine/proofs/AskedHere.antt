@@ -10,7 +10,7 @@ use Rattle.sre_model.specs.Standing.{AreWords}
 use Rattle.sre_model.proofs.Words.{word_of, same_opcode}
 use Rattle.sre_turns.specs.AskedPlaces.{MarkRange, Lies, Within, GroupLies, MarkLeads, GroupAsked, TestLeads, AsksAt}
 use Rattle.sre_turns.specs.AskedPlaces.{AlternativesAsk}
-use Rattle.sre_turns.proofs.AskedPlaces.{whole_asks}
+use Rattle.sre_turns.proofs.analyses.AskedPlaces.{whole_asks}
 use Rattle.sre_machine.specs.declared.asked_places.AskedMarks.{AskedMarks}
 use Rattle.sre_machine.specs.declared.asked_places.AskedPlace.{AskedPlace}
 use Rattle.sre_machine.specs.AskedLists.{range_of, any_marks, asks_of, AreMarks, HaveAll, LetGo, InstructionAsks}

@@ -6,8 +6,8 @@ use Rattle.std.proofs.Common.{length, slice_get, slice_set, refl, sym, ◌∙◌
 use Rattle.sre_model.specs.Roles.{role}
 use Rattle.sre_model.specs.Standing.{AreWords}
 use Rattle.sre_turns.specs.AskedPlaces.{AreIdle, Lies, MarkRange, Within, PlacesAsk, AsksAt, AlternativesAsk}
-use Rattle.sre_turns.proofs.SameComes.{are_idle}
-use Rattle.sre_turns.proofs.AskedPlaces.{IsNarrower, IsSameBut, one_place_told, told_everywhere}
+use Rattle.sre_turns.proofs.memoization.SameComes.{are_idle}
+use Rattle.sre_turns.proofs.analyses.AskedPlaces.{IsNarrower, IsSameBut, one_place_told, told_everywhere}
 use Rattle.sre_machine.specs.declared.asked_places.AskedMarks.{AskedMarks}
 use Rattle.sre_machine.specs.declared.asked_places.AskedPlace.{AskedPlace}
 use Rattle.sre_machine.specs.AskedLists.{range_of, any_marks, asks_for_any, told_or_any, asks_of, AllAsked, AreMarks}

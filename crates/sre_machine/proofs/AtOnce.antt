@@ -9,8 +9,8 @@ use Rattle.sre_turns.specs.Board.{BoardValue}
 use Rattle.sre_turns.specs.Limits.{Limit}
 use Rattle.sre_turns.specs.Machine.{Arrives, Goes, spot}
 use Rattle.sre_turns.specs.declared.Point.{Point}
-use Rattle.sre_turns.proofs.Faring.{run_code}
-use Rattle.sre_turns.proofs.HereMoves.{here_forked}
+use Rattle.sre_turns.proofs.bound.Faring.{run_code}
+use Rattle.sre_turns.proofs.bound.HereMoves.{here_forked}
 use Rattle.sre_request.specs.declared.request.Request.{Request}
 use Rattle.sre_request.specs.Runs.{run_of}
 use Rattle.sre_machine.specs.Memos.{MemoValue}

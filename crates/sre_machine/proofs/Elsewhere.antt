@@ -8,7 +8,7 @@ use Rattle.sre_model.specs.Roles.{ToCheckPosition}
 use Rattle.sre_model.specs.Runs.{Run}
 use Rattle.sre_model.specs.Subject.{holds_at}
 use Rattle.sre_turns.specs.Machine.{Refuses}
-use Rattle.sre_turns.proofs.Moving.{at_instruction, run_nothing}
+use Rattle.sre_turns.proofs.semantics.Moving.{at_instruction, run_nothing}
 
 pub at_refuses : (r : Run) (i p : ℕ) (a : SreAtCode) → Opcode r.words i opcode.AT → Word r.words (i + 1) (at_number a)
     → holds_at r.subject a p ≡ false → Refuses r i p

@@ -16,8 +16,8 @@ use Rattle.sre_turns.specs.Machine.{Ends, Later}
 use Rattle.sre_turns.specs.Moves.{Spot}
 use Rattle.sre_turns.specs.OpenMarks.{open_spots}
 use Rattle.sre_turns.specs.declared.Next.{Next}
-use Rattle.sre_turns.proofs.FaringInRegions.{opened_first}
-use Rattle.sre_turns.proofs.Hopeless.{no_reference}
+use Rattle.sre_turns.proofs.bound.FaringInRegions.{opened_first}
+use Rattle.sre_turns.proofs.memoization.Hopeless.{no_reference}
 use Rattle.sre_board.specs.Accounts.{Account, BitOf, IsEnded, StaysEnded}
 use Rattle.sre_board.proofs.AccountLaws.{account_ends, account_same_ends}
 use Rattle.sre_board.proofs.EndsTold.{bit_numbered}

@@ -19,12 +19,13 @@ use Rattle.sre_turns.specs.Moves.{spot_at}
 use Rattle.sre_turns.specs.RunEnds.{RunsOn}
 use Rattle.sre_turns.specs.declared.Next.TheVariants as next
 use Rattle.sre_turns.specs.declared.Point.TheVariants.{Instruction}
-use Rattle.sre_turns.proofs.Moving.{both_first, both_second}
-use Rattle.sre_turns.proofs.RunEnds.{run_next, passed, pass_last}
-use Rattle.sre_turns.proofs.LazyRunEnds.{lazy_next}
-use Rattle.sre_turns.proofs.NextRuns.{greedy_both, greedy_only, greedy_short, lazy_both, lazy_only, lazy_short}
-use Rattle.sre_turns.proofs.NextRuns.{both_wait_there, possessive_on, possessive_only, possessive_short}
-use Rattle.sre_turns.proofs.StepsInRuns.{operands_within, run_there}
+use Rattle.sre_turns.proofs.semantics.Moving.{both_first, both_second}
+use Rattle.sre_turns.proofs.semantics.RunEnds.{run_next, passed, pass_last}
+use Rattle.sre_turns.proofs.semantics.LazyRunEnds.{lazy_next}
+use Rattle.sre_turns.proofs.semantics.NextRuns.{greedy_both, greedy_only, greedy_short, lazy_both, lazy_only}
+use Rattle.sre_turns.proofs.semantics.NextRuns.{lazy_short}
+use Rattle.sre_turns.proofs.semantics.NextRuns.{both_wait_there, possessive_on, possessive_only, possessive_short}
+use Rattle.sre_turns.proofs.semantics.StepsInRuns.{operands_within, run_there}
 use Rattle.sre_request.specs.declared.request.Request.{Request}
 use Rattle.sre_request.specs.Requests.{end_of}
 use Rattle.sre_request.specs.Runs.{run_of, OpcodeAt, Standing}

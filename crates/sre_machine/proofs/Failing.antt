@@ -34,7 +34,7 @@ use Rattle.sre_board.specs.Failures.{Kept, HoldsOneMore, Remembers}
 use Rattle.sre_board.proofs.Remembering.{remembers_more}
 use Rattle.sre_machine.specs.Memos.{MemoValue}
 use Rattle.sre_machine.proofs.Paying.{grants_nothing, pays_nothing, pays_less}
-use Rattle.sre_turns.proofs.BodyEnds.{end_taken}
+use Rattle.sre_turns.proofs.memoization.BodyEnds.{end_taken}
 
 -- a mark was made, or none: the machine may stand there still
 pub stays_tried : (r : Run) (point : Point) (cursor : StringCursor) (b c : BoardValue) (made : Bool)

@@ -17,7 +17,7 @@ use Rattle.sre_turns.specs.Settled.{Counted}
 use Rattle.sre_turns.specs.declared.Next.{Next}
 use Rattle.sre_turns.specs.declared.Next.TheVariants as next
 use Rattle.sre_turns.specs.declared.Point.TheVariants.{Instruction, Again}
-use Rattle.sre_turns.proofs.Faring.{run_code}
+use Rattle.sre_turns.proofs.bound.Faring.{run_code}
 use Rattle.sre_board.specs.Accounts.{most_paid}
 use Rattle.sre_board.specs.Failures.{kept_of}
 use Rattle.sre_board.proofs.AccountLaws.{account_few, account_none}
@@ -36,8 +36,8 @@ use Rattle.sre_turns.specs.Prices.{steps}
 use Rattle.sre_model.specs.TreePrices.{most_steps}
 use Rattle.sre_machine.specs.Paying.{HoldsBits, run_cost, each_of, RunStops, RunSettles, AnewStops}
 use Rattle.sre_machine.specs.Paying.{AnewSettles}
-use Rattle.sre_turns.proofs.Start.{first_limit, started, behind_has}
-use Rattle.sre_turns.proofs.SettledMoves.{settled_behind}
+use Rattle.sre_turns.proofs.semantics.Start.{first_limit, started, behind_has}
+use Rattle.sre_turns.proofs.bound.SettledMoves.{settled_behind}
 use Rattle.sre_model.specs.Marks.{no_marks}
 use Rattle.sre_model.specs.Prefixes.{behind_items, ReadsBehind}
 use Rattle.sre_model.specs.Grammar.{WholeItems}

@@ -9,7 +9,7 @@ use Rattle.sre_turns.specs.Board.{BoardValue, Trying}
 use Rattle.sre_turns.specs.Attempts.{Attempt}
 use Rattle.sre_turns.specs.Limits.{Limit, attempt, tried_spots, without_tried}
 use Rattle.sre_turns.specs.Machine.{Backs, spot}
-use Rattle.sre_turns.proofs.Faring.{newest_tried}
+use Rattle.sre_turns.proofs.bound.Faring.{newest_tried}
 use Rattle.sre_turns.specs.Fruit.{is_inside}
 use Rattle.sre_turns.specs.Moves.{spot_at}
 use Rattle.sre_turns.specs.Nested.{most_slots}

@@ -13,11 +13,11 @@ use Rattle.sre_turns.specs.Limits.{Limit}
 use Rattle.sre_turns.specs.Machine.{Goes, Later, SkipsBoth, spot}
 use Rattle.sre_turns.specs.declared.Next.TheVariants as next
 use Rattle.sre_turns.specs.declared.Point.TheVariants.{Instruction, Longer}
-use Rattle.sre_turns.proofs.LaterRuns.{later_goes}
-use Rattle.sre_turns.proofs.LazyRunEnds.{longer_stops}
-use Rattle.sre_turns.proofs.Moving.{both_first, run_nothing}
-use Rattle.sre_turns.proofs.NextRuns.{both_wait_there}
-use Rattle.sre_turns.proofs.StepsInRuns.{longer_past, operands_within}
+use Rattle.sre_turns.proofs.semantics.LaterRuns.{later_goes}
+use Rattle.sre_turns.proofs.semantics.LazyRunEnds.{longer_stops}
+use Rattle.sre_turns.proofs.semantics.Moving.{both_first, run_nothing}
+use Rattle.sre_turns.proofs.semantics.NextRuns.{both_wait_there}
+use Rattle.sre_turns.proofs.semantics.StepsInRuns.{longer_past, operands_within}
 use Rattle.sre_request.specs.declared.request.Request.{Request}
 use Rattle.sre_request.specs.Runs.{run_of, OpcodeAt}
 use Rattle.sre_machine.specs.Runs.{AreOperands}

@@ -11,8 +11,8 @@ use Rattle.sre_turns.specs.Limits.{Limit, Grants, without_tried}
 use Rattle.sre_turns.specs.Machine.{IsBack, Backs, spot}
 use Rattle.sre_turns.specs.declared.Point.{Point}
 use Rattle.sre_turns.specs.Hopeless.{Hopeless, MarksServe}
-use Rattle.sre_turns.proofs.Hopeless.{asked_by_stop}
-use Rattle.sre_turns.proofs.Trying.{tried_waits, tried_hopeless}
+use Rattle.sre_turns.proofs.memoization.Hopeless.{asked_by_stop}
+use Rattle.sre_turns.proofs.memoization.Trying.{tried_waits, tried_hopeless}
 use Rattle.sre_request.specs.declared.request.Request.{Request}
 use Rattle.sre_request.specs.Requests.{asked_of}
 use Rattle.sre_request.specs.Runs.{run_of}

@@ -25,18 +25,18 @@ use Rattle.sre_turns.specs.Nested.{repeats, place_of}
 use Rattle.sre_turns.specs.Settled.{SettledIn}
 use Rattle.sre_turns.specs.declared.Point.TheVariants.{Instruction, Again}
 use Rattle.sre_turns.specs.declared.Point.{Point}
-use Rattle.sre_turns.proofs.Faring.{run_code}
-use Rattle.sre_turns.proofs.HereMoves.{here_settled, here_forked}
-use Rattle.sre_turns.proofs.Straight.{StraightPoint, forks_never}
+use Rattle.sre_turns.proofs.bound.Faring.{run_code}
+use Rattle.sre_turns.proofs.bound.HereMoves.{here_settled, here_forked}
+use Rattle.sre_turns.proofs.memoization.Straight.{StraightPoint, forks_never}
 use Rattle.sre_machine.specs.Turns.{RefersToGroups, ForksThere, NoEndTold, BringsNoTolls, RunsOnAt, scan_at}
-use Rattle.sre_turns.proofs.GrantedTolls.{toll_few, split_few, no_toll, no_scan}
+use Rattle.sre_turns.proofs.bound.GrantedTolls.{toll_few, split_few, no_toll, no_scan}
 use Rattle.sre_turns.specs.Prices.{price_of, toll, split_toll, scan_toll}
-use Rattle.sre_turns.proofs.Hopeless.{no_reference}
-use Rattle.sre_turns.proofs.Moving.{arrived_at, arrived_once}
-use Rattle.sre_turns.proofs.OpenMarks.{none_tried}
-use Rattle.sre_turns.proofs.StepsInPossessiveLoops.{again_place}
+use Rattle.sre_turns.proofs.memoization.Hopeless.{no_reference}
+use Rattle.sre_turns.proofs.semantics.Moving.{arrived_at, arrived_once}
+use Rattle.sre_turns.proofs.memoization.OpenMarks.{none_tried}
+use Rattle.sre_turns.proofs.semantics.StepsInPossessiveLoops.{again_place}
 use Rattle.sre_turns.specs.MovesAtReferences.{HasReference}
-use Rattle.sre_turns.proofs.Trying.{trying_goes, trying_tries}
+use Rattle.sre_turns.proofs.memoization.Trying.{trying_goes, trying_tries}
 use Rattle.sre_model.proofs.Words.{opcode_within}
 use Rattle.sre_board.specs.Accounts.{Account, toll_at}
 use Rattle.sre_board.specs.Ends.{HoldsEnd}

@@ -7,7 +7,7 @@ use Rattle.sre_model.specs.Regions.{has_forked_region}
 use Rattle.sre_turns.specs.Limits.{Limit, Grants, raised}
 use Rattle.sre_turns.specs.Attempts.{Attempt}
 use Rattle.sre_turns.specs.MovesAtReferences.{HasReference}
-use Rattle.sre_turns.proofs.Hopeless.{no_reference}
+use Rattle.sre_turns.proofs.memoization.Hopeless.{no_reference}
 use Rattle.sre_board.specs.Accounts.{Account}
 use Rattle.sre_request.specs.declared.request.Request.{Request}
 use Rattle.sre_request.specs.Runs.{run_of}

@@ -12,8 +12,8 @@ use Rattle.sre_turns.specs.declared.Next.{Next}
 use Rattle.sre_turns.specs.declared.Next.TheVariants as next
 use Rattle.sre_turns.specs.declared.Point.TheVariants.{Instruction, Again}
 use Rattle.sre_machine.specs.Turns.{Proceeds}
-use Rattle.sre_turns.proofs.Faring.{run_code}
-use Rattle.sre_turns.proofs.Moving.{arrived_at}
+use Rattle.sre_turns.proofs.bound.Faring.{run_code}
+use Rattle.sre_turns.proofs.semantics.Moving.{arrived_at}
 
 -- the same where the machine is known to stand
 pub stands_at : (r : Run) (all : List Way) (turns : ℕ) (n m : Next) (b : BoardValue) → n ≡ m

@@ -10,7 +10,7 @@ use Rattle.sre_model.specs.Grammar.{Word, Opcode}
 use Rattle.sre_model.specs.Runs.{Run}
 use Rattle.sre_model.proofs.Passing.{read_passes, past_end}
 use Rattle.sre_turns.specs.Machine.{Refuses, DemandsAny}
-use Rattle.sre_turns.proofs.StepsAtItems.{literal_demands}
+use Rattle.sre_turns.proofs.semantics.StepsAtItems.{literal_demands}
 
 -- a literal that no character is does not pass
 none_passes : (s : Subject) (v from q : ℕ) → NoneIs s.text v from s.end → from ≤ q

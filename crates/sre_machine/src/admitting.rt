@@ -21,8 +21,8 @@ use sre_chars::constants::{SreCatCode, SreOpcode};
 use sre_code::ascii_set::AsciiSet;
 use sre_code::operands;
 use sre_growth::Refusal;
-use sre_reading::ascii::ascii_taken;
 use sre_request::Admitted;
+use sre_request::ascii::ascii_taken;
 use std::alloc::Allocator;
 use std::convert::TryFrom;
 

@@ -7,7 +7,7 @@ ghost use Rattle.sre_turns.specs.Admitting.{IsOutside};
 ghost use Rattle.sre_turns.specs.declared.Point.TheVariants.{Alternatives};
 ghost use Rattle.sre_turns.specs.Machine.{Exhausted};
 ghost use Rattle.sre_request.specs.Runs.{run_of};
-ghost use Rattle.sre_reading.specs.Reads.{character_at};
+ghost use Rattle.sre_request.specs.Reads.{character_at};
 ghost use Rattle.sre_machine.specs.Turns.{RefusesAt};
 
 use sre_chars::string::{StrDrive, StringCursor};

@@ -18,7 +18,7 @@ ghost use Rattle.sre_model.specs.Roles.{begins_test};
 ghost use Rattle.sre_request.specs.Requests.{end_of};
 ghost use Rattle.sre_request.specs.Runs.{run_of, OpcodeAt, TestAt};
 ghost use Rattle.sre_machine.specs.Turns.{At, Turn, AtPoint, ContinuesTo, ReadAt, RefusesAt, TurnAt};
-ghost use Rattle.sre_reading.specs.Reads.{TestStandsAt, test_takes, character_at};
+ghost use Rattle.sre_request.specs.Reads.{TestStandsAt, test_takes, character_at};
 
 use crate::barring::{bars, bars_alternatives};
 use crate::machine::{choose, opcode};
@@ -26,11 +26,10 @@ use sre_board::Board;
 use sre_chars::constants::SreOpcode;
 use sre_chars::string::{StrDrive, StringCursor};
 use sre_growth::Refusal;
-use sre_reading::one_character;
-use sre_reading::one_character::{takes, test_end};
-use sre_reading::text::read;
-use sre_reading::words::{operand, word};
-use sre_request::Request;
+use sre_request::one_character::{takes, test_end};
+use sre_request::text::read;
+use sre_request::words::{operand, word};
+use sre_request::{Request, one_character};
 use sre_turns::{Next, Point};
 use std::alloc::Allocator;
 

@@ -12,7 +12,7 @@ ghost use Rattle.sre_request.specs.Runs.{OpcodeAt, Standing, TestAt};
 ghost use Rattle.sre_machine.specs.Turns.{At, TurnOnce, AtPoint, TurnAt};
 ghost use Rattle.sre_machine.specs.EndlessRuns.{TakenAt, NotTakenAt, LacksLeast, EndsFirst, BeginsLater, IsEndlessRun};
 ghost use Rattle.sre_machine.specs.EndlessRuns.{HasOtherEnds};
-ghost use Rattle.sre_reading.specs.Reads.{WordAt};
+ghost use Rattle.sre_request.specs.Reads.{WordAt};
 
 use crate::lazy_runs::{longer, one_longer};
 use crate::machine::{opcode, refuses};
@@ -22,12 +22,11 @@ use sre_board::Board;
 use sre_chars::constants::{MAXREPEAT, SreOpcode};
 use sre_chars::string::{StrDrive, StringCursor};
 use sre_growth::Refusal;
-use sre_reading::one_character;
-use sre_reading::one_character::takes;
-use sre_reading::runs::run_up_to;
-use sre_reading::text::read;
-use sre_reading::words::{operand, word};
-use sre_request::Request;
+use sre_request::one_character::takes;
+use sre_request::runs::run_up_to;
+use sre_request::text::read;
+use sre_request::words::{operand, word};
+use sre_request::{Request, one_character};
 use sre_turns::{Next, Point};
 use std::alloc::Allocator;
 

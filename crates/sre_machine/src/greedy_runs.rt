@@ -14,10 +14,10 @@ use sre_board::Board;
 use sre_chars::constants::SreOpcode;
 use sre_chars::string::{StrDrive, StringCursor};
 use sre_growth::Refusal;
-use sre_reading::runs::longest_run;
-use sre_reading::text::{back_one, back_over};
-use sre_reading::words::{operand, word};
 use sre_request::Request;
+use sre_request::runs::longest_run;
+use sre_request::text::{back_one, back_over};
+use sre_request::words::{operand, word};
 use sre_turns::{Next, Point};
 use std::alloc::Allocator;
 

@@ -18,11 +18,10 @@ use sre_board::Board;
 use sre_chars::constants::{MAXREPEAT, SreOpcode};
 use sre_chars::string::{StrDrive, StringCursor};
 use sre_growth::Refusal;
-use sre_reading::one_character;
-use sre_reading::one_character::takes;
-use sre_reading::runs::run_up_to;
-use sre_reading::text::read;
-use sre_request::Request;
+use sre_request::one_character::takes;
+use sre_request::runs::run_up_to;
+use sre_request::text::read;
+use sre_request::{Request, one_character};
 use sre_turns::{Next, Point};
 use std::alloc::Allocator;
 

@@ -30,11 +30,11 @@ use sre_board::Board;
 use sre_chars::constants::{SreAtCode, SreOpcode};
 use sre_chars::string::{StrDrive, StringCursor};
 use sre_growth::Refusal;
-use sre_reading::one_character::{takes, takes_seldom, test_end};
-use sre_reading::position::holds_at;
-use sre_reading::text::read;
-use sre_reading::words::{operand, word};
 use sre_request::Request;
+use sre_request::one_character::{takes, takes_seldom, test_end};
+use sre_request::position::holds_at;
+use sre_request::text::read;
+use sre_request::words::{operand, word};
 use sre_turns::{Next, Point};
 use std::alloc::Allocator;
 use std::convert::TryFrom;
@@ -342,7 +342,7 @@ pub(super) fn back<S: StrDrive, A: Allocator, const KEEPS: bool>(
 
 /// Executes one instruction, which may batch loop iterations if `STRIDES` is set. Each loop of steps has its own
 /// instance, by its parameters for batches and limits. So each has one caller, and is inlined there.
-#[tactic(auto, using(sre_turns::proofs::Moving::on_board))]
+#[tactic(auto, using(sre_turns::proofs::semantics::Moving::on_board))]
 #[inline(always)]
 pub(super) fn instruction<S: StrDrive, A: Allocator, const STRIDES: bool, const LIMITED: bool>(
     req: &Request<'_, S>,

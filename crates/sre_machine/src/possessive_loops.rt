@@ -13,8 +13,8 @@ use sre_board::Board;
 use sre_chars::constants::SreOpcode;
 use sre_chars::string::{StrDrive, StringCursor};
 use sre_growth::Refusal;
-use sre_reading::words::operand;
 use sre_request::Request;
+use sre_request::words::operand;
 use sre_turns::{Frame, Next, Region};
 use std::alloc::Allocator;
 

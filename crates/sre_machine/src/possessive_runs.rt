@@ -7,8 +7,8 @@ use crate::run_operands::run_operands;
 use sre_board::Board;
 use sre_chars::constants::SreOpcode;
 use sre_chars::string::{StrDrive, StringCursor};
-use sre_reading::runs::longest_run;
 use sre_request::Request;
+use sre_request::runs::longest_run;
 use sre_turns::Next;
 use std::alloc::Allocator;
 

@@ -9,10 +9,10 @@ ghost use Rattle.sre_machine.specs.Turns.{At, Turn, AtOnBoard};
 use sre_board::{Board, LOOK_SPEED};
 use sre_chars::constants::SreOpcode;
 use sre_chars::string::{StrDrive, StringCursor};
-use sre_reading::references::is_repeated;
-use sre_reading::text::cursor_at;
-use sre_reading::words::operand;
 use sre_request::Request;
+use sre_request::references::is_repeated;
+use sre_request::text::cursor_at;
+use sre_request::words::operand;
 use sre_turns::Next;
 use std::alloc::Allocator;
 

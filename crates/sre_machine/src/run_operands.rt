@@ -12,8 +12,8 @@ ghost use Rattle.sre_machine.specs.Turns.{At, scan_at};
 use crate::machine::opcode;
 use sre_chars::constants::{MAXREPEAT, SreOpcode};
 use sre_chars::string::{StrDrive, StringCursor};
-use sre_reading::words::operand;
 use sre_request::Request;
+use sre_request::words::operand;
 
 /// The address of the repeat's tail, and the least and the greatest count of its characters.
 #[derive(Clone, Copy)]

@@ -24,9 +24,9 @@ use sre_board::Board;
 use sre_chars::constants::{MAXREPEAT, SreOpcode};
 use sre_chars::string::{StrDrive, StringCursor};
 use sre_code::ascii_set::AsciiSet;
-use sre_reading::text::read;
-use sre_reading::words::{operand, word};
 use sre_request::Request;
+use sre_request::text::read;
+use sre_request::words::{operand, word};
 use sre_turns::Frame;
 use std::alloc::Allocator;
 

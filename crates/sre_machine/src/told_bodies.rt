@@ -17,10 +17,10 @@ use crate::set_members::word_at;
 use sre_chars::constants::SreOpcode;
 use sre_chars::string::{StrDrive, StringCursor};
 use sre_code::ascii_set::AsciiSet;
-use sre_reading::ascii::ascii_taken;
-use sre_reading::one_character::test_end;
-use sre_reading::words::word;
 use sre_request::Request;
+use sre_request::ascii::ascii_taken;
+use sre_request::one_character::test_end;
+use sre_request::words::word;
 
 // The ASCII characters that a test takes, and where the machine continues: after the JUMP that ends the alternative, if
 // the test is all of it.

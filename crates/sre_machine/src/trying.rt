@@ -402,7 +402,7 @@ fn goes_on_endlessly<S: StrDrive, A: Allocator, const LIMITED: bool>(
 
 /// One instruction. The machine backtracks at once if it is known to fail, and ends the scope at once if its end is
 /// known. `scan` is set to the price of its scan, if the instruction is executed with a step limit.
-#[tactic(auto, using(sre_turns::proofs::Moving::on_board))]
+#[tactic(auto, using(sre_turns::proofs::semantics::Moving::on_board))]
 #[inline(always)]
 pub(super) fn instruction_or_back<S: StrDrive, A: Allocator, const LIMITED: bool>(
     req: &Request<'_, S>,
@@ -440,7 +440,7 @@ pub(super) fn instruction_or_back<S: StrDrive, A: Allocator, const LIMITED: bool
 
 /// A further body of the innermost loop, which is possessive, or its end. As for an instruction, a known failure or end
 /// is used at once.
-#[tactic(auto, using(sre_turns::proofs::Moving::on_board))]
+#[tactic(auto, using(sre_turns::proofs::semantics::Moving::on_board))]
 #[inline(always)]
 pub(super) fn again_or_back<S: StrDrive, A: Allocator>(
     req: &Request<'_, S>,

@@ -13,8 +13,8 @@ use crate::set_members::word_at;
 use sre_board::{Board, LOOK_SPEED};
 use sre_chars::constants::SreOpcode;
 use sre_chars::string::{StrDrive, StringCursor};
-use sre_reading::runs::longest_run;
 use sre_request::Request;
+use sre_request::runs::longest_run;
 use std::alloc::Allocator;
 use std::convert::TryFrom;
 

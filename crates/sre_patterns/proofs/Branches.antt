@@ -12,7 +12,7 @@ use Rattle.sre_model.proofs.Words.{word_of, word_within, word_past, same_word}
 use Rattle.sre_model.proofs.Places.{alternative_long}
 use Rattle.sre_model.proofs.Families.{role_here, is_branch}
 use Rattle.sre_code.specs.Codes.{uni_of}
-use Rattle.sre_shape.specs.Covers.{View}
+use Rattle.sre_patterns.specs.Covers.{View}
 use Rattle.sre_patterns.specs.declared.task.Task.{Task}
 use Rattle.sre_patterns.specs.Patterns.{view_of, alt_onto, AtItem, AtItems, HasItems, HasBranch}
 use Rattle.sre_patterns.specs.Purposes.{Serves, ServesItem}

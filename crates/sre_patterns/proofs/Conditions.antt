@@ -11,8 +11,8 @@ use Rattle.sre_model.proofs.Words.{word_past}
 use Rattle.sre_model.proofs.Families.{role_here, is_exists}
 use Rattle.sre_model.proofs.Places.{reads_within}
 use Rattle.sre_code.specs.Codes.{uni_of}
-use Rattle.sre_shape.specs.Covers.{View, Covers, IsWider}
-use Rattle.sre_shape.proofs.Composed.{covers-exists, covers-either, item-wider}
+use Rattle.sre_patterns.specs.Covers.{View, Covers, IsWider}
+use Rattle.sre_patterns.proofs.Composed.{covers-exists, covers-either, item-wider}
 use Rattle.sre_patterns.specs.declared.task.Task.{Task}
 use Rattle.sre_patterns.specs.Patterns.{view_of, AtItem, AtItems, HasItems, HasCondition}
 use Rattle.sre_patterns.specs.Purposes.{Serves, ServesItem, OnlyCovers}

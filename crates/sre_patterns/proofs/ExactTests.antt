@@ -9,9 +9,9 @@ use Rattle.regex_hir.specs.Re.{byte_in, char_in}
 use Rattle.sre_chars.specs.Tables.{Table}
 use Rattle.sre_model.specs.Tree.{Test, Literal, Plain}
 use Rattle.sre_model.specs.Characters.{holds}
-use Rattle.sre_shape.specs.Covers.{InBytes, InUtf8}
-use Rattle.sre_shape.specs.Exact.{ExactTest}
-use Rattle.sre_shape.proofs.ExactTrees.{bytes-exact, chars-exact}
+use Rattle.sre_patterns.specs.Covers.{InBytes, InUtf8}
+use Rattle.sre_patterns.specs.Exact.{ExactTest}
+use Rattle.sre_patterns.proofs.ExactTrees.{bytes-exact, chars-exact}
 use Rattle.sre_patterns.specs.Patterns.{HasBelow, HasJust}
 use Rattle.sre_patterns.specs.declared.task.Purpose.{Purpose}
 use Rattle.sre_patterns.specs.declared.task.Purpose.TheVariants as purpose

@@ -8,3 +8,17 @@ pub mod Branches
 pub mod Conditions
 pub mod SettledTests
 pub mod ExactTests
+pub mod Times
+pub mod OverBytes
+pub mod Composed
+pub mod OverUtf8
+pub mod Edges
+pub mod EdgesUtf8
+pub mod Fronts
+pub mod InOrder
+pub mod RunsInOrder
+pub mod AtPlaces
+pub mod ExactLeads
+pub mod ExactTrees
+pub mod FirstFound
+pub mod AsciiSeen

@@ -3,8 +3,8 @@ use Rattle.std.proofs.Common.{◌≡◌, ℕ, List, [], ◌∷◌, ◌++◌, ref
 use Rattle.regex_hir.specs.Re.{Re, empty, cat, alt, byte_in, literal}
 use Rattle.regex_hir.specs.Meaning.{cat_all, alt_all}
 use Rattle.regex_hir.specs.Matches.{Matches}
-use Rattle.sre_shape.proofs.OverUtf8.{literals-joined}
-use Rattle.sre_shape.specs.Covers.{IsWider}
+use Rattle.sre_patterns.proofs.OverUtf8.{literals-joined}
+use Rattle.sre_patterns.specs.Covers.{IsWider}
 use Rattle.sre_patterns.specs.Patterns.{cat_onto, alt_onto}
 
 pub wider-same : (a b : Re) → a ≡ b → IsWider a b

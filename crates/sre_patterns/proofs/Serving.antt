@@ -11,14 +11,15 @@ use Rattle.sre_model.specs.Tree.{Trees, Only, Or, Test, Order, RunKind}
 use Rattle.sre_model.specs.Roles.{role, ToRun}
 use Rattle.sre_model.specs.Grammar.{Opcode}
 use Rattle.sre_model.specs.Ways.{unlimited}
-use Rattle.sre_shape.specs.Covers.{View, Covers, CoversItem, CoversBranch}
-use Rattle.sre_shape.specs.Exact.{ExactTree, ExactItem, ExactBranch, Rises, AreKept}
-use Rattle.sre_shape.specs.Repeated.{repeated, is_greedy}
-use Rattle.sre_shape.proofs.Composed.{covers-empty, covers-then, covers-wider, covers-fail, covers-mark, covers-one}
-use Rattle.sre_shape.proofs.Composed.{covers-branch, covers-only, covers-or, covers-run, covers-loop, covers-possessive}
-use Rattle.sre_shape.proofs.Edges.{covers-look_of}
-use Rattle.sre_shape.proofs.ExactTrees.{exact-empty, exact-then, exact-fail, exact-mark, exact-one, exact-branch}
-use Rattle.sre_shape.proofs.ExactTrees.{exact-last, exact-or, exact-run, exact-loop, exact-at}
+use Rattle.sre_patterns.specs.Covers.{View, Covers, CoversItem, CoversBranch}
+use Rattle.sre_patterns.specs.Exact.{ExactTree, ExactItem, ExactBranch, Rises, AreKept}
+use Rattle.sre_patterns.specs.Repeated.{repeated, is_greedy}
+use Rattle.sre_patterns.proofs.Composed.{covers-empty, covers-then, covers-wider, covers-fail, covers-mark, covers-one}
+use Rattle.sre_patterns.proofs.Composed.{covers-branch, covers-only, covers-or, covers-run, covers-loop}
+use Rattle.sre_patterns.proofs.Composed.{covers-possessive}
+use Rattle.sre_patterns.proofs.Edges.{covers-look_of}
+use Rattle.sre_patterns.proofs.ExactTrees.{exact-empty, exact-then, exact-fail, exact-mark, exact-one, exact-branch}
+use Rattle.sre_patterns.proofs.ExactTrees.{exact-last, exact-or, exact-run, exact-loop, exact-at}
 use Rattle.sre_patterns.specs.declared.encoding.Encoding.{Encoding}
 use Rattle.sre_patterns.specs.declared.task.Purpose.{Purpose}
 use Rattle.sre_patterns.specs.declared.task.Purpose.TheVariants as purpose

@@ -2,10 +2,10 @@
 use Rattle.std.proofs.Common.{ℕ, List, refl}
 use Rattle.sre_chars.specs.declared.constants.SreAtCode.{SreAtCode}
 use Rattle.sre_model.specs.Subject.{Subject}
-use Rattle.sre_shape.specs.Exact.{Rises}
-use Rattle.sre_shape.proofs.Edges.{Sided, HoldAlike, bytes-sided, ascii-alike}
-use Rattle.sre_shape.proofs.EdgesUtf8.{utf8-sided}
-use Rattle.sre_shape.proofs.ExactTrees.{bytes-rise, utf8-rise}
+use Rattle.sre_patterns.specs.Exact.{Rises}
+use Rattle.sre_patterns.proofs.Edges.{Sided, HoldAlike, bytes-sided, ascii-alike}
+use Rattle.sre_patterns.proofs.EdgesUtf8.{utf8-sided}
+use Rattle.sre_patterns.proofs.ExactTrees.{bytes-rise, utf8-rise}
 use Rattle.sre_patterns.specs.declared.encoding.Encoding as encoding_type
 use Rattle.sre_patterns.specs.declared.encoding.Encoding.TheVariants as encoding
 use Rattle.sre_patterns.specs.Patterns.{view_of, position_in}

@@ -18,9 +18,9 @@ use Rattle.sre_model.specs.Subject.{char_at}
 use Rattle.sre_model.specs.Tree.{Test, Literal, Plain}
 use Rattle.sre_model.specs.Characters.{holds}
 use Rattle.sre_model.proofs.Words.{same_word, same_opcode}
-use Rattle.sre_shape.specs.Covers.{CoversTest, InBytes, InUtf8}
-use Rattle.sre_shape.proofs.OverBytes.{bytes-take}
-use Rattle.sre_shape.proofs.OverUtf8.{utf8-take}
+use Rattle.sre_patterns.specs.Covers.{CoversTest, InBytes, InUtf8}
+use Rattle.sre_patterns.proofs.OverBytes.{bytes-take}
+use Rattle.sre_patterns.proofs.OverUtf8.{utf8-take}
 use Rattle.sre_patterns.specs.Patterns.{HasBelow}
 
 pub scalar-most : (c : ℕ) → IsScalar c → c ≤ 1114111

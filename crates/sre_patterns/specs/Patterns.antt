@@ -10,8 +10,8 @@ use Rattle.sre_model.specs.Tree.{Tree, Item, Branch, Run, Atomic, Trees, Test, R
 use Rattle.sre_model.specs.Roles.{role, ToRun, ToRepeat, ToRepeatPossessively, ToCheckGroup}
 use Rattle.sre_model.specs.Grammar.{Opcode, item_opcode, Reads, ReadsItem}
 use Rattle.sre_model.specs.Standing.{TestStands}
-use Rattle.sre_shape.specs.Covers.{View, InBytes, InUtf8, CoversStart}
-use Rattle.sre_shape.specs.Looks.{in_ascii}
+use Rattle.sre_patterns.specs.Covers.{View, InBytes, InUtf8, CoversStart}
+use Rattle.sre_patterns.specs.Looks.{in_ascii}
 use Rattle.sre_patterns.specs.declared.encoding.Encoding as encoding_type
 use Rattle.sre_patterns.specs.declared.encoding.Encoding.TheVariants as encoding
 

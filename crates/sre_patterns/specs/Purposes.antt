@@ -10,10 +10,10 @@ use Rattle.sre_model.specs.Tree.{Tree, Item, Test, Order}
 use Rattle.sre_model.specs.Roles.{role, ToRun}
 use Rattle.sre_model.specs.Grammar.{Opcode, until_opcode}
 use Rattle.sre_code.specs.Codes.{uni_of}
-use Rattle.sre_shape.specs.Covers.{View, IsWider, Covers, CoversItem, CoversTest}
-use Rattle.sre_shape.specs.Exact.{ExactTree, ExactItem, ExactTest}
-use Rattle.sre_shape.specs.Looks.{look_of, exact_look}
-use Rattle.sre_shape.specs.Repeated.{is_greedy, kind_of}
+use Rattle.sre_patterns.specs.Covers.{View, IsWider, Covers, CoversItem, CoversTest}
+use Rattle.sre_patterns.specs.Exact.{ExactTree, ExactItem, ExactTest}
+use Rattle.sre_patterns.specs.Looks.{look_of, exact_look}
+use Rattle.sre_patterns.specs.Repeated.{is_greedy, kind_of}
 use Rattle.sre_patterns.specs.declared.task.Purpose.{Purpose}
 use Rattle.sre_patterns.specs.declared.task.Purpose.TheVariants as purpose
 use Rattle.sre_patterns.specs.declared.task.Task.{Task}

@@ -7,7 +7,7 @@ ghost use Rattle.sre_model.specs.Tree.{Test, AnyAll, Literal, Plain};
 ghost use Rattle.sre_model.specs.Grammar.{Opcode};
 ghost use Rattle.sre_model.specs.Standing.{TestStands, HasTest};
 ghost use Rattle.sre_code.specs.Codes.{items_of, uni_of};
-ghost use Rattle.sre_shape.specs.Covers.{CoversTest};
+ghost use Rattle.sre_patterns.specs.Covers.{CoversTest};
 ghost use Rattle.sre_model.specs.Characters.{holds};
 ghost use Rattle.sre_chars.specs.Tables.{Table};
 ghost use Rattle.sre_patterns.specs.Patterns.{view_of, AtTest, HasBelow, HasJust};
@@ -23,8 +23,8 @@ use regex_class::Class;
 use regex_hir::Hir;
 use sre_chars::constants::SreOpcode;
 use sre_code::Code;
-use sre_reading::one_character::{takes, test_end};
 use sre_request::Request;
+use sre_request::one_character::{takes, test_end};
 use std::alloc::{AllocError, Global};
 
 // Ranges of characters, each with its last one.

@@ -3,7 +3,7 @@
 ghost use Rattle.std.specs.Prelude.{map, OnOk, IfOk};
 ghost use Rattle.regex_hir.specs.Re.{Re, cat, alt, empty, literal};
 ghost use Rattle.regex_hir.specs.Meaning.{meaning};
-ghost use Rattle.sre_shape.specs.Covers.{IsWider};
+ghost use Rattle.sre_patterns.specs.Covers.{IsWider};
 ghost use Rattle.sre_patterns.specs.Patterns.{cat_onto};
 ghost use Rattle.sre_patterns.specs.Purposes.{Replaces};
 

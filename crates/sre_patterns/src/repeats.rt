@@ -5,8 +5,8 @@ ghost use Rattle.regex_hir.specs.Matches.{IsMinLen};
 ghost use Rattle.regex_hir.specs.Meaning.{meaning, repeat};
 ghost use Rattle.sre_model.specs.Grammar.{Word};
 ghost use Rattle.sre_code.specs.Codes.{items_of};
-ghost use Rattle.sre_shape.specs.Exact.{AreKept};
-ghost use Rattle.sre_shape.specs.Repeated as repetitions;
+ghost use Rattle.sre_patterns.specs.Exact.{AreKept};
+ghost use Rattle.sre_patterns.specs.Repeated as repetitions;
 ghost use Rattle.sre_patterns.specs.Purposes.{WhenInOrder, RunsSo, LoopsSo};
 
 use crate::fault::Fault;

@@ -10,8 +10,8 @@ ghost use Rattle.sre_patterns.specs.Patterns.{HasItem};
 
 use sre_chars::constants::{SreAtCode, SreOpcode};
 use sre_code::{Code, operands};
-use sre_reading::one_character::opcode;
 use sre_request::Request;
+use sre_request::one_character::opcode;
 use std::convert::TryFrom;
 
 /// The code word at an address.

@@ -1,3 +1,6 @@
 pub mod Admitting
 pub mod Requests
 pub mod Runs
+pub mod AsciiSets
+pub mod Stretches
+pub mod Reads

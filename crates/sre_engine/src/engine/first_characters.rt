@@ -10,7 +10,7 @@ ghost use Rattle.sre_model.specs.Standing.{HasTest};
 ghost use Rattle.sre_model.specs.FirstCharacters.{NoWay, NoneOf, NotPassed, Leads};
 ghost use Rattle.sre_model.specs.FirstCharacters.{TreeStands, HasTree, HasAlternatives};
 ghost use Rattle.sre_model.specs.Roles.{begins_test};
-ghost use Rattle.sre_reading.specs.AsciiSets.{TakesAscii};
+ghost use Rattle.sre_request.specs.AsciiSets.{TakesAscii};
 ghost use Rattle.sre_code.specs.Codes.{words_of};
 ghost use Rattle.sre_engine.specs.Beginnings.{BeginsIn, BeginsAtLines, KnowsTest, KnowsLines};
 ghost use Rattle.sre_engine.specs.Beginnings.{first_test, has_ascii, IsAsciiOf, is_line_start};
@@ -22,7 +22,7 @@ use sre_chars::constants::{SreAtCode, SreOpcode};
 use sre_code::Code;
 use sre_code::ascii_set::AsciiSet;
 use sre_code::operands::{operand, word};
-use sre_reading::ascii::ascii_taken;
+use sre_request::ascii::ascii_taken;
 use std::convert::TryFrom;
 
 /// What is required of the character at a position.

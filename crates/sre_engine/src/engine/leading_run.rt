@@ -15,11 +15,11 @@ ghost use Rattle.sre_engine.specs.Starts.{NoneUntil, PassesTo};
 use crate::engine::first_characters::is_test;
 use sre_chars::constants::{MAXREPEAT, SreOpcode};
 use sre_chars::string::{StrDrive, StringCursor};
-use sre_reading::one_character::{opcode, takes, test_end};
-use sre_reading::runs::longest_run;
-use sre_reading::text::read;
-use sre_reading::words::{operand, word};
 use sre_request::Request;
+use sre_request::one_character::{opcode, takes, test_end};
+use sre_request::runs::longest_run;
+use sre_request::text::read;
+use sre_request::words::{operand, word};
 use std::convert::TryFrom;
 
 /// A repeat without a greatest count at the front of the bytecode: the address of its test, and that of the single test

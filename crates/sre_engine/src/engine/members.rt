@@ -13,8 +13,8 @@ use sre_chars::string::{StrDrive, StringCursor};
 use sre_code::ascii_members::ascii_members;
 use sre_code::ascii_set::AsciiSet;
 use sre_code::members::is_member;
-use sre_reading::text::read;
 use sre_request::Request;
+use sre_request::text::read;
 
 // The ASCII characters of the first set, if its items define them directly.
 #[inline(always)]

@@ -9,10 +9,10 @@ use crate::engine::first_characters::{First, Wanted};
 use sre_chars::constants::SreAtCode;
 use sre_chars::string::{StrDrive, StringCursor};
 use sre_code::ascii_set::AsciiSet;
-use sre_reading::position::holds_at;
-use sre_reading::runs::first_taken;
-use sre_reading::text::{back_by, cursor_at, read};
 use sre_request::Request;
+use sre_request::position::holds_at;
+use sre_request::runs::first_taken;
+use sre_request::text::{back_by, cursor_at, read};
 
 // The cursor `back` characters back. The text is not read if `back` is 0.
 #[inline(always)]

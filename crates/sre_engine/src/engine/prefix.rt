@@ -16,8 +16,8 @@ ghost use Rattle.sre_engine.specs.Scans.{Overlapping, FirstSame, ScanIsAt, ScanG
 
 use crate::engine::next_start::looked_at;
 use sre_chars::string::{StrDrive, StringCursor};
-use sre_reading::text::{back_by, read};
 use sre_request::Request;
+use sre_request::text::{back_by, read};
 
 /// The words of a prefix and their overlap words.
 #[derive(Clone, Copy)]

@@ -1,8 +1,8 @@
 use Rattle.std.proofs.Common.{sym}
 use Rattle.sre_model.proofs.CodesRead.{word_known}
 use Rattle.sre_request.specs.Runs.{run_of}
-use Rattle.sre_turns.proofs.Moving.{reached_within}
-use Rattle.sre_turns.proofs.StepsAtItems.{jump_continues}
+use Rattle.sre_turns.proofs.semantics.Moving.{reached_within}
+use Rattle.sre_turns.proofs.semantics.StepsAtItems.{jump_continues}
 use Rattle.sre_machine.proofs.branches.behind_jump.Goals as goal
 
 pub word-requires : goal.word-requires

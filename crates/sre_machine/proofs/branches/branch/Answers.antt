@@ -1,7 +1,7 @@
 use Rattle.std.proofs.Common.{arith}
 use Rattle.sre_request.specs.Runs.{run_of}
-use Rattle.sre_turns.proofs.StepsInBranches.{branch_run, branch_step}
-use Rattle.sre_turns.proofs.GoingBack.{later_again}
+use Rattle.sre_turns.proofs.semantics.StepsInBranches.{branch_run, branch_step}
+use Rattle.sre_turns.proofs.semantics.GoingBack.{later_again}
 use Rattle.sre_machine.proofs.branches.branch.Goals as goal
 
 pub overflow_add-place : goal.overflow_add-place

@@ -1,8 +1,8 @@
 use Rattle.std.proofs.Common.{arith}
 use Rattle.sre_request.specs.Runs.{run_of}
-use Rattle.sre_turns.proofs.Moving.{continues_exhausted, continues_then, continues_run}
-use Rattle.sre_turns.proofs.StepsInBranches.{alternatives_there, alternatives_run, alternatives_exhausted}
-use Rattle.sre_turns.proofs.StepsInBranches.{alternatives_pass, positive}
+use Rattle.sre_turns.proofs.semantics.Moving.{continues_exhausted, continues_then, continues_run}
+use Rattle.sre_turns.proofs.semantics.StepsInBranches.{alternatives_there, alternatives_run, alternatives_exhausted}
+use Rattle.sre_turns.proofs.semantics.StepsInBranches.{alternatives_pass, positive}
 use Rattle.sre_machine.proofs.branches.first_alternative.Goals as goal
 
 pub word-length-requires : goal.word-length-requires

@@ -3,9 +3,9 @@ use Rattle.sre_turns.specs.Machine.{Continues}
 use Rattle.sre_turns.specs.declared.Point.TheVariants.{Instruction}
 use Rattle.sre_model.proofs.Words.{word_of}
 use Rattle.sre_request.specs.Runs.{run_of}
-use Rattle.sre_turns.proofs.Moving.{continues_then, continues_run}
-use Rattle.sre_turns.proofs.StepsInBranches.{alternatives_run}
-use Rattle.sre_turns.proofs.Strides.{only_yields}
+use Rattle.sre_turns.proofs.semantics.Moving.{continues_then, continues_run}
+use Rattle.sre_turns.proofs.semantics.StepsInBranches.{alternatives_run}
+use Rattle.sre_turns.proofs.semantics.Strides.{only_yields}
 use Rattle.sre_machine.proofs.branches.only_alternative.Goals as goal
 
 pub first_alternative-requires-2-clause-stands : goal.first_alternative-requires-2-clause-stands

@@ -2,7 +2,7 @@ use Rattle.std.proofs.Common.{◌≡◌, ◌+◌, subst, arith}
 use Rattle.std.proofs.lemmas.Bool.Decides.{nat_tests}
 use Rattle.sre_model.specs.Grammar.{Word}
 use Rattle.sre_request.specs.Runs.{run_of}
-use Rattle.sre_turns.proofs.StepsInRuns.{operands_within}
+use Rattle.sre_turns.proofs.semantics.StepsInRuns.{operands_within}
 use Rattle.sre_machine.proofs.endless_runs.goes_on_lazily.Goals as goal
 
 pub word-requires : goal.word-requires

@@ -3,7 +3,7 @@ use Rattle.std.proofs.lemmas.Bool.Decides.{nat_tests}
 use Rattle.sre_model.specs.Tree.{GreedyRun, LazyRun, PossessiveRun}
 use Rattle.sre_model.proofs.Words.{same_word}
 use Rattle.sre_request.specs.Runs.{run_of}
-use Rattle.sre_turns.proofs.StepsInRuns.{run_there, operands_within}
+use Rattle.sre_turns.proofs.semantics.StepsInRuns.{run_there, operands_within}
 use Rattle.sre_machine.proofs.EndlessRuns.{endless_there}
 use Rattle.sre_machine.proofs.endless_runs.is_endless_run.Goals as goal
 

@@ -1,8 +1,8 @@
 use Rattle.std.proofs.Common.{◌<◌, ◌≤◌, ◌+◌, sym, ◌∙◌, arith}
 use Rattle.sre_request.specs.Runs.{run_of}
 use Rattle.sre_model.proofs.Passing.{stands_at_own}
-use Rattle.sre_turns.proofs.StepsInRuns.{longer_past, longer_full, longer_end, longer_unlike}
-use Rattle.sre_turns.proofs.StepsInRuns.{longer_skips, longer_passes}
+use Rattle.sre_turns.proofs.semantics.StepsInRuns.{longer_past, longer_full, longer_end, longer_unlike}
+use Rattle.sre_turns.proofs.semantics.StepsInRuns.{longer_skips, longer_passes}
 use Rattle.sre_machine.proofs.lazy_runs.one_longer.Goals as goal
 
 pub returns-then-not-may_grow-clause-longer : goal.returns-then-not-may_grow-clause-longer

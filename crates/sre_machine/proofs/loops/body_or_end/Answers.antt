@@ -3,9 +3,9 @@ use Rattle.sre_model.specs.Tree.{Greedy}
 use Rattle.sre_turns.specs.MovesInLoops.{next_frame}
 use Rattle.sre_turns.specs.Machine.{with_loop}
 use Rattle.sre_request.specs.Runs.{run_of}
-use Rattle.sre_turns.proofs.StepsInLoops.{until_refused, until_alone, until_greedy, saved_on, entered_on}
-use Rattle.sre_turns.proofs.StepsInLoops.{until_operands}
-use Rattle.sre_turns.proofs.Strides.{body_reached, in_loop}
+use Rattle.sre_turns.proofs.semantics.StepsInLoops.{until_refused, until_alone, until_greedy, saved_on, entered_on}
+use Rattle.sre_turns.proofs.semantics.StepsInLoops.{until_operands}
+use Rattle.sre_turns.proofs.semantics.Strides.{body_reached, in_loop}
 use Rattle.sre_machine.proofs.loops.body_or_end.Goals as goal
 
 pub operand-greatest-requires : goal.operand-greatest-requires

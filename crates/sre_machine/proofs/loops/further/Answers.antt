@@ -3,9 +3,9 @@ use Rattle.sre_model.specs.Tree.{Greedy}
 use Rattle.sre_turns.specs.Machine.{with_loop}
 use Rattle.sre_request.specs.Requests.{asked_of}
 use Rattle.sre_request.specs.Runs.{run_of}
-use Rattle.sre_turns.proofs.Hopeless.{asked_by_stop}
-use Rattle.sre_turns.proofs.StepsInLoops.{until_below, until_done, entered_on, until_operands}
-use Rattle.sre_turns.proofs.WaitingTwice.{later_dropped}
+use Rattle.sre_turns.proofs.memoization.Hopeless.{asked_by_stop}
+use Rattle.sre_turns.proofs.semantics.StepsInLoops.{until_below, until_done, entered_on, until_operands}
+use Rattle.sre_turns.proofs.memoization.WaitingTwice.{later_dropped}
 use Rattle.sre_machine.proofs.Failing.{plain_words}
 use Rattle.sre_machine.proofs.loops.further.Goals as goal
 

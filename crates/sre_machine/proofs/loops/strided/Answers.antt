@@ -1,5 +1,5 @@
 use Rattle.sre_request.specs.Runs.{run_of}
-use Rattle.sre_turns.proofs.Strides.{strides_at, strides_goes}
+use Rattle.sre_turns.proofs.semantics.Strides.{strides_at, strides_goes}
 use Rattle.sre_machine.proofs.loops.strided.Goals as goal
 
 pub stride_on-end-requires-clause-ends : goal.stride_on-end-requires-clause-ends

@@ -1,5 +1,5 @@
 use Rattle.sre_request.specs.Runs.{run_of}
-use Rattle.sre_turns.proofs.Moving.{both_choose}
+use Rattle.sre_turns.proofs.semantics.Moving.{both_choose}
 use Rattle.sre_machine.proofs.machine.choose.Goals as goal
 
 pub returns : goal.returns

@@ -4,10 +4,10 @@ use Rattle.sre_turns.specs.Board.{choice}
 use Rattle.sre_turns.specs.declared.Point.TheVariants.{Instruction, Alternatives, Shorter, Longer, Again}
 use Rattle.sre_request.specs.Runs.{run_of}
 use Rattle.sre_turns.specs.Limits.{earlier}
-use Rattle.sre_turns.proofs.Faring.{alternatives_free, shorter_free, longer_free}
-use Rattle.sre_turns.proofs.GoingBack.{back_none, back_arrives, back_at, back_run, back_region}
-use Rattle.sre_turns.proofs.GoingBack.{later_again}
-use Rattle.sre_turns.proofs.Faring.{nothing_waits}
+use Rattle.sre_turns.proofs.bound.Faring.{alternatives_free, shorter_free, longer_free}
+use Rattle.sre_turns.proofs.semantics.GoingBack.{back_none, back_arrives, back_at, back_run, back_region}
+use Rattle.sre_turns.proofs.semantics.GoingBack.{later_again}
+use Rattle.sre_turns.proofs.bound.Faring.{nothing_waits}
 use Rattle.sre_machine.proofs.Keeping.{pays_kept}
 use Rattle.sre_machine.proofs.MarksPassed.{passed_still, passed_failed, passed_back, only_kept}
 use Rattle.sre_machine.proofs.machine.newest_choice.Goals as goal

@@ -1,5 +1,5 @@
 use Rattle.sre_request.specs.Runs.{run_of}
-use Rattle.sre_turns.proofs.Moving.{reached_within}
+use Rattle.sre_turns.proofs.semantics.Moving.{reached_within}
 use Rattle.sre_machine.proofs.machine.opcode.Goals as goal
 
 pub word-requires : goal.word-requires

@@ -3,7 +3,7 @@ use Rattle.sre_turns.specs.declared.Point.TheVariants.{Instruction}
 use Rattle.sre_turns.specs.Machine.{Advances}
 use Rattle.sre_turns.specs.declared.Next.TheVariants as next
 use Rattle.sre_request.specs.Runs.{run_of}
-use Rattle.sre_turns.proofs.StepsAtItems.{test_there, test_read, test_unlike, test_past}
+use Rattle.sre_turns.proofs.semantics.StepsAtItems.{test_there, test_read, test_unlike, test_past}
 use Rattle.sre_machine.proofs.machine.seldom_test.Goals as goal
 
 pub returns-then-position-end : goal.returns-then-position-end

@@ -1,9 +1,9 @@
 use Rattle.std.proofs.Common.{sym, ap, ◌∙◌, Some, arith}
 use Rattle.sre_turns.specs.MovesInLoops.{next_frame}
 use Rattle.sre_request.specs.Runs.{run_of}
-use Rattle.sre_turns.proofs.StepsInPossessiveLoops.{InPossessiveLoop, again_done, again_owed, again_further}
-use Rattle.sre_turns.proofs.StepsInPossessiveLoops.{begun_board}
-use Rattle.sre_turns.proofs.StepsInPossessiveLoops.{again_operands}
+use Rattle.sre_turns.proofs.semantics.StepsInPossessiveLoops.{InPossessiveLoop, again_done, again_owed, again_further}
+use Rattle.sre_turns.proofs.semantics.StepsInPossessiveLoops.{begun_board}
+use Rattle.sre_turns.proofs.semantics.StepsInPossessiveLoops.{again_operands}
 use Rattle.sre_machine.proofs.possessive_loops.again.Goals as goal
 
 pub returns-then-frame-least : goal.returns-then-frame-least

@@ -1,5 +1,5 @@
 use Rattle.sre_request.specs.Runs.{run_of}
-use Rattle.sre_turns.proofs.StepsInPossessiveLoops.{possessive_step}
+use Rattle.sre_turns.proofs.semantics.StepsInPossessiveLoops.{possessive_step}
 use Rattle.sre_machine.proofs.possessive_loops.possessive_repeat.Goals as goal
 
 pub returns : goal.returns

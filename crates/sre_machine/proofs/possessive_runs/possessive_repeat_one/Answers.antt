@@ -1,7 +1,7 @@
 use Rattle.sre_model.specs.Tree.{PossessiveRun}
 use Rattle.sre_request.specs.Runs.{run_of}
-use Rattle.sre_turns.proofs.StepsInRuns.{run_there}
-use Rattle.sre_turns.proofs.StepsInPossessiveRuns.{longest_short, longest_step}
+use Rattle.sre_turns.proofs.semantics.StepsInRuns.{run_there}
+use Rattle.sre_turns.proofs.semantics.StepsInPossessiveRuns.{longest_short, longest_step}
 use Rattle.sre_machine.proofs.possessive_runs.possessive_repeat_one.Goals as goal
 
 pub run_operands-operands-requires : goal.run_operands-operands-requires

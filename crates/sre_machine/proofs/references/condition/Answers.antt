@@ -1,6 +1,6 @@
 use Rattle.std.proofs.Common.{sym, ◌∙◌}
 use Rattle.sre_request.specs.Runs.{run_of}
-use Rattle.sre_turns.proofs.StepsAtReferences.{condition_present, condition_absent}
+use Rattle.sre_turns.proofs.semantics.StepsAtReferences.{condition_present, condition_absent}
 use Rattle.sre_machine.proofs.references.condition.Goals as goal
 
 pub returns-in-Some : goal.returns-in-Some

@@ -1,10 +1,11 @@
 use Rattle.std.proofs.Common.{◌≡◌, ◌-◌, true, false, sym, subst, ◌∙◌}
 use Rattle.sre_model.specs.Subject.{same_folded}
 use Rattle.sre_request.specs.Runs.{run_of}
-use Rattle.sre_turns.proofs.Moving.{on_board}
-use Rattle.sre_turns.proofs.StepsAtReferences.{reference_there, reference_missing, reference_past, reference_unlike}
-use Rattle.sre_turns.proofs.StepsAtReferences.{reference_step}
-use Rattle.sre_turns.proofs.StepsAtReferences.{reference_operand}
+use Rattle.sre_turns.proofs.semantics.Moving.{on_board}
+use Rattle.sre_turns.proofs.semantics.StepsAtReferences.{reference_there, reference_missing, reference_past}
+use Rattle.sre_turns.proofs.semantics.StepsAtReferences.{reference_unlike}
+use Rattle.sre_turns.proofs.semantics.StepsAtReferences.{reference_step}
+use Rattle.sre_turns.proofs.semantics.StepsAtReferences.{reference_operand}
 use Rattle.sre_machine.proofs.references.reference.Goals as goal
 
 pub returns-in_default : goal.returns-in_default

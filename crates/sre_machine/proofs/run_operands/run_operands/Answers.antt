@@ -1,7 +1,7 @@
 use Rattle.std.proofs.Common.{◌+◌, ap, sym, arith}
 use Rattle.sre_model.proofs.Words.{word_of}
 use Rattle.sre_request.specs.Runs.{run_of}
-use Rattle.sre_turns.proofs.StepsInRuns.{operands_within}
+use Rattle.sre_turns.proofs.semantics.StepsInRuns.{operands_within}
 use Rattle.sre_machine.proofs.run_operands.run_operands.Goals as goal
 
 pub operand-skip-requires : goal.operand-skip-requires

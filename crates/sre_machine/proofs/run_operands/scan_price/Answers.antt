@@ -3,8 +3,8 @@ use Rattle.sre_model.specs.Tree.{GreedyRun, LazyRun, PossessiveRun}
 use Rattle.sre_request.specs.Requests.{end_of}
 use Rattle.sre_request.specs.Runs.{run_of}
 use Rattle.sre_turns.specs.Prices.{scan_by}
-use Rattle.sre_turns.proofs.Steps.{role_there}
-use Rattle.sre_turns.proofs.StepsInRuns.{run_there}
+use Rattle.sre_turns.proofs.bound.Steps.{role_there}
+use Rattle.sre_turns.proofs.semantics.StepsInRuns.{run_there}
 use Rattle.sre_chars.specs.declared.constants.SreOpcode.TheVariants as opcode
 use Rattle.sre_machine.proofs.run_operands.scan_price.Goals as goal
 

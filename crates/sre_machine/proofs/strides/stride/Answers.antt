@@ -7,8 +7,8 @@ use Rattle.sre_turns.specs.Strides.{Strides, MayRepeat}
 use Rattle.sre_turns.specs.declared.Frame.{Frame}
 use Rattle.sre_turns.specs.declared.Point.TheVariants.{Alternatives}
 use Rattle.sre_request.specs.Runs.{run_of}
-use Rattle.sre_turns.proofs.StepsInBranches.{branch_run}
-use Rattle.sre_turns.proofs.Strides.{strides_none, strides_on, strides_ends, repeats_on, body_reached}
+use Rattle.sre_turns.proofs.semantics.StepsInBranches.{branch_run}
+use Rattle.sre_turns.proofs.semantics.Strides.{strides_none, strides_on, strides_ends, repeats_on, body_reached}
 use Rattle.sre_machine.proofs.strides.stride.Goals as goal
 
 pub body-init : goal.body-init

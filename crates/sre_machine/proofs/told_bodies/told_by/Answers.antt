@@ -4,10 +4,10 @@ use Rattle.sre_model.specs.Grammar.{Word, Opcode}
 use Rattle.sre_model.specs.Standing.{HasTest}
 use Rattle.sre_code.specs.AsciiSet.{contains}
 use Rattle.sre_code.specs.Codes.{items_of}
-use Rattle.sre_reading.specs.AsciiSets.{TakesAscii}
+use Rattle.sre_request.specs.AsciiSets.{TakesAscii}
 use Rattle.sre_request.specs.Runs.{run_of}
-use Rattle.sre_turns.proofs.StepsAtItems.{test_there}
-use Rattle.sre_turns.proofs.Strides.{tells_test}
+use Rattle.sre_turns.proofs.semantics.StepsAtItems.{test_there}
+use Rattle.sre_turns.proofs.semantics.Strides.{tells_test}
 use Rattle.sre_machine.proofs.told_bodies.told_by.Goals as goal
 
 pub ascii_taken-requires : goal.ascii_taken-requires

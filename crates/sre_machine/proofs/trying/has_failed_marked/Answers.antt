@@ -3,7 +3,7 @@ use Rattle.std.proofs.lemmas.Bool.{true≢false}
 use Rattle.sre_code.specs.Codes.{items_of}
 use Rattle.sre_turns.specs.Fruit.{is_inside}
 use Rattle.sre_turns.specs.Machine.{spot}
-use Rattle.sre_turns.proofs.Trying.{hopeless_left}
+use Rattle.sre_turns.proofs.memoization.Trying.{hopeless_left}
 use Rattle.sre_request.specs.Runs.{run_of}
 use Rattle.sre_board.specs.Failures.{Holds}
 use Rattle.sre_board.proofs.Remembering.{remembers_still}

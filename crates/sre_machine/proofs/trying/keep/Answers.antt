@@ -3,7 +3,7 @@ use Rattle.sre_code.specs.Codes.{items_of}
 use Rattle.sre_model.specs.Marks.{no_marks}
 use Rattle.sre_machine.proofs.Failing.{fails_kept}
 use Rattle.sre_request.specs.Runs.{run_of}
-use Rattle.sre_turns.proofs.Hopeless.{no_reference}
+use Rattle.sre_turns.proofs.memoization.Hopeless.{no_reference}
 use Rattle.sre_machine.proofs.Recalling.{recalls_kept}
 use Rattle.sre_machine.proofs.Keeping.{holds_tried}
 use Rattle.sre_machine.proofs.trying.keep.Goals as goal

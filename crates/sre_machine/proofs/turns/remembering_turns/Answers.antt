@@ -4,7 +4,7 @@ use Rattle.sre_turns.specs.Machine.{StandsWithin}
 use Rattle.sre_turns.specs.declared.Next.TheVariants as next
 use Rattle.sre_model.proofs.TurnBounds.{turn_spent, last_spent}
 use Rattle.sre_request.specs.Runs.{run_of}
-use Rattle.sre_turns.proofs.Start.{accepted_first, refused_over}
+use Rattle.sre_turns.proofs.semantics.Start.{accepted_first, refused_over}
 use Rattle.sre_machine.proofs.Recalling.{recalls_waited}
 use Rattle.sre_machine.specs.Allowances.{left_of}
 use Rattle.sre_machine.specs.Memos.{MemoValue}

@@ -1,7 +1,7 @@
 use Rattle.std.proofs.Common.{arith}
 use Rattle.sre_turns.specs.declared.Next.TheVariants as next
 use Rattle.sre_request.specs.Runs.{run_of}
-use Rattle.sre_turns.proofs.Start.{accepted_first, refused_over}
+use Rattle.sre_turns.proofs.semantics.Start.{accepted_first, refused_over}
 use Rattle.sre_machine.proofs.Taken.{stands_at, instruction_taken, later_taken, again_taken}
 use Rattle.sre_machine.proofs.turns.turns.Goals as goal
 

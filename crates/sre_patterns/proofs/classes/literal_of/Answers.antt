@@ -1,4 +1,4 @@
-use Rattle.sre_shape.proofs.OverUtf8.{utf8-literal}
+use Rattle.sre_patterns.proofs.OverUtf8.{utf8-literal}
 use Rattle.sre_patterns.proofs.Tests.{bytes-literal}
 use Rattle.sre_patterns.proofs.classes.literal_of.Goals as goal
 

@@ -2,7 +2,7 @@ use Rattle.std.proofs.Common.{sym, subst}
 use Rattle.regex_hir.specs.Meaning.{meaning}
 use Rattle.sre_model.specs.Grammar.{Opcode}
 use Rattle.sre_code.specs.Codes.{items_of, uni_of}
-use Rattle.sre_shape.specs.Covers.{CoversTest}
+use Rattle.sre_patterns.specs.Covers.{CoversTest}
 use Rattle.sre_patterns.specs.Patterns.{view_of}
 use Rattle.sre_patterns.proofs.Tests.{plain-literal}
 use Rattle.sre_patterns.proofs.classes.pattern_of.Goals as goal

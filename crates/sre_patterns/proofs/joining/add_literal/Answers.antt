@@ -4,7 +4,7 @@ use Rattle.regex_hir.specs.Re.{Re, literal, cat}
 use Rattle.regex_hir.specs.Meaning.{meaning}
 use Rattle.regex_hir.specs.declared.hir.Hir.TheVariants as hir
 use Rattle.regex_hir.proofs.MeaningLemmas.{meaning-Literal}
-use Rattle.sre_shape.specs.Covers.{IsWider}
+use Rattle.sre_patterns.specs.Covers.{IsWider}
 use Rattle.sre_patterns.specs.Patterns.{cat_onto}
 use Rattle.sre_patterns.proofs.Onto.{cat-last, wider-same, literals-join}
 use Rattle.sre_patterns.proofs.joining.add_literal.Goals as goal

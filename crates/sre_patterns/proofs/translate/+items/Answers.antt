@@ -7,9 +7,9 @@ use Rattle.regex_hir.proofs.MeaningLemmas.{meaning-Empty, meaning-Bytes, meaning
 use Rattle.sre_model.specs.Tree.{Atomic, Look, Reference}
 use Rattle.sre_model.specs.Grammar.{Word, Opcode, skip}
 use Rattle.sre_code.specs.Codes.{items_of, uni_of}
-use Rattle.sre_shape.specs.Covers.{IsWider}
-use Rattle.sre_shape.specs.Repeated.{repeated}
-use Rattle.sre_shape.proofs.Composed.{covers-atomic, covers-look, covers-reference}
+use Rattle.sre_patterns.specs.Covers.{IsWider}
+use Rattle.sre_patterns.specs.Repeated.{repeated}
+use Rattle.sre_patterns.proofs.Composed.{covers-atomic, covers-look, covers-reference}
 use Rattle.sre_patterns.specs.Patterns.{view_of, cat_onto, HasItems}
 use Rattle.sre_patterns.specs.Purposes.{Serves, ServesItem}
 use Rattle.sre_patterns.proofs.Onto.{alt-all}

@@ -2,8 +2,8 @@ use Rattle.std.proofs.Common.{map, arith}
 use Rattle.regex_hir.specs.Re.{cat, empty}
 use Rattle.regex_hir.specs.Meaning.{meaning}
 use Rattle.sre_code.specs.Codes.{items_of, uni_of}
-use Rattle.sre_shape.specs.Covers.{CoversItem, CoversStart}
-use Rattle.sre_shape.proofs.Fronts.{start-empty, start-then, start-wider}
+use Rattle.sre_patterns.specs.Covers.{CoversItem, CoversStart}
+use Rattle.sre_patterns.proofs.Fronts.{start-empty, start-then, start-wider}
 use Rattle.sre_patterns.specs.Patterns.{view_of, cat_onto}
 use Rattle.sre_patterns.proofs.Sequences.{no-jump, item-long, word-next, item-next, more}
 use Rattle.sre_patterns.proofs.translate.front.Goals as goal

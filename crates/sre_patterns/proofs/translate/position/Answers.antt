@@ -3,7 +3,7 @@ use Rattle.regex_hir.specs.Re.{empty, look}
 use Rattle.regex_hir.proofs.MeaningLemmas.{meaning-Look}
 use Rattle.sre_model.specs.Tree.{At}
 use Rattle.sre_code.specs.Codes.{items_of, uni_of}
-use Rattle.sre_shape.proofs.Composed.{covers-at}
+use Rattle.sre_patterns.proofs.Composed.{covers-at}
 use Rattle.sre_patterns.specs.Patterns.{view_of}
 use Rattle.sre_patterns.specs.Purposes.{ServesItem, look_for}
 use Rattle.sre_patterns.proofs.Items.{positions}

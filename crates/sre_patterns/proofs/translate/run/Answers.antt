@@ -1,7 +1,7 @@
 use Rattle.std.proofs.Common.{arith}
 use Rattle.regex_hir.specs.Meaning.{meaning}
 use Rattle.sre_code.specs.Codes.{items_of, uni_of}
-use Rattle.sre_shape.specs.Repeated.{repeated}
+use Rattle.sre_patterns.specs.Repeated.{repeated}
 use Rattle.sre_patterns.specs.Patterns.{view_of}
 use Rattle.sre_patterns.specs.Purposes.{ServesItem}
 use Rattle.sre_patterns.proofs.Items.{runs}

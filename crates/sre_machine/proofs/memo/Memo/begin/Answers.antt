@@ -3,7 +3,7 @@ use Rattle.sre_code.specs.Codes.{items_of}
 use Rattle.sre_model.specs.Standing.{AreWords}
 use Rattle.sre_request.specs.Runs.{run_of}
 use Rattle.sre_turns.specs.AskedPlaces.{AreIdle}
-use Rattle.sre_turns.proofs.SameComes.{none_idle}
+use Rattle.sre_turns.proofs.memoization.SameComes.{none_idle}
 use Rattle.sre_machine.specs.Memos.{Covers}
 use Rattle.sre_machine.proofs.AskedGroups.{covers_all}
 use Rattle.sre_machine.proofs.Recalling.{recalls_none}

@@ -5,7 +5,7 @@ use Rattle.sre_model.specs.MarksSet.{marks_in_regions}
 use Rattle.sre_model.specs.Tree.{Tree}
 use Rattle.sre_model.specs.Grammar.{Whole}
 use Rattle.sre_model.proofs.TreeOf.{tree_of}
-use Rattle.sre_turns.proofs.Bodies.{markless_regions}
+use Rattle.sre_turns.proofs.memoization.Bodies.{markless_regions}
 use Rattle.sre_code.specs.Codes.{words_of, items_of}
 use Rattle.sre_code.specs.declared.code.Code.{Code}
 use Rattle.sre_code.proofs.Checked.{whole_of, whole_items}

@@ -6,10 +6,10 @@ use Rattle.sre_model.specs.Standing.{AreWords}
 use Rattle.sre_model.specs.Prefixes.{behind_items}
 use Rattle.sre_model.proofs.TreeOf.{tree_of, whole-read}
 use Rattle.sre_turns.specs.Board.{bare}
-use Rattle.sre_turns.proofs.Start.{first_limit}
+use Rattle.sre_turns.proofs.semantics.Start.{first_limit}
 use Rattle.sre_request.specs.Runs.{run_of}
 use Rattle.sre_machine.specs.Paying.{Remembering}
-use Rattle.sre_turns.proofs.TreePrices.{steps_behind}
+use Rattle.sre_turns.proofs.bound.TreePrices.{steps_behind}
 use Rattle.sre_machine.proofs.Following.{begins_run, run_stops, run_settles, if_ok, rested}
 use Rattle.sre_machine.specs.Spending.{told_of}
 use Rattle.sre_machine.proofs.runner.Runner.run_once.Goals as goal

@@ -1,0 +1,174 @@
+-- Where the matches of patterns begin: at a byte where a position is, unless they are empty.
+use Rattle.std.proofs.Common.{◌≡◌, ℕ, zero, suc, ◌+◌, ◌-◌, ◌/◌, ◌%◌, ◌<◌, ◌≤◌, Bool, true, false, List, []}
+use Rattle.std.proofs.Common.{length, Option, Some, None, true≢false, sym, ap, ◌∙◌, ◌⊎◌, ⊎_elim, inl, inr, arith}
+use Rattle.std.proofs.Common.{slice_index}
+use Rattle.std.proofs.lemmas.Bool.{cases_lt}
+use Rattle.std.proofs.lemmas.Str.{length-encode, encode_ascii, len_utf8_bounds}
+use Rattle.std.specs.Char.{len_utf8}
+use Rattle.regex_class.specs.Ranges.{in_ranges}
+use Rattle.regex_hir.specs.Re.{Re, empty, byte_in, char_in, look, cat, alt, plus}
+use Rattle.regex_hir.specs.Text as bytes
+use Rattle.regex_hir.specs.declared.look.Look.{Look}
+use Rattle.regex_hir.specs.Meaning.{optional, copies, up_to, at_least, repeat}
+use Rattle.regex_hir.specs.Matches.{Rounds, one_round, next_round, Matches}
+use Rattle.regex_hir.proofs.MatchesLemmas.{Matches-IsSpan}
+use Rattle.regex_hir.proofs.TextLemmas.{char_at_fits}
+use Rattle.regex_hir.proofs.Utf8Lemmas.{char_at_cases, encode_two, encode_three, encode_four, IsOneByteAt, IsTwoBytesAt}
+use Rattle.regex_hir.proofs.Utf8Lemmas.{IsThreeBytesAt, IsFourBytesAt}
+use Rattle.sre_model.specs.Subject.{Subject, char_at}
+use Rattle.sre_patterns.specs.Covers.{InBytes, InUtf8}
+use Rattle.sre_patterns.specs.Exact.{IsPlace, AtPlaces}
+use Rattle.sre_patterns.proofs.OverBytes.{bytes-places}
+
+module _ (s : Subject) (hay : List ℕ) (off : ℕ → ℕ) where
+  abbrev P : Re → Type 0
+  P = AtPlaces s hay off
+
+  -- two steps, one after the other: where the first one stays, the second one begins there
+  then-at : (i l j : ℕ) → (l ≡ i) ⊎ IsPlace s off i → (j ≡ l) ⊎ IsPlace s off l → (j ≡ i) ⊎ IsPlace s off i
+  then-at i l j (inr at) second = inr at
+  then-at i l j (inl stays) (inl same) = inl (same ∙ stays)
+  then-at i l j (inl stays) (inr at) = inr (at.0, at.1, at.2 ∙ stays)
+
+  pub empty-at : P empty
+  empty-at i j m = inl m
+
+  pub look-at : (l : Look) → P (look l)
+  look-at l i j m = inl m.1
+
+  pub none-at : P (byte_in [])
+  unfolding in_ranges
+  none-at i j m = absurd (true≢false (sym m.2))
+
+  pub cat-at : (a b : Re) → P a → P b → P (cat a b)
+  cat-at a b f g i j m = then-at i m.0 j (f i m.0 m.1) (g m.0 j m.2)
+
+  pub alt-at : (a b : Re) → P a → P b → P (alt a b)
+  alt-at a b f g i j m = ⊎_elim (f i j) (g i j) m
+
+  rounds-at : (a : Re) → P a → (i j : ℕ) → Rounds (Matches hay a) i j → (j ≡ i) ⊎ IsPlace s off i
+  rounds-at a f i j (one_round _ m) = f i j m
+  rounds-at a f i j (next_round l _ front m) = then-at i l j (rounds-at a f i l front) (f l j m)
+
+  plus-at : (g : Bool) (a : Re) → P a → P (plus g a)
+  plus-at g a f i j m = rounds-at a f i j m
+
+  optional-at : (g : Bool) (a : Re) → P a → P (optional g a)
+  optional-at true a f = alt-at a empty f empty-at
+  optional-at false a f = alt-at empty a empty-at f
+
+  copies-at : (n : ℕ) (a b : Re) → P a → P b → P (copies n a b)
+  copies-at zero a b f g = g
+  copies-at (suc n) a b f g = cat-at a (copies n a b) f (copies-at n a b f g)
+
+  up_to-at : (g : Bool) (n : ℕ) (a : Re) → P a → P (up_to g n a)
+  up_to-at g zero a f = empty-at
+  up_to-at g (suc n) a f = optional-at g (cat a (up_to g n a)) (cat-at a (up_to g n a) f (up_to-at g n a f))
+
+  at_least-at : (g : Bool) (n : ℕ) (a : Re) → P a → P (at_least g n a)
+  at_least-at g zero a f = optional-at g (plus g a) (plus-at g a f)
+  at_least-at g (suc n) a f = copies-at n a (plus g a) f (plus-at g a f)
+
+  pub repeat-at : (low : ℕ) (most : Option ℕ) (g : Bool) (a : Re) → P a → P (repeat low most g a)
+  unfolding repeat
+  repeat-at low None g a f = at_least-at g low a f
+  repeat-at low (Some high) g a f = copies-at low a (up_to g (high - low) a) f (up_to-at g (high - low) a f)
+
+  -- over bytes a position stands at each byte
+  pub bytes-at : (bound : ℕ) → InBytes bound s hay off → (re : Re) → P re
+  bytes-at bound v re i j m =
+      let span = Matches-IsSpan hay re i j m in
+      elim (cases_lt i j) [
+        | (inl on) ↦
+            let last = bytes-places bound s hay off v s.end (omega arith) in
+            let inside : i ≤ s.end = omega (arith, span, on, v.ends, last) in
+            inr (i, inside, bytes-places bound s hay off v i inside)
+        | (inr past) ↦ inl (omega (arith, span, past))
+      ]
+
+-- a byte at which a character begins, and one inside a character
+abbrev IsFirst : ℕ → Type 0
+IsFirst b = (b < 128) ⊎ (192 ≤ b)
+
+abbrev IsLater : ℕ → Type 0
+IsLater b = (128 ≤ b) × (b < 192)
+
+first-byte : (hay : List ℕ) (i c : ℕ) → bytes.char_at hay i ≡ Some c → IsFirst (slice_index hay i)
+first-byte hay i c found =
+    ⊎_elim (λ one. inl (omega (arith, one.0, one.2))) (λ more. ⊎_elim (λ two. inr (omega (arith, two.3)))
+    (λ more. ⊎_elim (λ three. inr (omega (arith, three.3))) (λ four. inr (omega (arith, four.2))) more) more)
+    (char_at_cases hay i c found).1
+
+later-byte : (hay : List ℕ) (i c k : ℕ) → bytes.char_at hay i ≡ Some c → i < k → k < i + len_utf8 c
+    → IsLater (slice_index hay k)
+later-byte hay i c k found after before =
+    ⊎_elim one (λ more. ⊎_elim two (λ more. ⊎_elim three four more) more) (char_at_cases hay i c found).1
+  where
+    byte : (j b : ℕ) → k ≡ j → slice_index hay j ≡ 128 + b → b < 64 → IsLater (slice_index hay k)
+    byte j b at is small = omega (arith, ap (slice_index hay) at, is, small)
+
+    one : IsOneByteAt hay i c → IsLater (slice_index hay k)
+    one h =
+        let long : len_utf8 c ≡ 1 = sym (length-encode c) ∙ ap length (encode_ascii c h.0) in
+        absurd (omega (arith, long, after, before))
+
+    two : IsTwoBytesAt hay i c → IsLater (slice_index hay k)
+    two h =
+        let long : len_utf8 c ≡ 2 = sym (length-encode c) ∙ ap length (encode_two c h.0 h.1) in
+        byte (i + 1) (c % 64) (omega (arith, long, after, before)) h.4 (omega arith)
+
+    three : IsThreeBytesAt hay i c → IsLater (slice_index hay k)
+    three h =
+        let long : len_utf8 c ≡ 3 = sym (length-encode c) ∙ ap length (encode_three c h.0 h.1) in
+        elim (cases_lt k (i + 2)) [
+          | (inl near) ↦ byte (i + 1) ((c / 64) % 64) (omega (arith, near, after)) h.4 (omega arith)
+          | (inr far) ↦ byte (i + 2) (c % 64) (omega (arith, long, far, before)) h.5 (omega arith)
+        ]
+
+    four : IsFourBytesAt hay i c → IsLater (slice_index hay k)
+    four h =
+        let long : len_utf8 c ≡ 4 = sym (length-encode c) ∙ ap length (encode_four c h.0) in
+        elim (cases_lt k (i + 2)) [
+          | (inl near) ↦ byte (i + 1) ((c / 4096) % 64) (omega (arith, near, after)) h.3 (omega arith)
+          | (inr past) ↦ elim (cases_lt k (i + 3)) [
+            | (inl near) ↦ byte (i + 2) ((c / 64) % 64) (omega (arith, near, past)) h.4 (omega arith)
+            | (inr far) ↦ byte (i + 3) (c % 64) (omega (arith, long, far, before)) h.5 (omega arith)
+          ]
+        ]
+
+-- each byte is one of some character
+module _ (s : Subject) (hay : List ℕ) (off : ℕ → ℕ) (v : InUtf8 s hay off) where
+  pub record Inside (i : ℕ) : Type 0 where
+    pub position : ℕ
+    pub within : position < s.end
+    pub from : off position ≤ i
+    pub to : i < off (position + 1)
+
+  inside : (n i : ℕ) → n ≤ s.end → i < off n → Inside i
+  inside zero i l h = absurd (omega (arith, h, v.starts))
+  inside (suc n) i l h = elim (cases_lt i (off n)) [
+    | (inl before) ↦ inside n i (omega arith) before
+    | (inr from) ↦
+        let one : suc n ≡ n + 1 = omega arith in
+        record { position = n; within = omega arith; from = from; to = omega (arith, h, ap off one) }
+  ]
+
+  -- where a whole character stands a position does
+  pub char-place : (i c : ℕ) → bytes.char_at hay i ≡ Some c → IsPlace s off i
+  char-place i c found =
+      let fits = char_at_fits hay i c found in
+      let here = inside s.end i (omega arith) (omega (arith, fits, len_utf8_bounds c, v.ends)) in
+      let p = here.position in
+      elim (cases_lt (off p) i) [
+        | (inl after) ↦ absurd (apart (first-byte hay i c found)
+            (later-byte hay (off p) (char_at s p) i (v.char p here.within) after
+            (omega (arith, here.to, v.next p here.within))))
+        | (inr at) ↦ (p, omega (arith, here.within), omega (arith, at, here.from))
+      ]
+    where
+      apart : IsFirst (slice_index hay i) → IsLater (slice_index hay i) → ⊥
+      apart (inl low) later = omega (arith, low, later)
+      apart (inr high) later = omega (arith, high, later)
+
+  pub char-at : (ranges : List (ℕ × ℕ)) → AtPlaces s hay off (char_in ranges)
+  char-at ranges i j m = inr (char-place i m.0 m.1)

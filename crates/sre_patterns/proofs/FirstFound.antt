@@ -1,0 +1,139 @@
+-- A search for a pattern that tries a tree's match paths in order, each of which reads a byte, finds what the tree's
+-- semantics finds: over bytes, and over UTF-8, where its matches begin at characters.
+use Rattle.std.proofs.Common.{◌≡◌, ℕ, ◌≤◌, ◌<◌, Bool, true, false, not, ◌||◌, cond, nat_eq, List, [], ◌∷◌, length}
+use Rattle.std.proofs.Common.{Some, None, refl, sym, ap, ◌∙◌, ⊎_elim, inl, inr, arith}
+use Rattle.std.specs.List.{AllByRecursion}
+use Rattle.std.proofs.lemmas.Bool.{cases_lt}
+use Rattle.std.proofs.lemmas.Bool.Decides.{nat_tests}
+use Rattle.std.proofs.lemmas.Option.{none-some, same_Some}
+use Rattle.regex_hir.specs.Re.{Re, Trace, accept, attempt}
+use Rattle.regex_hir.specs.Matches.{IsMinLen}
+use Rattle.regex_hir.specs.Find as bytes
+use Rattle.regex_hir.proofs.AttemptLemmas.{attempt_sound}
+use Rattle.regex_hir.proofs.FindLemmas.{IsFirst-of_first_between, none_of_first_between}
+use Rattle.sre_model.specs.Tree.{Tree}
+use Rattle.sre_model.specs.Marks.{no_marks}
+use Rattle.sre_model.specs.Ways.{Way, ways}
+use Rattle.sre_model.specs.Found.{Asked, Match, subject_of, is_accepted, first_accepted, at_start, found}
+use Rattle.sre_model.proofs.Bounds.{Between, ways-bounded}
+use Rattle.sre_model.proofs.FoundLaws.{least-found, none-found}
+use Rattle.sre_patterns.specs.Covers.{View}
+use Rattle.sre_patterns.specs.Exact.{ExactTree, IsPlace, Rises}
+use Rattle.sre_patterns.proofs.InOrder.{first_end, first-way}
+use Rattle.sre_patterns.proofs.ExactLeads.{exact-moves}
+
+either-way : (b : Bool) → (not b || true) ≡ true
+either-way true = refl
+either-way false = refl
+
+-- the match that is found goes from where a match of bytes starts to where that ends, as positions stand at bytes
+pub record FoundAt (a : Asked) (t : Tree) (off : ℕ → ℕ) (f : bytes.Match) : Type 0 where
+  pub match : Match
+  pub is : found a t ≡ Some match
+  pub starts : off match.start ≡ f.start
+  pub ends : off match.end ≡ f.trace.end
+  pub from : a.start ≤ match.start
+  pub forward : match.start < match.end
+  pub inside : match.end ≤ a.end
+
+-- each match of the pattern reads a byte, so that it must advance bars none
+module _ (V : View) (rises : Rises V) (a : Asked) (hay : List ℕ) (off : ℕ → ℕ) (v : V (subject_of a) hay off)
+    (whole : off a.end ≡ length hay) (window : a.start ≤ a.end) (re : Re) (t : Tree) (x : ExactTree V a.table re t)
+    (reads : IsMinLen re 1) (all : a.match_all ≡ false) where
+  -- positions in order stand at bytes in order
+  grows : (p q : ℕ) → p ≤ q → q ≤ a.end → off p ≤ off q
+  grows p q l h = elim (cases_lt p q) [
+    | (inl less) ↦ omega (arith, rises (subject_of a) hay off v p q less h)
+    | (inr more) ↦
+        let same : p ≡ q = omega (arith, l, more) in omega (arith, ap off same)
+  ]
+
+  -- a match of the pattern from a position is the first way's end, and there is none where there is no way
+  first-ends : (p : ℕ) → p ≤ a.end
+      → attempt hay re accept (off p) ≡ first_end (subject_of a) hay off (ways (subject_of a) t p no_marks)
+  first-ends p l =
+      first-way (subject_of a) hay off re (ways (subject_of a) t) (x.tries (subject_of a) hay off v refl) p no_marks l
+
+  accepted : (p : ℕ) → a.start ≤ p → (w : Way) → p < w.stop → is_accepted a w ≡ true
+  accepted p from w on =
+      let apart : nat_eq w.stop a.start ≡ false = grind (arith, nat_tests) in
+      rw (all, apart) (either-way a.must_advance)
+
+  moving : (p : ℕ) → p ≤ a.end → AllByRecursion (λ w. p < w.stop) (ways (subject_of a) t p no_marks)
+  moving p l =
+      exact-moves (subject_of a) hay off re (ways (subject_of a) t) (x.tries (subject_of a) hay off v refl) reads
+      (ways-bounded (subject_of a) t) p no_marks l
+
+  none-there : (p : ℕ) (ws : List Way) → first_end (subject_of a) hay off ws ≡ None → first_accepted a p ws ≡ None
+  none-there p [] e = refl
+  none-there p (w ∷ ws) e = absurd (none-some _ (sym e))
+
+  -- a match from p, of the first way there
+  some-there : (p : ℕ) (trace : Trace) (ws : List Way) → a.start ≤ p → AllByRecursion (λ w. p < w.stop) ws
+      → AllByRecursion (Between (subject_of a) p) ws → first_end (subject_of a) hay off ws ≡ Some trace
+      → (m : Match) × (m.start ≡ p) × (off m.end ≡ trace.end) × (m.end ≤ a.end) × (p < m.end)
+      × (first_accepted a p ws ≡ Some m)
+  some-there p trace [] from on within e = absurd (none-some _ e)
+  some-there p trace (w ∷ ws) from on within e =
+      let m : Match = record { start = p; end = w.stop; marks = w.marks } in (
+        m,
+        refl,
+        ap (λ (x : Trace). x.end) (same_Some _ trace e),
+        within.0.1,
+        on.0,
+        ap (λ y. cond y (Some m) (first_accepted a p ws)) (accepted p from w on.0),
+      )
+
+  -- nothing, where the search finds nothing
+  pub none-found_by : bytes.find re hay (off a.start) ≡ None → found a t ≡ None
+  unfolding bytes.find
+  none-found_by e =
+      none-found a t (λ p k l. none-there p (ways (subject_of a) t p no_marks)
+      (sym (first-ends p l)
+      ∙ none_of_first_between (attempt hay re accept) (off a.start) (length hay) e (off p) (grows a.start p k l)
+      (omega (arith, grows p a.end l (omega arith), whole))))
+
+  -- what it finds begins where a position stands, since it reads a byte
+  begins : (f : bytes.Match) → attempt hay re accept f.start ≡ Some f.trace → IsPlace (subject_of a) off f.start
+  unfolding IsMinLen
+  begins f e =
+      let k = attempt_sound hay re accept f.start f.trace e in
+      let on = reads hay f.start k.at k.leads in
+      ⊎_elim (λ stays. absurd (omega (arith, on, stays))) (λ at. at)
+      (x.begins (subject_of a) hay off v f.start k.at k.leads)
+
+  -- a position behind the window's start in bytes is behind it
+  not-before : (p : ℕ) → p ≤ a.end → off a.start ≤ off p → a.start ≤ p
+  not-before p l h = elim (cases_lt p a.start) [
+    | (inl less) ↦ absurd (omega (arith, rises (subject_of a) hay off v p a.start less window, h))
+    | (inr more) ↦ more
+  ]
+
+  pub found_by : (f : bytes.Match) → bytes.find re hay (off a.start) ≡ Some f → FoundAt a t off f
+  unfolding bytes.find
+  found_by f e =
+      let first = IsFirst-of_first_between (attempt hay re accept) (off a.start) (length hay) f e in
+      let at = begins f first.here in
+      let p = at.0 in
+      let from = not-before p at.1 (omega (arith, first.from, at.2)) in
+      let it =
+      some-there p f.trace (ways (subject_of a) t p no_marks) from (moving p at.1)
+      (ways-bounded (subject_of a) t p no_marks at.1)
+      (sym (first-ends p at.1) ∙ ap (attempt hay re accept) at.2 ∙ first.here) in
+      record {
+        match = it.0;
+        is = least-found a t it.0 (record {
+          from = omega (arith, from, it.1);
+          to = omega (arith, at.1, it.1);
+          here = ap (at_start a t) it.1 ∙ it.5;
+          least = λ r k l. none-there r (ways (subject_of a) t r no_marks)
+              (sym (first-ends r (omega (arith, at.1, it.1, l)))
+              ∙ first.before (off r) (grows a.start r k (omega (arith, at.1, it.1, l)))
+              (omega (arith, rises (subject_of a) hay off v r p (omega (arith, l, it.1)) at.1, at.2)));
+        });
+        starts = ap off it.1 ∙ at.2;
+        ends = it.2;
+        from = omega (arith, from, it.1);
+        forward = omega (arith, it.4, it.1);
+        inside = it.3;
+      }

@@ -1,3 +1,0 @@
-pub mod AsciiSets
-pub mod Stretches
-pub mod Reads

@@ -1,4 +1,0 @@
-pub mod Covers
-pub mod Repeated
-pub mod Exact
-pub mod Looks

@@ -1,2 +1,0 @@
-//! What a code can match at most, as a pattern of bytes.
-#![tactic(auto)]

@@ -1,0 +1,14 @@
+pub mod SettledMoves
+pub mod Faring
+pub mod NestedMoves
+pub mod NestedStarts
+pub mod NestedPlaces
+pub mod NestedSlots
+pub mod NestedPoints
+pub mod HereMoves
+pub mod FaringInRegions
+pub mod Steps
+pub mod PriceMoves
+pub mod TreePrices
+pub mod TreeCosts
+pub mod GrantedTolls

@@ -1,0 +1,314 @@
+-- The price of a configuration, with the credits of its point, pays for its step and for the prices of what the step
+-- leads to. And which instructions enter an atomic scope.
+-- That the step bound suffices (`enough` of sre_engine) rests on this.
+use Rattle.std.proofs.Common.{◌≡◌, ℕ, zero, suc, ◌+◌, ◌-◌, ◌*◌, ◌<◌, ◌≤◌, ◌||◌, Bool, true, false, cond, nat_eq, nat_lt}
+use Rattle.std.proofs.Common.{List, ◌∷◌, length, Some, refl, sym, ◌∙◌, ap, subst, arith, mul-le-mul, add-mul, one-mul}
+use Rattle.std.proofs.Common.{min}
+use Rattle.std.proofs.lemmas.Bool.Decides.{nat_tests}
+use Rattle.sre_chars.specs.declared.constants.SreOpcode.{SreOpcode}
+use Rattle.sre_model.specs.Tree.{Test, RunKind, PossessiveRun, Order, Greedy, Lazy, Positive, Negative}
+use Rattle.sre_model.specs.Marks.{Marks, group}
+use Rattle.sre_model.specs.Subject.{Subject}
+use Rattle.sre_model.specs.Ways.{unlimited, may_repeat, longest_run, most_from}
+use Rattle.sre_model.specs.Grammar.{word, skip, Opcode, test_opcode}
+use Rattle.sre_model.specs.Roles.{Role, ToTest, ToRun, ToGroupAtomically, ToLook, role}
+use Rattle.sre_model.proofs.Words.{word_of, same_opcode}
+use Rattle.sre_model.proofs.Longest.{run_at_most, run_inside}
+use Rattle.sre_model.proofs.Bounds.{passes-below}
+use Rattle.sre_turns.specs.declared.Frame.{Frame}
+use Rattle.sre_turns.specs.declared.Region.{Region}
+use Rattle.sre_turns.specs.declared.Region.TheVariants.{Owed, Further}
+use Rattle.sre_turns.specs.declared.Point.TheVariants.{Instruction, Alternatives, Shorter, Longer, Again}
+use Rattle.sre_turns.specs.declared.Point.{Point}
+use Rattle.sre_turns.specs.Lying.{repeats}
+use Rattle.sre_turns.specs.Moves.{Spot, spot_at, Move, Go}
+use Rattle.sre_turns.specs.MovesInLoops.{at_body, behind, in_order, enter_body, until_move, again_move}
+use Rattle.sre_turns.specs.Machine.{MovesAt}
+use Rattle.sre_turns.specs.Prices.{test_end, steps_by, steps, branch_in, branch_price, end_price, ends_beside}
+use Rattle.sre_turns.specs.Prices.{more_ends, price, loop_toll, toll_by, again_toll, toll, aside, split_toll, split_by}
+use Rattle.sre_turns.specs.Prices.{Covers}
+use Rattle.sre_turns.specs.Limits.{CodeAt}
+use Rattle.sre_turns.specs.Straight.{point_behind}
+use Rattle.sre_turns.proofs.semantics.Turned.{GoesOn, behind_test, run_on, Forks, greedy_run, lazy_run}
+use Rattle.sre_turns.proofs.semantics.Turned.{next_alternative}
+use Rattle.sre_turns.proofs.semantics.Turned.{next_shorter, next_longer, Begins, plain_loop, possessive_loop, Enters}
+use Rattle.sre_turns.proofs.semantics.Turned.{atomic_group, lookaround, Turned, stopped, ended, went, forked, marked}
+use Rattle.sre_turns.proofs.semantics.Turned.{grouped}
+use Rattle.sre_turns.proofs.semantics.Turned.{begun, entered, looped, repeated, point_turned}
+use Rattle.sre_turns.proofs.bound.Steps.{some_steps, role_there, steps_told, test_ends}
+use Rattle.sre_model.proofs.Families.{test_kind, test_role, role_here}
+
+-- whether an instruction may enter an atomic scope
+abbrev pub enters : Role → Bool
+enters ToGroupAtomically = true
+enters (ToLook sign) = true
+enters _ = false
+
+-- whether a step may, at a point
+abbrev pub enters_at : SreOpcode → Point → Bool
+enters_at o (Instruction i) = enters (role o)
+enters_at o Again = true
+enters_at o pt = false
+
+-- more words have no fewer alternatives
+pub branch_some : (ws : List ℕ) (n q : ℕ) → 1 ≤ branch_in ws n q
+unfolding branch_in
+branch_some ws zero q = omega arith
+branch_some ws (suc n) q = go (nat_eq (word ws q) 0)
+  where
+    go : (b : Bool) → 1 ≤ cond b 1 (steps ws (q + 1) + 2 + branch_in ws n (q + word ws q))
+    go true = omega arith
+    go false = omega arith
+
+branch_more : (ws : List ℕ) (m n q : ℕ) → m ≤ n → branch_in ws m q ≤ branch_in ws n q
+unfolding branch_in
+branch_more ws zero n q l = branch_some ws n q
+branch_more ws (suc m) zero q l = absurd (omega arith)
+branch_more ws (suc m) (suc n) q l =
+    go (nat_eq (word ws q) 0) (branch_more ws m n (q + word ws q) (omega arith))
+  where
+    go : (b : Bool) → branch_in ws m (q + word ws q) ≤ branch_in ws n (q + word ws q)
+        → cond b 1 (steps ws (q + 1) + 2 + branch_in ws m (q + word ws q))
+        ≤ cond b 1 (steps ws (q + 1) + 2 + branch_in ws n (q + word ws q))
+    go true h = omega arith
+    go false h = omega (arith, h)
+
+-- an alternative is paid for, and those behind it
+branch_pays : (ws : List ℕ) (q v : ℕ) → q < length ws → word ws q ≡ v → nat_eq v 0 ≡ false
+    → steps ws (q + 1) + branch_price ws (q + v) + 2 ≤ branch_price ws q
+unfolding branch_in
+branch_pays ws q v inside is some =
+    subst (λ n. steps ws (q + 1) + branch_price ws (q + v) + 2 ≤ branch_in ws n q) (sym one_word) behind_it
+  where
+    one_word : length ws - q ≡ suc (length ws - q - 1)
+    one_word = omega (arith, inside)
+
+    fewer : 1 ≤ v → branch_price ws (q + v) ≤ branch_in ws (length ws - q - 1) (q + v)
+    fewer l = branch_more ws (length ws - (q + v)) (length ws - q - 1) (q + v) (omega (arith, l))
+
+    behind_it : steps ws (q + 1) + branch_price ws (q + v) + 2
+        ≤ cond (nat_eq (word ws q) 0) 1 (steps ws (q + 1) + 2 + branch_in ws (length ws - q - 1) (q + word ws q))
+    behind_it = rw (is, some) (omega (arith, fewer (grind (arith, nat_tests))))
+
+-- one end fewer costs one price less
+one_end : (n k : ℕ) → 1 ≤ k → (k - 1) * n + n ≤ k * n
+one_end n k l =
+    let same : (k - 1 + 1) * n ≡ k * n = ap (λ a. a * n) (omega arith) in
+    omega (arith, same, add-mul (k - 1) 1 n, one-mul n)
+
+-- fewer ends cost no more than all
+fewer_ends : (n k m : ℕ) → k ≤ m → k * n + n ≤ (1 + m) * n
+fewer_ends n k m l =
+    let each : k * n ≤ m * n = mul-le-mul l (omega arith) in
+    omega (arith, each, add-mul 1 m n, one-mul n)
+
+-- a repeat has no more characters than the range, and no more than its greatest count
+run_fits : (s : Subject) (t : Test) (high p : ℕ)
+    → longest_run s t high p ≤ cond (nat_eq high unlimited) s.end (min high s.end)
+run_fits s t high p = go (nat_eq high unlimited) refl
+  where
+    inside : longest_run s t high p ≤ s.end
+    inside = omega (arith, run_inside s t (most_from s high p) p)
+
+    short : (b : Bool) → nat_lt (s.end - p) high ≡ b → cond b (s.end - p) high ≤ high
+    short true e = grind (arith, nat_tests)
+    short false e = omega arith
+
+    go : (b : Bool) → nat_eq high unlimited ≡ b → longest_run s t high p ≤ cond b s.end (min high s.end)
+    go true e = inside
+    go false e =
+        let most : most_from s high p ≤ high = rw e (short (nat_lt (s.end - p) high) refl) in
+        omega (arith, inside, most, run_at_most s t (most_from s high p) p)
+
+-- behind its least count it has no more ends than beside one
+ends_fit : (ws : List ℕ) (e i n p : ℕ) → word ws (i + 2) ≡ n → more_ends ws e i n (p + n) ≤ ends_beside ws e i
+ends_fit ws e i n p is = go (nat_eq (word ws (i + 3)) unlimited)
+  where
+    go : (b : Bool) → cond b (e - (p + n)) (min (word ws (i + 3)) e - n)
+        ≤ cond b e (min (word ws (i + 3)) e) - word ws (i + 2)
+    go true = omega (arith, is)
+    go false = omega (arith, is)
+
+-- and a character more leaves one end fewer
+one_end_less : (ws : List ℕ) (e i n p : ℕ) → n ≤ p → p < e
+    → (nat_eq (word ws (i + 3)) unlimited || nat_lt n (word ws (i + 3))) ≡ true
+    → (more_ends ws e i (n + 1) (p + 1) ≡ more_ends ws e i n p - 1) × (1 ≤ more_ends ws e i n p)
+one_end_less ws e i n p past inside more = go (nat_eq (word ws (i + 3)) unlimited) refl more
+  where
+    go : (b : Bool) → nat_eq (word ws (i + 3)) unlimited ≡ b → (b || nat_lt n (word ws (i + 3))) ≡ true
+        → (cond b (e - (p + 1)) (min (word ws (i + 3)) e - (n + 1)) ≡ cond b (e - p) (min (word ws (i + 3)) e - n) - 1)
+        × (1 ≤ cond b (e - p) (min (word ws (i + 3)) e - n))
+    go true is l = (omega arith, omega arith)
+    go false is l =
+        let below : n < word ws (i + 3) = grind (arith, nat_tests) in
+        (omega (arith, below), omega (arith, below))
+
+-- what an instruction has, with its credits, pays for a step and for where it goes on
+module _ (ws : List ℕ) (e i : ℕ) (ks : List ℕ) where
+  abbrev owned : Role → ℕ
+  owned f = steps_by ws (λ (j : ℕ). steps ws j) i f + toll_by ws e i ks f
+
+  ends_by_toll : (k : ℕ) → k ≤ ends_beside ws e i
+      → steps ws (skip ws (i + 1)) + (k * (steps ws (skip ws (i + 1)) + 2) + 1) + 2
+      ≤ 1 + (1 + ends_beside ws e i) * end_price ws i
+  ends_by_toll k l = omega (arith, fewer_ends (end_price ws i) k (ends_beside ws e i) l)
+
+  module _ (o : SreOpcode) (here : Opcode ws i o) where
+    owned_is : {f : Role} → role o ≡ f → price ws e (Instruction i) 0 + toll_by ws e i ks (role o) ≡ owned f
+    owned_is {f} is =
+        ap (λ n. n + toll_by ws e i ks (role o)) (steps_told ws i (role o) (role_here ws i o (role o) here refl))
+        ∙ ap (λ g. owned g) is
+
+    goes_on_paid : {s : Subject} {p q : ℕ} {f : Role} {pt : Point} → role o ≡ f → GoesOn ws s i p f pt q
+        → price ws e pt q + 1 ≤ owned f
+    goes_on_paid is (behind_test {kind = kind} {j = j} {t = t} stands passed) =
+        let roles : ToTest (test_kind t) ≡ ToTest kind = sym (test_role t)
+        ∙ ap (λ c. role c) (same_opcode ws i (test_opcode t) o stands.code here) ∙ is in
+        let same : test_kind t ≡ kind = cc in
+        let end = test_ends t ws i j stands.operands ∙ ap (λ k. test_end ws i k) same in
+        omega (arith, ap (λ j. steps ws j) end)
+    goes_on_paid is (run_on operands more) =
+        let one : steps ws i ≡ 1 = steps_told ws i (ToRun PossessiveRun)
+        (role_here ws i o (ToRun PossessiveRun) here is) in
+        omega (arith, one, some_steps ws (skip ws (i + 1)))
+    goes_on_paid is on = omega arith
+
+module _ (ws : List ℕ) (s : Subject) (p : ℕ) (fs : List Frame) (o : SreOpcode) where
+  abbrev Has : Point → ℕ
+  Has pt = price ws s.end pt p + toll ws s.end o pt (repeats fs)
+
+  -- what an instruction of another opcode has there, which is the same
+  has_is : (i : ℕ) (c : SreOpcode) {f : Role} → CodeAt ws (Instruction i) o → Opcode ws i c → role c ≡ f
+      → (Has (Instruction i) ≡ owned ws s.end i (repeats fs) f) × (role o ≡ f)
+  has_is i c w there is =
+      let same : role o ≡ role c = ap (λ x. role x) (same_opcode ws i o c w there) in
+      (owned_is ws s.end i (repeats fs) o w (same ∙ is), same ∙ is)
+
+  forks_paid : {pt first rest : Point} {q : ℕ} → CodeAt ws pt o → Forks ws s p pt first rest q
+      → price ws s.end first q + price ws s.end rest q + 2 ≤ Has pt
+  forks_paid w (greedy_run {i = i} {low = low} {high = high} {test = test} c there is operands full) =
+      let least = word_of ws (i + 2) low operands.lowest in
+      let fits = subst (λ n. longest_run s test high p ≤ cond (nat_eq n unlimited) s.end (min n s.end))
+      (sym (word_of ws (i + 3) high operands.highest)) (run_fits s test high p) in
+      omega (
+        arith,
+        (has_is i c w there is).0,
+        ends_by_toll ws s.end i (repeats fs) (longest_run s test high p - low) (omega (arith, least, fits)),
+      )
+  forks_paid w (lazy_run {i = i} {low = low} c there is operands full) =
+      let few = ends_fit ws s.end i low p (word_of ws (i + 2) low operands.lowest) in
+      omega (
+        arith,
+        (has_is i c w there is).0,
+        ends_by_toll ws s.end i (repeats fs) (more_ends ws s.end i low (p + low)) few,
+      )
+  forks_paid w (next_alternative {q = q} inside some) =
+      omega (arith, branch_pays ws q (word ws q) inside refl some)
+  forks_paid w (next_shorter {t = t} {k = k} some) = omega (arith, one_end (steps ws t + 2) k some)
+  forks_paid w (next_longer {i = i} {n = n} {high = high} {test = test} operands past more passed) =
+      let goes_on = subst (λ m. (nat_eq m unlimited || nat_lt n m) ≡ true)
+      (sym (word_of ws (i + 3) high operands.highest)) more in
+      let left = one_end_less ws s.end i n p past (passes-below s test p passed) goes_on in
+      let same = ap (λ d. d * end_price ws i) left.0 in
+      omega (arith, same, one_end (end_price ws i) (more_ends ws s.end i n p) left.1)
+
+  some_price : (pt : Point) (mv : Move) (m : Marks) → MovesAt ws s pt (spot_at pt fs p m) mv → 1 ≤ Has pt
+  some_price (Instruction i) mv m h = omega (arith, some_steps ws i)
+  some_price (Alternatives q) mv m h = omega (arith, branch_some ws (length ws - q) q)
+  some_price (Shorter t k) mv m h = omega arith
+  some_price (Longer i n) mv m h = omega arith
+  some_price Again mv m h = omega arith
+  some_price pt mv m h = absurd h
+
+  -- a body of a possessive loop, and what is put aside there, or the loop's end
+  again_paid : (low high n : ℕ) (f : Frame) (outer : List Frame) (x : Spot)
+      → 1 + loop_toll ws (f.repeat ∷ repeats outer) (skip ws (f.repeat + 1)) ≤ n
+      → Covers true ws s.end n (again_move low high (skip ws (f.repeat + 1)) f outer x)
+  again_paid low high n f outer x l = go (nat_lt f.count low) (may_repeat high f.count f.last x.position)
+    where
+      u : ℕ
+      u = skip ws (f.repeat + 1)
+
+      go : (owed more : Bool) → Covers true ws s.end n (cond owed (enter_body Owed f f.last outer x)
+          (cond more (enter_body (Further (u + 1)) f (Some x.position) outer x) (Go (behind u outer x))))
+      go true more = (refl, omega (arith, l, some_steps ws (u + 1)))
+      go false true = (refl, omega (arith, l))
+      go false false = omega (arith, l)
+
+  -- a further body of a loop, or its end
+  until_paid : (may : Bool) (order : Order) (low high u n : ℕ) (f : Frame) (outer : List Frame) (x : Spot)
+      → 1 + loop_toll ws (f.repeat ∷ repeats outer) u ≤ n
+      → Covers may ws s.end n (until_move order low high u f outer x)
+  until_paid may order low high u n f outer x l =
+      go order (nat_lt f.count low) (may_repeat high f.count f.last x.position)
+    where
+      go : (order : Order) (owed more : Bool) → Covers may ws s.end n (cond owed (Go (at_body f f.last outer x))
+          (cond more (in_order order (at_body f (Some x.position) outer x) (behind u outer x)) (Go (behind u outer x))))
+      go order true more = omega (arith, l)
+      go Greedy false true = omega (arith, l)
+      go Lazy false true = omega (arith, l)
+      go order false false = omega (arith, l)
+
+  turn_paid : {gs : List Frame} {m n : Marks} {pt : Point} {v w : Move} → Turned ws s p fs gs m n pt v w
+      → 1 ≤ Has pt → CodeAt ws pt o → Covers (enters_at o pt) ws s.end (Has pt) v
+  turn_paid stopped some code = some
+  turn_paid (ended {i = i} c there is) some code = omega (arith, (has_is i c code there is).0)
+  turn_paid (went {i = i} x) some code =
+      omega (
+        arith,
+        (has_is i x.code code x.there refl).0,
+        goes_on_paid ws s.end i (repeats fs) x.code x.there refl x.goes,
+      )
+  turn_paid (forked f a b on) some code = forks_paid code f
+  turn_paid (marked {i = i} c there is number) some code = omega (arith, (has_is i c code there is).0)
+  turn_paid {m = m} (grouped {g = g} c there is asked number v w each) some code =
+      turn_paid (each (group m g)) some code
+  turn_paid (begun {i = i} c there b same) some code =
+      omega (arith, (has_is i c code there refl).0, begins_paid (role c) i c b)
+    where
+      begins_paid : (f : Role) (i : ℕ) (c : SreOpcode) {pt : Point} → Begins ws i f pt
+          → price ws s.end pt p + 1 ≤ owned ws s.end i (repeats fs) f
+      begins_paid f i c plain_loop = omega arith
+      begins_paid f i c possessive_loop = omega arith
+  turn_paid (entered {i = i} {j = j} {q = q} {g = g} c there b l far on) some code =
+      let told = has_is i c code there refl in
+      let paid = enters_paid (role c) i c b in
+      (ap enters told.1 ∙ paid.0, omega (arith, told.0, paid.1))
+    where
+      enters_paid : (f : Role) (i : ℕ) (c : SreOpcode) {back j : ℕ} {g : Region} → Enters ws i f back j g
+          → (enters f ≡ true) × (steps ws j + aside ws g + 1 ≤ owned ws s.end i (repeats fs) f)
+      enters_paid f i c atomic_group = (refl, omega arith)
+      enters_paid f i c (lookaround {sign = Positive} there) = (refl, omega arith)
+      enters_paid f i c (lookaround {sign = Negative} there) = (refl, omega arith)
+  turn_paid {m = m} (looped {u = u} c order there is h k) some code =
+      let has : 1 + loop_toll ws (repeats fs) u ≤ Has (Instruction u) = omega (arith, (has_is u c code there is).0) in
+      rw h.is (until_paid (enters_at o (Instruction u)) order h.low h.high u (Has (Instruction u)) h.frame h.outer
+      (spot_at (Instruction u) fs p m)
+      (subst (λ gs. 1 + loop_toll ws (repeats gs) u ≤ Has (Instruction u)) h.inside has))
+  turn_paid {m = m} (repeated h k) some code =
+      let has : 1 + again_toll ws (repeats fs) ≤ Has Again = omega arith in
+      rw h.is (again_paid h.low h.high (Has Again) h.frame h.outer (spot_at Again fs p m)
+      (subst (λ gs. 1 + again_toll ws (repeats gs) ≤ Has Again) h.inside has))
+
+-- a step from any point is paid for, with the credits of the point
+pub step_covered : (ws : List ℕ) (s : Subject) (pt : Point) (fs : List Frame) (p : ℕ) (m : Marks) (o : SreOpcode)
+    (mv : Move) → CodeAt ws pt o → MovesAt ws s pt (spot_at pt fs p m) mv
+    → Covers (enters_at o pt) ws s.end (price ws s.end pt p + toll ws s.end o pt (repeats fs)) mv
+step_covered ws s pt fs p m o mv w h =
+    turn_paid ws s p fs o (point_turned ws s p fs fs m m pt mv mv h h) (some_price ws s p fs o pt mv m h) w
+
+-- what is put aside where a scope is entered pays for what is behind it, and for the step to come there
+pub behind_covered : (ws : List ℕ) (e q : ℕ) (g : Region) → price ws e (point_behind g) q + 1 ≤ aside ws g
+behind_covered ws e q (Further t) = omega (arith, some_steps ws t)
+behind_covered ws e q g = omega arith
+
+-- a lazy repeat whose further ends have still to be tried may go on as the same repeat from later on
+pub later_run_covered : (ws : List ℕ) (e i n p : ℕ) (o : SreOpcode) (kind : RunKind) → Opcode ws i o
+    → role o ≡ ToRun kind → price ws e (Instruction i) p ≤ price ws e (Longer i n) p
+later_run_covered ws e i n p o kind w runs =
+    let one : steps ws i ≡ 1 = steps_told ws i (ToRun kind) (role_here ws i o (ToRun kind) w runs) in omega (arith, one)
+
+-- the credits for a repeat that is split
+pub split_is : (ws : List ℕ) (i : ℕ) (o : SreOpcode) (kind : RunKind) → Opcode ws i o → role o ≡ ToRun kind
+    → split_toll ws (Instruction i) ≡ end_price ws i
+split_is ws i o kind w runs = ap (λ f. split_by ws i f) (role_there ws i o w ∙ runs)

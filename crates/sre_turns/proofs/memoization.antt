@@ -1,0 +1,12 @@
+pub mod Asked
+pub mod AlikeLoops
+pub mod AlikeTurns
+pub mod SameComes
+pub mod Hopeless
+pub mod Trying
+pub mod OpenMarks
+pub mod WaitingTwice
+pub mod Bodies
+pub mod Confining
+pub mod BodyEnds
+pub mod Straight

@@ -1,0 +1,190 @@
+-- In the body of an atomic scope that sets no capture slot the captures stay as they are: a run there stays in the
+-- body, and no step there is that of a MARK.
+-- The memo of body ends rests on this.
+use Rattle.std.proofs.Common.{◌≡◌, ℕ, Bool, true, false, cond, nat_lt, List, [], ◌∷◌, refl, sym, ap, ◌∙◌, subst}
+use Rattle.std.specs.Bool.{⊤}
+use Rattle.std.proofs.lemmas.Bool.{or_parts, true≢false}
+use Rattle.sre_chars.specs.declared.constants.SreOpcode.{SreOpcode}
+use Rattle.sre_chars.specs.declared.constants.SreOpcode.TheVariants as opcode
+use Rattle.sre_model.specs.Tree.{Tree, Item, Mark, Order, Greedy, Lazy}
+use Rattle.sre_model.specs.Marks.{Marks, group}
+use Rattle.sre_model.specs.MarksSet.{by_marks, marks_in_regions}
+use Rattle.sre_model.specs.Subject.{Subject}
+use Rattle.sre_model.specs.Ways.{Way, may_repeat}
+use Rattle.sre_model.specs.Folding.{of_item, of_parts}
+use Rattle.sre_model.specs.Grammar.{Opcode, WholeItems}
+use Rattle.sre_model.specs.Roles.{Role, ToEnd, ToMark, role}
+use Rattle.sre_model.specs.Runs.{Run}
+use Rattle.sre_model.proofs.Each.{each-append}
+use Rattle.sre_model.proofs.Families.{HasRole, role_here, item_role, item_here}
+use Rattle.sre_model.proofs.Unique.{items_same}
+use Rattle.sre_model.proofs.Words.{same_opcode}
+use Rattle.sre_turns.specs.declared.Frame.{Frame}
+use Rattle.sre_turns.specs.declared.Region.TheVariants.{NotAhead, Further}
+use Rattle.sre_turns.specs.declared.Region.{Region}
+use Rattle.sre_turns.specs.declared.Point.TheVariants.{Instruction}
+use Rattle.sre_turns.specs.declared.Point.{Point}
+use Rattle.sre_turns.specs.Moves.{Spot, Move, Stop, End, Go, Split, Enter, closing_move}
+use Rattle.sre_turns.specs.MovesInLoops.{in_order}
+use Rattle.sre_turns.specs.Machine.{Moves, Runs, turns, Comes, stops, ends, goes, splits, enters}
+use Rattle.sre_turns.specs.Nested.{repeats, ClosesAt, LeadsTo}
+use Rattle.sre_turns.specs.Alike.{LoopsAlike, Alike}
+use Rattle.sre_turns.specs.Bodies.{MarklessBody, LiesInBody, Confined, MarklessRegions}
+use Rattle.sre_turns.specs.BodyEnds.{AllMarked, MarksStay}
+use Rattle.sre_turns.proofs.bound.NestedMoves.{body_moves}
+use Rattle.sre_turns.proofs.semantics.Turned.{Turned, stopped, ended, went, forked, marked, grouped, begun, entered}
+use Rattle.sre_turns.proofs.semantics.Turned.{looped}
+use Rattle.sre_turns.proofs.semantics.Turned.{repeated, point_turned}
+use Rattle.sre_turns.proofs.bound.NestedPoints.{HoldsInGood, tree_holds}
+
+-- whether an opcode of this role sets a mark
+abbrev sets : Role → Bool
+sets ToMark = true
+sets _ = false
+
+item_markless : (a : Item) → of_item by_marks a ≡ false
+    → (sets (item_role a) ≡ false) × (of_parts by_marks a ≡ false)
+item_markless (Mark n) e = absurd (true≢false e)
+item_markless a e = (refl, e)
+
+module _ (ws : List ℕ) where
+  -- no mark is set at a point
+  abbrev Markless : Point → Type 0
+  Markless (Instruction i) = (o : SreOpcode) → Opcode ws i o → sets (role o) ≡ false
+  Markless pt = ⊤
+
+  -- by the role that is known to be there
+  markless_role : (i : ℕ) (o : Role) → HasRole ws i o → sets o ≡ false → Markless (Instruction i)
+  markless_role i o h e p v =
+      subst (λ c. sets (role c) ≡ false) (same_opcode ws i h.code p h.there v) (ap sets h.begins ∙ e)
+
+  -- so are all points of a tree that sets none
+  markless_in : HoldsInGood ws by_marks (λ a. a ≡ false) (λ pt ks. Markless pt)
+  markless_in = record {
+    first = λ a b e. (or_parts a b e).0;
+    second = λ a b e. (or_parts a b e).1;
+    parts = λ a e. (item_markless a e).1;
+    item = λ i j a r e ks. markless_role i (item_role a) (item_here ws i j a r) (item_markless a e).0;
+    success = λ i h ks. markless_role i _ h refl;
+    jump = λ i h ks. markless_role i _ h refl;
+    until = λ i o low high body g h ks. markless_role i _ h refl;
+    alternatives = λ ts g q ks. tt;
+    shorter = λ kind low high t g j k ks. tt;
+    longer = λ kind low high t g i n ks. tt;
+    again = λ i j low high body r e js. tt;
+  }
+
+  body_markless : (b : MarklessBody ws) (pt : Point) (ks : List ℕ) → LiesInBody ws b pt ks → Markless pt
+  body_markless b pt ks y =
+      tree_holds ws by_marks (λ a. a ≡ false) (λ at js. Markless at) markless_in b.start b.end b.tree b.reads [] pt ks
+      b.markless
+      (markless_role b.end ToEnd (role_here ws b.end opcode.SUCCESS ToEnd b.ends refl) refl) y
+
+-- each spot of a turn has these marks
+abbrev pub KeepsMarks : Marks → Move → Type 0
+KeepsMarks m Stop = ⊤
+KeepsMarks m End = ⊤
+KeepsMarks m (Go y) = y.marks ≡ m
+KeepsMarks m (Split y z) = (y.marks ≡ m) × (z.marks ≡ m)
+KeepsMarks m (Enter g y z) = (y.marks ≡ m) × (z.marks ≡ m)
+
+module _ (m : Marks) where
+  cond_keeps : (b : Bool) (a c : Move) → KeepsMarks m a → KeepsMarks m c → KeepsMarks m (cond b a c)
+  cond_keeps true a c h k = h
+  cond_keeps false a c h k = k
+
+  order_keeps : (o : Order) (y z : Spot) → y.marks ≡ m → z.marks ≡ m → KeepsMarks m (in_order o y z)
+  order_keeps Greedy y z h k = (h, k)
+  order_keeps Lazy y z h k = (k, h)
+
+  -- where a region closes whose body keeps them
+  closing_keeps : (g : Region) (y : Spot) (now : List Way) → y.marks ≡ m → AllMarked m now
+      → KeepsMarks m (closing_move g y now)
+  closing_keeps (NotAhead t) y [] e h = e
+  closing_keeps (NotAhead t) y (w ∷ os) e h = tt
+  closing_keeps (Further t) y [] e h = e
+  closing_keeps g y [] e h = tt
+  closing_keeps g y (w ∷ os) e h = h.0
+
+  -- a turn at a point at which none is set
+  turn_keeps : {ws : List ℕ} {s : Subject} {p : ℕ} {fs gs : List Frame} {n : Marks} {pt : Point} {v w : Move}
+      → Turned ws s p fs gs m n pt v w → Markless ws pt → KeepsMarks m v
+  turn_keeps stopped e = tt
+  turn_keeps (ended o at is) e = tt
+  turn_keeps (went x) e = refl
+  turn_keeps (forked f a b on) e = (refl, refl)
+  turn_keeps (marked o at is there) e = absurd (true≢false (sym (ap sets is) ∙ e o at))
+  turn_keeps (grouped {g = g} o at is asked there v w each) e = turn_keeps (each (group m g)) e
+  turn_keeps (begun o at b same) e = refl
+  turn_keeps (entered o at b l k on) e = (refl, refl)
+  turn_keeps {p = p} (looped {u = u} o order at is h k) e =
+      subst (KeepsMarks m) (sym h.is)
+      (cond_keeps (nat_lt h.frame.count h.low) _ _ refl
+      (cond_keeps (may_repeat h.high h.frame.count h.frame.last p) _ _ (order_keeps order _ _ refl refl) refl))
+  turn_keeps {p = p} (repeated h k) e =
+      subst (KeepsMarks m) (sym h.is)
+      (cond_keeps (nat_lt h.frame.count h.low) _ _ (refl, refl)
+      (cond_keeps (may_repeat h.high h.frame.count h.frame.last p) _ _ (refl, refl) refl))
+
+-- where a turn leads, and a region closes, in a body
+onto_leads : (P : Point → List ℕ → Type 0) (g : Region) (y : Spot) (now : List Way) → ClosesAt P g y.frames
+    → LeadsTo P (closing_move g y now)
+onto_leads P (NotAhead t) y [] c = c
+onto_leads P (NotAhead t) y (w ∷ os) c = tt
+onto_leads P (Further t) y [] c = c.1
+onto_leads P (Further t) y (w ∷ os) c = c.0
+onto_leads P g y [] c = tt
+onto_leads P g y (w ∷ os) c = c
+
+-- a turn in a body leads to spots in the body
+pub confined_moves : (ws : List ℕ) (s : Subject) (b : MarklessBody ws) (x : Spot) (mv : Move)
+    → LiesInBody ws b x.point (repeats x.frames) → Moves ws s x mv → LeadsTo (LiesInBody ws b) mv
+confined_moves ws s b x mv y h = body_moves ws s b.start b.end b.tree b.reads b.ends x mv y h
+
+module _ (ws : List ℕ) (s : Subject) (b : MarklessBody ws) where
+  mutual
+    -- so what comes of a spot in the body has the marks that the spot has
+    pub marks_stay : {x : Spot} {os : List Way} {n : ℕ} (m : Marks) → x.marks ≡ m
+        → LiesInBody ws b x.point (repeats x.frames) → Runs ws s x os n → AllMarked m os
+    marks_stay {x} m e y (turns a h d) =
+        marks_after m a e (subst (λ l. KeepsMarks l a) e
+        (turn_keeps x.marks (point_turned ws s x.position x.frames x.frames x.marks x.marks x.point a a h h)
+        (body_markless ws b x.point (repeats x.frames) y)))
+        (confined_moves ws s b x a y h) d
+
+    marks_after : {x : Spot} {os : List Way} {n : ℕ} (m : Marks) (a : Move) → x.marks ≡ m → KeepsMarks m a
+        → LeadsTo (LiesInBody ws b) a → Comes ws s x a os n → AllMarked m os
+    marks_after m Stop e k l stops = tt
+    marks_after m End e k l ends = (e, tt)
+    marks_after m (Go y) e k l (goes d) = marks_stay m k l d
+    marks_after m (Split y z) e k l (splits {os₁ = os₁} {os₂ = os₂} d f) =
+        each-append (λ (w : Way). w.marks ≡ m) os₁ os₂ (marks_stay m k.0 l.0 d) (marks_stay m k.1 l.1 f)
+    marks_after m (Enter g y z) e k l (enters {now = now} lies d f) =
+        marks_after m (closing_move g y now) k.0 (closing_keeps m g y now k.0 (marks_stay m k.1 l.0 d))
+        (onto_leads (LiesInBody ws b) g y now l.1) f
+
+-- alike loops stand at the same places
+same_places : (ws : List ℕ) (p : ℕ) (fs gs : List Frame) → LoopsAlike ws p fs gs → repeats fs ≡ repeats gs
+same_places ws p [] [] h = refl
+same_places ws p [] (g ∷ gs) h = absurd h
+same_places ws p (f ∷ fs) [] h = absurd h
+same_places ws p (f ∷ fs) (g ∷ gs) h = rw (h.0.repeat, same_places ws p fs gs h.1) refl
+
+-- a spot that is alike to one in a body lies there, too
+alike_confined : (ws : List ℕ) (b : MarklessBody ws) (x y : Spot) → Alike ws x y
+    → LiesInBody ws b x.point (repeats x.frames) → LiesInBody ws b y.point (repeats y.frames)
+alike_confined ws b x y h l =
+    subst (λ pt. LiesInBody ws b pt (repeats y.frames)) h.point
+    (subst (λ ks. LiesInBody ws b x.point ks) (same_places ws _ x.frames y.frames h.loops) l)
+
+-- so marks stay there
+pub confined_stay : (r : Run) (x : Spot) → Confined r.words x → MarksStay r x
+confined_stay r x l = record {
+  same = λ y os n h d.
+      marks_stay r.words r.subject l.0 y.marks refl (alike_confined r.words l.0 x y h l.1) d;
+}
+
+-- no region of words whose tree sets no mark inside one sets a mark
+pub markless_regions : (ws : List ℕ) (t : Tree) → WholeItems ws t → marks_in_regions t ≡ false → MarklessRegions ws
+markless_regions ws t w e =
+    record { none = λ u w'. subst (λ x. marks_in_regions x ≡ false) (items_same ws t u w w') e }

@@ -1,0 +1,156 @@
+-- An instruction or a possessive loop that is tried: a marker waits below all its outcomes, and where that marker is
+-- reached again, it has failed, and always will.
+use Rattle.std.proofs.Common.{◌≡◌, ℕ, ◌+◌, ◌≤◌, Bool, List, [], ◌∷◌, drop, ap, refl, sym, subst, arith}
+use Rattle.sre_turns.specs.declared.Next.TheVariants as next
+use Rattle.sre_turns.specs.Limits.{Limit, attempt, with_tried, without_tried, Stage, Going, Splitting, spare, FaresBack}
+use Rattle.sre_turns.specs.Machine.{Frame, Point, Spot, Trying, BoardValue, Counted, Run, StringCursor, Marks, Way}
+use Rattle.sre_turns.specs.Machine.{Runs, Waits, tried, GoesWith, Goes, Arrives, Tries, Backs, Later, spot}
+use Rattle.sre_turns.specs.Confining.{ChoicesConfined}
+use Rattle.sre_turns.specs.Fruit.{Fruitless, is_inside}
+use Rattle.sre_turns.specs.Alike.{Alike, LoopsAlike, least_from}
+use Rattle.sre_turns.specs.Hopeless.{Hopeless, AcceptsByStop, MarksServe}
+use Rattle.sre_turns.proofs.semantics.FirstOutcomes.{first_none}
+use Rattle.sre_turns.proofs.memoization.Hopeless.{hopeless_again, fruitless_waits, fruitless_none}
+use Rattle.sre_turns.specs.Prices.{price_of}
+use Rattle.sre_turns.proofs.semantics.Moving.{sooner, some_turns}
+use Rattle.sre_turns.proofs.bound.Faring.{run_code, run_place, place_left}
+
+-- what is tried has its mark wait
+tried_with : (stage : Stage) → spare stage ≡ 0 → (r : Run) (pt : Point) (c : StringCursor) (b b' : BoardValue)
+    → b' ≡ record b { choices = Trying pt b.frames c b.marks ∷ b.choices }
+    → (all : List Way) (limit : Limit) → GoesWith stage r all limit pt c b
+    → GoesWith stage r all (with_tried (attempt b.choices (spot pt c b)) limit) pt c b'
+tried_with stage none r pt c b b' e all limit g =
+    subst (λ x. GoesWith stage r all (with_tried (attempt b.choices (spot pt c b)) limit) pt c x) (sym e)
+    (record {
+      now = g.now;
+      turns = g.turns;
+      later = g.later;
+      stands = g.stands;
+      placed = g.placed;
+      runs = g.runs;
+      waits = tried g.stands g.placed g.runs (omega (arith, none)) refl g.waits;
+      within = g.within;
+      fares = λ pl o w.
+          let f = g.fares pl o w in
+          record {
+            here = f.here;
+            fares = record {
+              settled = (f.here, f.fares.settled);
+              trying = ap (λ xs. attempt b.choices (spot pt c b) ∷ xs) f.fares.trying;
+              left = omega (arith, f.fares.left);
+            };
+          };
+      confined = λ none.
+          let f = g.confined none in record { here = f.here; others = record { each = (f.here, f.others.each) } };
+    })
+
+-- so it is where its step is under way
+pub trying_goes : (r : Run) (pt : Point) (c : StringCursor) (b b' : BoardValue)
+    → b' ≡ record b { choices = Trying pt b.frames c b.marks ∷ b.choices }
+    → (all : List Way) (limit : Limit) → Goes r all limit pt c b
+    → Goes r all (with_tried (attempt b.choices (spot pt c b)) limit) pt c b'
+trying_goes r pt c b b' e all limit g = tried_with Going refl r pt c b b' e all limit g
+
+-- and where the credits for one split were granted
+pub trying_tries : (r : Run) (pt : Point) (c : StringCursor) (b b' : BoardValue)
+    → b' ≡ record b { choices = Trying pt b.frames c b.marks ∷ b.choices }
+    → (all : List Way) (limit : Limit) → Tries r all limit pt c b
+    → Tries r all (with_tried (attempt b.choices (spot pt c b)) limit) pt c b'
+trying_tries r pt c b b' e all limit g = tried_with Splitting refl r pt c b b' e all limit g
+
+-- the mark is reached: what waited below it still waits
+pub tried_waits : (r : Run) (pt : Point) (c : StringCursor) (b b' : BoardValue)
+    → b.choices ≡ Trying pt b'.frames c b'.marks ∷ b'.choices → (all : List Way) (limit : Limit) → Backs r all limit b
+    → Backs r all (without_tried limit) b'
+tried_waits r pt c b b' e all limit g = go (subst (λ x. Waits r x 0 [] all g.later) e g.waits) g.within
+  where
+    left : (pl : Counted r) → FaresBack r pl (without_tried limit) b'.choices
+    left pl =
+        let f = subst (λ x. FaresBack r pl limit x) e (g.fares pl) in
+        record {
+          settled = f.settled.1;
+          trying = ap (λ xs. drop 1 xs) f.trying;
+          left = f.left;
+        }
+
+    go : {k : ℕ} → Waits r (Trying pt b'.frames c b'.marks ∷ b'.choices) 0 [] all k → k ≤ limit.turns
+        → Backs r all (without_tried limit) b'
+    go (tried {k = k} there placed d most same wt) l = record {
+      later = k;
+      waits = wt;
+      within = l;
+      fares = left;
+      confined = λ none. record { each = (subst (λ x. ChoicesConfined r.words x) e (g.confined none)).each.1 };
+    }
+
+-- what comes of a configuration, which is nothing
+pub record CameToNothing (r : Run) (inside : Bool) (x : Spot) : Type 0 where
+  pub outcomes : List Way
+  pub turns : ℕ
+  pub runs : Runs r.words r.subject x outcomes turns
+  pub fruitless : Fruitless r inside outcomes
+
+pub came_hopeless : (r : Run) → AcceptsByStop r → (inside : Bool) (m : Marks) (x : Spot)
+    → MarksServe r.words m x → CameToNothing r inside x → Hopeless r inside m x
+came_hopeless r told inside m x serves d =
+    hopeless_again r told inside m x serves d.outcomes d.turns d.runs d.fruitless
+
+-- what was tried came to nothing
+pub tried_came : (r : Run) (pt : Point) (c : StringCursor) (b b' : BoardValue)
+    → b.choices ≡ Trying pt b'.frames c b'.marks ∷ b'.choices → (all : List Way) (limit : Limit) → Backs r all limit b
+    → CameToNothing r (is_inside b'.choices) (spot pt c b')
+tried_came r pt c b b' e all limit g = go (subst (λ x. Waits r x 0 [] all g.later) e g.waits)
+  where
+    go : {k : ℕ} → Waits r (Trying pt b'.frames c b'.marks ∷ b'.choices) 0 [] all k
+        → CameToNothing r (is_inside b'.choices) (spot pt c b')
+    go (tried {n = n} {os = os} there placed d most same wt) =
+        record {
+          outcomes = os;
+          turns = n;
+          runs = d;
+          fruitless = first_none _ _ same (fruitless_none r (is_inside b'.choices));
+        }
+
+-- so it is hopeless where marks serve that serve it
+pub tried_hopeless : (r : Run) → AcceptsByStop r → (pt : Point) (c : StringCursor) (b b' : BoardValue) (m : Marks)
+    → MarksServe r.words m (spot pt c b') → b.choices ≡ Trying pt b'.frames c b'.marks ∷ b'.choices
+    → (all : List Way) (limit : Limit) → Backs r all limit b
+    → Hopeless r (is_inside b'.choices) m (spot pt c b')
+tried_hopeless r told pt c b b' m serves e all limit g =
+    came_hopeless r told (is_inside b'.choices) m (spot pt c b') serves
+    (tried_came r pt c b b' e all limit g)
+
+-- a configuration is alike to itself
+loops_itself : (ws : List ℕ) (p : ℕ) (fs : List Frame) → LoopsAlike ws p fs fs
+loops_itself ws p [] = tt
+loops_itself ws p (f ∷ fs) =
+    (record { repeat = refl; count = λ low high l h. refl; last = λ q at. refl }, loops_itself ws p fs)
+
+pub alike_itself : (ws : List ℕ) (x : Spot) → Alike ws x x
+alike_itself ws x = record {
+  point = refl;
+  position = refl;
+  loops = loops_itself ws (least_from x.point x.position) x.frames;
+}
+
+-- what is hopeless and come to is left at once
+pub hopeless_left : (r : Run) (pt : Point) (c : StringCursor) (b : BoardValue) (m : Marks)
+    → MarksServe r.words m (spot pt c b) → Hopeless r (is_inside b.choices) m (spot pt c b) → (all : List Way)
+    (limit : Limit) → Arrives r all limit pt c b → Later r all limit next.Back b
+hopeless_left r pt c b m serves hopeless all limit g =
+    let x : Spot = spot pt c b in (
+      omega (arith, some_turns g.runs, g.within),
+      record {
+        later = g.later;
+        waits = sooner (g.turns + 1) 0 (omega arith)
+            (fruitless_waits r b.choices g.now
+            (hopeless.none x g.now g.turns (alike_itself r.words x) serves g.runs) g.waits);
+        within = omega (arith, some_turns g.runs, g.within);
+        fares = λ pl.
+            let code = run_code r x g.runs in
+            place_left r pl limit (price_of r.words r.subject.end x) x b.choices (run_place r x g.runs)
+            (omega arith) (g.fares pl code.0 code.1);
+        confined = λ none. (g.confined none).others;
+      },
+    )

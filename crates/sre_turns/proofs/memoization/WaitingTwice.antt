@@ -1,0 +1,118 @@
+-- What waits twice: where the newest saved alternative is to continue right where the machine continues, it may go. All
+-- its outcomes come of continuing, too, and before.
+use Rattle.std.proofs.Common.{◌≡◌, ◌∙◌, inl, inr, ℕ, ◌+◌, ◌≤◌, Bool, true, false, List, [], ◌∷◌, ◌++◌, refl, sym, subst}
+use Rattle.std.proofs.Common.{arith}
+use Rattle.sre_model.proofs.MarksApart.{SameStops}
+use Rattle.sre_turns.specs.Board.{Choice, Else, Keep, Trying, BoardValue, Dropped}
+use Rattle.sre_turns.specs.declared.Next.TheVariants as next
+use Rattle.sre_turns.specs.MovesAtReferences.{HasReference}
+use Rattle.sre_turns.specs.Hopeless.{AcceptsByStop, SameFruit, is_inside}
+use Rattle.sre_turns.specs.Machine.{Instruction, Spot, Move, Stop, End, Go, Split, Enter, closing_move, Limit, earlier}
+use Rattle.sre_turns.specs.Machine.{Run, StringCursor, Marks, Subject, Way, Runs, turns, Comes, stops, ends, goes}
+use Rattle.sre_turns.specs.Machine.{splits, enters, Waits, outermost, otherwise, kept, tried, Arrives, Later, spot}
+use Rattle.sre_turns.proofs.semantics.FirstOutcomes.{SameFirsts, firsts_append, firsts_begin, closes_same, firsts_again}
+use Rattle.sre_turns.proofs.semantics.Moving.{sooner}
+use Rattle.sre_turns.proofs.semantics.OneTurn.{comes}
+use Rattle.sre_turns.proofs.memoization.SameComes.{marks_apart}
+
+-- of outcomes that begin with the same under each test the first that counts is the same
+fruit_alike : (r : Run) → AcceptsByStop r → (inside : Bool) (xs ys : List Way) → SameFirsts xs ys
+    → SameFruit r inside xs ys
+fruit_alike r told true xs ys h = firsts_begin xs ys h
+fruit_alike r told false xs ys h = h r.accepts told
+
+-- what waits behind some outcomes waits behind all that begin with the same under each test
+pub waits_alike : (r : Run) → AcceptsByStop r → (cs : List Choice) (xs ys : List Way) {all : List Way} {u k : ℕ}
+    → SameFirsts xs ys → Waits r cs u xs all k → Waits r cs u ys all k
+waits_alike r told [] xs ys h (outermost begins) = outermost (begins ∙ h r.accepts told)
+waits_alike r told (Else pt fs c m ∷ cs) xs ys h (otherwise {os = os} there placed d wt) =
+    otherwise there placed d (waits_alike r told cs (xs ++ os) (ys ++ os) (firsts_append xs ys os h) wt)
+waits_alike r told (Keep g fs c m ∷ cs) xs ys h (kept {pt = pt} there placed d wt) =
+    kept {pt = pt} there placed (rw (closes_same g _ xs ys (firsts_begin xs ys h)) at d) wt
+waits_alike r told (Trying pt fs c m ∷ cs) xs ys h (tried there placed d most same wt) =
+    tried there placed d most (same ∙ fruit_alike r told (is_inside cs) xs ys h) (waits_alike r told cs xs ys h wt)
+
+-- what comes of a spot is determined
+module _ (ws : List ℕ) (s : Subject) where
+  mutual
+    pub runs_same : {x : Spot} {os us : List Way} {n k : ℕ} → Runs ws s x os n → Runs ws s x us k → os ≡ us
+    runs_same {x} (turns mv h d) e = comes_same mv d (comes mv h e)
+
+    comes_same : {x : Spot} {os us : List Way} {n k : ℕ} (mv : Move) → Comes ws s x mv os n → Comes ws s x mv us k
+        → os ≡ us
+    comes_same Stop stops stops = refl
+    comes_same End ends ends = refl
+    comes_same (Go y) (goes d) (goes e) = runs_same d e
+    comes_same (Split y z) (splits d d') (splits e e') = rw (runs_same d e, runs_same d' e') refl
+    comes_same {x} (Enter g y z) (enters {now = now} lies d d')
+        (enters {now = after} {os = us} {n₂ = k₂} lies' e e') =
+        comes_same (closing_move g y now) d'
+        (subst (λ os. Comes ws s y (closing_move g y os) us k₂) (sym (runs_same d e)) e')
+
+-- outcomes stop where they stop
+stops_itself : (xs : List Way) → SameStops xs xs
+stops_itself [] = tt
+stops_itself (x ∷ xs) = (refl, stops_itself xs)
+
+-- with the same marks the same comes of a spot, and with others what has the same stops, where no reference is
+stops_again : (r : Run) (x : Spot) (m : Marks) (matter : Bool) → (matter ≡ true → m ≡ x.marks)
+    → (matter ≡ false → HasReference r.words → ⊥) → {os us : List Way} {n k : ℕ} → Runs r.words r.subject x os n
+    → Runs r.words r.subject (record x { marks = m }) us k → SameStops os us
+stops_again r x m false same none d e = (marks_apart r.words r.subject (none refl) x m d e).0
+stops_again r x m true same none {os} {us} {n} {k} d e =
+    let here : Runs r.words r.subject x us k = rw (same refl) at e in
+    subst (λ ws. SameStops os ws) (runs_same r.words r.subject d here) (stops_itself os)
+
+-- the newest choice goes where the machine is come to
+pub dropped_arrives : (r : Run) → AcceptsByStop r → (i : ℕ) (c : StringCursor) (matter : Bool) (b b' : BoardValue)
+    (m : Marks)
+    → (matter ≡ true → m ≡ b'.marks) → (matter ≡ false → HasReference r.words → ⊥)
+    → b ≡ record b' { choices = Else (Instruction i) b'.frames c m ∷ b'.choices } → (all : List Way)
+    (limit : Limit) → Arrives r all limit (Instruction i) c b → Arrives r all limit (Instruction i) c b'
+dropped_arrives r told i c matter b b' m same none e all limit g =
+    go (subst (λ x. Arrives r all limit (Instruction i) c x) e g)
+  where
+    both : BoardValue
+    both = record b' { choices = Else (Instruction i) b'.frames c m ∷ b'.choices }
+
+    go : Arrives r all limit (Instruction i) c both → Arrives r all limit (Instruction i) c b'
+    go a = by_choice a.waits a.within
+      where
+        by_choice : {later : ℕ} → Waits r both.choices (a.turns + 1) a.now all later → a.turns + later ≤ limit.turns
+            → Arrives r all limit (Instruction i) c b'
+        by_choice (otherwise {n = n} {k = k} {os = os} there placed d wt) l = record {
+          now = a.now;
+          turns = a.turns;
+          later = k;
+          stands = a.stands;
+          placed = a.placed;
+          runs = a.runs;
+          waits =
+              sooner (a.turns + 1 + n + 1) (a.turns + 1) (omega arith)
+              (waits_alike r told b'.choices (a.now ++ os) a.now (firsts_again a.now os
+              (stops_again r (spot (Instruction i) c b') m matter same none a.runs d)) wt);
+          within = omega (arith, l);
+          fares = λ pl o w.
+              let f = a.fares pl o w in
+              record {
+                here = f.here;
+                fares = record {
+                  settled = f.fares.settled.1;
+                  trying = f.fares.trying;
+                  left = omega (arith, f.fares.left);
+                };
+              };
+          confined = λ none. let f = a.confined none in record {
+            here = f.here;
+            others = record { each = f.others.each.1 };
+          };
+        }
+
+-- a turn later, where it went or did not
+pub later_dropped : (r : Run) → AcceptsByStop r → (i : ℕ) (c : StringCursor) (matter : Bool)
+    → (matter ≡ false → HasReference r.words → ⊥) → (b b' : BoardValue) → Dropped i c matter b b'
+    → (all : List Way) (limit : Limit) → Later r all limit (next.At i c) b → Later r all limit (next.At i c) b'
+later_dropped r told i c matter none b b' (inl same) all limit l =
+    subst (λ x. Later r all limit (next.At i c) x) (sym same) l
+later_dropped r told i c matter none b b' (inr gone) all limit l =
+    (l.0, dropped_arrives r told i c matter b b' gone.0 gone.1 none gone.2 all (earlier limit) l.1)

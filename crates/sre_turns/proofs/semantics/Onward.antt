@@ -1,0 +1,210 @@
+-- How far a step reaches: no further back than its configuration, not out of the range, and not before the last bodies
+-- of its loops began. So its outcomes end no earlier than at the least position to which its point comes back: after an
+-- atomic group and a body of a possessive loop no position is earlier than before it. Equivalence rests on that.
+use Rattle.std.proofs.Common.{◌≡◌, ℕ, ◌+◌, ◌≤◌, Bool, true, false, cond, nat_lt, List, [], ◌∷◌, ◌++◌, drop, Option}
+use Rattle.std.proofs.Common.{Some, None, refl, sym, subst, arith}
+use Rattle.std.specs.Bool.{⊤}
+use Rattle.std.specs.List.{AllByRecursion}
+use Rattle.sre_model.specs.Tree.{Order, Greedy, Lazy}
+use Rattle.sre_model.specs.Marks.{Marks, group}
+use Rattle.sre_model.specs.Subject.{Subject}
+use Rattle.sre_model.specs.Ways.{Way, may_repeat}
+use Rattle.sre_model.specs.Grammar.{skip}
+use Rattle.sre_turns.specs.declared.Frame.{Frame}
+use Rattle.sre_turns.specs.declared.Region.TheVariants.{Ahead, NotAhead, Further}
+use Rattle.sre_turns.specs.declared.Region.{Region}
+use Rattle.sre_turns.specs.declared.Point.TheVariants.{Instruction, Again}
+use Rattle.sre_turns.specs.declared.Point.{Point}
+use Rattle.sre_turns.specs.Moves.{Spot, spot_at, Move, Stop, End, Go, Split, Enter, closing_move}
+use Rattle.sre_turns.specs.MovesInLoops.{next_frame, in_order, until_move, again_move}
+use Rattle.sre_turns.specs.Machine.{MovesAt, Runs, turns, Comes, stops, ends, goes, splits, enters}
+use Rattle.sre_turns.specs.Alike.{least_from}
+use Rattle.sre_turns.specs.Straight.{goes_behind}
+use Rattle.sre_turns.specs.Nested.{BegunBy, AllBegunBy}
+use Rattle.sre_turns.proofs.semantics.Turned.{Turned, stopped, ended, went, forked, marked, grouped, begun, entered}
+use Rattle.sre_turns.proofs.semantics.Turned.{looped}
+use Rattle.sre_turns.proofs.semantics.Turned.{repeated, point_turned}
+use Rattle.sre_model.proofs.Each.{each-append, each-weaken}
+
+-- each of some ways ends no earlier than at a position
+abbrev pub EndFrom : ℕ → List Way → Type 0
+EndFrom p os = AllByRecursion (λ (w : Way). p ≤ w.stop) os
+
+-- and each no later
+abbrev pub EndWithin : ℕ → List Way → Type 0
+EndWithin e os = AllByRecursion (λ (w : Way). w.stop ≤ e) os
+
+begun_later : (p q : ℕ) (last : Option ℕ) → p ≤ q → BegunBy last p → BegunBy last q
+begun_later p q None l h = tt
+begun_later p q (Some last) l h = omega (arith, h)
+
+pub all_later : (p q : ℕ) (fs : List Frame) → p ≤ q → AllBegunBy p fs → AllBegunBy q fs
+all_later p q fs l h =
+    each-weaken (λ (f : Frame). BegunBy f.last p) (λ (f : Frame). BegunBy f.last q)
+    (λ (f : Frame) k. begun_later p q f.last l k) fs h
+
+-- from a spot at o that comes back to p, under the loops fs, a turn leads to one at q that comes back to r, under gs:
+-- no further back, in the window, and no earlier than where the last bodies of its loops began
+pub record Reaches (s : Subject) (o p : ℕ) (fs : List Frame) (q r : ℕ) (gs : List Frame) : Type 0 where
+  pub onward : p ≤ r
+  pub inside : o ≤ s.end → q ≤ s.end
+  pub begun : AllBegunBy p fs → AllBegunBy r gs
+
+module _ (s : Subject) (o p : ℕ) (fs : List Frame) where
+  abbrev pub Reached : Spot → Type 0
+  Reached y = Reaches s o p fs y.position (least_from y.point y.position) y.frames
+
+  -- what that says of each spot of a turn: of a region also where its body begins
+  abbrev pub Reaching : Move → Type 0
+  Reaching Stop = ⊤
+  Reaching End = ⊤
+  Reaching (Go y) = Reached y
+  Reaching (Split y z) = Reached y × Reached z
+  Reaching (Enter g y z) =
+      Reaches s o p fs y.position y.position y.frames
+      × (y.position ≤ s.end → z.position ≤ s.end) × (z.frames ≡ [])
+      × (goes_behind g ≡ true → y.position ≤ least_from z.point z.position)
+
+  -- under the same loops
+  on : (q r : ℕ) → p ≤ r → (o ≤ s.end → q ≤ s.end) → Reaches s o p fs q r fs
+  on q r l k = record { onward = l; inside = k; begun = λ b. all_later p r fs l b }
+
+  cond_reaches : (b : Bool) (x y : Move) → (b ≡ true → Reaching x) → (b ≡ false → Reaching y)
+      → Reaching (cond b x y)
+  cond_reaches true x y h k = h refl
+  cond_reaches false x y h k = k refl
+
+  order_reaches : (order : Order) (body end : Spot) → Reached body → Reached end → Reaching (in_order order body end)
+  order_reaches Greedy body end h k = (h, k)
+  order_reaches Lazy body end h k = (k, h)
+
+module _ (s : Subject) (p : ℕ) (fs : List Frame) where
+  here : Reaches s p p fs p p fs
+  here = on s p p fs p p (omega arith) (λ l. l)
+
+  -- further bodies of a loop and what is behind it
+  module _ (f : Frame) (outer : List Frame) (e : fs ≡ f ∷ outer) where
+    inner : AllBegunBy p fs → AllBegunBy p (f ∷ outer)
+    inner b = subst (λ l. AllBegunBy p l) e b
+
+    owed : Reaches s p p fs p p (next_frame f f.last ∷ outer)
+    owed = record { onward = omega arith; inside = λ l. l; begun = λ b. ((inner b).0, (inner b).1) }
+
+    further : Reaches s p p fs p p (next_frame f (Some p) ∷ outer)
+    further = record { onward = omega arith; inside = λ l. l; begun = λ b. (omega arith, (inner b).1) }
+
+    out : Reaches s p p fs p p outer
+    out = record { onward = omega arith; inside = λ l. l; begun = λ b. (inner b).1 }
+
+    until_reaches : (o : Order) (low high u : ℕ) (m : Marks)
+        → Reaching s p p fs (until_move o low high u f outer (spot_at (Instruction u) fs p m))
+    until_reaches o low high u m =
+        cond_reaches s p p fs (nat_lt f.count low) _ _ (λ y. owed)
+        (λ y. cond_reaches s p p fs (may_repeat high f.count f.last p) _ _
+        (λ z. order_reaches s p p fs o _ _ further out) (λ z. out))
+
+    again_reaches : (low high u : ℕ) (m : Marks)
+        → Reaching s p p fs (again_move low high u f outer (spot_at Again fs p m))
+    again_reaches low high u m =
+        cond_reaches s p p fs (nat_lt f.count low) _ _ (λ y. (owed, λ l. l, refl, λ z. omega arith))
+        (λ y. cond_reaches s p p fs (may_repeat high f.count f.last p) _ _
+        (λ z. (further, λ l. l, refl, λ g. omega arith)) (λ z. out))
+
+-- a turn at any point
+turn_reaches : {ws : List ℕ} {s : Subject} {p : ℕ} {fs gs : List Frame} {m n : Marks} {pt : Point} {v w : Move}
+    → Turned ws s p fs gs m n pt v w → Reaching s p (least_from pt p) fs v
+turn_reaches stopped = tt
+turn_reaches (ended o at e) = tt
+turn_reaches {s = s} {p = p} {fs = fs} (went x) =
+    on s p p fs x.position (least_from x.point x.position) x.onward x.inside
+turn_reaches {s = s} {p = p} {fs = fs} (forked {pt = pt} {first = first} {rest = rest} {q = q} f a b inside) = (
+  on s p (least_from pt p) fs q (least_from first q) a inside,
+  on s p (least_from pt p) fs q (least_from rest q) b inside,
+)
+turn_reaches {s = s} {p = p} {fs = fs} (marked o at e there) = here s p fs
+turn_reaches {m = m} (grouped {g = g} o at e asked there v w each) = turn_reaches (each (group m g))
+turn_reaches {s = s} {p = p} (begun o at b same) =
+    record { onward = omega (arith, same); inside = λ l. l; begun = λ b. (tt, all_later p _ _ (omega (arith, same)) b) }
+turn_reaches {s = s} {p = p} {fs = fs} (entered o at b l k stays) =
+    (here s p fs, λ e. omega (arith, l, e), refl, stays)
+turn_reaches {s = s} {p = p} {fs = fs} {m = m} (looped {u = u} o order at e h k) =
+    subst (Reaching s p p fs) (sym h.is) (until_reaches s p fs h.frame h.outer h.inside order h.low h.high u m)
+turn_reaches {ws = ws} {s = s} {p = p} {fs = fs} {m = m} (repeated h k) =
+    subst (Reaching s p p fs) (sym h.is)
+    (again_reaches s p fs h.frame h.outer h.inside h.low h.high (skip ws (h.frame.repeat + 1)) m)
+
+pub point_reaches : (ws : List ℕ) (s : Subject) (fs : List Frame) (p : ℕ) (m : Marks) (pt : Point) (a : Move)
+    → MovesAt ws s pt (spot_at pt fs p m) a → Reaching s p (least_from pt p) fs a
+point_reaches ws s fs p m pt a h = turn_reaches (point_turned ws s p fs fs m m pt a a h h)
+
+-- where the loops of a configuration began before, those without the innermost did
+pub outer_begun : (p : ℕ) (fs : List Frame) → AllBegunBy p fs → AllBegunBy p (drop 1 fs)
+outer_begun p [] h = tt
+outer_begun p (f ∷ fs) h = h.1
+
+-- what comes of a region goes on from where it was entered, or from where its body ends
+module _ (s : Subject) (y : Spot) where
+  there : Reaches s y.position y.position y.frames y.position y.position y.frames
+  there = on s y.position y.position y.frames y.position y.position (omega arith) (λ l. l)
+
+  at_end : (w : Way) → y.position ≤ w.stop → (y.position ≤ s.end → w.stop ≤ s.end)
+      → Reaches s y.position y.position y.frames w.stop w.stop y.frames
+  at_end w l k = on s y.position y.position y.frames w.stop w.stop l k
+
+  closing_reaches : (g : Region) (now : List Way) → (goes_behind g ≡ true → EndFrom y.position now)
+      → (y.position ≤ s.end → EndWithin s.end now)
+      → Reaching s y.position y.position y.frames (closing_move g y now)
+  closing_reaches (Ahead t) (w ∷ os) e k = there
+  closing_reaches (NotAhead t) [] e k = there
+  closing_reaches (NotAhead t) (w ∷ os) e k = tt
+  closing_reaches (Further t) [] e k =
+      record { onward = omega arith; inside = λ l. l; begun = outer_begun y.position y.frames }
+  closing_reaches g [] e k = tt
+  closing_reaches g (w ∷ os) e k = at_end w (e refl).0 (λ l. (k l).0)
+
+pub least_position : (pt : Point) (p : ℕ) → least_from pt p ≤ p
+least_position (Instruction i) p = omega arith
+least_position pt p = omega arith
+
+-- so the outcomes of a spot end no earlier, and in the window
+module _ (ws : List ℕ) (s : Subject) where
+  abbrev EndThere : ℕ → ℕ → List Way → Type 0
+  EndThere o p os = EndFrom p os × (o ≤ s.end → EndWithin s.end os)
+
+  both_there : (o p : ℕ) (os others : List Way) → EndThere o p os → EndThere o p others
+      → EndThere o p (os ++ others)
+  both_there o p os others h k = (
+    each-append (λ (w : Way). p ≤ w.stop) os others h.0 k.0,
+    λ l. each-append (λ (w : Way). w.stop ≤ s.end) os others (h.1 l) (k.1 l),
+  )
+
+  mutual
+    outcomes_end : {x : Spot} {os : List Way} {n : ℕ} (p : ℕ) → p ≤ least_from x.point x.position
+        → Runs ws s x os n → EndThere x.position p os
+    outcomes_end {x} p l (turns a h d) =
+        comes_end x.position p (least_from x.point x.position) x.frames l
+        (omega (arith, l, least_position x.point x.position)) (λ k. k)
+        (point_reaches ws s x.frames x.position x.marks x.point a h) d
+
+    comes_end : {x : Spot} {a : Move} {os : List Way} {n : ℕ} (o p q : ℕ) (fs : List Frame) → p ≤ q → p ≤ x.position
+        → (o ≤ s.end → x.position ≤ s.end) → Reaching s o q fs a → Comes ws s x a os n → EndThere o p os
+    comes_end o p q fs l k inside h stops = (tt, λ w. tt)
+    comes_end o p q fs l k inside h ends = ((k, tt), λ w. (inside w, tt))
+    comes_end o p q fs l k inside h (goes d) =
+        let e = outcomes_end p (omega (arith, l, h.onward)) d in
+        (e.0, λ w. e.1 (h.inside w))
+    comes_end o p q fs l k inside h (splits {os₁ = os₁} {os₂ = os₂} d e) =
+        let first = outcomes_end p (omega (arith, l, h.0.onward)) d in
+        let second = outcomes_end p (omega (arith, l, h.1.onward)) e in
+        both_there o p os₁ os₂ (first.0, λ w. first.1 (h.0.inside w)) (second.0, λ w. second.1 (h.1.inside w))
+    comes_end o p q fs l k inside h (enters {y = y} {g = g} {now = now} lies d e) =
+        let closed : Reaching s y.position y.position y.frames (closing_move g y now) =
+        closing_reaches s y g now (λ w. (outcomes_end y.position (h.3 w) d).0)
+        (λ w. (outcomes_end 0 (omega arith) d).1 (h.1 w)) in
+        let far : p ≤ y.position = omega (arith, l, h.0.onward) in
+        let all = comes_end y.position p y.position y.frames far far (λ w. w) closed e in
+        (all.0, λ w. all.1 (h.0.inside w))
+
+  pub outcomes-onward : {x : Spot} {os : List Way} {n : ℕ} (p : ℕ) → p ≤ least_from x.point x.position
+      → Runs ws s x os n → EndFrom p os
+  outcomes-onward p l d = (outcomes_end p l d).0

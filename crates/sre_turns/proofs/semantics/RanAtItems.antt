@@ -1,0 +1,270 @@
+-- The bytecode of items has their match paths: of tests, positions, marks, jumps and alternatives, of back-references
+-- and conditionals, of atomic groups and lookarounds.
+use Rattle.std.proofs.Common.{◌≡◌, ℕ, suc, ◌+◌, ◌<◌, ◌≤◌, Bool, true, false, cond, nat_lt, nat_eq, List, [], ◌++◌}
+use Rattle.std.proofs.Common.{length, refl, subst, arith, ◌-◌, ◌&&◌, nat_le, ap, Option, Some, None, ◌∷◌, map}
+use Rattle.std.proofs.lemmas.List.{append-nil}
+use Rattle.std.proofs.lemmas.Bool.Decides.{nat_tests}
+use Rattle.sre_chars.specs.Numbers.{at_number}
+use Rattle.sre_chars.specs.declared.constants.SreAtCode.{SreAtCode}
+use Rattle.sre_chars.specs.declared.constants.SreOpcode.TheVariants as opcode
+use Rattle.sre_model.specs.Tree.{One, At, Mark, Test, Fold, Sign, Positive, Negative}
+use Rattle.sre_model.specs.Marks.{Marks, set_mark, group}
+use Rattle.sre_model.specs.Subject.{Subject, passes, holds_at, same_folded}
+use Rattle.sre_model.specs.Ways.{Way, Body, here, item_ways, reference_ways, first, look_ways}
+use Rattle.sre_model.specs.Grammar.{Word, Opcode, skip, JumpsTo, test_opcode, TestOperands, word, reference_opcode}
+use Rattle.sre_model.specs.Grammar.{look_opcode}
+use Rattle.sre_model.proofs.Bounds.{passes-below, Bounded, EachBetween}
+use Rattle.sre_model.specs.Standing.{TestStands}
+use Rattle.sre_turns.specs.Machine.{Frame, Instruction, Alternatives, AtomicGroup, spot_at, Stop, Go, Spot, Move, Enter}
+use Rattle.sre_turns.specs.Machine.{closing_move, Runs, turns, stops, goes, splits, Moves, enters, Comes}
+use Rattle.sre_model.specs.Roles.{ToTest, ToCheckPosition, ToMark, ToJump, ToRefer, ToCheckGroup, ToGroupAtomically}
+use Rattle.sre_model.specs.Roles.{ToLook}
+use Rattle.sre_model.proofs.Families.{test_kind, test_role, reference_role, look_role}
+use Rattle.sre_turns.proofs.semantics.Moving.{at_instruction}
+use Rattle.sre_model.proofs.Words.{word_past}
+use Rattle.sre_model.specs.Cost.{Costs, item_cost, reference_cost, condition_cost, ending, atomic_cost, look_cost}
+use Rattle.sre_model.specs.Cost.{looked_cost}
+use Rattle.sre_turns.proofs.semantics.Outcomes.{followed, Ran, moved, alone, Follows, region}
+use Rattle.std.proofs.lemmas.Bool.{leb-true, and_parts}
+use Rattle.sre_turns.specs.MovesAtReferences.{MayAsk, Asks, asks, reference_turn, condition_place}
+use Rattle.sre_turns.specs.Bodies.{IsConfined, MarklessRegions}
+use Rattle.sre_turns.specs.MovesInRegions.{look}
+
+pub one-ran : (ws : List ℕ) (s : Subject) (i j : ℕ) (t : Test) → Opcode ws i (test_opcode t) → TestOperands ws i j t
+    → Ran ws s (Instruction i) j (λ p m. item_ways s (One t) p m) (λ C p m. item_cost s (One t) C p m)
+one-ran ws s i j t w h fs K C p m e f = go (passes s t p) refl
+  where
+    st : TestStands ws i j t
+    st = record { code = w; operands = h }
+
+    go : (y : Bool) → passes s t p ≡ y
+        → Runs ws s (spot_at (Instruction i) fs p m) (followed K (cond y (here (p + 1) m) []))
+        (cond y (suc (C (p + 1) m)) 1)
+    go true y =
+        turns _ (at_instruction (test_opcode t) (ToTest (test_kind t)) (test_role t) w
+        (record { end = j; test = t; stands = st; is = rw y refl }))
+        (goes (alone (f (p + 1) m (omega arith) (omega (arith, passes-below s t p y)))))
+    go false y =
+        turns Stop (at_instruction (test_opcode t) (ToTest (test_kind t)) (test_role t) w
+        (record { end = j; test = t; stands = st; is = rw y refl })) stops
+
+pub at-ran : (ws : List ℕ) (s : Subject) (i j : ℕ) (a : SreAtCode) → Opcode ws i opcode.AT
+    → Word ws (i + 1) (at_number a) → j ≡ i + 2
+    → Ran ws s (Instruction i) j (λ p m. item_ways s (At a) p m) (λ C p m. item_cost s (At a) C p m)
+at-ran ws s i j a w h l fs K C p m e f = go (holds_at s a p) refl
+  where
+    go : (y : Bool) → holds_at s a p ≡ y
+        → Runs ws s (spot_at (Instruction i) fs p m) (followed K (cond y (here p m) [])) (cond y (suc (C p m)) 1)
+    go true y =
+        turns _ (at_instruction opcode.AT ToCheckPosition refl w (record { code = a; there = h; is = rw y refl }))
+        (goes (moved l (alone (f p m (omega arith) e))))
+    go false y =
+        turns Stop (at_instruction opcode.AT ToCheckPosition refl w (record { code = a; there = h; is = rw y refl }))
+        stops
+
+-- an alternative, and those behind it
+pub alternative-ran : (ws : List ℕ) (s : Subject) (q v n₁ n₂ : ℕ) (fs : List Frame) (p : ℕ) (m : Marks)
+    (os₁ os₂ : List Way)
+    → Word ws q v → 0 < v → Runs ws s (spot_at (Instruction (q + 1)) fs p m) os₁ n₁
+    → Runs ws s (spot_at (Alternatives (q + v)) fs p m) os₂ n₂
+    → Runs ws s (spot_at (Alternatives q) fs p m) (os₁ ++ os₂) (suc (suc (n₁ + n₂)))
+alternative-ran ws s q v n₁ n₂ fs p m os₁ os₂ w l x y =
+    let more : nat_eq v 0 ≡ false = grind (arith, nat_tests) in
+    turns _ (record { value = v; there = w; is = rw more refl }) (splits x y)
+
+-- the last alternative has no other behind it
+pub last_alternative : (ws : List ℕ) (s : Subject) (q v n : ℕ) (fs : List Frame) (p : ℕ) (m : Marks) (os : List Way)
+    → Word ws q v → 0 < v → Word ws (q + v) 0 → Runs ws s (spot_at (Instruction (q + 1)) fs p m) os n
+    → Runs ws s (spot_at (Alternatives q) fs p m) os (suc (suc (n + 1)))
+last_alternative ws s q v n fs p m os w l z h =
+    subst (λ x. Runs ws s (spot_at (Alternatives q) fs p m) x (suc (suc (n + 1)))) (append-nil os)
+    (alternative-ran ws s q v n 1 fs p m os [] w l h (turns Stop (record { value = 0; there = z; is = refl }) stops))
+
+-- a skip word that leads on is there
+pub skip_there : (ws : List ℕ) (q : ℕ) → q < skip ws q → q < length ws
+skip_there ws q l = go (nat_lt q (length ws)) refl
+  where
+    go : (y : Bool) → nat_lt q (length ws) ≡ y → q < length ws
+    go true y = grind (arith, nat_tests)
+    go false y = let g : length ws ≤ q = grind (arith, nat_tests) in absurd (omega (arith, word_past ws q g))
+
+pub jump-ran : (ws : List ℕ) (s : Subject) (k j : ℕ) → k + 1 < j → JumpsTo ws k j
+    → (fs : List Frame) (K : Body) (C : Costs) (q : ℕ) (m : Marks)
+    → Runs ws s (spot_at (Instruction j) fs q m) (K q m) (C q m)
+    → Runs ws s (spot_at (Instruction k) fs q m) (K q m) (suc (C q m))
+jump-ran ws s k j l h fs K C q m r =
+    turns (Go (spot_at (Instruction j) fs q m)) (at_instruction opcode.JUMP ToJump refl h.0 (record {
+      there = skip_there ws (k + 1) (omega (arith, h.1));
+      is = rw (← h.1) refl;
+    })) (goes r)
+
+pub mark-ran : (ws : List ℕ) (s : Subject) (i j n : ℕ) → Opcode ws i opcode.MARK → Word ws (i + 1) n → j ≡ i + 2
+    → Ran ws s (Instruction i) j (λ p m. item_ways s (Mark n) p m) (λ C p m. item_cost s (Mark n) C p m)
+mark-ran ws s i j n w h l fs K C p m e f =
+    turns _ (at_instruction opcode.MARK ToMark refl w (record { number = n; there = h; is = refl }))
+    (goes (moved l (alone (f p (set_mark m n p) (omega arith) e))))
+
+pub reference-ran : (ws : List ℕ) (s : Subject) (i j g : ℕ) (f : Fold) → MayAsk ws g
+    → Opcode ws i (reference_opcode f) → Word ws (i + 1) g → j ≡ i + 2
+    → Ran ws s (Instruction i) j (λ p m. reference_ways s f g p m) (λ C p m. reference_cost s f (group m g) C p m)
+reference-ran ws s i j g f may w there l fs K C p m e after = from (group m g) refl
+  where
+    asked : Asks ws g
+    asked = (
+      may,
+      record {
+        place = i;
+        opcode = reference_opcode f;
+        code = w;
+        asks = ap (λ o. asks o) (reference_role f);
+        there = there;
+      },
+    )
+
+    x : Spot
+    x = spot_at (Instruction i) fs p m
+
+    move : (mv : Move) → mv ≡ reference_turn s f g (i + 2) x → Moves ws s x mv
+    move mv is =
+        at_instruction (reference_opcode f) ToRefer (reference_role f) w
+        (record { fold = f; number = g; asked = asked; code = w; there = there; is = is })
+
+    go : (u : ℕ × ℕ) (y : Bool) → group m g ≡ Some u
+        → (nat_le (p + (u.1 - u.0)) s.end && same_folded s f (u.1 - u.0) u.0 p) ≡ y
+        → Runs ws s x (followed K (cond y (here (p + (u.1 - u.0)) m) [])) (cond y (suc (C (p + (u.1 - u.0)) m)) 1)
+    go u true known y =
+        let n : ℕ = u.1 - u.0 in
+        let inside : p + n ≤ s.end =
+        leb-true (p + n) s.end (and_parts (nat_le (p + n) s.end) (same_folded s f n u.0 p) y).0 in
+        turns (Go (spot_at (Instruction (i + 2)) fs (p + n) m)) (move _ (rw (known, y, reference_turn) refl))
+        (goes (moved l (alone (after (p + n) m (omega arith) inside))))
+    go u false known y = turns Stop (move Stop (rw (known, y, reference_turn) refl)) stops
+
+    from : (o : Option (ℕ × ℕ)) → group m g ≡ o
+        → Runs ws s x
+        (followed K (elim o [
+          | None ↦ []
+          | (Some u) ↦
+              cond (nat_le (p + (u.1 - u.0)) s.end && same_folded s f (u.1 - u.0) u.0 p) (here (p + (u.1 - u.0)) m) []
+        ])) (reference_cost s f o C p m)
+    from None known = turns Stop (move Stop (rw (known, reference_turn) refl)) stops
+    from (Some u) known = go u _ known refl
+
+-- what follows the part that is taken
+pub present-followed : (K : Body) (o : Option (ℕ × ℕ)) (present absent : List Way)
+    → followed K (elim o [ None ↦ absent | (Some _) ↦ present ])
+    ≡ elim o [ None ↦ followed K absent | (Some _) ↦ followed K present ]
+present-followed K None present absent = refl
+present-followed K (Some u) present absent = refl
+
+-- a condition, where its parts are known: what follows the yes part ends with a JUMP if there is a no part
+module _ (ws : List ℕ) (s : Subject) (i g : ℕ) (may : MayAsk ws g) (w : Opcode ws i opcode.GROUPREF_EXISTS)
+    (there : Word ws (i + 1) g) (skips : i + 2 < length ws) where
+  asked : Asks ws g
+  asked = (
+    may,
+    record { place = i; opcode = opcode.GROUPREF_EXISTS; code = w; asks = refl; there = there },
+  )
+
+  pub condition-ran : (fs : List Frame) (p : ℕ) (m : Marks) (present absent : List Way) (yes_ no_ : ℕ)
+      → Runs ws s (spot_at (Instruction (i + 3)) fs p m) present yes_
+      → Runs ws s (spot_at (Instruction (i + 1 + word ws (i + 2))) fs p m) absent no_
+      → Runs ws s (spot_at (Instruction i) fs p m) (elim (group m g) [ None ↦ absent | (Some _) ↦ present ])
+      (condition_cost (group m g) yes_ no_)
+  condition-ran fs p m present absent yes_ no_ h k = from (group m g) refl
+    where
+      x : Spot
+      x = spot_at (Instruction i) fs p m
+
+      leads : (t : ℕ) → t ≡ condition_place ws i g m → Moves ws s x (Go (spot_at (Instruction t) fs p m))
+      leads t e =
+          at_instruction opcode.GROUPREF_EXISTS ToCheckGroup refl w
+          (record {
+            number = g;
+            asked = asked;
+            there = there;
+            skips = skips;
+            is = ap (λ q. Go (spot_at (Instruction q) fs p m)) e;
+          })
+
+      from : (o : Option (ℕ × ℕ)) → group m g ≡ o
+          → Runs ws s x (elim o [ None ↦ absent | (Some _) ↦ present ]) (condition_cost o yes_ no_)
+      from None known =
+          turns _ (leads _ (rw (known, condition_place) refl)) (goes k)
+      from (Some u) known =
+          turns (Go (spot_at (Instruction (i + 3)) fs p m)) (leads (i + 3) (rw (known, condition_place) refl)) (goes h)
+
+-- an atomic group, where its body has some ways
+atomic-closed : (ws : List ℕ) (s : Subject) (x : Spot) (j : ℕ) (K : Body) (C : Costs) (os : List Way)
+    → EachBetween s x.position os → Follows ws s x.position (Instruction j) x.frames K C
+    → Comes ws s x (closing_move (AtomicGroup j) x os) (followed K (first os)) (atomic_cost C os)
+atomic-closed ws s x j K C [] b f = stops
+atomic-closed ws s x j K C (w ∷ os) b f = goes (alone (f w.stop w.marks b.0.0 b.0.1))
+
+-- what a look has where its body has some ways
+abbrev looked : Sign → ℕ → Marks → List Way → List Way
+looked Positive p m os = map (λ (w : Way). record { stop = p; marks = w.marks }) (first os)
+looked Negative p m os = elim os [ [] ↦ here p m | (w ∷ _) ↦ [] ]
+
+looked_is : (sign : Sign) (back : ℕ) (W : Body) (p : ℕ) (m : Marks)
+    → looked sign p m (cond (nat_lt p back) [] (W (p - back) m)) ≡ look_ways sign back W p m
+looked_is sign back W p m = go sign (nat_lt p back) refl
+  where
+    go : (sign : Sign) (y : Bool) → nat_lt p back ≡ y
+        → looked sign p m (cond (nat_lt p back) [] (W (p - back) m)) ≡ look_ways sign back W p m
+    go Positive true e = rw e refl
+    go Positive false e = rw e refl
+    go Negative true e = rw e refl
+    go Negative false e = rw e refl
+
+look-closed : (ws : List ℕ) (s : Subject) (x : Spot) (j : ℕ) (K : Body) (C : Costs) (sign : Sign) (os : List Way)
+    → x.position ≤ s.end → Follows ws s x.position (Instruction j) x.frames K C
+    → Comes ws s x (closing_move (look sign j) x os) (followed K (looked sign x.position x.marks os))
+    (look_cost sign C x.position x.marks os)
+look-closed ws s x j K C Positive [] e f = stops
+look-closed ws s x j K C Positive (w ∷ os) e f = goes (alone (f x.position w.marks (omega arith) e))
+look-closed ws s x j K C Negative [] e f = goes (alone (f x.position x.marks (omega arith) e))
+look-closed ws s x j K C Negative (w ∷ os) e f = stops
+
+module _ (ws : List ℕ) (s : Subject) (i j k : ℕ) (W : Body) (counted : Costs → Costs)
+    (r : Ran ws s (Instruction k) (j - 1) W counted) (ends : Opcode ws (j - 1) opcode.SUCCESS)
+    (leads : j ≡ skip ws (i + 1)) (lies : MarklessRegions ws → IsConfined ws (Instruction k) []) where
+  pub atomic-ran : Opcode ws i opcode.ATOMIC_GROUP → i + 1 < length ws → k ≡ i + 2 → Bounded s W
+      → Ran ws s (Instruction i) j (λ p m. first (W p m)) (λ C p m. suc (counted ending p m + atomic_cost C (W p m)))
+  atomic-ran w there at b fs K C p m e f =
+      let x : Spot = spot_at (Instruction i) fs p m in
+      let body : Spot = spot_at (Instruction k) [] p m in
+      let move : Moves ws s x (Enter (AtomicGroup j) x body) =
+      at_instruction opcode.ATOMIC_GROUP ToGroupAtomically refl w
+      (record { there = there; is = rw (leads, at) refl }) in
+      turns (Enter (AtomicGroup j) x body) move
+      (enters lies (region ws s k (j - 1) W counted r ends [] p m e) (atomic-closed ws s x j K C (W p m) (b p m e) f))
+
+  module _ (back : ℕ) (there : Word ws (i + 2) back) (at : k ≡ i + 3) where
+    -- a look is entered, or comes too early
+    pub look-ran : (sign : Sign) → Opcode ws i (look_opcode sign)
+        → Ran ws s (Instruction i) j (λ p m. look_ways sign back W p m)
+        (λ C p m. looked_cost sign back counted W C p m)
+    look-ran sign w fs K C p m e f =
+        subst (λ os. Runs ws s x (followed K os) (looked_cost sign back counted W C p m)) (looked_is sign back W p m)
+        (go (nat_lt p back) refl)
+      where
+        x : Spot
+        x = spot_at (Instruction i) fs p m
+
+        early_or_entered : (y : Bool) → nat_lt p back ≡ y → Moves ws s x
+            (cond y (closing_move (look sign j) x []) (Enter (look sign j) x (spot_at (Instruction k) [] (p - back) m)))
+        early_or_entered y e =
+            at_instruction (look_opcode sign) (ToLook sign) (look_role sign) w
+            (record { back = back; there = there; is = rw (← leads, at, e) refl })
+
+        go : (y : Bool) → nat_lt p back ≡ y
+            → Runs ws s x (followed K (looked sign p m (cond y [] (W (p - back) m))))
+            (cond y (look_cost sign C p m [])
+            (suc (counted ending (p - back) m + look_cost sign C p m (W (p - back) m))))
+        go true y =
+            turns (closing_move (look sign j) x []) (early_or_entered true y) (look-closed ws s x j K C sign [] e f)
+        go false y =
+            turns (Enter (look sign j) x (spot_at (Instruction k) [] (p - back) m)) (early_or_entered false y)
+            (enters lies (region ws s k (j - 1) W counted r ends [] (p - back) m (omega arith))
+            (look-closed ws s x j K C sign (W (p - back) m) e f))

@@ -1,0 +1,178 @@
+-- How a run begins, and how it ends.
+use Rattle.std.proofs.Common.{◌≡◌, ℕ, ◌-◌, ◌≤◌, ◌++◌, Bool, true, false, List, [], ◌∷◌, refl, sym, ap, ◌∙◌, subst}
+use Rattle.std.proofs.Common.{arith, length, zero, suc}
+use Rattle.std.proofs.lemmas.Bool.{or_right, or_parts, true≢false}
+use Rattle.sre_chars.specs.declared.constants.SreOpcode.TheVariants as opcode
+use Rattle.sre_model.specs.Tree.{Tree, Empty, Then}
+use Rattle.sre_model.specs.References.{refers, by_references, asked_from, asked_to}
+use Rattle.sre_model.specs.Folding.{of_item}
+use Rattle.sre_model.specs.MarksSet.{marks_in_regions, by_marked_regions}
+use Rattle.sre_model.specs.Prefixes.{behind_items}
+use Rattle.sre_model.specs.Marks.{no_marks}
+use Rattle.sre_model.specs.Ways.{Way, first, ways}
+use Rattle.sre_model.specs.Grammar.{Opcode, Reads, WholeItems}
+use Rattle.sre_model.specs.Standing.{AreWords}
+use Rattle.sre_turns.specs.Board.{Choice, Else, Keep, Trying, from_region, BoardValue, bare}
+use Rattle.sre_turns.specs.Fruit.{SameFruit, is_inside}
+use Rattle.sre_turns.specs.MovesAtReferences.{MayAsk}
+use Rattle.sre_turns.specs.Prices.{price}
+use Rattle.sre_turns.specs.Settled.{Counted, SettledIn}
+use Rattle.sre_turns.proofs.bound.FaringInRegions.{end_refused}
+use Rattle.sre_turns.specs.Machine.{Instruction, spot_at, Limit, Run, StringCursor, Waits, outermost, otherwise, tried}
+use Rattle.sre_turns.specs.Machine.{Arrives, Ends, Stands, Later, SaysAccepted, outcomes}
+use Rattle.sre_turns.specs.declared.Next.{Next}
+use Rattle.sre_turns.specs.declared.Next.TheVariants as next
+use Rattle.sre_model.specs.Cost.{cost, ending}
+use Rattle.sre_model.proofs.Unique.{items_same}
+use Rattle.sre_turns.proofs.semantics.Outcomes.{region}
+use Rattle.sre_turns.proofs.semantics.Placed.{none_placed}
+use Rattle.sre_turns.proofs.semantics.Ran.{ran, PartOf}
+
+-- a reference behind some items is one of the whole
+behind_refers : (n : ℕ) (t : Tree) → refers (behind_items n t) ≡ true → refers t ≡ true
+behind_refers zero t e = e
+behind_refers (suc n) Empty e = e
+behind_refers (suc n) (Then x rest) e = or_right (of_item by_references x) (refers rest) (behind_refers n rest e)
+
+-- and it asks for no group before those of the whole
+behind_asked : (n : ℕ) (t : Tree) → asked_from t ≤ asked_from (behind_items n t)
+behind_asked zero t = omega arith
+behind_asked (suc n) Empty = omega arith
+behind_asked (suc n) (Then x rest) = let l = behind_asked n rest in omega (arith, l)
+
+-- nor for one behind them
+behind_asked_to : (n : ℕ) (t : Tree) → asked_to (behind_items n t) ≤ asked_to t
+behind_asked_to zero t = omega arith
+behind_asked_to (suc n) Empty = omega arith
+behind_asked_to (suc n) (Then x rest) = let l = behind_asked_to n rest in omega (arith, l)
+
+-- so the words do
+behind_asks : (ws : List ℕ) (n : ℕ) (t : Tree) → WholeItems ws t → (g : ℕ) → refers (behind_items n t) ≡ true
+    → asked_from (behind_items n t) ≤ g → g ≤ asked_to (behind_items n t) → MayAsk ws g
+behind_asks ws n t w g e l k = (
+  λ u w'. subst (λ x. refers x ≡ true) (items_same ws t u w w') (behind_refers n t e),
+  λ u w'.
+      let from : asked_from t ≤ g = omega (arith, l, behind_asked n t) in
+      let to : g ≤ asked_to t = omega (arith, k, behind_asked_to n t) in
+      subst (λ x. (asked_from x ≤ g) × (g ≤ asked_to x)) (items_same ws t u w w') (from, to),
+)
+
+-- an atomic scope behind some items is one of the whole
+behind_markless : (n : ℕ) (t : Tree) → marks_in_regions t ≡ false → marks_in_regions (behind_items n t) ≡ false
+behind_markless zero t e = e
+behind_markless (suc n) Empty e = e
+behind_markless (suc n) (Then x rest) e =
+    behind_markless n rest (or_parts (of_item by_marked_regions x) (marks_in_regions rest) e).1
+
+pub behind_has : (ws : List ℕ) (n : ℕ) (t : Tree) → WholeItems ws t → PartOf ws (behind_items n t)
+behind_has ws n t w = (λ g e l k. behind_asks ws n t w g e l k, λ markless. behind_markless n t (markless.none t w))
+
+-- the limit of a run of a tree from an address and a cursor, in a range from a start on
+abbrev pub first_limit : Run → ℕ → Tree → StringCursor → ℕ → Limit
+first_limit r i t c start = record {
+  turns = cost r.subject t ending c.position no_marks;
+  taken = 0;
+  granted = price r.words r.subject.end (Instruction i) c.position;
+  tolls = 0;
+  trying = [];
+  start = start;
+}
+
+-- a run from a cursor and an address has the accepted ways of the tree whose words are those from there on
+pub started : (r : Run) (i : ℕ) (t : Tree) (c : StringCursor) (b : BoardValue) (start : ℕ) → AreWords r.words
+    → PartOf r.words t
+    → Reads r.words i (length r.words - 1) t → Opcode r.words (length r.words - 1) opcode.SUCCESS
+    → r.stands c c.position → c.position ≤ r.subject.end → b ≡ bare no_marks
+    → ((pl : Counted r) → SettledIn r pl start (spot_at (Instruction i) [] c.position no_marks))
+    → Arrives r (outcomes r t c.position) (first_limit r i t c start) (Instruction i) c b
+started r i t c b start v has reads ends stands inside fresh settled =
+    rw fresh
+    (record {
+      now = ways r.subject t c.position no_marks;
+      turns = cost r.subject t ending c.position no_marks;
+      later = 0;
+      stands = stands;
+      placed = none_placed r.subject;
+      runs =
+          region r.words r.subject i _ (λ q k. ways r.subject t q k) (λ C q k. cost r.subject t C q k)
+          (ran r.words r.subject i _ t v has reads) ends [] c.position no_marks inside;
+      waits = outermost refl;
+      within = omega arith;
+      fares = λ pl o w. record {
+        here = settled pl;
+        fares = record { settled = tt; trying = refl; left = omega arith };
+      };
+      confined = λ none. record { here = λ inside. absurd (true≢false (sym inside)); others = record { each = tt } };
+    })
+
+-- an outcome that is not accepted changes nothing of what came
+refused_fruit : (r : Run) (os : List Way) (w : Way) (now : List Way) → r.accepts w ≡ false
+    → SameFruit r false os (w ∷ now) → SameFruit r false os now
+refused_fruit r os w now e h = rw e at h
+
+-- what waits outside all atomic scopes is not inside one
+pub none_inside : (cs : List Choice) → from_region cs ≡ [] → is_inside cs ≡ false
+none_inside cs e = ap (λ (rest : List Choice). elim rest [ [] ↦ false | (c ∷ others) ↦ true ]) e
+
+-- outside all atomic scopes the first outcome, if it is accepted, is the first of all
+first_waits : (r : Run) (cs : List Choice) (w : Way) (rest : List Way) {all : List Way} {u k : ℕ} → from_region cs ≡ []
+    → r.accepts w ≡ true → Waits r cs u (w ∷ rest) all k → (others : List Way) × (all ≡ w ∷ others)
+first_waits r [] w rest {all = all} none y (outermost begins) =
+    begun_by all (rw y at begins)
+  where
+    begun_by : (all : List Way) → first all ≡ w ∷ [] → (others : List Way) × (all ≡ w ∷ others)
+    begun_by [] e = absurd (cc)
+    begun_by (v ∷ others) e = (others, cc)
+first_waits r (Else pt fs c m ∷ cs) w rest none y (otherwise {os = os} there placed d wt) =
+    first_waits r cs w (rest ++ os) none y wt
+first_waits r (Trying pt fs c m ∷ cs) w rest none y (tried there placed d most same wt) =
+    first_waits r cs w rest none y wt
+first_waits r (Keep g fs c m ∷ cs) w rest none y wt = absurd (cc)
+
+-- and else it is passed over
+pub refused_waits : (r : Run) (cs : List Choice) (w : Way) (rest : List Way) {all : List Way} {u k : ℕ}
+    → from_region cs ≡ [] → r.accepts w ≡ false → Waits r cs u (w ∷ rest) all k → Waits r cs u rest all k
+refused_waits r [] w rest none n (outermost begins) = outermost (rw n at begins)
+refused_waits r (Else pt fs c m ∷ cs) w rest none n (otherwise {os = os} there placed d wt) =
+    otherwise there placed d (refused_waits r cs w (rest ++ os) none n wt)
+refused_waits r (Trying pt fs c m ∷ cs) w rest none n (tried {os = os} there placed d most same wt) =
+    let outside : is_inside cs ≡ false = none_inside cs none in
+    let was : SameFruit r false os (w ∷ rest) = subst (λ b. SameFruit r b os (w ∷ rest)) outside same in
+    let left : SameFruit r (is_inside cs) os rest =
+    subst (λ b. SameFruit r b os rest) (sym outside) (refused_fruit r os w rest n was) in
+    tried there placed d most left (refused_waits r cs w rest none n wt)
+refused_waits r (Keep g fs c m ∷ cs) w rest none n wt = absurd (cc)
+
+-- the machine stands at the end of the whole
+module _ (r : Run) (all : List Way) (limit : Limit) (p : ℕ) (n : Next) (c : StringCursor) (old b : BoardValue)
+    (accepted : Bool)
+    (done : n ≡ next.Done c) (at : p ≡ c.position) (says : SaysAccepted r p accepted)
+    (outside : (from_region old.choices ≡ []) × (b ≡ old)) (stands : Stands r all limit n old) where
+  ends : Ends r all limit c b
+  ends =
+      let done_ : Ends r all limit c old = subst (λ x. Stands r all limit x old) done stands in
+      subst (λ x. Ends r all limit c x) (sym outside.1) done_
+
+  none : from_region b.choices ≡ []
+  none = ap (λ (x : BoardValue). from_region x.choices) outside.1 ∙ outside.0
+
+  said : accepted ≡ r.accepts (record { stop = c.position; marks = b.marks })
+  said = subst (λ x. SaysAccepted r x accepted) at says b.marks
+
+  -- an outcome that is accepted is the first
+  pub accepted_first : accepted ≡ true
+      → r.stands c c.position × ((rest : List Way) × (all ≡ record { stop = c.position; marks = b.marks } ∷ rest))
+  accepted_first taken = (ends.stands, first_waits r b.choices _ [] none (sym said ∙ taken) ends.waits)
+
+  -- one that is not is passed over
+  pub refused_over : accepted ≡ false → Later r all limit next.Back b
+  refused_over left = (
+    omega (arith, ends.within),
+    record {
+      later = ends.later;
+      waits = refused_waits r b.choices _ [] none (sym said ∙ left) ends.waits;
+      within = omega (arith, ends.within);
+      fares = λ pl. end_refused r pl limit c.position b.choices none (ends.fares pl);
+      confined = ends.confined;
+    },
+  )

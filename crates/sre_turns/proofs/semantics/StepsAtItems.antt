@@ -1,0 +1,249 @@
+-- Steps at tests, positions, MARKs, jumps, and at the ends of an atomic scope.
+use Rattle.std.proofs.Common.{◌≡◌, ◌≢◌, ℕ, ◌+◌, ◌<◌, ◌≤◌, Bool, true, false, nat_eq, nat_lt, ◌&&◌, List, length, refl}
+use Rattle.std.proofs.Common.{sym, ◌∙◌, arith}
+use Rattle.std.proofs.lemmas.Bool.Decides.{nat_tests}
+use Rattle.sre_chars.specs.Numbers.{at_number}
+use Rattle.sre_chars.specs.declared.constants.SreAtCode.{SreAtCode}
+use Rattle.sre_chars.specs.declared.constants.SreOpcode.{SreOpcode}
+use Rattle.sre_chars.specs.declared.constants.SreOpcode.TheVariants as opcode
+use Rattle.sre_model.specs.Tree.{Test, Literal, Plain}
+use Rattle.sre_model.specs.Marks.{Marks, set_mark}
+use Rattle.sre_model.specs.Characters.{holds}
+use Rattle.sre_model.specs.Subject.{Subject, passes, char_at, holds_at}
+use Rattle.sre_turns.specs.Lying.{repeats}
+use Rattle.sre_turns.specs.Machine.{Frame, Instruction, spot_at, Go, BoardValue, Limit, Run, StringCursor, Way, Word}
+use Rattle.sre_turns.specs.Machine.{Opcode, Moves, Goes, Later, HasRun, Refuses, Demands, Continues}
+use Rattle.sre_model.specs.Standing.{TestStands, HasTest}
+use Rattle.sre_model.specs.Roles.{ToFail, ToEnd, ToCheckPosition, ToMark, ToJump, begins_test}
+use Rattle.sre_turns.specs.declared.Next.TheVariants as next
+use Rattle.sre_model.proofs.Words.{same_word, at_low, word_of, word_within}
+use Rattle.sre_turns.proofs.bound.Faring.{next_less, test_pool}
+use Rattle.sre_turns.proofs.semantics.Moving.{in_role, in_test, at_instruction, at_test, run_nothing, run_goes, run_on}
+use Rattle.sre_turns.proofs.semantics.Moving.{nothing_after, has_run, turn_stops, turn_ends, turn_goes}
+use Rattle.sre_turns.proofs.memoization.Confining.{turn_confines}
+use Rattle.sre_model.proofs.Passing.{past_end, read_passes, stands_at_own}
+use Rattle.sre_turns.proofs.semantics.Placed.{set_placed}
+use Rattle.sre_model.proofs.Families.{is_literal}
+
+-- FAILURE
+pub failure_step : (r : Run) (i : ℕ) (c : StringCursor) (b : BoardValue) → Opcode r.words i opcode.FAILURE
+    → (all : List Way) (limit : Limit) → Goes r all limit (Instruction i) c b → Later r all limit next.Back b
+failure_step r i c b w = turn_stops r (Instruction i) c b (at_instruction opcode.FAILURE ToFail refl w refl)
+
+-- SUCCESS
+pub success_step : (r : Run) (i : ℕ) (c : StringCursor) (b : BoardValue) → Opcode r.words i opcode.SUCCESS
+    → (all : List Way) (limit : Limit) → Goes r all limit (Instruction i) c b → Later r all limit (next.Done c) b
+success_step r i c b w = turn_ends r (Instruction i) c b (at_instruction opcode.SUCCESS ToEnd refl w refl)
+
+-- a test of one character stands where its opcode does
+pub test_there : (r : Run) (i : ℕ) (c : StringCursor) (o : SreOpcode) → Opcode r.words i o → begins_test o ≡ true
+    → HasRun r (Instruction i) c → HasTest r.words i
+test_there r i c o w f x =
+    let h = (in_test o f w x.runs).1 in
+    record { end = h.end; test = h.test; stands = h.stands }
+
+module _ (r : Run) (i : ℕ) (c : StringCursor) (b : BoardValue) (o : SreOpcode) (w : Opcode r.words i o)
+    (f : begins_test o ≡ true) (j : ℕ) (t : Test) (stands : TestStands r.words i j t) where
+  test_taken : (after : StringCursor) → passes r.subject t c.position ≡ true → r.stands after after.position
+      → after.position ≡ c.position + 1 → (all : List Way) (limit : Limit) → Goes r all limit (Instruction i) c b
+      → Later r all limit (next.At j after) b
+  test_taken after taken there moved_on all limit g =
+      turn_goes r (Instruction i) c b (Instruction j) after b
+      (at_test o f w (record { end = j; test = t; stands = stands; is = rw (taken, moved_on) refl }))
+      there g.placed refl all limit g
+
+  test_refused : passes r.subject t c.position ≡ false → (all : List Way) (limit : Limit)
+      → Goes r all limit (Instruction i) c b → Later r all limit next.Back b
+  test_refused left =
+      turn_stops r (Instruction i) c b
+      (at_test o f w (record { end = j; test = t; stands = stands; is = rw left refl }))
+
+-- the same, for the character that was read
+pub test_read : (r : Run) (i j ch : ℕ) (o : SreOpcode) (t : Test) (c after : StringCursor)
+    (b : BoardValue) (takes : Bool)
+    → Opcode r.words i o → begins_test o ≡ true → TestStands r.words i j t → c.position < r.subject.end
+    → ch ≡ char_at r.subject c.position → takes ≡ holds r.subject.table t ch → r.stands after (c.position + 1)
+    → after.position ≡ c.position + 1 → takes ≡ true → (all : List Way) (limit : Limit)
+    → Goes r all limit (Instruction i) c b → Later r all limit (next.At j after) b
+test_read r i j ch o t c after b takes w f st l e h there moved_on y =
+    test_taken r i c b o w f j t st after (read_passes r.subject t c.position ch takes l e h ∙ y)
+    (stands_at_own r.stands after (c.position + 1) moved_on there) moved_on
+
+pub test_unlike : (r : Run) (i j ch : ℕ) (o : SreOpcode) (t : Test) (c : StringCursor) (b : BoardValue) (takes : Bool)
+    → Opcode r.words i o → begins_test o ≡ true → TestStands r.words i j t → c.position < r.subject.end
+    → ch ≡ char_at r.subject c.position → takes ≡ holds r.subject.table t ch → takes ≡ false
+    → (all : List Way) (limit : Limit) → Goes r all limit (Instruction i) c b → Later r all limit next.Back b
+test_unlike r i j ch o t c b takes w f st l e h n =
+    test_refused r i c b o w f j t st (read_passes r.subject t c.position ch takes l e h ∙ n)
+
+pub test_past : (r : Run) (i : ℕ) (o : SreOpcode) (c : StringCursor) (b : BoardValue) → Opcode r.words i o
+    → begins_test o ≡ true → HasTest r.words i → r.subject.end ≤ c.position → (all : List Way) (limit : Limit)
+    → Goes r all limit (Instruction i) c b → Later r all limit next.Back b
+test_past r i o c b w f t l = test_refused r i c b o w f t.end t.test t.stands (past_end r.subject t.test c.position l)
+
+-- AT
+pub at_there : (r : Run) (i : ℕ) (c : StringCursor) → Opcode r.words i opcode.AT → HasRun r (Instruction i) c
+    → (a : SreAtCode) × Word r.words (i + 1) (at_number a)
+at_there r i c w x = let h = (in_role opcode.AT ToCheckPosition refl w x.runs).1 in (h.code, h.there)
+
+pub at_operand : (r : Run) (i : ℕ) (c : StringCursor) → Opcode r.words i opcode.AT → HasRun r (Instruction i) c
+    → i + 1 < length r.words
+at_operand r i c w x = let a = at_there r i c w x in word_within r.words (i + 1) (at_number a.0) a.1
+
+-- each position code is known
+pub at_known : (r : Run) (i v : ℕ) (c : StringCursor) → Opcode r.words i opcode.AT → HasRun r (Instruction i) c
+    → Word r.words (i + 1) v → 12 ≤ v → ⊥
+at_known r i v c w x wv l =
+    let a = at_there r i c w x in
+    omega (arith, at_low a.0, same_word r.words (i + 1) v (at_number a.0) wv a.1)
+
+pub at_step : (r : Run) (i : ℕ) (a : SreAtCode) (c : StringCursor) (b : BoardValue) → Opcode r.words i opcode.AT
+    → Word r.words (i + 1) (at_number a) → holds_at r.subject a c.position ≡ true → (all : List Way) (limit : Limit)
+    → Goes r all limit (Instruction i) c b → Later r all limit (next.At (i + 2) c) b
+at_step r i a c b w wa y all limit g =
+    turn_goes r (Instruction i) c b (Instruction (i + 2)) c b
+    (at_instruction opcode.AT ToCheckPosition refl w (record { code = a; there = wa; is = rw y refl }))
+    g.stands g.placed refl all limit g
+
+pub at_refused : (r : Run) (i : ℕ) (a : SreAtCode) (c : StringCursor) (b : BoardValue) → Opcode r.words i opcode.AT
+    → Word r.words (i + 1) (at_number a) → holds_at r.subject a c.position ≡ false → (all : List Way) (limit : Limit)
+    → Goes r all limit (Instruction i) c b → Later r all limit next.Back b
+at_refused r i a c b w wa n =
+    turn_stops r (Instruction i) c b
+    (at_instruction opcode.AT ToCheckPosition refl w (record { code = a; there = wa; is = rw n refl }))
+
+-- MARK
+pub mark_operand : (r : Run) (i : ℕ) (c : StringCursor) → Opcode r.words i opcode.MARK → HasRun r (Instruction i) c
+    → i + 1 < length r.words
+mark_operand r i c w x =
+    let h = (in_role opcode.MARK ToMark refl w x.runs).1 in
+    word_within r.words (i + 1) h.number h.there
+
+pub mark_step : (r : Run) (i v p : ℕ) (c : StringCursor) (b b' : BoardValue) → Opcode r.words i opcode.MARK
+    → Word r.words (i + 1) v → p ≡ c.position → c.position ≤ length r.subject.text
+    → b' ≡ record b { marks = set_mark b.marks v p }
+    → (all : List Way) (limit : Limit) → Goes r all limit (Instruction i) c b → Later r all limit (next.At (i + 2) c) b'
+mark_step r i v p c b b' w wv same_place inside eb all limit g =
+    rw (eb, same_place)
+    (turn_goes r (Instruction i) c b (Instruction (i + 2)) c _
+    (at_instruction opcode.MARK ToMark refl w (record { number = v; there = wv; is = refl }))
+    g.stands (set_placed r.subject b.marks v c.position g.placed inside) refl all limit g)
+
+-- JUMP
+pub jump_operand : (r : Run) (i : ℕ) (c : StringCursor) → Opcode r.words i opcode.JUMP → HasRun r (Instruction i) c
+    → i + 1 < length r.words
+jump_operand r i c w x = (in_role opcode.JUMP ToJump refl w x.runs).1.there
+
+pub jump_step : (r : Run) (i v : ℕ) (c : StringCursor) (b : BoardValue) → Opcode r.words i opcode.JUMP
+    → Word r.words (i + 1) v → (all : List Way) (limit : Limit) → Goes r all limit (Instruction i) c b
+    → Later r all limit (next.At (i + 1 + v) c) b
+jump_step r i v c b w wv all limit g =
+    turn_goes r (Instruction i) c b (Instruction (i + 1 + v)) c b
+    (at_instruction opcode.JUMP ToJump refl w
+    (record { there = word_within r.words (i + 1) v wv; is = rw (word_of r.words (i + 1) v wv) refl }))
+    g.stands g.placed refl all limit g
+
+pub jump_continues : (r : Run) (i v : ℕ) (c : StringCursor) → Opcode r.words i opcode.JUMP → Word r.words (i + 1) v
+    → r.stands c c.position → Continues r (Instruction i) c (Instruction (i + 1 + v)) c
+jump_continues r i v c w wv stands = record {
+  stands = stands;
+  runs = λ fs m os n d. run_on (spot_at (Instruction (i + 1 + v)) fs c.position m) (moves fs m) d;
+  fares = λ pl start cs fs m h. next_less r pl start cs (spot_at (Instruction i) fs c.position m)
+      (spot_at (Instruction (i + 1 + v)) fs c.position m) opcode.JUMP w (omega arith) (moves fs m) h;
+  confines = turn_confines r.words r.subject (Instruction i) (Instruction (i + 1 + v)) c.position c.position moves;
+}
+  where
+    moves : (fs : List Frame) (m : Marks) → Moves r.words r.subject (spot_at (Instruction i) fs c.position m)
+        (Go (spot_at (Instruction (i + 1 + v)) fs c.position m))
+    moves fs m =
+        at_instruction opcode.JUMP ToJump refl w
+        (record { there = word_within r.words (i + 1) v wv; is = rw (word_of r.words (i + 1) v wv) refl })
+
+-- a LITERAL that is not the character, or that stands at the range's end
+pub literal_there : (ws : List ℕ) (i v : ℕ) → Opcode ws i opcode.LITERAL → Word ws (i + 1) v
+    → TestStands ws i (i + 2) (Literal Plain v)
+literal_there ws i v w wv = record { code = w; operands = (wv, refl) }
+
+pub literal_operand : (r : Run) (i : ℕ) (c : StringCursor) → Opcode r.words i opcode.LITERAL
+    → HasRun r (Instruction i) c → i + 1 < length r.words
+literal_operand r i c w x =
+    let t = test_there r i c opcode.LITERAL w refl x in
+    let l = is_literal r.words i t.end t.test (record { code = opcode.LITERAL; there = w; begins = refl })
+    t.stands.code t.stands.operands in
+    word_within r.words (i + 1) l.1 l.3.0
+
+refuses_test : (r : Run) (i j p : ℕ) (t : Test) (o : SreOpcode) → Opcode r.words i o → begins_test o ≡ true
+    → TestStands r.words i j t → passes r.subject t p ≡ false → Refuses r i p
+refuses_test r i j p t o w f st n fs m os k x =
+    run_nothing (at_test o f w (record { end = j; test = t; stands = st; is = rw n refl })) x
+
+-- what was read tells whether nothing comes of a test, or what is behind it
+module _ (r : Run) (i ch : ℕ) (o : SreOpcode) (takes : Bool) (c : StringCursor) (w : Opcode r.words i o)
+    (f : begins_test o ≡ true) (there : HasTest r.words i) (inside : c.position < r.subject.end)
+    (read : ch ≡ char_at r.subject c.position)
+    (says : (j : ℕ) (t : Test) → TestStands r.words i j t → takes ≡ holds r.subject.table t ch) where
+  passes_as_read : passes r.subject there.test c.position ≡ takes
+  passes_as_read =
+      read_passes r.subject there.test c.position ch takes inside read (says there.end there.test there.stands)
+
+  pub test_misses : takes ≡ false → Refuses r i c.position
+  test_misses n = refuses_test r i there.end c.position there.test o w f there.stands (passes_as_read ∙ n)
+
+  pub test_continues : (end : ℕ) (after : StringCursor) → takes ≡ true
+      → ((j : ℕ) (t : Test) → TestStands r.words i j t → end ≡ j) → after.position ≡ c.position + 1
+      → r.stands after after.position → Continues r (Instruction i) c (Instruction end) after
+  test_continues end after y ends moved_on stands = record {
+    stands = stands;
+    runs = λ fs m os n d. run_on (spot_at (Instruction end) fs after.position m) (moves fs m) d;
+    fares = λ pl start cs fs m h. next_less r pl start cs (spot_at (Instruction i) fs c.position m)
+        (spot_at (Instruction end) fs after.position m) o w (test_pool r i c.position o (repeats fs) f) (moves fs m) h;
+    confines = turn_confines r.words r.subject (Instruction i) (Instruction end) c.position after.position moves;
+  }
+    where
+      moves : (fs : List Frame) (m : Marks) → Moves r.words r.subject (spot_at (Instruction i) fs c.position m)
+          (Go (spot_at (Instruction end) fs after.position m))
+      moves fs m = at_test o f w (record {
+        end = there.end;
+        test = there.test;
+        stands = there.stands;
+        is = rw (passes_as_read ∙ y, moved_on, ends there.end there.test there.stands) refl;
+      })
+
+-- a literal demands its character, and nothing comes of a mark behind which nothing comes
+pub literal_demands : (r : Run) (i v : ℕ) → Opcode r.words i opcode.LITERAL → Word r.words (i + 1) v → Demands r i v
+literal_demands r i v w wv p n =
+    refuses_test r i (i + 2) p (Literal Plain v) opcode.LITERAL w refl (literal_there r.words i v w wv) n
+
+mark_moves : (r : Run) (i p v : ℕ) (fs : List Frame) (m : Marks) → Opcode r.words i opcode.MARK
+    → Word r.words (i + 1) v → Moves r.words r.subject (spot_at (Instruction i) fs p m)
+    (Go (spot_at (Instruction (i + 2)) fs p (set_mark m v p)))
+mark_moves r i p v fs m w wv =
+    at_instruction opcode.MARK ToMark refl w (record { number = v; there = wv; is = refl })
+
+pub mark_refuses : (r : Run) (i p : ℕ) → Opcode r.words i opcode.MARK → Refuses r (i + 2) p → Refuses r i p
+mark_refuses r i p w none fs m os n d =
+    let h = (in_role opcode.MARK ToMark refl w d).1 in
+    let set = set_mark m h.number p in
+    nothing_after (spot_at (Instruction (i + 2)) fs p set) (mark_moves r i p h.number fs m w h.there)
+    (λ os' n' e. none fs set os' n' e) d
+
+pub mark_run : (r : Run) (i : ℕ) (c : StringCursor) → Opcode r.words i opcode.MARK → HasRun r (Instruction i) c
+    → HasRun r (Instruction (i + 2)) c
+mark_run r i c w x =
+    let h = (in_role opcode.MARK ToMark refl w x.runs).1 in
+    let after = set_mark x.marks h.number c.position in
+    has_run r (Instruction (i + 2)) x.frames after c x.stands
+    (run_goes (spot_at (Instruction (i + 2)) x.frames c.position after)
+    (mark_moves r i c.position h.number x.frames x.marks w h.there) x.runs)
+
+-- a character that is read, inside the range or not, and is another one than a literal's
+pub other_character : (s : Subject) (v ch p : ℕ) → ch ≡ char_at s p → ch ≢ v → passes s (Literal Plain v) p ≡ false
+other_character s v ch p e unlike =
+    and_never (nat_lt p s.end) (nat_eq v (char_at s p)) (other v (char_at s p) (λ x. unlike (e ∙ sym x)))
+  where
+    and_never : (a b : Bool) → b ≡ false → (a && b) ≡ false
+    and_never true b is = is
+    and_never false b is = refl
+
+    other : (v ch : ℕ) → v ≢ ch → nat_eq v ch ≡ false
+    other v ch ne = grind (arith, nat_tests)

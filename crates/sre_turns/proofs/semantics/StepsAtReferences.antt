@@ -1,0 +1,114 @@
+-- Steps at a back-reference to a group, and at a conditional on one.
+use Rattle.std.proofs.Common.{◌≡◌, ℕ, ◌+◌, ◌-◌, ◌<◌, true, false, nat_le, List, length, Some, None, refl, sym, ◌∙◌}
+use Rattle.std.proofs.Common.{subst}
+use Rattle.sre_chars.specs.declared.constants.SreOpcode.{SreOpcode}
+use Rattle.sre_chars.specs.declared.constants.SreOpcode.TheVariants as opcode
+use Rattle.sre_model.specs.Tree.{Fold}
+use Rattle.sre_model.specs.Marks.{group}
+use Rattle.sre_model.specs.Subject.{same_folded}
+use Rattle.sre_model.specs.Grammar.{Word, Opcode, reference_opcode}
+use Rattle.sre_turns.specs.MovesAtReferences.{Asks, reference_turn, condition_place}
+use Rattle.sre_model.specs.Roles.{ToRefer, role, ToCheckGroup}
+use Rattle.sre_turns.specs.Machine.{Instruction, Move, Stop, Go, BoardValue, Limit, Run, StringCursor, Way, Moves, Goes}
+use Rattle.sre_turns.specs.Machine.{Later, spot, HasRun}
+use Rattle.sre_model.proofs.Families.{reference_role}
+use Rattle.sre_turns.specs.declared.Next.TheVariants as next
+use Rattle.sre_model.proofs.Words.{same_opcode, word_of, word_within}
+use Rattle.sre_turns.proofs.semantics.Moving.{in_role, at_instruction, turn_stops, turn_goes}
+
+-- what is asked for is told by the word that names it
+same_asked : (ws : List ℕ) (k n g : ℕ) → Word ws k n → Word ws k g → Asks ws n → Asks ws g
+same_asked ws k n g w v asked = subst (λ x. Asks ws x) (sym (word_of ws k n w) ∙ word_of ws k g v) asked
+
+-- GROUPREF and its foldings
+pub reference_operand : (r : Run) (fold : Fold) (i : ℕ) (c : StringCursor) → Opcode r.words i (reference_opcode fold)
+    → HasRun r (Instruction i) c → i + 1 < length r.words
+reference_operand r fold i c w x =
+    let h = (in_role (reference_opcode fold) ToRefer (reference_role fold) w x.runs).1 in
+    word_within r.words (i + 1) h.number h.there
+
+-- which folding it is
+pub reference_there : (r : Run) (i : ℕ) (c : StringCursor) (o : SreOpcode) → Opcode r.words i o → role o ≡ ToRefer
+    → HasRun r (Instruction i) c
+    → (fold : Fold) × (o ≡ reference_opcode fold) × Opcode r.words i (reference_opcode fold)
+reference_there r i c o w e x =
+    let h = (in_role o ToRefer (e) w x.runs).1 in
+    (h.fold, same_opcode r.words i o (reference_opcode h.fold) w h.code, h.code)
+
+module _ (r : Run) (fold : Fold) (i g : ℕ) (c : StringCursor) (b : BoardValue)
+    (w : Opcode r.words i (reference_opcode fold)) (there : Word r.words (i + 1) g) where
+  -- a turn there: that it is at a reference is known of the run that stands there
+  turn_there : (all : List Way) (limit : Limit) → Goes r all limit (Instruction i) c b → (mv : Move)
+      → mv ≡ reference_turn r.subject fold g (i + 2) (spot (Instruction i) c b)
+      → Moves r.words r.subject (spot (Instruction i) c b) mv
+  turn_there all limit k mv is =
+      let h = (in_role (reference_opcode fold) ToRefer (reference_role fold) w k.runs).1 in
+      at_instruction (reference_opcode fold) ToRefer (reference_role fold) w
+      (record {
+        fold = fold;
+        number = g;
+        asked = same_asked r.words (i + 1) h.number g h.there there h.asked;
+        code = w;
+        there = there;
+        is = is;
+      })
+
+  pub reference_missing : group b.marks g ≡ None → (all : List Way) (limit : Limit)
+      → Goes r all limit (Instruction i) c b
+      → Later r all limit next.Back b
+  reference_missing known all limit k =
+      turn_stops r (Instruction i) c b (turn_there all limit k Stop (rw (known, reference_turn) refl)) all limit k
+
+  module _ (x y : ℕ) (known : group b.marks g ≡ Some (x, y)) where
+    -- the group is longer than what is left of the window, or the window goes on otherwise
+    pub reference_past : nat_le (c.position + (y - x)) r.subject.end ≡ false → (all : List Way) (limit : Limit)
+        → Goes r all limit (Instruction i) c b → Later r all limit next.Back b
+    reference_past past all limit k =
+        turn_stops r (Instruction i) c b (turn_there all limit k Stop (rw (known, past, reference_turn) refl)) all limit
+        k
+
+    pub reference_unlike : nat_le (c.position + (y - x)) r.subject.end ≡ true
+        → same_folded r.subject fold (y - x) x c.position ≡ false → (all : List Way) (limit : Limit)
+        → Goes r all limit (Instruction i) c b → Later r all limit next.Back b
+    reference_unlike inside unlike all limit k =
+        turn_stops r (Instruction i) c b
+        (turn_there all limit k Stop (rw (known, inside, unlike, reference_turn) refl)) all limit k
+
+    pub reference_step : (after : StringCursor) → nat_le (c.position + (y - x)) r.subject.end ≡ true
+        → same_folded r.subject fold (y - x) x c.position ≡ true → after.position ≡ c.position + (y - x)
+        → r.stands after after.position → (all : List Way) (limit : Limit) → Goes r all limit (Instruction i) c b
+        → Later r all limit (next.At (i + 2) after) b
+    reference_step after inside alike place stands all limit k =
+        turn_goes r (Instruction i) c b (Instruction (i + 2)) after b
+        (turn_there all limit k (Go (spot (Instruction (i + 2)) after b))
+        (rw (known, inside, alike, place, reference_turn) refl))
+        stands k.placed refl all limit k
+
+module _ (r : Run) (i g v : ℕ) (c : StringCursor) (b : BoardValue) (w : Opcode r.words i opcode.GROUPREF_EXISTS)
+    (there : Word r.words (i + 1) g) (leads : Word r.words (i + 2) v) where
+  pub condition_present : (u : ℕ × ℕ) → group b.marks g ≡ Some u → (all : List Way) (limit : Limit)
+      → Goes r all limit (Instruction i) c b → Later r all limit (next.At (i + 3) c) b
+  condition_present u known all limit k =
+      let h = (in_role opcode.GROUPREF_EXISTS ToCheckGroup refl w k.runs).1 in
+      turn_goes r (Instruction i) c b (Instruction (i + 3)) c b
+      (at_instruction opcode.GROUPREF_EXISTS ToCheckGroup refl w
+      (record {
+        number = g;
+        asked = same_asked r.words (i + 1) h.number g h.there there h.asked;
+        there = there;
+        skips = word_within r.words (i + 2) v leads;
+        is = rw (known, condition_place) refl;
+      })) k.stands k.placed refl all limit k
+
+  pub condition_absent : group b.marks g ≡ None → (all : List Way) (limit : Limit)
+      → Goes r all limit (Instruction i) c b → Later r all limit (next.At (i + 1 + v) c) b
+  condition_absent known all limit k =
+      let h = (in_role opcode.GROUPREF_EXISTS ToCheckGroup refl w k.runs).1 in
+      turn_goes r (Instruction i) c b (Instruction (i + 1 + v)) c b
+      (at_instruction opcode.GROUPREF_EXISTS ToCheckGroup refl w (record {
+        number = g;
+        asked = same_asked r.words (i + 1) h.number g h.there there h.asked;
+        there = there;
+        skips = word_within r.words (i + 2) v leads;
+        is = rw (known, word_of r.words (i + 2) v leads, condition_place) refl;
+      })) k.stands k.placed refl all limit k

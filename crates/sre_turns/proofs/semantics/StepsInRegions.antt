@@ -1,0 +1,219 @@
+-- Steps at an atomic scope: ATOMIC_GROUP, the lookarounds, and the end of a body.
+use Rattle.std.proofs.Common.{◌≡◌, ℕ, ◌+◌, ◌-◌, ◌<◌, ◌≤◌, true, false, nat_lt, List, [], ◌∷◌, length, drop, refl, sym}
+use Rattle.std.proofs.Common.{suc, subst, arith}
+use Rattle.std.proofs.lemmas.Bool.Decides.{nat_tests}
+use Rattle.sre_chars.specs.declared.constants.SreOpcode.TheVariants as opcode
+use Rattle.sre_model.specs.Tree.{Sign, Positive, Negative}
+use Rattle.sre_model.specs.Grammar.{Word, Opcode, look_opcode}
+use Rattle.sre_turns.specs.Board.{Keep, Cuts, BoardValue}
+use Rattle.sre_turns.specs.MovesInRegions.{look}
+use Rattle.sre_turns.specs.Bodies.{MarklessRegions}
+use Rattle.sre_turns.specs.Confining.{ConfinedInside, AllConfined}
+use Rattle.sre_turns.specs.Fruit.{is_inside}
+use Rattle.sre_turns.specs.Nested.{repeats, ClosesAt}
+use Rattle.sre_turns.specs.Straight.{point_behind}
+use Rattle.sre_turns.proofs.memoization.Confining.{region_confined}
+use Rattle.sre_turns.proofs.bound.FaringInRegions.{cut_fares, region_on, region_off, loop_left}
+use Rattle.sre_turns.specs.Limits.{Limit, earlier, without_open, FaresAt, FaresBack, FaresEnd}
+use Rattle.sre_turns.specs.Prices.{price, price_of}
+use Rattle.sre_turns.specs.Machine.{Frame, Point, Instruction, Region, AtomicGroup, Ahead, NotAhead, Further, Spot}
+use Rattle.sre_turns.specs.Machine.{spot_at, Stop, Go, closing_move, Counted, Run, StringCursor, Marks, Way, Moves}
+use Rattle.sre_turns.specs.Machine.{Comes, stops, goes, Waits, kept, Goes, Arrives, Placed, Ends, Later, spot, HasRun}
+use Rattle.sre_turns.specs.Machine.{after_outcome, without_outcome, without_loop}
+use Rattle.sre_model.specs.Roles.{ToGroupAtomically, ToLook}
+use Rattle.sre_model.proofs.Families.{look_role}
+use Rattle.sre_turns.specs.declared.Next.TheVariants as next
+use Rattle.sre_model.proofs.Words.{word_of, word_within}
+use Rattle.sre_turns.proofs.semantics.Moving.{in_role, at_instruction, turn_stops, turn_goes, turn_enters, cut_waits}
+use Rattle.sre_turns.proofs.semantics.Moving.{sooner}
+
+-- ATOMIC_GROUP
+pub atomic_operand : (r : Run) (i : ℕ) (c : StringCursor) → Opcode r.words i opcode.ATOMIC_GROUP
+    → HasRun r (Instruction i) c → i + 1 < length r.words
+atomic_operand r i c w x = (in_role opcode.ATOMIC_GROUP ToGroupAtomically refl w x.runs).1.there
+
+-- an atomic scope is entered at a cursor, and the loops are put aside
+abbrev pub entered : Region → StringCursor → BoardValue → BoardValue
+entered g c b = record b { frames = []; choices = Keep g b.frames c b.marks ∷ b.choices }
+
+pub atomic_step : (r : Run) (i v : ℕ) (c : StringCursor) (b b' : BoardValue) → Opcode r.words i opcode.ATOMIC_GROUP
+    → Word r.words (i + 1) v → b' ≡ entered (AtomicGroup (i + 1 + v)) c b → (all : List Way) (limit : Limit)
+    → Goes r all limit (Instruction i) c b → Later r all limit (next.At (i + 2) c) b'
+atomic_step r i v c b b' w wv eb all limit g =
+    rw eb
+    (turn_enters r (Instruction i) b.frames (i + 2) (AtomicGroup (i + 1 + v)) c c b _
+    (at_instruction opcode.ATOMIC_GROUP ToGroupAtomically refl w
+    (record { there = word_within r.words (i + 1) v wv; is = rw (word_of r.words (i + 1) v wv) refl }))
+    g.stands refl refl all limit g)
+
+-- ASSERT, ASSERT_NOT
+pub look_operand : (r : Run) (sign : Sign) (i : ℕ) (c : StringCursor) → Opcode r.words i (look_opcode sign)
+    → HasRun r (Instruction i) c → i + 2 < length r.words
+look_operand r sign i c w x =
+    let h = (in_role (look_opcode sign) (ToLook sign) (look_role sign) w x.runs).1 in
+    word_within r.words (i + 2) h.back h.there
+
+-- what is at a lookaround
+pub record AtLook (r : Run) (sign : Sign) (i v back : ℕ) : Type 0 where
+  pub code : Opcode r.words i (look_opcode sign)
+  pub leads : Word r.words (i + 1) v
+  pub there : Word r.words (i + 2) back
+
+-- fewer characters stand before
+look_early : (r : Run) (sign : Sign) (i v back : ℕ) (c : StringCursor) (b : BoardValue) → AtLook r sign i v back
+    → c.position < back
+    → Moves r.words r.subject (spot (Instruction i) c b)
+    (closing_move (look sign (i + 1 + v)) (spot (Instruction i) c b) [])
+look_early r sign i v back c b h l =
+    let early : nat_lt c.position back ≡ true = grind (arith, nat_tests) in
+    at_instruction (look_opcode sign) (ToLook sign) (look_role sign) h.code
+    (record { back = back; there = h.there; is = rw (word_of r.words (i + 1) v h.leads, early) refl })
+
+pub ahead_early : (r : Run) (i v back : ℕ) (c : StringCursor) (b : BoardValue) → AtLook r Positive i v back
+    → c.position < back → (all : List Way) (limit : Limit) → Goes r all limit (Instruction i) c b
+    → Later r all limit next.Back b
+ahead_early r i v back c b h l = turn_stops r (Instruction i) c b (look_early r Positive i v back c b h l)
+
+pub not_ahead_early : (r : Run) (i v back : ℕ) (c : StringCursor) (b : BoardValue) → AtLook r Negative i v back
+    → c.position < back → (all : List Way) (limit : Limit) → Goes r all limit (Instruction i) c b
+    → Later r all limit (next.At (i + 1 + v) c) b
+not_ahead_early r i v back c b h l all limit g =
+    turn_goes r (Instruction i) c b (Instruction (i + 1 + v)) c b
+    (look_early r Negative i v back c b h l) g.stands g.placed refl all limit g
+
+-- else its body is tried
+pub look_step : (r : Run) (sign : Sign) (i v back : ℕ) (c c' : StringCursor) (b b' : BoardValue)
+    → AtLook r sign i v back → back ≤ c.position → c'.position ≡ c.position - back → r.stands c' c'.position
+    → b' ≡ entered (look sign (i + 1 + v)) c b → (all : List Way) (limit : Limit) → Goes r all limit (Instruction i) c b
+    → Later r all limit (next.At (i + 3) c') b'
+look_step r sign i v back c c' b b' h l place there eb all limit g =
+    let late : nat_lt c.position back ≡ false = grind (arith, nat_tests) in
+    rw eb
+    (turn_enters r (Instruction i) b.frames (i + 3) (look sign (i + 1 + v)) c c' b _
+    (at_instruction (look_opcode sign) (ToLook sign) (look_role sign) h.code
+    (record { back = back; there = h.there; is = rw (word_of r.words (i + 1) v h.leads, late, place) refl }))
+    there refl refl all limit g)
+
+-- an atomic scope is left on a board
+module _ (r : Run) (b' : BoardValue) {all : List Way} (limit : Limit) where
+  -- nothing comes of it
+  stop : ((pl : Counted r) → FaresBack r pl (earlier limit) b'.choices)
+      → (MarklessRegions r.words → AllConfined r.words b'.choices)
+      → {x : Spot} {os : List Way} {n k : ℕ} → Comes r.words r.subject x Stop os n
+      → Waits r b'.choices (0 + n) os all k → n + k ≤ limit.turns → Later r all limit next.Back b'
+  stop left lies stops wt l = (
+    omega arith,
+    record {
+      later = _;
+      waits = sooner (0 + 1) 0 (omega arith) wt;
+      within = omega arith;
+      fares = left;
+      confined = λ none. record { each = lies none };
+    },
+  )
+
+  -- it goes on at a cursor
+  goes_on : (pt : Point) (at : StringCursor)
+      → ((pl : Counted r) → FaresAt r pl (earlier limit) (price_of r.words r.subject.end (spot pt at b'))
+      (spot pt at b') b'.choices)
+      → (MarklessRegions r.words
+      → ConfinedInside r.words (is_inside b'.choices) pt (repeats b'.frames) × AllConfined r.words b'.choices)
+      → r.stands at at.position → Placed r.subject b'.marks → {x : Spot} {os : List Way} {n k : ℕ}
+      → Comes r.words r.subject x (Go (spot pt at b')) os n → Waits r b'.choices (0 + n) os all k
+      → n + k ≤ limit.turns → (1 ≤ limit.turns) × Arrives r all (earlier limit) pt at b'
+  goes_on pt at left lies there placed (goes {n = n'} e) wt l = (
+    omega arith,
+    record {
+      now = _;
+      turns = n';
+      later = _;
+      stands = there;
+      placed = placed;
+      runs = e;
+      waits = sooner (0 + suc n') (n' + 1) (omega arith) wt;
+      within = omega arith;
+      fares = λ pl o w. left pl;
+      confined = λ none. let f = lies none in record { here = f.0; others = record { each = f.1 } };
+    },
+  )
+
+-- where one goes on behind it
+behind_is : (P : Point → List ℕ → Type 0) (g : Region) (fs : List Frame) → ClosesAt P g fs
+    → P (point_behind g) (repeats fs)
+behind_is P (Further t) fs h = h.0
+behind_is P g fs h = h
+
+-- a body has an outcome at a cursor: what comes of the atomic scope that is cut
+module _ (r : Run) (c d : StringCursor) (b b' : BoardValue) where
+  abbrev Inside : Point → List ℕ → Type 0
+  Inside pt ks = ConfinedInside r.words (is_inside b'.choices) pt ks
+
+  -- where it goes on, and what waits, as the atomic scope told it
+  abbrev Closing : Region → Type 0
+  Closing g = MarklessRegions r.words → ClosesAt Inside g b'.frames × AllConfined r.words b'.choices
+
+  -- what is left where the atomic scope is in progress, and where its body ends
+  abbrev Ending : Limit → Region → Marks → Type 0
+  Ending limit g m = (pl : Counted r) → FaresEnd r pl limit c.position (Keep g b'.frames d m ∷ b'.choices)
+
+  -- it goes on behind the atomic scope from a position
+  ends_on : (limit : Limit) (g : Region) (m : Marks) → Ending limit g m → (pl : Counted r) (q : ℕ) → d.position ≤ q
+      → q ≤ r.subject.end
+      → FaresAt r pl (earlier limit) (price r.words r.subject.end (point_behind g) q)
+      (spot_at (point_behind g) b'.frames q b'.marks) b'.choices
+  ends_on limit g m left pl q = region_on r pl limit g b'.frames d m b'.choices (left pl).fares q b'.marks
+
+  region_ends : (g : Region) → Closing g → (m : Marks) (us all : List Way) (limit : Limit) (j : ℕ)
+      → Ending limit g m → r.stands c c.position → Placed r.subject b'.marks
+      → Waits r (Keep g b'.frames d m ∷ b'.choices) 0 (record { stop = c.position; marks = b'.marks } ∷ us) all j
+      → j ≤ limit.turns → Later r all limit (after_outcome g c d) b'
+  region_ends (Ahead t) lies m us all limit j left there placed (kept at _ f wt) l =
+      goes_on r b' limit (Instruction t) d
+      (λ pl. ends_on limit (Ahead t) m left pl d.position (omega arith) (left pl).fares.settled.0.inside) lies at placed
+      f wt (omega (arith, l))
+  region_ends (NotAhead t) lies m us all limit j left there placed (kept at _ f wt) l =
+      stop r b' limit (λ pl. region_off r pl limit (NotAhead t) b'.frames d m b'.choices (left pl).fares)
+      (λ none. (lies none).1) f wt (omega (arith, l))
+  region_ends g lies m us all limit j left there placed (kept at _ f wt) l =
+      goes_on r b' limit (point_behind g) c
+      (λ pl. ends_on limit g m left pl c.position ((left pl).at.0 refl) (left pl).at.1)
+      (λ none. let k = lies none in (behind_is Inside g b'.frames k.0, k.1)) there placed f wt (omega (arith, l))
+
+  pub region_closes : (g : Region) → Cuts b g d b' → (all : List Way) (limit : Limit) → Ends r all limit c b
+      → Later r all (without_open b.choices limit) (after_outcome g c d) b'
+  region_closes g cut all limit e =
+      let u = cut_waits r b.choices b'.choices g b'.frames d cut.entered
+      (record { stop = c.position; marks = b.marks }) [] all e.later cut.region e.waits in
+      region_ends g
+      (λ none. subst (λ x. AllConfined r.words x) cut.region (region_confined r.words b.choices (e.confined none).each))
+      cut.entered u.0 all (without_open b.choices limit) u.1
+      (λ pl. cut_fares r pl limit c.position b.choices b'.choices cut.region (e.fares pl)) e.stands
+      (subst (λ ms. Placed r.subject ms) (sym cut.marks) e.placed)
+      (subst (λ ms. Waits r (Keep g b'.frames d cut.entered ∷ b'.choices) 0
+      (record { stop = c.position; marks = ms } ∷ u.0) all u.1) (sym cut.marks) u.3) (omega (arith, u.2, e.within))
+
+-- a body has no outcome
+module _ (r : Run) (c : StringCursor) (b' : BoardValue) where
+  -- what is left where the atomic scope is in progress
+  abbrev Going : Limit → Region → Type 0
+  Going limit g = (pl : Counted r) → FaresBack r pl limit (Keep g b'.frames c b'.marks ∷ b'.choices)
+
+  back_off : (limit : Limit) (g : Region) → Going limit g → (pl : Counted r)
+      → FaresBack r pl (earlier limit) b'.choices
+  back_off limit g left pl = region_off r pl limit g b'.frames c b'.marks b'.choices (left pl)
+
+  pub region_back : (g : Region)
+      → (MarklessRegions r.words → AllConfined r.words (Keep g b'.frames c b'.marks ∷ b'.choices))
+      → (all : List Way) (limit : Limit) (k : ℕ) → Going limit g
+      → Waits r (Keep g b'.frames c b'.marks ∷ b'.choices) 0 [] all k → k ≤ limit.turns
+      → Later r all limit (without_outcome g c) (without_loop g b')
+  region_back (NotAhead t) lies all limit k left (kept at placed f wt) l =
+      goes_on r b' limit (Instruction t) c
+      (λ pl. region_on r pl limit (NotAhead t) b'.frames c b'.marks b'.choices (left pl) c.position b'.marks
+      (omega arith) (left pl).settled.0.inside) lies at placed f wt l
+  region_back (Further t) lies all limit k left (kept at placed f wt) l =
+      goes_on r (record b' { frames = drop 1 b'.frames }) limit (Instruction t) c
+      (λ pl. loop_left r pl limit t b'.frames c b'.marks b'.choices (left pl) b'.marks)
+      (λ none. ((lies none).0.1, (lies none).1)) at placed f wt l
+  region_back g lies all limit k left (kept at _ f wt) l =
+      stop r b' limit (back_off limit g left) (λ none. (lies none).1) f wt l

@@ -1,0 +1,312 @@
+-- Steps at a single-character repeat, and at its shorter counts.
+use Rattle.std.proofs.Common.{◌≡◌, ◌⊎◌, inl, inr, ℕ, zero, suc, ◌+◌, ◌-◌, ◌<◌, ◌≤◌, Bool, true, false, ◌&&◌, ◌||◌}
+use Rattle.std.proofs.Common.{nat_eq, nat_lt, List, [], length, Option, refl, sym, subst, arith}
+use Rattle.std.proofs.lemmas.Bool.Decides.{nat_tests}
+use Rattle.sre_chars.specs.declared.constants.SreOpcode.TheVariants as opcode
+use Rattle.sre_model.specs.Tree.{Test, RunKind, GreedyRun}
+use Rattle.sre_model.specs.Subject.{passes, char_at}
+use Rattle.sre_model.specs.Characters.{holds}
+use Rattle.sre_model.specs.Ways.{Way, unlimited, run_length, longest_run}
+use Rattle.sre_model.specs.Grammar.{Word, Opcode, test_opcode, run_opcode}
+use Rattle.sre_turns.specs.MovesInRuns.{RunOperands}
+use Rattle.sre_turns.specs.OperandsOfRuns.{OperandsOfRun}
+use Rattle.sre_turns.specs.Machine.{Frame, Point, Instruction, Shorter, Longer, spot_at, Stop, Split, BoardValue, Limit}
+use Rattle.sre_turns.specs.Machine.{Run, StringCursor, Marks, Moves, Runs, turns, Goes, GoesBoth, Later, spot, HasRun}
+use Rattle.sre_turns.specs.Machine.{Skips, SkipsBoth, Exhausted, Refuses, Demands, DemandsAny, Excludes}
+use Rattle.sre_model.specs.Standing.{TestStands, HasTest}
+use Rattle.sre_model.specs.Roles.{ToRun}
+use Rattle.sre_model.proofs.Families.{run_role}
+use Rattle.sre_turns.specs.declared.Next.TheVariants as next
+use Rattle.sre_model.proofs.Words.{opcode_within}
+use Rattle.sre_model.proofs.Passing.{past_end, read_passes, other_taken}
+use Rattle.sre_model.proofs.Longest.{goes_on, run_passes, run_at_most, run_inside, run_none}
+use Rattle.sre_turns.proofs.semantics.Moving.{in_role, turn_stops, turn_splits, both_last, run_nothing, run_second}
+use Rattle.sre_turns.proofs.semantics.AfterTurns.{both_run}
+use Rattle.sre_turns.proofs.semantics.AtRuns.{greedy_stops, greedy_splits, lazy_none, lazy_splits, longer_none}
+use Rattle.sre_turns.proofs.semantics.AtRuns.{longer_splits}
+use Rattle.sre_turns.proofs.semantics.StepsInBranches.{positive}
+
+-- shorter counts
+pub shorter_stop : (r : Run) (t k p : ℕ) (fs : List Frame) (m : Marks) → k ≡ 0
+    → Moves r.words r.subject (spot_at (Shorter t k) fs p m) Stop
+shorter_stop r t k p fs m e = record { past = omega arith; is = rw e refl }
+
+pub shorter_moves : (r : Run) (t k j p q : ℕ) (fs : List Frame) (m : Marks) → k ≡ suc j → p ≡ q + 1 → k ≤ p
+    → Moves r.words r.subject (spot_at (Shorter t k) fs p m)
+    (Split (spot_at (Instruction t) fs q m) (spot_at (Shorter t j) fs q m))
+shorter_moves r t k j p q fs m e place l =
+    let more : nat_eq k 0 ≡ false = grind (arith, nat_tests) in
+    let less : k - 1 ≡ j = omega arith in
+    let before : p - 1 ≡ q = omega arith in
+    record { past = l; is = rw (more, less, before) refl }
+
+pub shorter_within : (r : Run) {t k p n : ℕ} {fs : List Frame} {m : Marks} {os : List Way}
+    → Runs r.words r.subject (spot_at (Shorter t k) fs p m) os n → k ≤ p
+shorter_within r (turns mv h d) = h.past
+
+pub shorter_none : (r : Run) (t k : ℕ) (c : StringCursor) (b : BoardValue) → k ≡ 0 → (all : List Way) (limit : Limit)
+    → Goes r all limit (Shorter t k) c b → Later r all limit next.Back b
+shorter_none r t k c b e = turn_stops r (Shorter t k) c b (shorter_stop r t k c.position b.frames b.marks e)
+
+pub shorter_past : (r : Run) (t k : ℕ) (c : StringCursor) → 0 < k → HasRun r (Shorter t k) c → 1 ≤ c.position
+shorter_past r t k c l x = omega (arith, shorter_within r x.runs)
+
+shorter_both : (r : Run) (t k j : ℕ) (c c' : StringCursor) (b : BoardValue) → k ≡ suc j
+    → c.position ≡ c'.position + 1 → r.stands c' c'.position → (all : List Way) (limit : Limit)
+    → Goes r all limit (Shorter t k) c b
+    → GoesBoth r all limit (spot (Instruction t) c' b) (spot (Shorter t j) c' b) c' b.choices
+shorter_both r t k j c c' b e place there all limit g =
+    turn_splits r (Shorter t k) c b (spot (Instruction t) c' b) (spot (Shorter t j) c' b) c'
+    (shorter_moves r t k j c.position c'.position b.frames b.marks e place (shorter_within r g.runs))
+    there refl refl all limit g
+
+shorter_run : (r : Run) (t k j : ℕ) (c c' : StringCursor) → k ≡ suc j → c.position ≡ c'.position + 1
+    → r.stands c' c'.position → HasRun r (Shorter t k) c → HasRun r (Instruction t) c' × HasRun r (Shorter t j) c'
+shorter_run r t k j c c' e place there x =
+    both_run r (Shorter t k) (Instruction t) (Shorter t j) c c'
+    (λ fs m. shorter_moves r t k j c.position c'.position fs m e place (shorter_within r x.runs)) there x
+
+-- the tail one character back, and the counts that are shorter still
+pub shorter_skips : (r : Run) (pt : Point) (start : StringCursor) (t k : ℕ) (c c' : StringCursor) → (k ≡ 0 → ⊥)
+    → c.position ≡ c'.position + 1 → r.stands c' c'.position → HasRun r (Shorter t k) c
+    → Skips r pt start (Shorter t k) c → SkipsBoth r pt start (Instruction t) (Shorter t (k - 1)) c'
+shorter_skips r pt start t k c c' more place there x skips =
+    let less : k ≡ suc (k - 1) = omega (arith, positive k more) in
+    let s = shorter_run r t k (k - 1) c c' less place there x in
+    record {
+      runs = s.0;
+      others = s.1;
+      skips = λ b all limit g.
+          shorter_both r t k (k - 1) c c' b less place there all limit (skips b all limit g);
+    }
+
+pub shorter_last : (r : Run) (i t k : ℕ) (c : StringCursor) (b : BoardValue) → k ≡ 0 → (all : List Way) (limit : Limit)
+    → GoesBoth r all limit (spot (Instruction i) c b) (spot (Shorter t k) c b) c b.choices
+    → Later r all limit (next.At i c) b
+shorter_last r i t k c b e =
+    both_last r i (spot (Shorter t k) c b) c b (shorter_stop r t k c.position b.frames b.marks e)
+
+-- where the tail refuses at each of the shorter counts, nothing comes of them
+shorter_exhausted : (r : Run) (t k p : ℕ) → ((q : ℕ) → p ≤ q + k → q < p → Refuses r t q) → Exhausted r (Shorter t k) p
+shorter_exhausted r t zero p none fs m os n d = run_nothing (shorter_stop r t 0 p fs m refl) d
+shorter_exhausted r t (suc j) p none fs m os n d =
+    let l : suc j ≤ p = shorter_within r d in
+    let rest =
+    run_second (spot_at (Instruction t) fs (p - 1) m) (spot_at (Shorter t j) fs (p - 1) m)
+    (shorter_moves r t (suc j) j p (p - 1) fs m refl (omega (arith, l)) l)
+    (λ os n e. none (p - 1) (omega (arith, l)) (omega (arith, l)) fs m os n e) d in
+    shorter_exhausted r t j (p - 1) (λ q from to. none q (omega (arith, from, l)) (omega (arith, to))) fs m os rest.0
+    rest.2
+
+-- a test stands behind the operands of a run
+pub run_there : (r : Run) (kind : RunKind) (i : ℕ) (c : StringCursor) → Opcode r.words i (run_opcode kind)
+    → HasRun r (Instruction i) c → HasTest r.words (i + 4)
+run_there r kind i c w x =
+    let h = (in_role (run_opcode kind) (ToRun kind) (run_role kind) w x.runs).1 in
+    record { end = h.end; test = h.test; stands = h.operands.stands }
+
+-- so the operands themselves are there
+pub operands_within : (ws : List ℕ) (i : ℕ) → HasTest ws (i + 4) → i + 4 < length ws
+operands_within ws i t = opcode_within ws (i + 4) (test_opcode t.test) t.stands.code
+
+-- as a turn at a run has them
+pub stands_of : (ws : List ℕ) (i tail low high : ℕ) (o : OperandsOfRun ws i tail low high)
+    → RunOperands ws i low high o.test.end o.test.test
+stands_of ws i tail low high o = record { lowest = o.lowest; highest = o.highest; stands = o.test.stands }
+
+-- how long the run is, whatever test stands there
+abbrev pub CountsRun : Run → ℕ → ℕ → ℕ → ℕ → Type 0
+CountsRun r i high p count =
+    (j : ℕ) (t : Test) → TestStands r.words (i + 4) j t → count ≡ longest_run r.subject t high p
+
+pub run_short : (r : Run) (i tail low high count : ℕ) (c : StringCursor) (b : BoardValue)
+    → Opcode r.words i opcode.REPEAT_ONE → OperandsOfRun r.words i tail low high → CountsRun r i high c.position count
+    → count < low → (all : List Way) (limit : Limit) → Goes r all limit (Instruction i) c b
+    → Later r all limit next.Back b
+run_short r i tail low high count c b w o k l =
+    let longest : longest_run r.subject o.test.test high c.position ≡ count =
+    sym (k o.test.end o.test.test o.test.stands) in
+    turn_stops r (Instruction i) c b (greedy_stops (stands_of r.words i tail low high o) w longest l)
+
+-- a run that may not be empty refuses where its test does not take the character that was read
+pub run_misses : (r : Run) (i low ch : ℕ) (c : StringCursor) → Opcode r.words i opcode.REPEAT_ONE
+    → (there : HasTest r.words (i + 4)) → Word r.words (i + 2) low → (low ≡ 0 → ⊥) → c.position < r.subject.end
+    → ch ≡ char_at r.subject c.position
+    → ((j : ℕ) (t : Test) → TestStands r.words (i + 4) j t → holds r.subject.table t ch ≡ false)
+    → Refuses r i c.position
+run_misses r i low ch c w there wl some inside read says fs m os k d =
+    let h = (in_role opcode.REPEAT_ONE (ToRun GreedyRun) refl w d).1 in
+    let missed : passes r.subject there.test c.position ≡ false =
+    read_passes r.subject there.test c.position ch false inside read (sym (says there.end there.test there.stands)) in
+    let none : longest_run r.subject there.test h.high c.position ≡ 0 = run_none r.subject there.test _ _ missed in
+    run_nothing
+    (greedy_stops (record { lowest = wl; highest = h.operands.highest; stands = there.stands }) w none
+    (positive low some)) d
+
+module _ (r : Run) (i tail low high count : ℕ) (c after : StringCursor) (w : Opcode r.words i opcode.REPEAT_ONE)
+    (o : OperandsOfRun r.words i tail low high) (k : CountsRun r i high c.position count) (l : low ≤ count)
+    (moved_on : after.position ≡ c.position + count) (there : r.stands after after.position) where
+  run_moves : (fs : List Frame) (m : Marks)
+      → Moves r.words r.subject (spot_at (Instruction i) fs c.position m)
+      (Split (spot_at (Instruction tail) fs after.position m)
+      (spot_at (Shorter tail (count - low)) fs after.position m))
+  run_moves fs m =
+      greedy_splits (stands_of r.words i tail low high o) w o.leads (sym (k o.test.end o.test.test o.test.stands)) l
+      moved_on
+
+  pub run_both : (b : BoardValue) (all : List Way) (limit : Limit) → Goes r all limit (Instruction i) c b
+      → GoesBoth r all limit (spot (Instruction tail) after b) (spot (Shorter tail (count - low)) after b) after
+      b.choices
+  run_both b all limit g =
+      turn_splits r (Instruction i) c b (spot (Instruction tail) after b) (spot (Shorter tail (count - low)) after b)
+      after (run_moves b.frames b.marks) there refl refl all limit g
+
+  pub run_runs : HasRun r (Instruction i) c
+      → HasRun r (Instruction tail) after × HasRun r (Shorter tail (count - low)) after
+  run_runs = both_run r (Instruction i) (Instruction tail) (Shorter tail (count - low)) c after run_moves there
+
+  -- where none is left, or the tail asks for a character that the test does not take
+  pub run_only : (wanted : Option ℕ) → ((count - low ≡ 0) ⊎ Excludes r.words (i + 4) wanted)
+      → DemandsAny r tail wanted → Exhausted r (Shorter tail (count - low)) after.position
+  run_only wanted (inl none) demands =
+      shorter_exhausted r tail (count - low) after.position (λ q from to. absurd (omega (arith, none, from, to)))
+  run_only wanted (inr x) demands =
+      let t = o.test in
+      let asks : Demands r tail x.character = subst (λ o. DemandsAny r tail o) x.known demands in
+      let unlike = x.each r.subject.table t.end t.test t.stands in
+      shorter_exhausted r tail (count - low) after.position
+      (λ q from to.
+      let least : c.position + low ≤ q = omega (arith, from, moved_on, l) in
+      let inside : q - c.position < longest_run r.subject t.test high c.position =
+      omega (arith, k t.end t.test t.stands, least, to, moved_on) in
+      let taken : passes r.subject t.test (c.position + (q - c.position)) ≡ true =
+      run_passes r.subject t.test _ c.position (q - c.position) inside in
+      let here : c.position + (q - c.position) ≡ q = omega (arith, least) in
+      asks q (other_taken r.subject t.test x.character q (subst (λ p. passes r.subject t.test p ≡ true) here taken)
+      unlike))
+
+-- where the tail refuses from the run's first character on, nothing comes of the run
+pub run_refuses : (r : Run) (i tail low high p : ℕ) → Opcode r.words i opcode.REPEAT_ONE
+    → OperandsOfRun r.words i tail low high → ((q : ℕ) → p ≤ q → Refuses r tail q) → Refuses r i p
+run_refuses r i tail low high p w o none fs m os n d =
+    by (longest_run r.subject o.test.test high p) refl (short_or_enough (longest_run r.subject o.test.test high p) low)
+  where
+    short_or_enough : (a b : ℕ) → (a < b) ⊎ (b ≤ a)
+    short_or_enough a b = grind arith
+
+    by : (count : ℕ) → longest_run r.subject o.test.test high p ≡ count → (count < low) ⊎ (low ≤ count) → os ≡ []
+    by count longest (inl l) = run_nothing (greedy_stops (stands_of r.words i tail low high o) w longest l) d
+    by count longest (inr l) =
+        let rest =
+        run_second (spot_at (Instruction tail) fs (p + count) m) (spot_at (Shorter tail (count - low)) fs (p + count) m)
+        (greedy_splits (stands_of r.words i tail low high o) w o.leads longest l refl)
+        (λ os' n' e. none (p + count) (omega arith) fs m os' n' e) d in
+        shorter_exhausted r tail (count - low) (p + count) (λ q from to. none q (omega (arith, from, l))) fs m os rest.0
+        rest.2
+
+-- MIN_REPEAT_ONE: how many of the first characters pass, whatever test stands there
+abbrev pub CountsUpTo : Run → ℕ → ℕ → ℕ → ℕ → Type 0
+CountsUpTo r i most p count =
+    (j : ℕ) (t : Test) → TestStands r.words (i + 4) j t → count ≡ run_length r.subject t most p
+
+module _ (r : Run) (i tail low high : ℕ) (c : StringCursor) (w : Opcode r.words i opcode.MIN_REPEAT_ONE)
+    (o : OperandsOfRun r.words i tail low high) where
+  lazy_stops : (b : BoardValue) → run_length r.subject o.test.test low c.position < low
+      → (all : List Way) (limit : Limit)
+      → Goes r all limit (Instruction i) c b → Later r all limit next.Back b
+  lazy_stops b l = turn_stops r (Instruction i) c b (lazy_none (stands_of r.words i tail low high o) w l)
+
+  -- the window is too short, or a character does not pass
+  pub lazy_cut : (b : BoardValue) → r.subject.end - c.position < low → (all : List Way) (limit : Limit)
+      → Goes r all limit (Instruction i) c b → Later r all limit next.Back b
+  lazy_cut b l = lazy_stops b (omega (arith, run_inside r.subject o.test.test low c.position))
+
+  pub lazy_short : (b : BoardValue) (count : ℕ) → CountsUpTo r i low c.position count → count < low
+      → (all : List Way) (limit : Limit) → Goes r all limit (Instruction i) c b → Later r all limit next.Back b
+  lazy_short b count k l = lazy_stops b (omega (arith, k o.test.end o.test.test o.test.stands))
+
+  module _ (count : ℕ) (after : StringCursor) (k : CountsUpTo r i low c.position count) (l : low ≤ count)
+      (moved_on : after.position ≡ c.position + count) (there : r.stands after after.position) where
+    lazy_moves : (fs : List Frame) (m : Marks)
+        → Moves r.words r.subject (spot_at (Instruction i) fs c.position m)
+        (Split (spot_at (Instruction tail) fs after.position m) (spot_at (Longer i low) fs after.position m))
+    lazy_moves fs m =
+        let is_count = k o.test.end o.test.test o.test.stands in
+        let all_ : run_length r.subject o.test.test low c.position ≡ low =
+        omega (arith, is_count, run_at_most r.subject o.test.test low c.position) in
+        lazy_splits (stands_of r.words i tail low high o) w o.leads all_ (omega (arith, all_, is_count, moved_on))
+
+    pub lazy_both : (b : BoardValue) (all : List Way) (limit : Limit) → Goes r all limit (Instruction i) c b
+        → GoesBoth r all limit (spot (Instruction tail) after b) (spot (Longer i low) after b) after b.choices
+    lazy_both b all limit g =
+        turn_splits r (Instruction i) c b (spot (Instruction tail) after b) (spot (Longer i low) after b) after
+        (lazy_moves b.frames b.marks) there refl refl all limit g
+
+    pub lazy_runs : HasRun r (Instruction i) c → HasRun r (Instruction tail) after × HasRun r (Longer i low) after
+    lazy_runs = both_run r (Instruction i) (Instruction tail) (Longer i low) c after lazy_moves there
+
+-- longer counts
+longer_within : (r : Run) {i n p k : ℕ} {fs : List Frame} {m : Marks} {os : List Way}
+    → Runs r.words r.subject (spot_at (Longer i n) fs p m) os k → HasTest r.words (i + 4) × (n ≤ p)
+longer_within r (turns mv h d) = (record { end = h.end; test = h.test; stands = h.operands.stands }, h.past)
+
+pub longer_there : (r : Run) (i n : ℕ) (c : StringCursor) → HasRun r (Longer i n) c → HasTest r.words (i + 4)
+longer_there r i n c x = (longer_within r x.runs).0
+
+pub longer_past : (r : Run) (i n : ℕ) (c : StringCursor) → HasRun r (Longer i n) c → n ≤ c.position
+longer_past r i n c x = (longer_within r x.runs).1
+
+module _ (r : Run) (i tail low high n : ℕ) (c : StringCursor) (o : OperandsOfRun r.words i tail low high)
+    (past : n ≤ c.position) where
+  longer_stops : (b : BoardValue) → goes_on r.subject o.test.test high n c.position ≡ false
+      → (all : List Way) (limit : Limit) → Goes r all limit (Longer i n) c b → Later r all limit next.Back b
+  longer_stops b e = turn_stops r (Longer i n) c b (longer_none (stands_of r.words i tail low high o) past e)
+
+  -- the greatest count is reached, or the window's end, or a character does not pass
+  pub longer_full : (b : BoardValue) → (nat_eq high unlimited || nat_lt n high) ≡ false
+      → (all : List Way) (limit : Limit)
+      → Goes r all limit (Longer i n) c b → Later r all limit next.Back b
+  longer_full b e = longer_stops b (rw e refl)
+
+  pub longer_unlike : (b : BoardValue) → passes r.subject o.test.test c.position ≡ false
+      → (all : List Way) (limit : Limit)
+      → Goes r all limit (Longer i n) c b → Later r all limit next.Back b
+  longer_unlike b e = longer_stops b (rw e (and_false (nat_eq high unlimited || nat_lt n high)))
+    where
+      and_false : (a : Bool) → (a && false) ≡ false
+      and_false true = refl
+      and_false false = refl
+
+  pub longer_end : (b : BoardValue) → r.subject.end ≤ c.position → (all : List Way) (limit : Limit)
+      → Goes r all limit (Longer i n) c b → Later r all limit next.Back b
+  longer_end b l =
+      longer_unlike b (past_end r.subject o.test.test c.position l)
+
+  module _ (after : StringCursor) (more : (nat_eq high unlimited || nat_lt n high) ≡ true)
+      (taken : passes r.subject o.test.test c.position ≡ true) (moved_on : after.position ≡ c.position + 1)
+      (there : r.stands after after.position) where
+    longer_moves : (fs : List Frame) (m : Marks)
+        → Moves r.words r.subject (spot_at (Longer i n) fs c.position m)
+        (Split (spot_at (Instruction tail) fs after.position m) (spot_at (Longer i (n + 1)) fs after.position m))
+    longer_moves fs m =
+        longer_splits (stands_of r.words i tail low high o) o.leads past (rw (more, taken) refl) moved_on
+
+    longer_both : (b : BoardValue) (all : List Way) (limit : Limit) → Goes r all limit (Longer i n) c b
+        → GoesBoth r all limit (spot (Instruction tail) after b) (spot (Longer i (n + 1)) after b) after b.choices
+    longer_both b all limit g =
+        turn_splits r (Longer i n) c b (spot (Instruction tail) after b) (spot (Longer i (n + 1)) after b) after
+        (longer_moves b.frames b.marks) there refl refl all limit g
+
+    pub longer_skips : HasRun r (Longer i n) c
+        → SkipsBoth r (Longer i n) c (Instruction tail) (Longer i (n + 1)) after
+    longer_skips x =
+        let s = both_run r (Longer i n) (Instruction tail) (Longer i (n + 1)) c after longer_moves there x in
+        record { runs = s.0; others = s.1; skips = longer_both }
+
+-- what was read tells whether the test passes
+pub longer_passes : (r : Run) (i ch : ℕ) (takes : Bool) (c : StringCursor) (t : HasTest r.words (i + 4))
+    → c.position < r.subject.end → ch ≡ char_at r.subject c.position
+    → ((j : ℕ) (x : Test) → TestStands r.words (i + 4) j x → takes ≡ holds r.subject.table x ch)
+    → passes r.subject t.test c.position ≡ takes
+longer_passes r i ch takes c t l e k =
+    read_passes r.subject t.test c.position ch takes l e (k t.end t.test t.stands)
