@@ -87,12 +87,12 @@ Counts a m n =
     × (n.longest ≡ max m.longest a.longest)
     × (min n.backs (2 ^ 64 - 1) ≡ min (m.backs + a.backs) (2 ^ 64 - 1))
 
--- up to where regions stand, which are all behind the place f, or one of them goes on up to there
+-- up to where atomic scopes stand, which are all behind the place f, or one of them goes on up to there
 record Reaches (i j f g : ℕ) : Type 0 where
   ends : f ≤ i → g ≤ j
   stays : j ≤ f → g ≡ f
 
--- whether something is in a region, by whether it is there, and whether it is in one that begins there
+-- whether something is in an atomic scope, by whether it is there, and whether it is in one that begins there
 record Found (i j f : ℕ) (has inside m n : Bool) : Type 0 where
   apart : f ≤ i → n ≡ (inside || m)
   within : j ≤ f → n ≡ (has || (inside || m))
@@ -133,7 +133,7 @@ joined_found i k j f g h a p b l m n before behind r x y = record {
       ∙ both_within h a p b l;
 }
 
--- behind an instruction at i that is no region, and that is not sought or is
+-- behind an instruction at i that is no atomic scope, and that is not sought or is
 farther : (i k j f g : ℕ) → i ≤ k → Reaches k j f g → Reaches i j f g
 farther i k j f g le x = record { ends = λ e. x.ends (omega (arith, e, le)); stays = x.stays }
 
@@ -149,7 +149,7 @@ found_here i k j f h a m n lt le x = record {
       ∙ ap (λ c. h || c) (or-true a) ∙ or-true h;
 }
 
--- in a region from i to e, whose body begins at k
+-- in an atomic scope from i to e, whose body begins at k
 module _ (i k e f g : ℕ) (lt : i < k) (le : k ≤ e) (is : g ≡ max f e) where
   reaches_end : (h : ℕ) → Reaches k e g h → Reaches i e f h
   reaches_end h x =

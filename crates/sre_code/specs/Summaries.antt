@@ -10,11 +10,11 @@ use Rattle.sre_model.specs.MarksSet.{marks_in_regions}
 use Rattle.sre_model.specs.Regions.{has_forked_region}
 use Rattle.sre_code.specs.declared.code.summary.Summary.{Summary}
 
--- a branch, a run or a loop at i, which is in a region if one that has begun ends behind it
+-- a branch, a run or a loop at i, which is in an atomic scope if one that has begun ends behind it
 abbrev pub forking : ℕ → Summary → Summary
 forking i m = record m { forks = nat_lt i m.farthest || m.forks }
 
--- a region, by where its body ends
+-- an atomic scope, by where its body ends
 abbrev pub opening : ℕ → Summary → Summary
 opening end m = record m { farthest = max m.farthest end }
 
@@ -38,7 +38,7 @@ noted ToRefer i first second m = record m {
 }
 noted _ i first second m = m
 
--- what is said of a tree. Where it has a condition, nothing is known of its lookbehinds, marks and forks
+-- what is said of a tree. Where it has a condition, nothing is known of its lookbehinds, captures and forks
 pub record IsSummary (t : Tree) (s : Summary) : Type 0 where
   pub from : s.from ≡ asked_from t
   pub to : s.to ≡ min no_group (asked_to t)

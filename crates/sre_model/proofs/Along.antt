@@ -1,4 +1,5 @@
--- Bodies whose ways go along a relation, and stop at the same positions under captures that are alike.
+-- A law of the specification's combinators: match paths stay along a relation between positions, and stop at the same
+-- positions under equivalent captures, if those of the bodies do.
 use Rattle.std.proofs.Common.{◌≡◌, ℕ, zero, suc, ◌+◌, ◌-◌, ◌<◌, ◌≤◌, max, Bool, true, false, cond, ◌&&◌, ◌||◌, nat_le}
 use Rattle.std.proofs.Common.{nat_lt, nat_eq, List, [], ◌∷◌, ◌++◌, Option, Some, None, map, refl, subst, arith}
 use Rattle.std.specs.List.{flat_map, AllByRecursion}
@@ -64,7 +65,7 @@ module _ (P : ℕ → Type 0) where
       by_test false n = tt
 
 module _ (M : Marks → Marks → Type 0) where
-  -- each way stops where the other's does, at a position that R holds of, with marks that are alike
+  -- each way stops where the other's does, at a position that R holds of, with equivalent captures
   pub data Alike (R : ℕ → Type 0) : List Way → List Way → Type 0 where
     none : Alike R [] []
     pair : {q : ℕ} {k l : Marks} {xs ys : List Way} → R q → M k l → Alike R xs ys
@@ -107,7 +108,7 @@ module _ (M : Marks → Marks → Type 0) where
   by_order Greedy a b = append a b
   by_order Lazy a b = append b a
 
-  -- from marks that are alike a body's ways go along R
+  -- from equivalent captures a body's ways go along R
   abbrev pub Goes : (ℕ → ℕ → Type 0) → Body → Type 0
   Goes R body = (p : ℕ) (m n : Marks) → M m n → Alike (R p) (body p m) (body p n)
 
@@ -268,7 +269,7 @@ module _ (M : Marks → Marks → Type 0) where
         shown [] h = none
         shown (c ∷ cs) h = pair h.0 e (shown cs h.1)
 
-    -- a reference, over any characters of the window
+    -- a reference, over any characters of the range
     pub goes-reference : (R : ℕ → ℕ → Type 0) (f : Fold) (g : ℕ) → ((m n : Marks) → M m n → group m g ≡ group n g)
         → ((p n : ℕ) → p + n ≤ s.end → R p (p + n)) → Goes R (reference_ways s f g)
     goes-reference R f g same over p m n e =

@@ -17,7 +17,7 @@ use Rattle.sre_model.proofs.Along.{Times, Counted, Goes, none, pair, each_way, w
 use Rattle.sre_model.proofs.Along.{goes-or, goes-present, goes-look, goes-loop, goes-possessive, run_rounds, goes-run}
 use Rattle.sre_model.proofs.Along.{goes-reference}
 
--- a way that ends between p and the window's end
+-- a way that ends between p and the range's end
 abbrev pub Between : Subject → ℕ → Way → Type 0
 Between s p w = (p ≤ w.stop) × (w.stop ≤ s.end)
 
@@ -46,11 +46,11 @@ module _ (s : Subject) where
   within-all p ws h =
       filter-each (λ w. nat_le p w.stop && nat_le w.stop s.end) ws (each-weaken (Between s p) _ (between-test p) ws h)
 
-  -- a character that passes a test stands in the window
+  -- a character that passes a test stands in the range
   pub passes-below : (t : Test) (p : ℕ) → passes s t p ≡ true → p < s.end
   passes-below t p h = grind (arith, nat_tests)
 
-  -- so many characters on, or more, and not out of the window
+  -- so many characters on, or more, and not out of the range
   abbrev pub Wide : ℕ → ℕ → ℕ → Type 0
   Wide w p q = (p + w ≤ q) × (p ≤ s.end → q ≤ s.end)
 
@@ -66,14 +66,14 @@ module _ (s : Subject) where
   passes-wide : (t : Test) (p : ℕ) → passes s t p ≡ true → Wide 1 p (p + 1)
   passes-wide t p e = (omega arith, λ _. omega (arith, passes-below t p e))
 
-  -- a run ends inside the window
+  -- a run ends inside the range
   pub longest_run-fits : (t : Test) (high p : ℕ) → p ≤ s.end → p + longest_run s t high p ≤ s.end
   longest_run-fits t high p h =
       (times-wide 1 (longest_run s t high p) p (p + longest_run s t high p)
       (run_rounds (λ k l. k ≡ l) s (Wide 1) t (passes-wide t) (most_from s high p) p (longest_run s t high p)
       (omega arith)).1).1 h
 
-  -- under marks that are alike, and in each group that is asked for the same
+  -- under equivalent captures, and in each group that is asked for the same
   module _ (M : Marks → Marks → Type 0) (marked : (n p : ℕ) (k l : Marks) → M k l → M (set_mark k n p) (set_mark l n p))
     where
       -- whether it asks for groups, where that is told
@@ -94,7 +94,7 @@ module _ (s : Subject) where
       shorter n k body l f p m j e = weaken M (λ q b. (omega (arith, l, b.0), b.1)) (f p m j e)
 
       mutual
-        -- the ways of a tree are as wide as it is, and stop at the same positions under marks that are alike
+        -- the ways of a tree are as wide as it is, and stop at the same positions under equivalent captures
         pub tree_goes : (t : Tree) → Told (refers t) → Far (width t) (ways s t)
         tree_goes Empty h = λ p m n e. pair (still p p refl) e none
         tree_goes (Then x rest) h =
@@ -148,7 +148,7 @@ module _ (s : Subject) where
       (tree_goes (λ k l. k ≡ l) (λ n q k l e. ap (λ x. set_mark x n q) e) t (λ _ g k l e. ap (λ x. group x g) e) p m m
       refl)
 
-  -- the ways of a tree lie between their position and the window's end
+  -- the ways of a tree lie between their position and the range's end
   pub ways-bounded : (t : Tree) → Bounded s (ways s t)
   ways-bounded t p m h =
       each-weaken (λ w. Wide (width t) p w.stop) (Between s p) (λ w b. (omega (arith, b.0), b.1 h)) (ways s t p m)

@@ -23,7 +23,7 @@ stops : {R : ℕ → Type 0} {xs ys : List Way} → Alike Any R xs ys → SameSt
 stops none = tt
 stops (pair r e a) = (refl, stops a)
 
--- the ways of a tree without references stop at the same positions whatever the marks
+-- the ways of a tree without references stop at the same positions whatever the captures
 pub ways-apart : (s : Subject) (t : Tree) → refers t ≡ false → (p : ℕ) (m n : Marks)
     → SameStops (ways s t p m) (ways s t p n)
 ways-apart s t r p m n =

@@ -1,3 +1,4 @@
+-- Why so many steps suffice: where the machine may be, what a step costs, and what memoized failures pay for.
 pub mod SettledMoves
 pub mod Faring
 pub mod NestedMoves

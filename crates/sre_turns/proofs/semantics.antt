@@ -1,3 +1,4 @@
+-- What steps come to: the moves of each opcode, the outcomes of a run, and that the bytecode of a tree has its paths.
 pub mod OneTurn
 pub mod Turned
 pub mod Moving
@@ -5,7 +6,7 @@ pub mod FirstOutcomes
 pub mod Placed
 pub mod StepsAtItems
 pub mod StepsInBranches
-pub mod AfterTurns
+pub mod AfterSteps
 pub mod AtRuns
 pub mod StepsInRuns
 pub mod StepsInLoops

@@ -47,12 +47,13 @@ each_case f g h (inl e) = f e
 each_case f g h (inr (inl e)) = g e
 each_case f g h (inr (inr e)) = h e
 
--- two spots of which the same comes, besides some marks that matter in any case
+-- two configurations of which the same comes, besides some captures that matter in any case
 pub record Twins (base : ℕ → Type 0) (ws : List ℕ) (a : PlacesAsk) (x y : Spot) : Type 0 where
   pub alike : Alike ws x y
   pub marks : MarksAgree (Matters base ws a x.point x.frames) x.marks y.marks
 
--- a region of which the same comes, entered at one spot or at another, where its body begins at the third or the last
+-- an atomic scope of which the same comes, entered at one configuration or at another, where its body begins at the
+-- third or the last
 pub record EntersAlike (base : ℕ → Type 0) (ws : List ℕ) (a : PlacesAsk) (g : Region) (x y body other : Spot)
     : Type 0 where
   pub entered : Twins base ws a x y
@@ -61,7 +62,7 @@ pub record EntersAlike (base : ℕ → Type 0) (ws : List ℕ) (a : PlacesAsk) (
   pub here : least_from x.point x.position ≡ x.position
   pub onward : goes_behind g ≡ true → x.position ≤ least_from body.point body.position
 
--- two turns of which the same comes
+-- two steps of which the same comes
 abbrev pub MovesAlike : (ℕ → Type 0) → List ℕ → PlacesAsk → Move → Move → Type 0
 MovesAlike base ws a Stop Stop = ⊤
 MovesAlike base ws a End End = ⊤
@@ -70,8 +71,8 @@ MovesAlike base ws a (Split x x') (Split y y') = Twins base ws a x y × Twins ba
 MovesAlike base ws a (Enter g x x') (Enter h y y') = (g ≡ h) × EntersAlike base ws a g x y x' y'
 MovesAlike base ws a _ _ = ⊥
 
--- a region closes alike, where its body has alike outcomes, none of which stops before the spot that it is gone on
--- behind
+-- an atomic scope closes alike, where its body has alike outcomes, none of which stops before the configuration that it
+-- is gone on behind
 module _ (base : ℕ → Type 0) (ws : List ℕ) (a : PlacesAsk) (x y : Spot) (h : Twins base ws a x y)
     (here : least_from x.point x.position ≡ x.position) where
   loops_here : LoopsAlike ws x.position x.frames y.frames
@@ -134,7 +135,7 @@ cond-alike : (base : ℕ → Type 0) (ws : List ℕ) (a : PlacesAsk) (b : Bool) 
 cond-alike base ws a true v w v' w' h k = h
 cond-alike base ws a false v w v' w' h k = k
 
--- a region is entered alike, where the marks agree that matter there, behind it and in its body
+-- an atomic scope is entered alike, where the captures agree that matter there, behind it and in its body
 enters-alike : (base : ℕ → Type 0) (ws : List ℕ) (a : PlacesAsk) (g : Region) (pt : Point) (p q j k : ℕ)
     (fs gs : List Frame) (m n : Marks) (same : ℕ → Type 0) → MarksAgree same m n → j ≡ k → LoopsAlike ws p fs gs
     → least_from pt p ≡ p → (goes_behind g ≡ true → p ≤ q) → ((v : ℕ) → Matters base ws a pt fs v → same v)
@@ -173,7 +174,7 @@ same_operand : (ws : List ℕ) (p k v w : ℕ) (f g : Frame) → FramesAlike ws 
 same_operand ws p k v w f g h there other =
     same_word ws (g.repeat + k) v w (subst (λ r. Word ws (r + k) v) h.repeat there) other
 
--- what is asked for of marks in a loop: where it ends, and in a further body
+-- what is asked for of captures in a loop: where it ends, and in a further body
 pub record LoopAsks (ws : List ℕ) (a : PlacesAsk) (u : ℕ) (pt : Point) (f : Frame) (fs : List Frame) : Type 0 where
   pub behind : (k : ℕ) → Lies k (a.instruction (u + 1)) → PointAsks ws a pt (f ∷ fs) k
   pub again : (last : Option ℕ) (k : ℕ) → PointAsks ws a pt (next_frame f last ∷ fs) k → PointAsks ws a pt (f ∷ fs) k
@@ -309,7 +310,7 @@ module _ (root : ℕ → Type 0) (ws : List ℕ) (a : PlacesAsk) where
   forks_ask told (next_shorter some) fs k = ((λ e. e), (λ e. e))
   forks_ask told (next_longer operands past more passed) fs k = ((λ e. e), (λ e. e))
 
--- turns at a point and a position, under loops that are alike
+-- steps at a point and a position, under loops that are alike
 module _ (root base : ℕ → Type 0) (rooted : (k : ℕ) → root k → base k) (ws : List ℕ) (a : PlacesAsk)
     (told : AskedByPlace root ws a) (s : Subject) (p : ℕ) (fs gs : List Frame) (m n : Marks) where
   abbrev Agree : Point → Type 0
@@ -419,7 +420,7 @@ module _ (root base : ℕ → Type 0) (rooted : (k : ℕ) → root k → base k)
       loops.0 loops.1 (subst (λ l. MarksAgree (Matters base ws a Again l) m n) x.inside marks)
       (record { behind = λ k e. e; again = λ last k e. e }) x.lowest x.highest refl (λ last k e. e))
 
--- alike spots make alike turns
+-- equivalent configurations make alike steps
 pub turns-alike : (root base : ℕ → Type 0) → ((k : ℕ) → root k → base k) → (ws : List ℕ) (a : PlacesAsk)
     → AskedByPlace root ws a → (s : Subject) (x y : Spot) (v w : Move) → Twins base ws a x y → Moves ws s x v
     → Moves ws s y w → MovesAlike base ws a v w

@@ -80,7 +80,7 @@ module _ (ws : List ℕ) where
       b.markless
       (markless_role b.end ToEnd (role_here ws b.end opcode.SUCCESS ToEnd b.ends refl) refl) y
 
--- each spot of a turn has these marks
+-- each configuration of a step has these captures
 abbrev pub KeepsMarks : Marks → Move → Type 0
 KeepsMarks m Stop = ⊤
 KeepsMarks m End = ⊤
@@ -97,7 +97,7 @@ module _ (m : Marks) where
   order_keeps Greedy y z h k = (h, k)
   order_keeps Lazy y z h k = (k, h)
 
-  -- where a region closes whose body keeps them
+  -- where an atomic scope closes whose body keeps them
   closing_keeps : (g : Region) (y : Spot) (now : List Way) → y.marks ≡ m → AllMarked m now
       → KeepsMarks m (closing_move g y now)
   closing_keeps (NotAhead t) y [] e h = e
@@ -106,7 +106,7 @@ module _ (m : Marks) where
   closing_keeps g y [] e h = tt
   closing_keeps g y (w ∷ os) e h = h.0
 
-  -- a turn at a point at which none is set
+  -- a step at a point at which none is set
   turn_keeps : {ws : List ℕ} {s : Subject} {p : ℕ} {fs gs : List Frame} {n : Marks} {pt : Point} {v w : Move}
       → Turned ws s p fs gs m n pt v w → Markless ws pt → KeepsMarks m v
   turn_keeps stopped e = tt
@@ -126,7 +126,7 @@ module _ (m : Marks) where
       (cond_keeps (nat_lt h.frame.count h.low) _ _ (refl, refl)
       (cond_keeps (may_repeat h.high h.frame.count h.frame.last p) _ _ (refl, refl) refl))
 
--- where a turn leads, and a region closes, in a body
+-- where a step leads, and an atomic scope closes, in a body
 onto_leads : (P : Point → List ℕ → Type 0) (g : Region) (y : Spot) (now : List Way) → ClosesAt P g y.frames
     → LeadsTo P (closing_move g y now)
 onto_leads P (NotAhead t) y [] c = c
@@ -136,14 +136,14 @@ onto_leads P (Further t) y (w ∷ os) c = c.0
 onto_leads P g y [] c = tt
 onto_leads P g y (w ∷ os) c = c
 
--- a turn in a body leads to spots in the body
+-- a step in a body leads to configurations in the body
 pub confined_moves : (ws : List ℕ) (s : Subject) (b : MarklessBody ws) (x : Spot) (mv : Move)
     → LiesInBody ws b x.point (repeats x.frames) → Moves ws s x mv → LeadsTo (LiesInBody ws b) mv
 confined_moves ws s b x mv y h = body_moves ws s b.start b.end b.tree b.reads b.ends x mv y h
 
 module _ (ws : List ℕ) (s : Subject) (b : MarklessBody ws) where
   mutual
-    -- so what comes of a spot in the body has the marks that the spot has
+    -- so what comes of a configuration in the body has the captures that the configuration has
     pub marks_stay : {x : Spot} {os : List Way} {n : ℕ} (m : Marks) → x.marks ≡ m
         → LiesInBody ws b x.point (repeats x.frames) → Runs ws s x os n → AllMarked m os
     marks_stay {x} m e y (turns a h d) =
@@ -170,21 +170,21 @@ same_places ws p [] (g ∷ gs) h = absurd h
 same_places ws p (f ∷ fs) [] h = absurd h
 same_places ws p (f ∷ fs) (g ∷ gs) h = rw (h.0.repeat, same_places ws p fs gs h.1) refl
 
--- a spot that is alike to one in a body lies there, too
+-- a configuration that is alike to one in a body lies there, too
 alike_confined : (ws : List ℕ) (b : MarklessBody ws) (x y : Spot) → Alike ws x y
     → LiesInBody ws b x.point (repeats x.frames) → LiesInBody ws b y.point (repeats y.frames)
 alike_confined ws b x y h l =
     subst (λ pt. LiesInBody ws b pt (repeats y.frames)) h.point
     (subst (λ ks. LiesInBody ws b x.point ks) (same_places ws _ x.frames y.frames h.loops) l)
 
--- so marks stay there
+-- so captures stay there
 pub confined_stay : (r : Run) (x : Spot) → Confined r.words x → MarksStay r x
 confined_stay r x l = record {
   same = λ y os n h d.
       marks_stay r.words r.subject l.0 y.marks refl (alike_confined r.words l.0 x y h l.1) d;
 }
 
--- no region of words whose tree sets no mark inside one sets a mark
+-- no atomic scope of words whose tree sets no mark inside one sets a mark
 pub markless_regions : (ws : List ℕ) (t : Tree) → WholeItems ws t → marks_in_regions t ≡ false → MarklessRegions ws
 markless_regions ws t w e =
     record { none = λ u w'. subst (λ x. marks_in_regions x ≡ false) (items_same ws t u w w') e }

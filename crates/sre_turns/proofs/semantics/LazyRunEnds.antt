@@ -14,7 +14,7 @@ use Rattle.sre_turns.specs.Machine.{Word, Opcode, skip, Moves, Runs, turns, stop
 use Rattle.sre_turns.specs.MovesInRuns.{RunOperands}
 use Rattle.sre_turns.specs.RunEnds.{AllPass}
 use Rattle.sre_turns.proofs.semantics.AtRuns.{lazy_none, lazy_splits, longer_none, longer_splits}
-use Rattle.sre_turns.proofs.semantics.AfterTurns.{stopped, parted, split}
+use Rattle.sre_turns.proofs.semantics.AfterSteps.{stopped, parted, split}
 
 -- the least count is there where so many characters pass
 pub least_passed : (s : Subject) (t : Test) (low p : ℕ) → AllPass s t p (p + low) → run_length s t low p ≡ low

@@ -27,7 +27,7 @@ use Rattle.sre_turns.proofs.memoization.Confining.{splits_confined, first_confin
 use Rattle.sre_turns.proofs.bound.Faring.{fares_less, fares_earlier, first_waits, run_code, place_left}
 use Rattle.sre_turns.proofs.bound.HereMoves.{here_moves, here_reached, here_first}
 use Rattle.sre_turns.proofs.semantics.Moving.{run_nothing, some_turns, sooner}
-use Rattle.sre_turns.proofs.semantics.AfterTurns.{parted}
+use Rattle.sre_turns.proofs.semantics.AfterSteps.{parted}
 use Rattle.sre_turns.proofs.semantics.Onward.{Reaches, all_later}
 use Rattle.sre_turns.proofs.semantics.StepsInRuns.{shorter_stop}
 use Rattle.sre_turns.proofs.semantics.RunEnds.{longest_reaches, run_moves, run_next, run_only_moves, run_short_moves}

@@ -17,7 +17,7 @@ module _ (ws : List ℕ) where
   same_words : (k a b : ℕ) (f g : Frame) → f ≡ g → Word ws (f.repeat + k) a → Word ws (g.repeat + k) b → a ≡ b
   same_words k a b f g e v w = same_word ws (g.repeat + k) a b (subst (λ (x : Frame). Word ws (x.repeat + k) a) e v) w
 
-  -- two turns at one spot are the same
+  -- two steps at one configuration are the same
   same_turn : {s : Subject} {p : ℕ} {fs : List Frame} {m : Marks} {pt : Point} {v w : Move}
       → Turned ws s p fs fs m m pt v w → v ≡ w
   same_turn stopped = refl
@@ -43,12 +43,12 @@ module _ (ws : List ℕ) where
       let high : h.high ≡ k.high = same_words 3 h.high k.high h.frame k.frame frame h.highest k.highest in
       h.is ∙ rw (low, high, frame, outer) (sym k.is)
 
--- a turn is determined
+-- a step is determined
 pub moves_same : (ws : List ℕ) (s : Subject) (x : Spot) (a b : Move) → Moves ws s x a → Moves ws s x b → a ≡ b
 moves_same ws s x a b h k =
     same_turn ws (point_turned ws s x.position x.frames x.frames x.marks x.marks x.point a b h k)
 
--- so what comes of a spot comes of the one turn there
+-- so what comes of a configuration comes of the one step there
 pub comes : {ws : List ℕ} {s : Subject} {x : Spot} {os : List Way} {n : ℕ} (mv : Move) → Moves ws s x mv
     → Runs ws s x os n → Comes ws s x mv os n
 comes {ws} {s} {x} {os} {n} mv h (turns mv' h' d) =

@@ -43,8 +43,8 @@ all_later p q fs l h =
     each-weaken (λ (f : Frame). BegunBy f.last p) (λ (f : Frame). BegunBy f.last q)
     (λ (f : Frame) k. begun_later p q f.last l k) fs h
 
--- from a spot at o that comes back to p, under the loops fs, a turn leads to one at q that comes back to r, under gs:
--- no further back, in the window, and no earlier than where the last bodies of its loops began
+-- from a configuration at o that comes back to p, under the loops fs, a step leads to one at q that comes back to r,
+-- under gs: no further back, in the range, and no earlier than where the last bodies of its loops began
 pub record Reaches (s : Subject) (o p : ℕ) (fs : List Frame) (q r : ℕ) (gs : List Frame) : Type 0 where
   pub onward : p ≤ r
   pub inside : o ≤ s.end → q ≤ s.end
@@ -54,7 +54,7 @@ module _ (s : Subject) (o p : ℕ) (fs : List Frame) where
   abbrev pub Reached : Spot → Type 0
   Reached y = Reaches s o p fs y.position (least_from y.point y.position) y.frames
 
-  -- what that says of each spot of a turn: of a region also where its body begins
+  -- what that says of each configuration of a step: of an atomic scope also where its body begins
   abbrev pub Reaching : Move → Type 0
   Reaching Stop = ⊤
   Reaching End = ⊤
@@ -110,7 +110,7 @@ module _ (s : Subject) (p : ℕ) (fs : List Frame) where
         (λ y. cond_reaches s p p fs (may_repeat high f.count f.last p) _ _
         (λ z. (further, λ l. l, refl, λ g. omega arith)) (λ z. out))
 
--- a turn at any point
+-- a step at any point
 turn_reaches : {ws : List ℕ} {s : Subject} {p : ℕ} {fs gs : List Frame} {m n : Marks} {pt : Point} {v w : Move}
     → Turned ws s p fs gs m n pt v w → Reaching s p (least_from pt p) fs v
 turn_reaches stopped = tt
@@ -142,7 +142,7 @@ pub outer_begun : (p : ℕ) (fs : List Frame) → AllBegunBy p fs → AllBegunBy
 outer_begun p [] h = tt
 outer_begun p (f ∷ fs) h = h.1
 
--- what comes of a region goes on from where it was entered, or from where its body ends
+-- what comes of an atomic scope goes on from where it was entered, or from where its body ends
 module _ (s : Subject) (y : Spot) where
   there : Reaches s y.position y.position y.frames y.position y.position y.frames
   there = on s y.position y.position y.frames y.position y.position (omega arith) (λ l. l)
@@ -166,7 +166,7 @@ pub least_position : (pt : Point) (p : ℕ) → least_from pt p ≤ p
 least_position (Instruction i) p = omega arith
 least_position pt p = omega arith
 
--- so the outcomes of a spot end no earlier, and in the window
+-- so the outcomes of a configuration end no earlier, and in the range
 module _ (ws : List ℕ) (s : Subject) where
   abbrev EndThere : ℕ → ℕ → List Way → Type 0
   EndThere o p os = EndFrom p os × (o ≤ s.end → EndWithin s.end os)

@@ -14,7 +14,7 @@ use Rattle.sre_turns.specs.Machine.{skip, Moves, Runs, turns, goes}
 use Rattle.sre_turns.specs.MovesInRuns.{RunOperands, onward_turn}
 use Rattle.sre_turns.specs.RunEnds.{AllPass}
 use Rattle.sre_turns.proofs.semantics.AtRuns.{at_run}
-use Rattle.sre_turns.proofs.semantics.AfterTurns.{went}
+use Rattle.sre_turns.proofs.semantics.AfterSteps.{went}
 use Rattle.sre_turns.proofs.semantics.LazyRunEnds.{least_passed}
 use Rattle.sre_turns.proofs.semantics.RunEnds.{passed}
 

@@ -1,5 +1,5 @@
--- The bytecode of items has their match paths: of tests, positions, marks, jumps and alternatives, of back-references
--- and conditionals, of atomic groups and lookarounds.
+-- The bytecode of items has their match paths: of tests, positions, captures, jumps and alternatives, of
+-- back-references and conditionals, of atomic groups and lookarounds.
 use Rattle.std.proofs.Common.{◌≡◌, ℕ, suc, ◌+◌, ◌<◌, ◌≤◌, Bool, true, false, cond, nat_lt, nat_eq, List, [], ◌++◌}
 use Rattle.std.proofs.Common.{length, refl, subst, arith, ◌-◌, ◌&&◌, nat_le, ap, Option, Some, None, ◌∷◌, map}
 use Rattle.std.proofs.lemmas.List.{append-nil}

@@ -16,7 +16,7 @@ use Rattle.sre_turns.specs.Machine.{passes, Word, Opcode, skip, Moves, Runs, tur
 use Rattle.sre_turns.specs.MovesInRuns.{RunOperands}
 use Rattle.sre_turns.specs.RunEnds.{AllPass}
 use Rattle.sre_turns.proofs.semantics.AtRuns.{greedy_stops, greedy_splits}
-use Rattle.sre_turns.proofs.semantics.AfterTurns.{Parted, stopped, parted, split}
+use Rattle.sre_turns.proofs.semantics.AfterSteps.{Parted, stopped, parted, split}
 use Rattle.sre_turns.proofs.semantics.StepsInRuns.{shorter_stop, shorter_moves, shorter_within}
 
 -- what comes apart does so behind what comes first

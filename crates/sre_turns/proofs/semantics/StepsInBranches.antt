@@ -11,7 +11,7 @@ use Rattle.sre_turns.specs.declared.Next.TheVariants as next
 use Rattle.sre_model.proofs.Words.{word_within}
 use Rattle.sre_turns.proofs.bound.Faring.{second_less, alternatives_free}
 use Rattle.sre_model.specs.Marks.{no_marks}
-use Rattle.sre_turns.proofs.semantics.AfterTurns.{both_run}
+use Rattle.sre_turns.proofs.semantics.AfterSteps.{both_run}
 use Rattle.sre_turns.proofs.memoization.Confining.{confined_leads}
 use Rattle.sre_turns.proofs.semantics.Moving.{at_instruction, has_run, run_goes, turn_stops, turn_goes, turn_splits}
 use Rattle.sre_turns.proofs.semantics.Moving.{run_nothing}

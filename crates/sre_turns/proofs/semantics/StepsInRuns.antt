@@ -21,7 +21,7 @@ use Rattle.sre_model.proofs.Words.{opcode_within}
 use Rattle.sre_model.proofs.Passing.{past_end, read_passes, other_taken}
 use Rattle.sre_model.proofs.Longest.{goes_on, run_passes, run_at_most, run_inside, run_none}
 use Rattle.sre_turns.proofs.semantics.Moving.{in_role, turn_stops, turn_splits, both_last, run_nothing, run_second}
-use Rattle.sre_turns.proofs.semantics.AfterTurns.{both_run}
+use Rattle.sre_turns.proofs.semantics.AfterSteps.{both_run}
 use Rattle.sre_turns.proofs.semantics.AtRuns.{greedy_stops, greedy_splits, lazy_none, lazy_splits, longer_none}
 use Rattle.sre_turns.proofs.semantics.AtRuns.{longer_splits}
 use Rattle.sre_turns.proofs.semantics.StepsInBranches.{positive}

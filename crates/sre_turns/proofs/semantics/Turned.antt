@@ -1,6 +1,6 @@
--- What a turn does, as one datum of ten forms: the one file of laws of turns that goes over roles. It tells of two
--- turns at a point and a position, since they do the same there, whatever the loops and the marks are.
--- How far a step reaches, that it is determined and that equivalent configurations make equivalent steps rest on it.
+-- What a step does, in one of ten forms: the only file of laws of steps with a row for each role. A form is of two
+-- steps at one point and position, under any loops and captures. That steps are determined, how far they reach, and
+-- that equivalent configurations make equivalent steps follow from it.
 use Rattle.std.proofs.Common.{◌≡◌, ℕ, ◌+◌, ◌-◌, ◌<◌, ◌≤◌, ◌&&◌, ◌||◌, Bool, true, false, cond, nat_eq, nat_lt, nat_le}
 use Rattle.std.proofs.Common.{length, List, [], ◌∷◌, Option, Some, None, refl, sym, ap, ◌∙◌, subst, arith}
 use Rattle.std.proofs.lemmas.Bool.Decides.{nat_tests}
@@ -67,7 +67,7 @@ pub data Forks (ws : List ℕ) (s : Subject) (p : ℕ) : Point → Point → Poi
       → (nat_eq high unlimited || nat_lt n high) ≡ true → passes s test p ≡ true
       → Forks ws s p (Longer i n) (Instruction (skip ws (i + 1))) (Longer i (n + 1)) (p + 1)
 
--- a point and a position where one goes on from an instruction alone: no further back, and in the window
+-- a point and a position where one goes on from an instruction alone: no further back, and in the range
 pub record Next (ws : List ℕ) (s : Subject) (i p : ℕ) : Type 0 where
   pub point : Point
   pub position : ℕ
@@ -85,13 +85,13 @@ pub data Begins (ws : List ℕ) (i : ℕ) : Role → Point → Type 0 where
   plain_loop : Begins ws i ToRepeat (Instruction (skip ws (i + 1)))
   possessive_loop : Begins ws i ToRepeatPossessively Again
 
--- one of a role enters a region, whose body begins so far back, at an instruction
+-- one of a role enters an atomic scope, whose body begins so far back, at an instruction
 pub data Enters (ws : List ℕ) (i : ℕ) : Role → ℕ → ℕ → Region → Type 0 where
   atomic_group : Enters ws i ToGroupAtomically 0 (i + 2) (AtomicGroup (skip ws (i + 1)))
   lookaround : {sign : Sign} {back : ℕ} → Word ws (i + 2) back
       → Enters ws i (ToLook sign) back (i + 3) (look sign (skip ws (i + 1)))
 
--- two turns at a point and a position, under these loops and those, with these marks and those
+-- two steps at a point and a position, under these loops and those, with these captures and those
 pub data Turned (ws : List ℕ) (s : Subject) (p : ℕ) (fs gs : List Frame) (m n : Marks)
     : Point → Move → Move → Type 0 where
   stopped : {pt : Point} → Turned ws s p fs gs m n pt Stop Stop
@@ -128,7 +128,7 @@ pub none_owed : (k low : ℕ) → k ≡ 0 → nat_lt k low ≡ false → low ≡
 none_owed k low none e = grind (arith, nat_tests)
 
 module _ (s : Subject) where
-  -- so many characters stand before the window's end where a run has them
+  -- so many characters stand before the range's end where a run has them
   least_fits : (t : Test) (low p : ℕ) → p ≤ s.end → nat_lt (run_length s t low p) low ≡ false → p + low ≤ s.end
   least_fits t low p l e = go (nat_lt 0 low) refl
     where
