@@ -61,9 +61,10 @@ PyObject *pattern_findall(Pattern *self, PyObject *const *args, Py_ssize_t count
       !arguments_size(given[2], PY_SSIZE_T_MAX, &endpos) ||
       !begin(&call, self, given[0], pos, endpos, given[3], 0))
     return NULL;
-  PyObject *all = PyList_New(0), *empty = text_slice(&call.text, 0, 0);
+  /* only a group may take no part */
+  PyObject *all = PyList_New(0), *empty = self->groups ? text_slice(&call.text, 0, 0) : NULL;
   const size_t *row;
-  bool is_well = all && empty;
+  bool is_well = all && (empty || !self->groups);
   while (is_well && (row = walk_next(&call.walk)))
     is_well = append(all, item_of(&call.text, row, self->groups, empty));
   Py_XDECREF(empty);
