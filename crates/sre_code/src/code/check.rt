@@ -41,6 +41,6 @@ pub fn check_in<'a, A: Allocator + Copy>(
         hints: claims::confirmed(words, length, uni, items, least),
         refers: sum.refers,
         asked_from: sum.from,
-        longest_lookbehind: sum.longest,
+        longest_lookbehind: if sum.refers { u32::MAX } else { sum.longest },
     })
 }
