@@ -140,8 +140,8 @@ bool engine_may_gain(const Pattern *pattern, const Text *text, const sre_asked *
 
 uint64_t engine_first_steps(const Text *text) { return FEW_STEPS + (uint64_t)text->length / CHARACTERS_A_STEP; }
 
-/* Whether what is kept serves a call: by DFAs, or by the machine's memory. With a back-reference it saves little, and an
- * iteration over a literal needs none. DFAs that were built for a code are used in short ranges, too. */
+/* Whether what is kept serves a call: by DFAs, or by the machine's memory. With a back-reference it saves little, and
+ * an iteration over a literal needs none. DFAs that were built for a code are used in short ranges, too. */
 static bool serves(const Pattern *pattern, const sre_asked *asked, bool iterates) {
   if (!asked->search || may_have_dfas(pattern, asked))
     return true;
