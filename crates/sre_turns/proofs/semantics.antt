@@ -1,5 +1,6 @@
 -- What steps come to: the moves of each opcode, the outcomes of a run, and that the bytecode of a tree has its paths.
 pub mod OneTurn
+pub mod LoopTurns
 pub mod Turned
 pub mod Moving
 pub mod FirstOutcomes

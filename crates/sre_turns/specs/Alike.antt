@@ -1,8 +1,7 @@
 -- Equivalent configurations: no step differs between them, where the bytecode has no back-reference or conditional.
 -- Definitions for the machine's contracts: the memo of failures goes by them, since a configuration that is equivalent
 -- to one that failed fails, too. What sre_engine makes public does not rest on it.
-use Rattle.std.specs.Prelude.{⊤, ℕ, ◌+◌, ◌-◌, ◌≡◌, ◌≤◌, Bool, false, List, [], ◌∷◌, min, nat_eq}
-use Rattle.std.specs.Prelude.{Option, Some, None}
+use Rattle.std.specs.Prelude.{⊤, ℕ, ◌+◌, ◌-◌, ◌≡◌, ◌≤◌, Bool, false, List, [], ◌∷◌, min, nat_eq, Option, Some, None}
 pub use Rattle.sre_model.specs.Slots.{counted_to}
 use Rattle.sre_model.specs.Grammar.{Word}
 use Rattle.sre_turns.specs.declared.Frame.{Frame}

@@ -9,20 +9,24 @@ use Rattle.sre_turns.specs.declared.Point.{Point}
 use Rattle.sre_turns.specs.Moves.{Spot}
 use Rattle.sre_turns.specs.Lying.{repeats, LiesIn}
 
--- the body of a region that sets no mark: its words, and the SUCCESS behind them
-pub record MarklessBody (ws : List ℕ) : Type 0 where
+-- the body of an atomic scope of some kind: its words, and the SUCCESS behind them
+pub record BodyOf (ws : List ℕ) (P : Tree → Type 0) : Type 0 where
   pub start : ℕ
   pub end : ℕ
   pub tree : Tree
   pub reads : Reads ws start end tree
   pub ends : Opcode ws end opcode.SUCCESS
-  pub markless : sets_mark tree ≡ false
+  pub is : P tree
 
--- a point lies in such a body, under these loops of the body alone
-abbrev pub LiesInBody : (ws : List ℕ) → MarklessBody ws → Point → List ℕ → Type 0
+-- one that sets no mark
+abbrev pub MarklessBody : List ℕ → Type 0
+MarklessBody ws = BodyOf ws (λ t. sets_mark t ≡ false)
+
+-- a point lies in a body, under these loops of the body alone
+abbrev pub LiesInBody : (ws : List ℕ) {P : Tree → Type 0} → BodyOf ws P → Point → List ℕ → Type 0
 LiesInBody ws b pt ks = LiesIn ws b.start b.end b.tree b.reads [] pt ks
 
--- it lies in one of them
+-- it lies in one that sets no mark
 abbrev pub IsConfined : List ℕ → Point → List ℕ → Type 0
 IsConfined ws pt ks = (b : MarklessBody ws) × LiesInBody ws b pt ks
 

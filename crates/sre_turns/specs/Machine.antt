@@ -1,8 +1,8 @@
 -- The machine: the outcomes at a point of the bytecode, and what a step preserves. With it come the names that its
 -- definitions speak of.
 -- Definitions for the machine's contracts; what sre_engine makes public does not rest on it.
-use Rattle.std.specs.Prelude.{⊤, ℕ, suc, ◌+◌, ◌≡◌, ◌<◌, ◌≤◌, Bool, false, List, [], ◌∷◌, ◌++◌, drop, length}
-use Rattle.std.specs.Prelude.{Option, Some, None}
+use Rattle.std.specs.Prelude.{⊤, ℕ, suc, ◌+◌, ◌≡◌, ◌<◌, ◌≤◌, Bool, false, List, [], ◌∷◌, ◌++◌, drop, length, Option}
+use Rattle.std.specs.Prelude.{Some, None}
 use Rattle.std.specs.List.{filter}
 use Rattle.sre_chars.specs.declared.constants.SreOpcode.{SreOpcode}
 pub use Rattle.sre_chars.specs.declared.string.StringCursor.{StringCursor}
@@ -33,8 +33,8 @@ pub use Rattle.sre_turns.specs.Turning.{InRole, MovesAt, Moves, Runs, turns, Com
 use Rattle.sre_turns.specs.Prices.{price_of}
 pub use Rattle.sre_turns.specs.Settled.{Counted}
 pub use Rattle.sre_turns.specs.Limits.{Limit, earlier}
-use Rattle.sre_turns.specs.Limits.{without_open, Stage, Coming, Going, Splitting, spare, share, CodeAt}
-use Rattle.sre_turns.specs.Limits.{HereIn, FaresAt, FaresBoth, FaresBack, FaresEnd}
+use Rattle.sre_turns.specs.Limits.{without_open, Stage, Coming, Going, Splitting, spare, share, CodeAt, HereIn, FaresAt}
+use Rattle.sre_turns.specs.Limits.{FaresBoth, FaresBack, FaresEnd}
 use Rattle.sre_turns.specs.declared.Next.{Next}
 use Rattle.sre_turns.specs.declared.Next.TheVariants as next
 

@@ -44,8 +44,8 @@ until_move o low high u f outer x =
     (cond (may_repeat high f.count f.last x.position)
     (in_order o (at_body f (Some x.position) outer x) (behind u outer x)) (Go (behind u outer x)))
 
--- MAX_UNTIL, MIN_UNTIL
-pub record UntilMove (ws : List ℕ) (o : Order) (u : ℕ) (x : Spot) (mv : Move) : Type 0 where
+-- a turn of the innermost loop, by its counts
+pub record LoopMove (ws : List ℕ) (turn : ℕ → ℕ → Frame → List Frame → Move) (x : Spot) (mv : Move) : Type 0 where
   pub frame : Frame
   pub outer : List Frame
   pub low : ℕ
@@ -53,7 +53,11 @@ pub record UntilMove (ws : List ℕ) (o : Order) (u : ℕ) (x : Spot) (mv : Move
   pub inside : x.frames ≡ frame ∷ outer
   pub lowest : Word ws (frame.repeat + 2) low
   pub highest : Word ws (frame.repeat + 3) high
-  pub is : mv ≡ until_move o low high u frame outer x
+  pub is : mv ≡ turn low high frame outer
+
+-- MAX_UNTIL, MIN_UNTIL
+abbrev pub UntilMove : List ℕ → Order → ℕ → Spot → Move → Type 0
+UntilMove ws o u x mv = LoopMove ws (λ low high f outer. until_move o low high u f outer x) x mv
 
 -- a body of a possessive loop is entered, and counted before the loops are put aside
 abbrev pub enter_body : Region → Frame → Option ℕ → List Frame → Spot → Move
@@ -68,12 +72,5 @@ again_move low high u f outer x =
     (Go (behind u outer x)))
 
 -- at a possessive loop
-pub record AgainMove (ws : List ℕ) (x : Spot) (mv : Move) : Type 0 where
-  pub frame : Frame
-  pub outer : List Frame
-  pub low : ℕ
-  pub high : ℕ
-  pub inside : x.frames ≡ frame ∷ outer
-  pub lowest : Word ws (frame.repeat + 2) low
-  pub highest : Word ws (frame.repeat + 3) high
-  pub is : mv ≡ again_move low high (skip ws (frame.repeat + 1)) frame outer x
+abbrev pub AgainMove : List ℕ → Spot → Move → Type 0
+AgainMove ws x mv = LoopMove ws (λ low high f outer. again_move low high (skip ws (f.repeat + 1)) f outer x) x mv

@@ -1,8 +1,8 @@
 -- Where the machine is in the bytecode of a tree, and where its steps lead to.
 -- For the law that the step bound suffices: the memo of failures lays out its bits for the loops in progress at an
 -- address, and these are always the same. What sre_engine makes public does not rest on it.
-use Rattle.std.specs.Prelude.{⊤, ℕ, ◌+◌, ◌-◌, ◌≤◌, List, [], ◌∷◌, length, drop, Option, Some, None}
-use Rattle.std.specs.Prelude.{◌*◌, Bool, true, false}
+use Rattle.std.specs.Prelude.{⊤, ℕ, ◌+◌, ◌-◌, ◌≤◌, List, [], ◌∷◌, length, drop, Option, Some, None, ◌*◌, Bool, true}
+use Rattle.std.specs.Prelude.{false}
 use Rattle.std.specs.List.{AllByRecursion}
 use Rattle.sre_model.specs.Tree.{Tree}
 use Rattle.sre_model.specs.Subject.{Subject}

@@ -10,10 +10,9 @@ use Rattle.sre_model.specs.Tree.{GreedyRun, LazyRun, PossessiveRun}
 use Rattle.sre_model.specs.TreePrices.{other_ends, scan_price}
 use Rattle.sre_model.specs.Grammar.{word, skip}
 use Rattle.sre_model.specs.Ways.{unlimited}
-use Rattle.sre_model.specs.Roles.{Role, TestKind, OfAny, OfAnyAll, OfCategory, OfLiteral, OfNotLiteral, OfSet}
-use Rattle.sre_model.specs.Roles.{ToEnd, ToTest, ToCheckPosition, ToMark, ToBranch, ToJump, ToRun, ToRepeat, ToLoop}
-use Rattle.sre_model.specs.Roles.{ToRepeatPossessively, ToGroupAtomically, ToLook, ToRefer, ToCheckGroup}
-use Rattle.sre_model.specs.Roles.{role}
+use Rattle.sre_model.specs.Roles.{Role, TestKind, OfAny, OfAnyAll, OfCategory, OfLiteral, OfNotLiteral, OfSet, ToEnd}
+use Rattle.sre_model.specs.Roles.{ToTest, ToCheckPosition, ToMark, ToBranch, ToJump, ToRun, ToRepeat, ToLoop}
+use Rattle.sre_model.specs.Roles.{ToRepeatPossessively, ToGroupAtomically, ToLook, ToRefer, ToCheckGroup, role}
 use Rattle.sre_turns.specs.declared.Point.TheVariants.{Instruction, Alternatives, Shorter, Longer, Again}
 use Rattle.sre_turns.specs.declared.Point.{Point}
 use Rattle.sre_turns.specs.declared.Region.{Region}

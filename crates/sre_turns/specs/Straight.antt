@@ -1,10 +1,9 @@
 -- Bodies of atomic scopes, where the machine is in one, and where it has one way to go on at most.
 -- Definitions for the machine's contracts; what sre_engine makes public does not rest on it.
-use Rattle.std.specs.Prelude.{ℕ, ◌+◌, ◌≡◌, ◌≤◌, Bool, true, false, List, []}
+use Rattle.std.specs.Prelude.{ℕ, ◌+◌, ◌≡◌, ◌≤◌, Bool, true, false, List}
 use Rattle.sre_chars.specs.declared.constants.SreOpcode.{SreOpcode}
-use Rattle.sre_chars.specs.declared.constants.SreOpcode.TheVariants as opcode
 use Rattle.sre_model.specs.Tree.{Tree}
-use Rattle.sre_model.specs.Grammar.{Opcode, Reads}
+use Rattle.sre_model.specs.Grammar.{Opcode}
 use Rattle.sre_model.specs.LooksBehind.{backs}
 use Rattle.sre_model.specs.Regions.{forks, has_forked_region}
 use Rattle.sre_model.specs.Roles.{Role, ToBranch, ToRun, ToRepeat, ToLoop, ToRepeatPossessively, role}
@@ -14,7 +13,9 @@ use Rattle.sre_turns.specs.declared.Region.{Region}
 use Rattle.sre_turns.specs.declared.Point.{Point}
 use Rattle.sre_turns.specs.declared.Point.TheVariants.{Instruction, Again}
 use Rattle.sre_turns.specs.Alike.{least_from}
-use Rattle.sre_turns.specs.Lying.{repeats, LiesIn}
+pub use Rattle.sre_turns.specs.Bodies.{BodyOf}
+use Rattle.sre_turns.specs.Bodies.{LiesInBody}
+use Rattle.sre_turns.specs.Lying.{repeats}
 use Rattle.sre_turns.specs.Moves.{Spot}
 use Rattle.sre_turns.specs.Nested.{Lies, Passed, InWindow}
 use Rattle.sre_turns.specs.Settled.{Counted}
@@ -50,15 +51,6 @@ goes_behind (NotAhead t) = false
 goes_behind Owed = true
 goes_behind (Further t) = true
 
--- the body of an atomic scope of some kind: its words, and the SUCCESS behind them
-pub record BodyOf (ws : List ℕ) (P : Tree → Type 0) : Type 0 where
-  pub start : ℕ
-  pub end : ℕ
-  pub tree : Tree
-  pub reads : Reads ws start end tree
-  pub ends : Opcode ws end opcode.SUCCESS
-  pub is : P tree
-
 -- where a body forks an atomic scope of the whole does, and where an atomic scope of the body does
 abbrev pub IsBodyIn : Tree → Tree → Type 0
 IsBodyIn whole body =
@@ -69,7 +61,7 @@ IsBodyIn whole body =
 -- lookarounds of the whole may go from the start, and as much further on as those of the body may still go back
 pub record InBody (r : Run) (pl : Counted r) (start : ℕ) (g : Region) (entered : ℕ) (x : Spot) : Type 0 where
   pub body : BodyOf r.words (IsBodyIn pl.tree)
-  pub here : LiesIn r.words body.start body.end body.tree body.reads [] x.point (repeats x.frames)
+  pub here : LiesInBody r.words body x.point (repeats x.frames)
   pub lies : Lies r.words pl.tree pl.whole x
   pub passed : Passed x
   pub inside : InWindow r.subject x

@@ -4,7 +4,7 @@ use Rattle.std.proofs.Common.{◌≡◌, ℕ, ◌+◌, ◌-◌, ◌<◌, ◌&&�
 use Rattle.std.proofs.Common.{Some, None, refl, sym, ◌∙◌, ap, subst, arith}
 use Rattle.std.specs.Bool.{⊤}
 use Rattle.std.proofs.lemmas.Bool.Decides.{nat_tests}
-use Rattle.std.proofs.lemmas.Bool.{true≢false}
+use Rattle.std.proofs.lemmas.Bool.{true≢false, and_parts}
 use Rattle.sre_chars.specs.declared.constants.SreOpcode.{SreOpcode}
 use Rattle.sre_model.specs.Tree.{Test, Order, Greedy, Lazy, Positive, Negative}
 use Rattle.sre_model.specs.Characters.{holds}
@@ -21,20 +21,18 @@ use Rattle.sre_turns.specs.declared.Point.TheVariants.{Instruction, Shorter, Lon
 use Rattle.sre_turns.specs.declared.Point.{Point}
 use Rattle.sre_turns.specs.Moves.{Spot, spot_at, Move, Stop, End, Go, Split, Enter, closing_move}
 use Rattle.sre_turns.specs.MovesInRuns.{RunOperands}
-use Rattle.sre_turns.specs.MovesInLoops.{first_frame, next_frame, until_move, UntilMove, again_move, AgainMove}
-use Rattle.sre_turns.specs.MovesInLoops.{in_order}
+use Rattle.sre_turns.specs.MovesInLoops.{first_frame, next_frame, UntilMove, again_move, AgainMove, in_order}
 use Rattle.sre_turns.specs.Machine.{InRole, Moves, Runs, turns, Comes, stops, goes, splits, enters}
-use Rattle.sre_turns.specs.Admitting.{IsOutside, NextOutside, AdmitsOnly, TestsOnly, HasAll, RepeatsOnly, RunsOnly}
-use Rattle.sre_turns.specs.Admitting.{LeadsOnly}
+use Rattle.sre_turns.specs.Admitting.{NextOutside, AdmitsOnly, TestsOnly, HasAll, RepeatsOnly, RunsOnly, LeadsOnly}
 use Rattle.sre_turns.proofs.semantics.Turned.{GoesOn, behind_test, behind_reference, behind_run, run_on, group_there}
 use Rattle.sre_turns.proofs.semantics.Turned.{group_missing, Forks, greedy_run, lazy_run, Begins, plain_loop}
-use Rattle.sre_turns.proofs.semantics.Turned.{possessive_loop}
-use Rattle.sre_turns.proofs.semantics.Turned.{Enters, atomic_group, lookaround, Turned, stopped, ended, went, forked}
-use Rattle.sre_turns.proofs.semantics.Turned.{marked}
-use Rattle.sre_turns.proofs.semantics.Turned.{grouped, begun, entered, looped, none_owed, point_turned}
+use Rattle.sre_turns.proofs.semantics.Turned.{possessive_loop, Enters, atomic_group, lookaround, Turned, stopped, ended}
+use Rattle.sre_turns.proofs.semantics.Turned.{went, forked, marked, grouped, begun, entered, looped, none_owed}
+use Rattle.sre_turns.proofs.semantics.Turned.{point_turned}
 use Rattle.sre_model.proofs.Families.{until_role}
 use Rattle.sre_model.proofs.Longest.{run_none}
 use Rattle.sre_model.proofs.Words.{word_of, same_opcode}
+use Rattle.sre_turns.proofs.semantics.OneTurn.{loop_opened}
 
 -- a step after which nothing comes
 module _ (ws : List ℕ) (s : Subject) where
@@ -121,11 +119,9 @@ module _ (ws : List ℕ) (s : Subject) (set : ℕ → Bool) (p : ℕ) (o : NextO
         subst (λ n. passes s h.test n ≡ false) (sym e)
         (test_fails (i + 4) h.end h.test only h.operands.stands) in
         cond_barren ws s ((nat_eq h.high unlimited || nat_lt n h.high) && passes s h.test q) _ Stop
-        (λ y. absurd (never (nat_eq h.high unlimited || nat_lt n h.high) (passes s h.test q) missed y)) (λ y. tt)))
-      where
-        never : (a b : Bool) → b ≡ false → (a && b) ≡ true → ⊥
-        never true b e y = let f : true ≡ false = sym y ∙ e in cc
-        never false b e y = cc
+        (λ y.
+        let parts = and_parts (nat_eq h.high unlimited || nat_lt n h.high) (passes s h.test q) y in
+        absurd (true≢false (sym parts.1 ∙ missed))) (λ y. tt)))
 
     tail : {i low high end : ℕ} {t : Test} → RunsOnly ws i set → RunOperands ws i low high end t → low ≡ 0
         → Nothing (Instruction (skip ws (i + 1)))
@@ -184,17 +180,6 @@ module _ (ws : List ℕ) (s : Subject) (set : ℕ → Bool) (p : ℕ) (o : NextO
 
   -- a loop that has had no body, at what ends its bodies
   module _ (i : ℕ) (outer : List Frame) (m : Marks) (h : RepeatsOnly ws i set) where
-    until_barren : (order : Order) (low high u j : ℕ) (fs : List Frame) → u ≡ skip ws (i + 1) → Word ws (i + 2) low
-        → BarrenAfter ws s (until_move order low high u (first_frame i) outer (spot_at (Instruction j) fs p m))
-    until_barren order low high u j fs e w =
-        cond_barren ws s (nat_lt 0 low) _ _ (λ y. h.body.none s p o _ m) (λ y.
-        let free : word ws (i + 2) ≡ 0 = word_of ws (i + 2) low w ∙ grind (arith, nat_tests) in
-        let out : Barren ws s (spot_at (Instruction (u + 1)) outer p m) =
-        subst (λ v. Barren ws s (spot_at (Instruction (v + 1)) outer p m)) (sym e) ((h.behind free).none s p o outer m)
-        in
-        cond_barren ws s (may_repeat high 0 None p) _ _
-        (λ z. order_barren ws s order _ _ (h.body.none s p o _ m) out) (λ z. out))
-
     again_barren : (low high : ℕ) (fs : List Frame) → Word ws (i + 2) low
         → BarrenAfter ws s (again_move low high (skip ws (i + 1)) (first_frame i) outer (spot_at Again fs p m))
     again_barren low high fs w =
@@ -221,20 +206,18 @@ module _ (ws : List ℕ) (s : Subject) (set : ℕ → Bool) (p : ℕ) (o : NextO
       → u ≡ skip ws (i + 1) → UntilMove ws order u (spot_at (Instruction u) (first_frame i ∷ outer) p m) a
       → BarrenAfter ws s a
   until_after i u order outer m a h e k =
-      let both : k.frame ∷ k.outer ≡ first_frame i ∷ outer = sym k.inside in
-      let frame : k.frame ≡ first_frame i = cc in
-      let rest : k.outer ≡ outer = cc in
-      let low : Word ws (i + 2) k.low = subst (λ (f : Frame). Word ws (f.repeat + 2) k.low) frame k.lowest in
-      rw (k.is, frame, rest) (until_barren i outer m h order k.low k.high u u (first_frame i ∷ outer) e low)
+      let l = loop_opened ws k refl in
+      rw l.4 (cond_barren ws s (nat_lt 0 l.0) _ _ (λ y. h.body.none s p o _ m) (λ y.
+      let free : word ws (i + 2) ≡ 0 = word_of ws (i + 2) l.0 l.2 ∙ grind (arith, nat_tests) in
+      let out : Barren ws s (spot_at (Instruction (u + 1)) outer p m) =
+      subst (λ v. Barren ws s (spot_at (Instruction (v + 1)) outer p m)) (sym e) ((h.behind free).none s p o outer m) in
+      cond_barren ws s (may_repeat l.1 0 None p) _ _ (λ z. order_barren ws s order _ _ (h.body.none s p o _ m) out)
+      (λ z. out)))
 
   again_after : (i : ℕ) (outer : List Frame) (m : Marks) (a : Move) → RepeatsOnly ws i set
       → AgainMove ws (spot_at Again (first_frame i ∷ outer) p m) a → BarrenAfter ws s a
   again_after i outer m a h k =
-      let both : k.frame ∷ k.outer ≡ first_frame i ∷ outer = sym k.inside in
-      let frame : k.frame ≡ first_frame i = cc in
-      let rest : k.outer ≡ outer = cc in
-      let low : Word ws (i + 2) k.low = subst (λ (f : Frame). Word ws (f.repeat + 2) k.low) frame k.lowest in
-      rw (k.is, frame, rest) (again_barren i outer m h k.low k.high (first_frame i ∷ outer) low)
+      let l = loop_opened ws k refl in rw l.4 (again_barren i outer m h l.0 l.1 (first_frame i ∷ outer) l.2)
 
   until_there : (i u : ℕ) (order : Order) (outer : List Frame) (m : Marks) → RepeatsOnly ws i set
       → u ≡ skip ws (i + 1) → Opcode ws u (until_opcode order)
@@ -274,16 +257,4 @@ leads_admit ws i o set w h = record {
   none = λ s p out fs m.
       barren_turn ws s (spot_at (Instruction i) fs p m) (λ a k.
       turn_barren ws s set p out o w h (point_turned ws s p fs fs m m (Instruction i) a a k k));
-}
-
--- a set with every ASCII character is right anywhere
-pub all_admitted : (ws : List ℕ) (pt : Point) (set : ℕ → Bool) → HasAll set → AdmitsOnly ws pt set
-all_admitted ws pt set h = record { none = λ s p out. admitted_nowhere ws s set p out h }
-
--- what a set admits, one does that has its characters too
-pub wider : (ws : List ℕ) (pt : Point) (set more : ℕ → Bool) → AdmitsOnly ws pt set
-    → ((c : ℕ) → IsOutside more c → IsOutside set c) → AdmitsOnly ws pt more
-wider ws pt set more h l = record {
-  none = λ s p out.
-      h.none s p (record { character = out.character; outside = l out.character out.outside; next = out.next });
 }

@@ -1,13 +1,12 @@
 -- A list of the captures that may be live at each address stays right where fewer are listed for one.
 -- The machine's list of live captures is filled by it; nothing in this crate rests on it.
-use Rattle.std.proofs.Common.{◌≡◌, ℕ, ◌+◌, ◌⊎◌, inl, inr, List, sym, subst}
+use Rattle.std.proofs.Common.{◌≡◌, ℕ, ◌+◌, ◌⊎◌, inl, inr, List, sym, subst, rules}
 use Rattle.sre_chars.specs.declared.constants.SreOpcode.{SreOpcode}
-use Rattle.sre_model.specs.Grammar.{Word, Opcode, word, skip}
-use Rattle.sre_model.specs.Roles.{Role, ToTest, ToCheckPosition, ToMark, ToBranch, ToJump, ToRun, ToRepeat, ToLoop}
-use Rattle.sre_model.specs.Roles.{ToRepeatPossessively, ToGroupAtomically, ToLook, ToRefer, ToCheckGroup, role}
+use Rattle.sre_model.specs.Grammar.{Word, Opcode, skip}
+use Rattle.sre_model.specs.Roles.{Role, ToTest, ToMark, ToBranch, role}
 use Rattle.sre_turns.specs.MovesAtReferences.{Asks}
-use Rattle.sre_turns.specs.AskedPlaces.{MarkRange, Within, PlacesAsk, GroupLies, BothLead, AsksAt, AlternativesAsk}
-use Rattle.sre_turns.specs.AskedPlaces.{AskedByPlace}
+use Rattle.sre_turns.specs.AskedPlaces.{MarkRange, Within, PlacesAsk, GroupLies, AsksAt, AlternativesAsk, AskedByPlace}
+use Rattle.sre_turns.specs.AskedPlaces.{GroupAsked}
 
 -- no more is told of any place
 pub record IsNarrower (b a : PlacesAsk) : Type 0 where
@@ -27,24 +26,12 @@ module _ (base : ℕ → Type 0) (ws : List ℕ) (a b : PlacesAsk) (less : IsNar
   still_alternatives : (q : ℕ) → Within (a.alternatives q) own → Within (b.alternatives q) own
   still_alternatives q h = λ k l. h k (less.alternatives q k l)
 
-  still_both : (i j : ℕ) → BothLead a own i j → BothLead b own i j
-  still_both i j h = (still i h.0, still j h.1)
-
   pub still_asks : (f : Role) (i : ℕ) → AsksAt base ws a own f i → AsksAt base ws b own f i
   still_asks (ToTest kind) i h = record { each = λ j t s. still j (h.each j t s) }
-  still_asks ToCheckPosition i h = still (i + 2) h
   still_asks ToMark i h = record { each = λ v w k l. h.each v w k (less.instruction (i + 2) k l) }
   still_asks ToBranch i h = still_alternatives (i + 1) h
-  still_asks ToJump i h = still (skip ws (i + 1)) h
-  still_asks (ToRun kind) i h = still (skip ws (i + 1)) h
-  still_asks ToRepeat i h = still_both (skip ws (i + 1)) (i + 4) h
-  still_asks (ToLoop o) i h = still (i + 1) h
-  still_asks ToRepeatPossessively i h = still_both (skip ws (i + 1) + 1) (i + 4) h
-  still_asks ToGroupAtomically i h = still_both (skip ws (i + 1)) (i + 2) h
-  still_asks (ToLook sign) i h = still_both (skip ws (i + 1)) (i + 3) h
-  still_asks ToRefer i h = (h.0, still (i + 2) h.1)
-  still_asks ToCheckGroup i h = (h.0, still_both (i + 1 + word ws (i + 2)) (i + 3) h.1)
-  still_asks f i h = tt
+  still_asks f i h =
+      let leads : (i : ℕ) → Within (a.instruction i) own → Within (b.instruction i) own = still in search rules
 
   pub alternatives_still_ask : (q : ℕ) → AlternativesAsk ws a own q → AlternativesAsk ws b own q
   alternatives_still_ask q h = record {
@@ -78,21 +65,13 @@ one_place_told base ws a b p told less same here alternatives = record {
 module _ (base : ℕ → Type 0) (ws : List ℕ) (a : PlacesAsk) (whole : MarkRange)
     (inside : (i : ℕ) → Within (a.instruction i) whole) (others : (q : ℕ) → Within (a.alternatives q) whole)
     (groups : (i g : ℕ) → Asks ws g → Word ws i g → GroupLies base whole g) where
+  asked : (i : ℕ) → GroupAsked base ws whole i
+  asked i = record { each = groups (i + 1) }
+
   all_asks : (f : Role) (i : ℕ) → AsksAt base ws a whole f i
   all_asks (ToTest kind) i = record { each = λ j t s. inside j }
-  all_asks ToCheckPosition i = inside (i + 2)
   all_asks ToMark i = record { each = λ v w k l. inl (inside (i + 2) k l) }
-  all_asks ToBranch i = others (i + 1)
-  all_asks ToJump i = inside (skip ws (i + 1))
-  all_asks (ToRun kind) i = inside (skip ws (i + 1))
-  all_asks ToRepeat i = (inside (skip ws (i + 1)), inside (i + 4))
-  all_asks (ToLoop o) i = inside (i + 1)
-  all_asks ToRepeatPossessively i = (inside (skip ws (i + 1) + 1), inside (i + 4))
-  all_asks ToGroupAtomically i = (inside (skip ws (i + 1)), inside (i + 2))
-  all_asks (ToLook sign) i = (inside (skip ws (i + 1)), inside (i + 3))
-  all_asks ToRefer i = (record { each = groups (i + 1) }, inside (i + 2))
-  all_asks ToCheckGroup i = (record { each = groups (i + 1) }, (inside (i + 1 + word ws (i + 2)), inside (i + 3)))
-  all_asks f i = tt
+  all_asks f i = let named : (i : ℕ) → GroupAsked base ws whole i = asked in search rules
 
 -- and if the marks of all groups that words name do
 pub whole_asks : (base : ℕ → Type 0) (ws : List ℕ) (a : PlacesAsk) (whole : MarkRange)

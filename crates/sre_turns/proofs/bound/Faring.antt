@@ -1,7 +1,5 @@
 -- What a step leaves of the potential, in a search over bytecode whose steps are counted.
-use Rattle.std.proofs.Common.{◌≡◌, ℕ, ◌+◌, ◌-◌, ◌≤◌, Bool, length, List, [], ◌∷◌, drop, true, refl, sym, ap, ◌∙◌, subst}
-use Rattle.std.proofs.Common.{arith}
-use Rattle.std.specs.Bool.{⊤}
+use Rattle.std.proofs.Common.{◌≡◌, ℕ, ◌+◌, ◌≤◌, List, [], ◌∷◌, drop, true, refl, sym, ap, ◌∙◌, subst, arith}
 use Rattle.sre_chars.specs.declared.constants.SreOpcode.{SreOpcode}
 use Rattle.sre_chars.specs.declared.constants.SreOpcode.TheVariants as opcode
 use Rattle.sre_chars.specs.declared.string.StringCursor.{StringCursor}
@@ -12,8 +10,7 @@ use Rattle.sre_model.specs.Roles.{begins_test}
 use Rattle.sre_model.proofs.Families.{some_test}
 use Rattle.sre_turns.specs.Board.{Choice, Else, Keep, Trying}
 use Rattle.sre_turns.specs.declared.Frame.{Frame}
-use Rattle.sre_turns.specs.declared.Point.TheVariants.{Instruction, Alternatives, Shorter, Longer, Inside, Tried}
-use Rattle.sre_turns.specs.declared.Point.TheVariants.{TriedAgain}
+use Rattle.sre_turns.specs.declared.Point.TheVariants.{Instruction, Alternatives, Shorter, Longer}
 use Rattle.sre_turns.specs.declared.Point.{Point}
 use Rattle.sre_turns.specs.Moves.{Spot, spot_at, Move, Stop, End, Go, Split, Enter}
 use Rattle.sre_turns.specs.Prices.{price, price_of, toll, toll_by, split_toll, Covers}
@@ -21,13 +18,13 @@ use Rattle.sre_turns.specs.Lying.{repeats}
 use Rattle.sre_turns.specs.Settled.{Counted}
 use Rattle.sre_turns.specs.Attempts.{Attempt}
 use Rattle.sre_turns.specs.Limits.{Limit, earlier, raised, pool, CodeAt, tried_spots, Fares, FaresAt, FaresBack}
-use Rattle.sre_turns.specs.Limits.{FaresEnd, HereIn, Reopens, Settling, end_share, FaresBoth, Wider}
+use Rattle.sre_turns.specs.Limits.{FaresEnd, HereIn, Reopens, Settling, end_share, FaresBoth, Wider, Stage, share}
+use Rattle.sre_turns.specs.Limits.{Coming}
 use Rattle.sre_turns.specs.Fruit.{is_inside}
 use Rattle.sre_turns.specs.Straight.{InBody}
 use Rattle.sre_turns.specs.Turning.{MovesAt, Moves, Runs, turns}
 use Rattle.sre_turns.proofs.bound.HereMoves.{OntoHere, here_moves}
-use Rattle.sre_turns.proofs.bound.PriceMoves.{enters_at, step_covered, branch_some}
-use Rattle.sre_turns.proofs.bound.Steps.{some_steps}
+use Rattle.sre_turns.proofs.bound.PriceMoves.{enters_at, step_covered, IsPlace, is_place, some_price}
 
 -- an instruction has an opcode, and another point needs none
 pub code_at : (r : Run) (x : Spot) (mv : Move) → Moves r.words r.subject x mv
@@ -43,22 +40,6 @@ pub spends : (r : Run) (x : Spot) (mv : Move) (o : SreOpcode) → Moves r.words 
     → Covers (enters_at o x.point) r.words r.subject.end
     (pool r.words r.subject.end o x.point (repeats x.frames) x.position) mv
 spends r x mv o h w = step_covered r.words r.subject x.point x.frames x.position x.marks o mv w h
-
--- a point at which a step is made
-abbrev pub IsPlace : Point → Type 0
-IsPlace (Inside g) = ⊥
-IsPlace (Tried i) = ⊥
-IsPlace TriedAgain = ⊥
-IsPlace pt = ⊤
-
-pub moves_place : (r : Run) (x : Spot) (mv : Move) → Moves r.words r.subject x mv → IsPlace x.point
-moves_place r x mv h = go x.point h
-  where
-    go : (pt : Point) → MovesAt r.words r.subject pt x mv → IsPlace pt
-    go (Inside g) h = absurd h
-    go (Tried i) h = absurd h
-    go TriedAgain h = absurd h
-    go pt h = tt
 
 -- what is left where a step leads; of an atomic scope that is entered, whatever the cursor is
 abbrev pub Leaving : (r : Run) → Counted r → Limit → Spot → List Choice → Move → Type 0
@@ -187,23 +168,7 @@ pub run_code : (r : Run) (x : Spot) {os : List Way} {n : ℕ} → Runs r.words r
 run_code r x (turns mv h d) = code_at r x mv h
 
 pub run_place : (r : Run) (x : Spot) {os : List Way} {n : ℕ} → Runs r.words r.subject x os n → IsPlace x.point
-run_place r x (turns mv h d) = moves_place r x mv h
-
--- nothing comes of a configuration: what waits is left
-pub nothing_left : (r : Run) (pl : Counted r) (limit : Limit) (cs : List Choice) (x : Spot) {os : List Way} {n : ℕ}
-    → Runs r.words r.subject x os n
-    → ((o : SreOpcode) → CodeAt r.words x.point o
-    → FaresAt r pl limit (pool r.words r.subject.end o x.point (repeats x.frames) x.position) x cs)
-    → FaresBack r pl (earlier limit) cs
-nothing_left r pl limit cs x (turns mv h d) f =
-    let code = code_at r x mv h in
-    let at = f code.0 code.1 in
-    let l = spends r x mv code.0 h code.1 in
-    fares_earlier r pl limit cs 0 _ (some_spent (enters_at code.0 x.point) _ mv l) at.fares
-  where
-    some_spent : (may : Bool) (n : ℕ) (mv : Move) → Covers may r.words r.subject.end n mv → 0 + 1 ≤ n
-    some_spent may n (Enter g y z) l = omega (arith, l.1)
-    some_spent may n mv l = omega (arith, l)
+run_place r x (turns mv h d) = is_place r.words r.subject x.point x mv h
 
 -- what is left within a limit is left within a wider one
 pub fares_wider : (r : Run) (pl : Counted r) (limit more : Limit) (n : ℕ) (cs : List Choice) → Wider limit more
@@ -286,14 +251,11 @@ with_toll r pl limit x cs f = record {
   fares = record { settled = f.fares.settled; trying = f.fares.trying; left = omega (arith, f.fares.left) };
 }
 
--- where a step is made there is enough for it
-pub some_price : (ws : List ℕ) (e : ℕ) (pt : Point) (p : ℕ) → IsPlace pt → 1 ≤ price ws e pt p
-some_price ws e (Instruction i) p at = some_steps ws i
-some_price ws e (Alternatives q) p at = branch_some ws (length ws - q) q
-some_price ws e (Inside g) p at = absurd at
-some_price ws e (Tried i) p at = absurd at
-some_price ws e TriedAgain p at = absurd at
-some_price ws e pt p at = omega arith
+-- a configuration has its price, however it was come to
+pub share_more : (stage : Stage) (ws : List ℕ) (e : ℕ) (o : SreOpcode) (x : Spot)
+    → price_of ws e x ≤ share stage ws e o x
+share_more Coming ws e o x = omega arith
+share_more stage ws e o x = omega arith
 
 -- a configuration is left at once, for what waits or where the innermost atomic scope ends
 module _ (r : Run) (pl : Counted r) (limit : Limit) (n : ℕ) (x : Spot) (cs : List Choice) (at : IsPlace x.point)

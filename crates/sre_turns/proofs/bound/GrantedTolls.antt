@@ -1,8 +1,8 @@
 -- The credits of an instruction, with what its scan is charged, are no more than what a memoized failure there pays
 -- for, but for a repeat without a greatest count. Where there is one way to go on, there are none.
 -- That the step bound suffices (`enough` of sre_engine) rests on this.
-use Rattle.std.proofs.Common.{◌≡◌, ℕ, ◌+◌, ◌-◌, ◌*◌, ◌≤◌, ◌⊎◌, inl, inr, Bool, true, false, cond, min, nat_eq, List}
-use Rattle.std.proofs.Common.{refl, subst, sym, ap, ◌∙◌, arith, add-mul, one-mul, mul-le-mul_right}
+use Rattle.std.proofs.Common.{◌≡◌, ℕ, ◌+◌, ◌*◌, ◌≤◌, ◌⊎◌, inl, inr, false, List, refl, subst, sym, ap, ◌∙◌, arith}
+use Rattle.std.proofs.Common.{add-mul, one-mul, mul-le-mul_right}
 use Rattle.std.proofs.lemmas.Bool.Decides.{nat_tests}
 use Rattle.sre_chars.specs.declared.constants.SreOpcode.{SreOpcode}
 use Rattle.sre_chars.specs.declared.constants.SreOpcode.TheVariants as opcode
@@ -25,13 +25,7 @@ module _ (ws : List ℕ) (e i : ℕ) (ks : List ℕ) where
   -- a repeat with a greatest count
   ends_counted : (word ws (i + 3) ≡ unlimited → ⊥)
       → ends_beside ws e i ≤ other_ends e (word ws (i + 2)) (word ws (i + 3))
-  ends_counted counted = go (nat_eq (word ws (i + 3)) unlimited) refl
-    where
-      go : (b : Bool) → nat_eq (word ws (i + 3)) unlimited ≡ b
-          → cond b e (min (word ws (i + 3)) e) - word ws (i + 2)
-          ≤ cond b 0 (min (word ws (i + 3)) e - word ws (i + 2))
-      go true u = absurd (counted (grind (arith, nat_tests)))
-      go false u = omega arith
+  ends_counted counted = grind (arith, nat_tests)
 
   by_bit : (f : Role) → ((kind : RunKind) → f ≡ ToRun kind → word ws (i + 3) ≡ unlimited → ⊥)
       → toll_by ws e i ks f + scan_by ws e i f ≤ bit_by ws e i ks f

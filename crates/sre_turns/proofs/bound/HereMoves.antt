@@ -28,6 +28,8 @@ use Rattle.sre_turns.specs.declared.Region.{Region}
 use Rattle.sre_turns.proofs.bound.NestedMoves.{begins, body_moves}
 use Rattle.sre_turns.proofs.semantics.Onward.{outer_begun, Reaches, Reaching, point_reaches, all_later, least_position}
 use Rattle.sre_turns.proofs.memoization.Straight.{StraightPoint, body_straight, GoesBack, counted_entry, point_entered}
+use Rattle.sre_model.specs.Ways.{first}
+use Rattle.sre_turns.specs.Bodies.{LiesInBody}
 
 -- what is told of where a step leads
 abbrev pub OntoHere : (r : Run) → Counted r → ℕ → List Choice → Spot → Move → Type 0
@@ -39,7 +41,7 @@ OntoHere r pl start cs x (Enter g y z) =
     Reopens r pl start g y.frames y.position cs × InBody r pl start g y.position z
 
 -- behind an atomic scope, under the loops under which it was entered, or where a possessive loop is left
-closes_behind : (P : Point → List ℕ → Type 0) (g : Region) (fs : List Frame) → ClosesAt P g fs
+pub closes_behind : (P : Point → List ℕ → Type 0) (g : Region) (fs : List Frame) → ClosesAt P g fs
     → P (point_behind g) (repeats fs)
 closes_behind P (Further t) fs h = h.0
 closes_behind P g fs h = h
@@ -95,9 +97,8 @@ module _ (r : Run) (pl : Counted r) (start : ℕ) where
         → start + backs b.tree ≤ z.position + backs pl.tree → InBody r pl start g y.position z
     in_body b first from = record {
       body = b;
-      here = subst (λ fs. LiesIn r.words b.start b.end b.tree b.reads [] z.point (repeats fs)) (sym far.2)
-          (subst (λ pt. LiesIn r.words b.start b.end b.tree b.reads [] pt []) (sym first)
-          (begins r.words b.start b.end b.tree b.reads []));
+      here = subst (λ fs. LiesInBody r.words b z.point (repeats fs)) (sym far.2)
+          (subst (λ pt. LiesInBody r.words b pt []) (sym first) (begins r.words b.start b.end b.tree b.reads []));
       lies = (leads r x 0 (last r) pl.tree pl.whole.0 pl.whole.1 lies (Enter g y z) h).0;
       passed = subst (λ fs. Passed (record z { frames = fs })) (sym far.2) tt;
       inside = far.1 y_inside;

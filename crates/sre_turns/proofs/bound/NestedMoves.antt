@@ -1,318 +1,251 @@
 -- Each step of a configuration in the bytecode of a tree leads to configurations there.
 -- That the step bound suffices (`enough` of sre_engine) rests on this.
-use Rattle.std.proofs.Common.{◌≡◌, ℕ, ◌+◌, ◌-◌, inl, inr, Bool, true, false, cond, ◌&&◌, ◌||◌, nat_lt, nat_eq, nat_le}
-use Rattle.std.proofs.Common.{List, [], ◌∷◌, Option, Some, None, refl, sym, ap, ◌∙◌, subst}
+use Rattle.std.proofs.Common.{◌≡◌, ℕ, ◌+◌, ◌-◌, inl, inr, false, nat_eq, List, [], ◌∷◌, refl, ap, ◌∙◌, subst, arith}
+use Rattle.std.proofs.lemmas.Bool.Decides.{nat_tests}
 use Rattle.sre_chars.specs.declared.constants.SreOpcode.{SreOpcode}
 use Rattle.sre_chars.specs.declared.constants.SreOpcode.TheVariants as opcode
 use Rattle.sre_model.specs.Tree.{Tree, Empty, Then, Item, Fail, One, At, Mark, Branch, Loop, Run, PossessiveLoop}
-use Rattle.sre_model.specs.Tree.{Atomic, Look, Reference, Exists, ExistsElse, Test, RunKind, GreedyRun, LazyRun}
-use Rattle.sre_model.specs.Tree.{PossessiveRun, Order, Greedy, Lazy, Sign, Positive, Negative, Fold}
-use Rattle.sre_model.specs.Marks.{group}
-use Rattle.sre_model.specs.Subject.{Subject, passes, holds_at, same_folded}
-use Rattle.sre_model.specs.Ways.{unlimited, may_repeat, longest_run, run_length}
-use Rattle.sre_model.specs.Grammar.{word, skip, Word, Opcode, Reads, ReadsItem, Operands, JumpsTo}
-use Rattle.sre_model.specs.Grammar.{test_opcode, run_opcode, look_opcode, reference_opcode, until_opcode}
-use Rattle.sre_model.specs.Roles.{Role, ToFail, ToEnd, ToTest, ToCheckPosition, ToMark, ToBranch, ToJump, ToRun}
-use Rattle.sre_model.specs.Roles.{ToRepeat, ToLoop, ToRepeatPossessively, ToGroupAtomically, ToLook, ToRefer}
-use Rattle.sre_model.specs.Roles.{ToCheckGroup, role}
-use Rattle.sre_model.proofs.Words.{same_opcode, same_word, word_of}
+use Rattle.sre_model.specs.Tree.{Atomic, Look, Reference, Exists, ExistsElse, RunKind, GreedyRun, LazyRun, Order, Sign}
+use Rattle.sre_model.specs.Tree.{Positive, Negative}
+use Rattle.sre_model.specs.Marks.{Marks, group}
+use Rattle.sre_model.specs.Subject.{Subject}
+use Rattle.sre_model.specs.Grammar.{word, skip, Opcode, Reads, ReadsItem, Operands, item_opcode, until_opcode}
+use Rattle.sre_model.specs.Roles.{Role, ToEnd, ToMark, ToJump, ToRun, ToRepeat, ToLoop, ToRepeatPossessively}
+use Rattle.sre_model.specs.Roles.{ToGroupAtomically, ToLook, role}
+use Rattle.sre_model.proofs.Words.{same_opcode, word_of}
 use Rattle.sre_model.proofs.Unique.{test_same}
-use Rattle.sre_model.proofs.Families.{test_kind, test_role, run_role, until_role, look_role, reference_role}
-use Rattle.sre_turns.specs.Moves.{Spot, to_place, into_region, Move, Stop, Go, Enter, closing_move}
-use Rattle.sre_turns.specs.Moves.{AlternativesMove}
-use Rattle.sre_turns.specs.MovesInRuns.{run_turn, ShorterMove, LongerMove}
-use Rattle.sre_turns.specs.MovesInLoops.{at_body, behind, in_order, AgainMove}
-use Rattle.sre_turns.specs.MovesInRegions.{look}
-use Rattle.sre_turns.specs.MovesAtReferences.{reference_turn, condition_place}
-use Rattle.sre_turns.specs.Machine.{Frame, Point, Instruction, Alternatives, Shorter, Longer, Again}
-use Rattle.sre_turns.specs.Machine.{InRole, MovesAt, Moves}
-use Rattle.sre_turns.specs.Nested.{repeats, IsAt, LiesIn, LiesInItem, LeadsTo}
+use Rattle.sre_model.proofs.Families.{item_role, role_same, until_role}
+use Rattle.sre_turns.specs.declared.Frame.{Frame}
+use Rattle.sre_turns.specs.declared.Region.{Region}
+use Rattle.sre_turns.specs.declared.Point.TheVariants.{Instruction, Alternatives, Shorter, Longer, Again}
+use Rattle.sre_turns.specs.declared.Point.{Point}
+use Rattle.sre_turns.specs.Moves.{Spot, Move}
+use Rattle.sre_turns.specs.Machine.{Moves}
+use Rattle.sre_turns.specs.Nested.{repeats, LiesIn, LiesInItem, LeadsTo, ClosesAt}
 pub use Rattle.sre_turns.proofs.semantics.Parts.{begins}
 use Rattle.sre_turns.proofs.semantics.Parts.{branch_begins, Own, Ends, Law, lies_law, alternative, no_more, shorter}
-use Rattle.sre_turns.proofs.semantics.Parts.{longer}
-use Rattle.sre_turns.proofs.semantics.Parts.{possessive, with_item, jump, until, success}
+use Rattle.sre_turns.proofs.semantics.Parts.{longer, possessive, with_item, jump, until, success}
+use Rattle.sre_turns.proofs.semantics.Turned.{GoesOn, behind_test, behind_check, behind_reference, behind_jump}
+use Rattle.sre_turns.proofs.semantics.Turned.{behind_look, behind_run, run_on, alternatives, group_there, group_missing}
+use Rattle.sre_turns.proofs.semantics.Turned.{Forks, greedy_run, lazy_run, next_alternative, next_shorter, next_longer}
+use Rattle.sre_turns.proofs.semantics.Turned.{Begins, plain_loop, possessive_loop, Enters, atomic_group, lookaround}
+use Rattle.sre_turns.proofs.semantics.Turned.{Turned, stopped, ended, went, forked, marked, grouped, begun, entered}
+use Rattle.sre_turns.proofs.semantics.Turned.{looped, repeated, point_turned}
+use Rattle.sre_turns.proofs.semantics.LoopTurns.{until_holds, again_holds}
 
--- the end of a tree's words lies there
-pub finishes : (ws : List ℕ) (i j : ℕ) (t : Tree) (r : Reads ws i j t) (js : List ℕ)
-    → LiesIn ws i j t r js (Instruction j) js
-finishes ws i j Empty r js = (refl, refl)
-finishes ws i j (Then x rest) r js = inr (inr (finishes ws r.0 j rest r.2 js))
+module _ (ws : List ℕ) (s : Subject) (p : ℕ) where
+  -- where a step at an instruction of a role leads, under loops: to which points, under which loops
+  data RoleLeads (i : ℕ) : Role → List ℕ → Point → List ℕ → Type 0 where
+    goes_on : {f : Role} {q : ℕ} {js : List ℕ} {pt : Point} → GoesOn ws s i p f pt q → RoleLeads i f js pt js
+    behind_mark : {js : List ℕ} → RoleLeads i ToMark js (Instruction (i + 2)) js
+    run_end : {kind : RunKind} {js : List ℕ} → RoleLeads i (ToRun kind) js (Instruction (skip ws (i + 1))) js
+    run_shorter : {k : ℕ} {js : List ℕ} → RoleLeads i (ToRun GreedyRun) js (Shorter (skip ws (i + 1)) k) js
+    run_longer : {n : ℕ} {js : List ℕ} → RoleLeads i (ToRun LazyRun) js (Longer i n) js
+    loop_begun : {js : List ℕ} → RoleLeads i ToRepeat js (Instruction (skip ws (i + 1))) (i ∷ js)
+    possessive_begun : {js : List ℕ} → RoleLeads i ToRepeatPossessively js Again (i ∷ js)
+    into_group : {js : List ℕ} → RoleLeads i ToGroupAtomically js (Instruction (i + 2)) []
+    behind_group : {js : List ℕ} → RoleLeads i ToGroupAtomically js (Instruction (skip ws (i + 1))) js
+    into_look : {sign : Sign} {js : List ℕ} → RoleLeads i (ToLook sign) js (Instruction (i + 3)) []
+    past_look : {sign : Sign} {js : List ℕ} → RoleLeads i (ToLook sign) js (Instruction (skip ws (i + 1))) js
+    loop_body : {o : Order} {q : ℕ} {js : List ℕ} → RoleLeads i (ToLoop o) (q ∷ js) (Instruction (q + 4)) (q ∷ js)
+    loop_end : {o : Order} {q : ℕ} {js : List ℕ} → RoleLeads i (ToLoop o) (q ∷ js) (Instruction (i + 1)) js
 
--- what a turn at an instruction does, by the role of the opcode that is known to be there
-in_role : (ws : List ℕ) (s : Subject) (i : ℕ) (x : Spot) (mv : Move) (o : SreOpcode) (f : Role) → Opcode ws i o
-    → role o ≡ f → MovesAt ws s (Instruction i) x mv → InRole ws s f i x mv
-in_role ws s i x mv o f w e h =
-    subst (λ a. InRole ws s a i x mv) (ap role (same_opcode ws i h.0 o h.1 w) ∙ e) h.2
+  -- and one at any point
+  data LeadsOn : Point → List ℕ → Point → List ℕ → Type 0 where
+    by_role : {i : ℕ} {js ks : List ℕ} {pt : Point} (o : SreOpcode) → Opcode ws i o → RoleLeads i (role o) js pt ks
+        → LeadsOn (Instruction i) js pt ks
+    to_alternative :
+        {q : ℕ} {js : List ℕ} → nat_eq (word ws q) 0 ≡ false → LeadsOn (Alternatives q) js (Instruction (q + 1)) js
+    to_others :
+        {q : ℕ} {js : List ℕ} → nat_eq (word ws q) 0 ≡ false
+        → LeadsOn (Alternatives q) js (Alternatives (skip ws q)) js
+    behind_shorter : {t k : ℕ} {js : List ℕ} → LeadsOn (Shorter t k) js (Instruction t) js
+    next_count : {t k n : ℕ} {js : List ℕ} → LeadsOn (Shorter t k) js (Shorter t n) js
+    behind_longer : {i n : ℕ} {js : List ℕ} → LeadsOn (Longer i n) js (Instruction (skip ws (i + 1))) js
+    one_longer : {i n k : ℕ} {js : List ℕ} → LeadsOn (Longer i n) js (Longer i k) js
+    once_more : {q : ℕ} {js : List ℕ} → LeadsOn Again (q ∷ js) Again (q ∷ js)
+    into_body : {q : ℕ} {js : List ℕ} → LeadsOn Again (q ∷ js) (Instruction (q + 4)) []
+    behind_loop : {q : ℕ} {js : List ℕ} → LeadsOn Again (q ∷ js) (Instruction (skip ws (q + 1) + 1)) js
 
-put : (P : Point → List ℕ → Type 0) (pt at : Point) (ks js : List ℕ) → pt ≡ at → ks ≡ js → P at js → P pt ks
-put P pt at ks js e f h = rw (e, f) h
+  fork_leads : {pt first rest : Point} {q : ℕ} {js : List ℕ} → Forks ws s p pt first rest q
+      → LeadsOn pt js first js × LeadsOn pt js rest js
+  fork_leads {js = js} (greedy_run {i = i} o w e operands full) =
+      (by_role o w (rw e run_end), by_role o w (rw e run_shorter))
+  fork_leads (lazy_run o w e operands full) = (by_role o w (rw e run_end), by_role o w (rw e run_longer))
+  fork_leads (next_alternative inside some) = (to_alternative some, to_others some)
+  fork_leads (next_shorter some) = (behind_shorter, next_count)
+  fork_leads (next_longer operands past more passed) = (behind_longer, one_longer)
 
-leads_cond : (P : Point → List ℕ → Type 0) (b : Bool) (a c : Move) → LeadsTo P a → LeadsTo P c → LeadsTo P (cond b a c)
-leads_cond P true a c k l = k
-leads_cond P false a c k l = l
+  begin_leads : {i : ℕ} {f : Role} {pt : Point} {js : List ℕ} → Begins ws i f pt → RoleLeads i f js pt (i ∷ js)
+  begin_leads plain_loop = loop_begun
+  begin_leads possessive_loop = possessive_begun
 
-leads_order : (P : Point → List ℕ → Type 0) (o : Order) (y z : Spot) → P y.point (repeats y.frames)
-    → P z.point (repeats z.frames) → LeadsTo P (in_order o y z)
-leads_order P Greedy y z k l = (k, l)
-leads_order P Lazy y z k l = (l, k)
+  until_leads : {u q : ℕ} {js : List ℕ} {order : Order} (o : SreOpcode) → Opcode ws u o → role o ≡ ToLoop order
+      → LeadsOn (Instruction u) (q ∷ js) (Instruction (q + 4)) (q ∷ js)
+      × LeadsOn (Instruction u) (q ∷ js) (Instruction (u + 1)) js
+  until_leads o w e = (by_role o w (rw e loop_body), by_role o w (rw e loop_end))
 
--- a spot, a turn there, and a kind of points and loops
-module _ (ws : List ℕ) (s : Subject) (x : Spot) (mv : Move) (h : Moves ws s x mv)
-    (P : Point → List ℕ → Type 0) where
-  abbrev Leading : Move → Type 0
-  Leading a = LeadsTo P a
+  -- a kind of points under loops
+  module _ (P : Point → List ℕ → Type 0) where
+    -- all to which a step at a point leads are such
+    abbrev From : Point → List ℕ → Type 0
+    From pt js = (at : Point) (ks : List ℕ) → LeadsOn pt js at ks → P at ks
 
-  -- the spot is at an instruction, under the loops js
-  module _ (i : ℕ) (js : List ℕ) (at : IsAt (Instruction i) js x.point (repeats x.frames)) where
-    there : MovesAt ws s (Instruction i) x mv
-    there = subst (λ pt. MovesAt ws s pt x mv) at.0 h
+    enter_leads : {i back j : ℕ} {f : Role} {g : Region} (o : SreOpcode) (fs : List Frame) → Opcode ws i o → role o ≡ f
+        → Enters ws i f back j g → From (Instruction i) (repeats fs)
+        → P (Instruction j) [] × ClosesAt P g fs
+    enter_leads o fs w e atomic_group f =
+        (f _ _ (by_role o w (rw e into_group)), f _ _ (by_role o w (rw e behind_group)))
+    enter_leads o fs w e (lookaround {sign = Positive} there) f =
+        (f _ _ (by_role o w (rw e into_look)), f _ _ (by_role o w (rw e past_look)))
+    enter_leads o fs w e (lookaround {sign = Negative} there) f =
+        (f _ _ (by_role o w (rw e into_look)), f _ _ (by_role o w (rw e past_look)))
 
-    same : (pt : Point) → P pt js → P pt (repeats x.frames)
-    same pt p = rw at.1 p
+    -- so is each to which a step leads there
+    turn_leads : {fs gs : List Frame} {m n : Marks} {pt : Point} {v w : Move} → Turned ws s p fs gs m n pt v w
+        → From pt (repeats fs) → LeadsTo P v
+    turn_leads stopped f = tt
+    turn_leads (ended o w e) f = tt
+    turn_leads (went x) f = f _ _ (by_role x.code x.there (goes_on x.goes))
+    turn_leads (forked k a b on) f = (f _ _ (fork_leads k).0, f _ _ (fork_leads k).1)
+    turn_leads (marked o w e number) f = f _ _ (by_role o w (rw e behind_mark))
+    turn_leads {m = m} (grouped {g = g} o at e asked number v w each) f = turn_leads (each (group m g)) f
+    turn_leads (begun o w b same) f = f _ _ (by_role o w (begin_leads b))
+    turn_leads {fs} (entered o w b l far on) f = enter_leads o fs w refl b f
+    turn_leads {fs} (looped {u = u} o order w e h k) f =
+        let js : repeats fs ≡ h.frame.repeat ∷ repeats h.outer = ap (λ gs. repeats gs) h.inside in
+        let body : P (Instruction (h.frame.repeat + 4)) (h.frame.repeat ∷ repeats h.outer) =
+        f _ _ (rw js (until_leads o w e).0) in
+        let end : P (Instruction (u + 1)) (repeats h.outer) = f _ _ (rw js (until_leads o w e).1) in
+        until_holds (LeadsTo P) order u h body (body, end) (end, body) end
+    turn_leads {fs} (repeated h k) f =
+        let js : repeats fs ≡ h.frame.repeat ∷ repeats h.outer = ap (λ gs. repeats gs) h.inside in
+        let more_ : P Again (h.frame.repeat ∷ repeats h.outer) = f _ _ (rw js once_more) in
+        let body : P (Instruction (h.frame.repeat + 4)) [] = f _ _ (rw js into_body) in
+        let end : P (Instruction (skip ws (h.frame.repeat + 1) + 1)) (repeats h.outer) = f _ _ (rw js behind_loop) in
+        again_holds (LeadsTo P) h (body, more_) (body, (more_, end)) end
 
-    instruction : (a b : ℕ) → a ≡ b → P (Instruction b) js → P (Instruction a) (repeats x.frames)
-    instruction a b e p = rw (e, at.1) p
+    -- what lies in words
+    abbrev Known : (i j : ℕ) (t : Tree) → Reads ws i j t → List ℕ → Type 0
+    Known i j t r js = (pt : Point) (ks : List ℕ) → LiesIn ws i j t r js pt ks → P pt ks
 
-    deeper : (pt : Point) → P pt (i ∷ js) → P pt (i ∷ repeats x.frames)
-    deeper pt p = rw at.1 p
+    abbrev KnownInside : (i j : ℕ) (x : Item) → Operands ws i j x → List ℕ → Type 0
+    KnownInside i j x r js = (pt : Point) (ks : List ℕ) → LiesInItem ws i j x r js pt ks → P pt ks
 
-    known : (o : SreOpcode) (f : Role) → Opcode ws i o → role o ≡ f → InRole ws s f i x mv
-    known o f w e = in_role ws s i x mv o f w e there
+    -- the end of a tree's words lies there
+    finishes : (i j : ℕ) (t : Tree) (r : Reads ws i j t) (js : List ℕ) → LiesIn ws i j t r js (Instruction j) js
+    finishes i j Empty r js = (refl, refl)
+    finishes i j (Then x rest) r js = inr (inr (finishes r.0 j rest r.2 js))
 
     -- at the first word of an item
-    module _ (j : ℕ) (end : P (Instruction j) js) where
-      run_leads : (kind : RunKind) (low high : ℕ) (test : Test) → skip ws (i + 1) ≡ j → P (Instruction i) js
-          → ((k : ℕ) → P (Shorter j k) js) → ((n : ℕ) → P (Longer i n) js)
-          → Leading (run_turn kind s i (skip ws (i + 1)) low high test x)
-      run_leads GreedyRun low high test e own f g =
-          let shorter : (k : ℕ) → P (Shorter (skip ws (i + 1)) k) (repeats x.frames) = λ k. rw (e, at.1) (f k) in
-          leads_cond P (nat_lt (longest_run s test high x.position) low) _ _ tt
-          (instruction (skip ws (i + 1)) j e end, shorter (longest_run s test high x.position - low))
-      run_leads LazyRun low high test e own f g =
-          leads_cond P (nat_lt (run_length s test low x.position) low) _ _ tt
-          (instruction (skip ws (i + 1)) j e end, same (Longer i low) (g low))
-      run_leads PossessiveRun low high test e own f g =
-          let tail : P (Instruction (skip ws (i + 1))) (repeats x.frames) = instruction (skip ws (i + 1)) j e end in
-          leads_cond P (nat_eq high unlimited) _ _
-          (leads_cond P (nat_lt (run_length s test low x.position) low) _ _ tt
-          (leads_cond P (passes s test (x.position + low)) _ _ (same (Instruction i) own) tail))
-          (leads_cond P (nat_lt (longest_run s test high x.position) low) _ _ tt tail)
+    item_leads : (i j : ℕ) (x : Item) (r : ReadsItem ws i j x) (js : List ℕ) → P (Instruction i) js
+        → P (Instruction j) js → KnownInside i j x r.1 js → {at : Point} {ks : List ℕ}
+        → RoleLeads i (item_role x) js at ks → P at ks
+    item_leads i j (One t) r js own end f (goes_on (behind_test {j = q} {t = u} stands passed)) =
+        let e : q ≡ j = (test_same u t ws i q j stands.code stands.operands r.0 r.1).1 in rw e end
+    item_leads i j (At a) r js own end f (goes_on behind_check) = rw (← r.1.1) end
+    item_leads i j (Mark n) r js own end f behind_mark = rw (← r.1.1) end
+    item_leads i j (Branch ts) r js own end f (goes_on alternatives) = f _ _ (branch_begins ws (i + 1) j ts r.1 js)
+    item_leads i j (Loop o low high body) r js own end f loop_begun =
+        f _ _ (finishes (i + 4) (skip ws (i + 1)) body r.1.3 (i ∷ js))
+    item_leads i j (Run kind low high t) r js own end f (goes_on (behind_run operands missed)) = rw (← r.1.0) end
+    item_leads i j (Run kind low high t) r js own end f (goes_on (run_on operands more)) = own
+    item_leads i j (Run kind low high t) r js own end f run_end = rw (← r.1.0) end
+    item_leads i j (Run kind low high t) r js own end f (run_shorter {k = k}) =
+        rw (← r.1.0) (f _ _ (inl (k, (refl, refl))))
+    item_leads i j (Run kind low high t) r js own end f (run_longer {n = n}) = f _ _ (inr (n, (refl, refl)))
+    item_leads i j (PossessiveLoop low high body) r js own end f possessive_begun = f _ _ (inl (refl, refl))
+    item_leads i j (Atomic body) r js own end f into_group = f _ _ (begins ws (i + 2) (j - 1) body r.1.1 [])
+    item_leads i j (Atomic body) r js own end f behind_group = rw (← r.1.0) end
+    item_leads i j (Look sign back body) r js own end f into_look = f _ _ (begins ws (i + 3) (j - 1) body r.1.2 [])
+    item_leads i j (Look sign back body) r js own end f past_look = rw (← r.1.0) end
+    item_leads i j (Look sign back body) r js own end f (goes_on behind_look) = rw (← r.1.0) end
+    item_leads i j (Reference fold g) r js own end f (goes_on behind_reference) = rw (← r.1.1) end
+    item_leads i j (Exists g a) r js own end f (goes_on group_there) = f _ _ (begins ws (i + 3) j a r.1.2 js)
+    item_leads i j (Exists g a) r js own end f (goes_on group_missing) = rw (← r.1.1) end
+    item_leads i j (ExistsElse g a b) r js own end f (goes_on group_there) =
+        f _ _ (inl (begins ws (i + 3) (i + 1 + word ws (i + 2) - 2) a r.1.1 js))
+    item_leads i j (ExistsElse g a b) r js own end f (goes_on group_missing) =
+        f _ _ (inr (begins ws (i + 1 + word ws (i + 2)) j b r.1.3 js))
+    item_leads i j Fail r js own end f (goes_on g) = elim g [ ]
+    item_leads i j (Mark n) r js own end f (goes_on g) = elim g [ ]
+    item_leads i j (Loop o low high body) r js own end f (goes_on g) = elim g [ ]
+    item_leads i j (PossessiveLoop low high body) r js own end f (goes_on g) = elim g [ ]
+    item_leads i j (Atomic body) r js own end f (goes_on g) = elim g [ ]
 
-      reference_leads : (fold : Fold) (n : ℕ) → j ≡ i + 2 → Leading (reference_turn s fold n (i + 2) x)
-      reference_leads fold n e = go (group x.marks n)
-        where
-          go : (o : Option (ℕ × ℕ)) → Leading (elim o [
-            | None ↦ Stop
-            | (Some span) ↦
-                cond (nat_le (x.position + (span.1 - span.0)) s.end
-                && same_folded s fold (span.1 - span.0) span.0 x.position)
-                (Go (to_place x (Instruction (i + 2)) (x.position + (span.1 - span.0)))) Stop
-          ])
-          go None = tt
-          go (Some span) =
-              leads_cond P (nat_le (x.position + (span.1 - span.0)) s.end
-              && same_folded s fold (span.1 - span.0) span.0 x.position) _ _ (instruction (i + 2) j (sym e) end) tt
+    -- at an instruction whose role is known
+    role_leads : {i : ℕ} {f : Role} {js : List ℕ} {at : Point} {ks : List ℕ} (c : SreOpcode) → Opcode ws i c
+        → role c ≡ f → LeadsOn (Instruction i) js at ks → RoleLeads i f js at ks
+    role_leads {i} {js = js} {at = at} {ks = ks} c w e (by_role o v l) =
+        subst (λ f. RoleLeads i f js at ks) (ap (λ z. role z) (same_opcode ws i o c v w) ∙ e) l
 
-      look_leads : (sign : Sign) (t back : ℕ) → j ≡ t → P (Instruction (i + 3)) []
-          → Leading (cond (nat_lt x.position back) (closing_move (look sign t) x [])
-          (Enter (look sign t) x (into_region x (i + 3) (x.position - back))))
-      look_leads Positive t back e body =
-          leads_cond P (nat_lt x.position back) _ _ tt
-          (body, instruction t j (sym e) end)
-      look_leads Negative t back e body =
-          leads_cond P (nat_lt x.position back) _ _ (instruction t j (sym e) end)
-          (body, instruction t j (sym e) end)
+    -- at the first address of a tree
+    first_leads : (i j : ℕ) (t : Tree) (r : Reads ws i j t) (js : List ℕ) → Known i j t r js → From (Instruction j) js
+        → From (Instruction i) js
+    first_leads i j Empty r js f end at ks l = end at ks (rw r at l)
+    first_leads i j (Then x rest) r js f end at ks l =
+        item_leads i r.0 x r.1 js (f _ _ (inl (refl, refl))) (f _ _ (inr (inr (begins ws r.0 j rest r.2 js))))
+        (λ pt ls z. f pt ls (inr (inl z))) (role_leads (item_opcode x) r.1.0 (role_same x) l)
 
-      condition_leads : (n : ℕ) → P (Instruction (i + 3)) js → P (Instruction (i + 1 + word ws (i + 2))) js
-          → P (Instruction (condition_place ws i n x.marks)) (repeats x.frames)
-      condition_leads n yes_ no_ = go (group x.marks n)
-        where
-          go : (o : Option (ℕ × ℕ))
-              → P (Instruction (elim o [ None ↦ i + 1 + word ws (i + 2) | (Some _) ↦ i + 3 ])) (repeats x.frames)
-          go None = instruction (i + 1 + word ws (i + 2)) (i + 1 + word ws (i + 2)) refl no_
-          go (Some span) = instruction (i + 3) (i + 3) refl yes_
+    -- at an item's own points
+    own_leads : {i j : ℕ} {js : List ℕ} {x : Item} {r : Operands ws i j x} {pt : Point} {ks : List ℕ}
+        → Own ws i j js x r pt ks → KnownInside i j x r js → P (Instruction j) js → From pt ks
+    own_leads (alternative q y z) f end at ks (to_alternative some) = f _ _ y
+    own_leads (alternative q y z) f end at ks (to_others some) = f _ _ z
+    own_leads (no_more q w) f end at ks (to_alternative some) =
+        let none = word_of ws q 0 w in absurd (grind (arith, nat_tests))
+    own_leads (no_more q w) f end at ks (to_others some) =
+        let none = word_of ws q 0 w in absurd (grind (arith, nat_tests))
+    own_leads (shorter k) f end at ks behind_shorter = end
+    own_leads (shorter k) f end at ks (next_count {n = n}) = f _ _ (inl (n, (refl, refl)))
+    own_leads (longer {r = r} n) f end at ks behind_longer = rw (← r.0) end
+    own_leads (longer n) f end at ks (one_longer {k = k}) = f _ _ (inr (k, (refl, refl)))
+    own_leads possessive f end at ks once_more = f _ _ (inl (refl, refl))
+    own_leads {i = i} (possessive {body = body} {r = r}) f end at ks into_body =
+        f _ _ (inr (begins ws (i + 4) (skip ws (i + 1)) body r.3 []))
+    own_leads (possessive {r = r}) f end at ks behind_loop = rw (← r.5) end
 
-      item_leads : P (Instruction i) js → (a : Item) (r : ReadsItem ws i j a)
-          → ((pt : Point) (ks : List ℕ) → LiesInItem ws i j a r.1 js pt ks → P pt ks) → Leading mv
-      item_leads own Fail r f =
-          rw (known opcode.FAILURE ToFail r.0 refl) tt
-      item_leads own (One t) r f =
-          let m = known (test_opcode t) (ToTest (test_kind t)) r.0 (test_role t) in
-          let e : m.end ≡ j = (test_same m.test t ws i m.end j m.stands.code m.stands.operands r.0 r.1).1 in
-          rw m.is (leads_cond P (passes s m.test x.position) _ _ (instruction m.end j e end) tt)
-      item_leads own (At a) r f =
-          let m = known opcode.AT ToCheckPosition r.0 refl in
-          rw m.is (leads_cond P (holds_at s m.code x.position) _ _ (instruction (i + 2) j (sym r.1.1) end) tt)
-      item_leads own (Mark n) r f =
-          let m = known opcode.MARK ToMark r.0 refl in
-          rw m.is (instruction (i + 2) j (sym r.1.1) end)
-      item_leads own (Branch ts) r f =
-          let m = known opcode.BRANCH ToBranch r.0 refl in
-          rw m (same (Alternatives (i + 1)) (f _ _ (branch_begins ws (i + 1) j ts r.1 js)))
-      item_leads own (Loop o low high body) r f =
-          let m = known opcode.REPEAT ToRepeat r.0 refl in
-          rw m.is (deeper (Instruction (skip ws (i + 1)))
-          (f _ _ (finishes ws (i + 4) (skip ws (i + 1)) body r.1.3 (i ∷ js))))
-      item_leads own (Run kind low high t) r f =
-          let m = known (run_opcode kind) (ToRun kind) r.0 (run_role kind) in
-          rw m.is (run_leads kind m.low m.high m.test (sym r.1.0) own (λ k. f _ _ (inl (k, (refl, refl))))
-          (λ n. f _ _ (inr (n, (refl, refl)))))
-      item_leads own (PossessiveLoop low high body) r f =
-          let m = known opcode.POSSESSIVE_REPEAT ToRepeatPossessively r.0 refl in
-          rw m (deeper Again (f _ _ (inl (refl, refl))))
-      item_leads own (Atomic body) r f =
-          let m = known opcode.ATOMIC_GROUP ToGroupAtomically r.0 refl in
-          rw m.is (
-            f _ _ (begins ws (i + 2) (j - 1) body r.1.1 []),
-            instruction (skip ws (i + 1)) j (sym r.1.0) end,
-          )
-      item_leads own (Look sign back body) r f =
-          let m = known (look_opcode sign) (ToLook sign) r.0 (look_role sign) in
-          rw m.is (look_leads sign (skip ws (i + 1)) m.back r.1.0 (f _ _ (begins ws (i + 3) (j - 1) body r.1.2 [])))
-      item_leads own (Reference fold g) r f =
-          let m = known (reference_opcode fold) ToRefer r.0 (reference_role fold) in
-          rw m.is (reference_leads m.fold m.number r.1.1)
-      item_leads own (Exists g a) r f =
-          let m = known opcode.GROUPREF_EXISTS ToCheckGroup r.0 refl in
-          rw m.is (condition_leads m.number (f _ _ (begins ws (i + 3) j a r.1.2 js))
-          (subst (λ n. P (Instruction n) js) r.1.1 end))
-      item_leads own (ExistsElse g a b) r f =
-          let m = known opcode.GROUPREF_EXISTS ToCheckGroup r.0 refl in
-          rw m.is (condition_leads m.number (f _ _ (inl (begins ws (i + 3) (i + 1 + word ws (i + 2) - 2) a r.1.1 js)))
-          (f _ _ (inr (begins ws (i + 1 + word ws (i + 2)) j b r.1.3 js))))
+    success_leads : {i : ℕ} {js : List ℕ} → Opcode ws i opcode.SUCCESS → From (Instruction i) js
+    success_leads w at ks l = go (role_leads opcode.SUCCESS w refl l)
+      where
+        go : {i : ℕ} {js ks : List ℕ} {at : Point} → RoleLeads i ToEnd js at ks → P at ks
+        go (goes_on g) = elim g [ ]
 
-      -- at the JUMP behind an alternative
-      jump_leads : JumpsTo ws i j → Leading mv
-      jump_leads r =
-          let m = known opcode.JUMP ToJump r.0 refl in
-          rw m.is (instruction (skip ws (i + 1)) j (sym r.1) end)
+    -- where a part ends
+    end_leads : {i j : ℕ} {js : List ℕ} {x : Item} {a b : ℕ} {t : Tree} {ls : List ℕ} → Ends ws i j js x a b t ls
+        → P (Instruction a) ls → P (Instruction j) js → From (Instruction j) js → From (Instruction b) ls
+    end_leads with_item start out end at ks l = end at ks l
+    end_leads {j = j} (jump w) start out end at ks l = go (role_leads opcode.JUMP w.0 refl l) (rw w.1 at out)
+      where
+        go : {d : ℕ} {js ks : List ℕ} {at : Point} → RoleLeads d ToJump js at ks → P (Instruction (skip ws (d + 1))) js
+            → P at ks
+        go (goes_on behind_jump) out = out
+    end_leads (until {o = o} l h w next) start out end at ks k =
+        go (role_leads (until_opcode o) w (until_role o) k) start (rw next at out)
+      where
+        go : {d q : ℕ} {o : Order} {js ks : List ℕ} {at : Point} → RoleLeads d (ToLoop o) (q ∷ js) at ks
+            → P (Instruction (q + 4)) (q ∷ js) → P (Instruction (d + 1)) js → P at ks
+        go loop_body start out = start
+        go loop_end start out = out
+        go (goes_on g) start out = elim g [ ]
+    end_leads (success w last) start out end at ks l = success_leads w at ks l
 
-    success_leads : Opcode ws i opcode.SUCCESS → Leading mv
-    success_leads r = rw (known opcode.SUCCESS ToEnd r refl) tt
+    abbrev Led : (i j : ℕ) (t : Tree) → Reads ws i j t → List ℕ → Point → List ℕ → Type 0
+    Led i j t r js pt ks = Known i j t r js → From (Instruction j) js → From pt ks
 
-  -- what a frame and the others are told
-  opened : (f : Frame) (outer : List Frame) (i : ℕ) (js : List ℕ) → x.frames ≡ f ∷ outer → repeats x.frames ≡ i ∷ js
-      → (f.repeat ≡ i) × (repeats outer ≡ js)
-  opened f outer i js e k =
-      let both : f.repeat ∷ repeats outer ≡ i ∷ js = sym (ap repeats e) ∙ k in
-      (cc, cc)
-
-  -- at the end of a body
-  until_leads : (i u : ℕ) (js : List ℕ) (o : Order) → Opcode ws u (until_opcode o)
-      → IsAt (Instruction u) (i ∷ js) x.point (repeats x.frames) → P (Instruction (i + 4)) (i ∷ js)
-      → P (Instruction (u + 1)) js → Leading mv
-  until_leads i u js o w at start end =
-      let m = known u (i ∷ js) at (until_opcode o) (ToLoop o) w (until_role o) in
-      let e = opened m.frame m.outer i js m.inside at.1 in
-      let body : P (Instruction (m.frame.repeat + 4)) (m.frame.repeat ∷ repeats m.outer) = rw (e.0, e.1) start in
-      let out : P (Instruction (u + 1)) (repeats m.outer) = rw e.1 end in
-      rw m.is (leads_cond P (nat_lt m.frame.count m.low) _ _ body
-      (leads_cond P (may_repeat m.high m.frame.count m.frame.last x.position) _ _
-      (leads_order P o (at_body m.frame (Some x.position) m.outer x) (behind u m.outer x) body out) out))
-
-  -- at a possessive loop
-  again_leads : (i j : ℕ) (js : List ℕ) → j ≡ skip ws (i + 1) + 1
-      → IsAt Again (i ∷ js) x.point (repeats x.frames) → P Again (i ∷ js) → P (Instruction (i + 4)) []
-      → P (Instruction j) js → Leading mv
-  again_leads i j js l at next body end =
-      let m : AgainMove ws x mv = subst (λ pt. MovesAt ws s pt x mv) at.0 h in
-      let e = opened m.frame m.outer i js m.inside at.1 in
-      let u : ℕ = skip ws (m.frame.repeat + 1) in
-      let into : P (Instruction (m.frame.repeat + 4)) [] = rw e.0 body in
-      let more_ : P Again (m.frame.repeat ∷ repeats m.outer) = rw (e.0, e.1) next in
-      let out : P (Instruction (u + 1)) (repeats m.outer) = rw (e.0, sym l, e.1) end in
-      rw m.is (leads_cond P (nat_lt m.frame.count m.low) _ _
-      (into, more_)
-      (leads_cond P (may_repeat m.high m.frame.count m.frame.last x.position) _ _ (into, (more_, out)) out))
-
-  -- at the counts of a run
-  shorter_leads : (j k : ℕ) (js : List ℕ) → IsAt (Shorter j k) js x.point (repeats x.frames)
-      → ((n : ℕ) → P (Shorter j n) js) → P (Instruction j) js → Leading mv
-  shorter_leads j k js at f end =
-      let m : ShorterMove j k x mv = subst (λ pt. MovesAt ws s pt x mv) at.0 h in
-      rw m.is (leads_cond P (nat_eq k 0) _ _ tt (rw at.1 end, rw at.1 (f (k - 1))))
-
-  longer_leads : (i j n : ℕ) (js : List ℕ) → skip ws (i + 1) ≡ j → IsAt (Longer i n) js x.point (repeats x.frames)
-      → ((k : ℕ) → P (Longer i k) js) → P (Instruction j) js → Leading mv
-  longer_leads i j n js l at f end =
-      let m : LongerMove ws s i n x mv = subst (λ pt. MovesAt ws s pt x mv) at.0 h in
-      let past : P (Instruction (skip ws (i + 1))) (repeats x.frames) = rw (l, at.1) end in
-      rw m.is (leads_cond P ((nat_eq m.high unlimited || nat_lt n m.high) && passes s m.test x.position) _ _
-      (past, rw at.1 (f (n + 1))) tt)
-
-  -- at an alternative, and behind the last one
-  alternative_leads : (q : ℕ) (js : List ℕ) → IsAt (Alternatives q) js x.point (repeats x.frames)
-      → P (Instruction (q + 1)) js → P (Alternatives (skip ws q)) js → Leading mv
-  alternative_leads q js at first next =
-      let m : AlternativesMove ws q x mv = subst (λ pt. MovesAt ws s pt x mv) at.0 h in
-      let e : q + m.value ≡ skip ws q = ap (λ n. q + n) (sym (word_of ws q m.value m.there)) in
-      rw m.is (leads_cond P (nat_eq m.value 0) _ _ tt (rw at.1 first, rw (e, at.1) next))
-
-  none_leads : (q : ℕ) (js : List ℕ) → IsAt (Alternatives q) js x.point (repeats x.frames) → Word ws q 0 → Leading mv
-  none_leads q js at w =
-      let m : AlternativesMove ws q x mv = subst (λ pt. MovesAt ws s pt x mv) at.0 h in
-      let none : m.value ≡ 0 = same_word ws q m.value 0 m.there w in
-      rw m.is (rw none tt)
-
-  -- it is so of what lies in a tree's words
-  abbrev Known : (i j : ℕ) (t : Tree) → Reads ws i j t → List ℕ → Type 0
-  Known i j t r js = (pt : Point) (ks : List ℕ) → LiesIn ws i j t r js pt ks → P pt ks
-
-  abbrev KnownInside : (i j : ℕ) (a : Item) → Operands ws i j a → List ℕ → Type 0
-  KnownInside i j a r js = (pt : Point) (ks : List ℕ) → LiesInItem ws i j a r js pt ks → P pt ks
-
-  -- the spot is at a point
-  abbrev Here : Point → List ℕ → Type 0
-  Here pt js = IsAt pt js x.point (repeats x.frames)
-
-  -- at the first address of a tree
-  first_leads : (i j : ℕ) (t : Tree) (r : Reads ws i j t) (js : List ℕ) → Known i j t r js
-      → (Here (Instruction j) js → Leading mv) → Here (Instruction i) js → Leading mv
-  first_leads i j Empty r js f end at = end (subst (λ n. Here (Instruction n) js) r at)
-  first_leads i j (Then a rest) r js f end at =
-      item_leads i js at r.0 (f _ _ (inr (inr (begins ws r.0 j rest r.2 js)))) (f _ _ (inl (refl, refl))) a r.1
-      (λ pt ks z. f pt ks (inr (inl z)))
-
-  -- at an item's own points
-  own_leads : {i j : ℕ} {js : List ℕ} {a : Item} {r : Operands ws i j a} {pt : Point} {ks : List ℕ}
-      → Own ws i j js a r pt ks → KnownInside i j a r js → P (Instruction j) js → Here pt ks → Leading mv
-  own_leads {js = js} (alternative q y z) f e at = alternative_leads q js at (f _ _ y) (f _ _ z)
-  own_leads {js = js} (no_more q w) f e at = none_leads q js at w
-  own_leads {j = j} {js = js} (shorter k) f e at =
-      shorter_leads j k js at (λ n. f _ _ (inl (n, (refl, refl)))) e
-  own_leads {i = i} {j = j} {js = js} (longer {r = r} n) f e at =
-      longer_leads i j n js (sym r.0) at (λ k. f _ _ (inr (k, (refl, refl)))) e
-  own_leads {i = i} {j = j} {js = js} (possessive {body = body} {r = r}) f e at =
-      again_leads i j js r.5 at (f _ _ (inl (refl, refl)))
-      (f _ _ (inr (begins ws (i + 4) (skip ws (i + 1)) body r.3 []))) e
-
-  -- where a part ends
-  end_leads : {i j : ℕ} {js : List ℕ} {a : Item} {c d : ℕ} {t : Tree} {ks : List ℕ} → Ends ws i j js a c d t ks
-      → P (Instruction c) ks → P (Instruction j) js → (Here (Instruction j) js → Leading mv) → Here (Instruction d) ks
-      → Leading mv
-  end_leads with_item start e end at = end at
-  end_leads {j = j} {js = js} {d = d} (jump w) start e end at = jump_leads d js at j e w
-  end_leads {i = i} {j = j} {js = js} {d = d} (until {o = o} l h w next) start e end at =
-      until_leads i d js o w at start (subst (λ n. P (Instruction n) js) next e)
-  end_leads {d = d} (success w last) start e end at = success_leads d [] at w
-
-  abbrev Led : (i j : ℕ) (t : Tree) → Reads ws i j t → List ℕ → Point → List ℕ → Type 0
-  Led i j t r js pt ks =
-      Known i j t r js → (Here (Instruction j) js → Leading mv) → Here pt ks → Leading mv
-
-  led : Law ws Led
-  led = record {
-    end = λ i j r js f end at. end at;
-    first = λ i j a rest r js f end at. first_leads i j (Then a rest) r js f end at;
-    own = λ i j a rest r js pt ks o f end at.
-        own_leads o (λ qt ls z. f qt ls (inr (inl z))) (f _ _ (inr (inr (begins ws r.0 j rest r.2 js)))) at;
-    rest = λ i j a rest r js pt ks y k f end at. k (λ qt ls z. f qt ls (inr (inr z))) end at;
-    part = λ i j a rest r js c d t s ls p pt ks y k f end at.
-        k (λ qt ms z. f qt ms (inr (inl (p.2 qt ms z))))
-        (end_leads p.1 (f _ _ (inr (inl (p.2 _ _ (begins ws c d t s ls)))))
-        (f _ _ (inr (inr (begins ws r.0 j rest r.2 js))))
-        (first_leads r.0 j rest r.2 js (λ qt ms z. f qt ms (inr (inr z))) end)) at;
-  }
+    led : Law ws Led
+    led = record {
+      end = λ i j r js f end. end;
+      first = λ i j x rest r js f end. first_leads i j (Then x rest) r js f end;
+      own = λ i j x rest r js pt ks o f end.
+          own_leads o (λ qt ls z. f qt ls (inr (inl z))) (f _ _ (inr (inr (begins ws r.0 j rest r.2 js))));
+      rest = λ i j x rest r js pt ks y k f end. k (λ qt ls z. f qt ls (inr (inr z))) end;
+      part = λ i j x rest r js a b t reads ls p pt ks y k f end.
+          k (λ qt ms z. f qt ms (inr (inl (p.2 qt ms z))))
+          (end_leads p.1 (f _ _ (inr (inl (p.2 _ _ (begins ws a b t reads ls)))))
+          (f _ _ (inr (inr (begins ws r.0 j rest r.2 js))))
+          (first_leads r.0 j rest r.2 js (λ qt ms z. f qt ms (inr (inr z))) end));
+    }
 
 -- so in words that are a tree's, up to a SUCCESS: the whole, or the body of a region
 pub body_moves : (ws : List ℕ) (s : Subject) (i j : ℕ) (t : Tree) (r : Reads ws i j t) → Opcode ws j opcode.SUCCESS
@@ -320,5 +253,7 @@ pub body_moves : (ws : List ℕ) (s : Subject) (i j : ℕ) (t : Tree) (r : Reads
     → LeadsTo (λ pt ks. LiesIn ws i j t r [] pt ks) mv
 body_moves ws s i j t r w x mv y h =
     let P : Point → List ℕ → Type 0 = λ pt ks. LiesIn ws i j t r [] pt ks in
-    lies_law ws (Led ws s x mv h P) (led ws s x mv h P) i j t r [] x.point (repeats x.frames) y (λ pt ks z. z)
-    (λ z. success_leads ws s x mv h P j [] z w) (refl, refl)
+    turn_leads ws s x.position P
+    (point_turned ws s x.position x.frames x.frames x.marks x.marks x.point mv mv h h)
+    (lies_law ws (Led ws s x.position P) (led ws s x.position P) i j t r [] x.point (repeats x.frames) y (λ pt ks z. z)
+    (success_leads ws s x.position P w))

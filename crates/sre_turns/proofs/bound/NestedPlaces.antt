@@ -1,9 +1,9 @@
 -- An address of a tree's bytecode always has the same point, in the same loops: an instruction, or a possessive loop at
 -- that of its first operand.
 -- That the step bound suffices (`enough` of sre_engine) rests on this.
-use Rattle.std.proofs.Common.{◌≡◌, ℕ, ◌+◌, ◌-◌, ◌<◌, ◌≤◌, ◌⊎◌, inl, inr, List, [], ◌∷◌, length, refl}
+use Rattle.std.proofs.Common.{◌≡◌, ℕ, ◌+◌, ◌-◌, ◌<◌, ◌≤◌, ◌⊎◌, inl, inr, List, [], ◌∷◌, length, refl, true, false, ap}
+use Rattle.std.proofs.Common.{Option, Some, None, sym, ◌∙◌, subst, arith}
 use Rattle.std.proofs.lemmas.Bool.{true≢false}
-use Rattle.std.proofs.Common.{true, false, ap, Option, Some, None, sym, ◌∙◌, subst, arith}
 use Rattle.sre_model.specs.Tree.{Tree, Empty, Then, Item, Branch, Loop, Run, PossessiveLoop, Atomic, Look, Exists}
 use Rattle.sre_model.specs.Tree.{ExistsElse, Trees, Only, Or}
 use Rattle.sre_model.specs.Grammar.{word, skip, Reads, Operands, ReadsBranch, WholeItems}
@@ -15,8 +15,7 @@ use Rattle.sre_turns.specs.Moves.{Spot}
 use Rattle.sre_turns.specs.Nested.{repeats, IsAt, LiesIn, LiesInItem, LiesInBranch, Lies, place_under, place_of}
 use Rattle.sre_turns.specs.Nested.{is_again}
 use Rattle.sre_turns.proofs.semantics.Parts.{Own, Ends, Law, lies_law, alternative, no_more, shorter, longer}
-use Rattle.sre_turns.proofs.semantics.Parts.{possessive}
-use Rattle.sre_turns.proofs.semantics.Parts.{with_item, jump, until, success}
+use Rattle.sre_turns.proofs.semantics.Parts.{possessive, with_item, jump, until, success}
 
 -- of a point that is known
 known_place : (at pt : Point) (js ks : List ℕ) (p : ℕ) → IsAt at js pt ks → place_under pt ks ≡ Some p

@@ -12,8 +12,7 @@ use Rattle.sre_turns.specs.declared.Point.TheVariants.{Instruction, Alternatives
 use Rattle.sre_turns.specs.declared.Point.{Point}
 use Rattle.sre_turns.specs.Nested.{LiesIn}
 use Rattle.sre_turns.proofs.semantics.Parts.{Own, Ends, Law, lies_law, alternative, no_more, shorter, longer}
-use Rattle.sre_turns.proofs.semantics.Parts.{possessive}
-use Rattle.sre_turns.proofs.semantics.Parts.{with_item, jump, until, success}
+use Rattle.sre_turns.proofs.semantics.Parts.{possessive, with_item, jump, until, success}
 
 module _ (ws : List ℕ) {V : Type 0} (f : Folding V) (Good : V → Type 0) (P : Point → List ℕ → Type 0) where
   -- parts of what is good are, and it holds of points by the items that begin there, and of all others, whatever loops

@@ -2,14 +2,13 @@
 -- leads to. And which instructions enter an atomic scope.
 -- That the step bound suffices (`enough` of sre_engine) rests on this.
 use Rattle.std.proofs.Common.{◌≡◌, ℕ, zero, suc, ◌+◌, ◌-◌, ◌*◌, ◌<◌, ◌≤◌, ◌||◌, Bool, true, false, cond, nat_eq, nat_lt}
-use Rattle.std.proofs.Common.{List, ◌∷◌, length, Some, refl, sym, ◌∙◌, ap, subst, arith, mul-le-mul, add-mul, one-mul}
-use Rattle.std.proofs.Common.{min}
+use Rattle.std.proofs.Common.{List, length, refl, sym, ◌∙◌, ap, subst, arith, mul-le-mul, add-mul, one-mul, min}
 use Rattle.std.proofs.lemmas.Bool.Decides.{nat_tests}
 use Rattle.sre_chars.specs.declared.constants.SreOpcode.{SreOpcode}
-use Rattle.sre_model.specs.Tree.{Test, RunKind, PossessiveRun, Order, Greedy, Lazy, Positive, Negative}
+use Rattle.sre_model.specs.Tree.{Test, RunKind, PossessiveRun, Positive, Negative}
 use Rattle.sre_model.specs.Marks.{Marks, group}
 use Rattle.sre_model.specs.Subject.{Subject}
-use Rattle.sre_model.specs.Ways.{unlimited, may_repeat, longest_run, most_from}
+use Rattle.sre_model.specs.Ways.{unlimited, longest_run, most_from}
 use Rattle.sre_model.specs.Grammar.{word, skip, Opcode, test_opcode}
 use Rattle.sre_model.specs.Roles.{Role, ToTest, ToRun, ToGroupAtomically, ToLook, role}
 use Rattle.sre_model.proofs.Words.{word_of, same_opcode}
@@ -17,12 +16,12 @@ use Rattle.sre_model.proofs.Longest.{run_at_most, run_inside}
 use Rattle.sre_model.proofs.Bounds.{passes-below}
 use Rattle.sre_turns.specs.declared.Frame.{Frame}
 use Rattle.sre_turns.specs.declared.Region.{Region}
-use Rattle.sre_turns.specs.declared.Region.TheVariants.{Owed, Further}
-use Rattle.sre_turns.specs.declared.Point.TheVariants.{Instruction, Alternatives, Shorter, Longer, Again}
+use Rattle.sre_turns.specs.declared.Region.TheVariants.{Further}
+use Rattle.sre_turns.specs.declared.Point.TheVariants.{Instruction, Alternatives, Longer, Again, Inside, Tried}
+use Rattle.sre_turns.specs.declared.Point.TheVariants.{TriedAgain}
 use Rattle.sre_turns.specs.declared.Point.{Point}
 use Rattle.sre_turns.specs.Lying.{repeats}
-use Rattle.sre_turns.specs.Moves.{Spot, spot_at, Move, Go}
-use Rattle.sre_turns.specs.MovesInLoops.{at_body, behind, in_order, enter_body, until_move, again_move}
+use Rattle.sre_turns.specs.Moves.{Spot, spot_at, Move}
 use Rattle.sre_turns.specs.Machine.{MovesAt}
 use Rattle.sre_turns.specs.Prices.{test_end, steps_by, steps, branch_in, branch_price, end_price, ends_beside}
 use Rattle.sre_turns.specs.Prices.{more_ends, price, loop_toll, toll_by, again_toll, toll, aside, split_toll, split_by}
@@ -30,13 +29,14 @@ use Rattle.sre_turns.specs.Prices.{Covers}
 use Rattle.sre_turns.specs.Limits.{CodeAt}
 use Rattle.sre_turns.specs.Straight.{point_behind}
 use Rattle.sre_turns.proofs.semantics.Turned.{GoesOn, behind_test, run_on, Forks, greedy_run, lazy_run}
-use Rattle.sre_turns.proofs.semantics.Turned.{next_alternative}
-use Rattle.sre_turns.proofs.semantics.Turned.{next_shorter, next_longer, Begins, plain_loop, possessive_loop, Enters}
-use Rattle.sre_turns.proofs.semantics.Turned.{atomic_group, lookaround, Turned, stopped, ended, went, forked, marked}
-use Rattle.sre_turns.proofs.semantics.Turned.{grouped}
-use Rattle.sre_turns.proofs.semantics.Turned.{begun, entered, looped, repeated, point_turned}
+use Rattle.sre_turns.proofs.semantics.Turned.{next_alternative, next_shorter, next_longer, Begins, plain_loop}
+use Rattle.sre_turns.proofs.semantics.Turned.{possessive_loop, Enters, atomic_group, lookaround, Turned, stopped, ended}
+use Rattle.sre_turns.proofs.semantics.Turned.{went, forked, marked, grouped, begun, entered, looped, repeated}
+use Rattle.sre_turns.proofs.semantics.Turned.{point_turned}
 use Rattle.sre_turns.proofs.bound.Steps.{some_steps, role_there, steps_told, test_ends}
 use Rattle.sre_model.proofs.Families.{test_kind, test_role, role_here}
+use Rattle.std.specs.Bool.{⊤}
+use Rattle.sre_turns.proofs.semantics.LoopTurns.{until_holds, again_holds}
 
 -- whether an instruction may enter an atomic scope
 abbrev pub enters : Role → Bool
@@ -54,24 +54,36 @@ enters_at o pt = false
 pub branch_some : (ws : List ℕ) (n q : ℕ) → 1 ≤ branch_in ws n q
 unfolding branch_in
 branch_some ws zero q = omega arith
-branch_some ws (suc n) q = go (nat_eq (word ws q) 0)
-  where
-    go : (b : Bool) → 1 ≤ cond b 1 (steps ws (q + 1) + 2 + branch_in ws n (q + word ws q))
-    go true = omega arith
-    go false = omega arith
+branch_some ws (suc n) q = grind (arith, nat_tests)
 
 branch_more : (ws : List ℕ) (m n q : ℕ) → m ≤ n → branch_in ws m q ≤ branch_in ws n q
 unfolding branch_in
 branch_more ws zero n q l = branch_some ws n q
 branch_more ws (suc m) zero q l = absurd (omega arith)
 branch_more ws (suc m) (suc n) q l =
-    go (nat_eq (word ws q) 0) (branch_more ws m n (q + word ws q) (omega arith))
-  where
-    go : (b : Bool) → branch_in ws m (q + word ws q) ≤ branch_in ws n (q + word ws q)
-        → cond b 1 (steps ws (q + 1) + 2 + branch_in ws m (q + word ws q))
-        ≤ cond b 1 (steps ws (q + 1) + 2 + branch_in ws n (q + word ws q))
-    go true h = omega arith
-    go false h = omega (arith, h)
+    let more = branch_more ws m n (q + word ws q) (omega arith) in grind (arith, nat_tests)
+
+-- a point at which a step is made
+abbrev pub IsPlace : Point → Type 0
+IsPlace (Inside g) = ⊥
+IsPlace (Tried i) = ⊥
+IsPlace TriedAgain = ⊥
+IsPlace pt = ⊤
+
+pub is_place : (ws : List ℕ) (s : Subject) (pt : Point) (x : Spot) (mv : Move) → MovesAt ws s pt x mv → IsPlace pt
+is_place ws s (Inside g) x mv h = absurd h
+is_place ws s (Tried i) x mv h = absurd h
+is_place ws s TriedAgain x mv h = absurd h
+is_place ws s pt x mv h = tt
+
+-- where a step is made there is enough for it
+pub some_price : (ws : List ℕ) (e : ℕ) (pt : Point) (p : ℕ) → IsPlace pt → 1 ≤ price ws e pt p
+some_price ws e (Instruction i) p at = some_steps ws i
+some_price ws e (Alternatives q) p at = branch_some ws (length ws - q) q
+some_price ws e (Inside g) p at = absurd at
+some_price ws e (Tried i) p at = absurd at
+some_price ws e TriedAgain p at = absurd at
+some_price ws e pt p at = omega arith
 
 -- an alternative is paid for, and those behind it
 branch_pays : (ws : List ℕ) (q v : ℕ) → q < length ws → word ws q ≡ v → nat_eq v 0 ≡ false
@@ -105,43 +117,19 @@ fewer_ends n k m l =
 -- a repeat has no more characters than the range, and no more than its greatest count
 run_fits : (s : Subject) (t : Test) (high p : ℕ)
     → longest_run s t high p ≤ cond (nat_eq high unlimited) s.end (min high s.end)
-run_fits s t high p = go (nat_eq high unlimited) refl
-  where
-    inside : longest_run s t high p ≤ s.end
-    inside = omega (arith, run_inside s t (most_from s high p) p)
-
-    short : (b : Bool) → nat_lt (s.end - p) high ≡ b → cond b (s.end - p) high ≤ high
-    short true e = grind (arith, nat_tests)
-    short false e = omega arith
-
-    go : (b : Bool) → nat_eq high unlimited ≡ b → longest_run s t high p ≤ cond b s.end (min high s.end)
-    go true e = inside
-    go false e =
-        let most : most_from s high p ≤ high = rw e (short (nat_lt (s.end - p) high) refl) in
-        omega (arith, inside, most, run_at_most s t (most_from s high p) p)
+run_fits s t high p =
+    let inside : longest_run s t high p ≤ s.end = omega (arith, run_inside s t (most_from s high p) p) in
+    grind (arith, nat_tests, run_at_most s t (most_from s high p) p)
 
 -- behind its least count it has no more ends than beside one
 ends_fit : (ws : List ℕ) (e i n p : ℕ) → word ws (i + 2) ≡ n → more_ends ws e i n (p + n) ≤ ends_beside ws e i
-ends_fit ws e i n p is = go (nat_eq (word ws (i + 3)) unlimited)
-  where
-    go : (b : Bool) → cond b (e - (p + n)) (min (word ws (i + 3)) e - n)
-        ≤ cond b e (min (word ws (i + 3)) e) - word ws (i + 2)
-    go true = omega (arith, is)
-    go false = omega (arith, is)
+ends_fit ws e i n p is = grind (arith, nat_tests)
 
 -- and a character more leaves one end fewer
 one_end_less : (ws : List ℕ) (e i n p : ℕ) → n ≤ p → p < e
     → (nat_eq (word ws (i + 3)) unlimited || nat_lt n (word ws (i + 3))) ≡ true
     → (more_ends ws e i (n + 1) (p + 1) ≡ more_ends ws e i n p - 1) × (1 ≤ more_ends ws e i n p)
-one_end_less ws e i n p past inside more = go (nat_eq (word ws (i + 3)) unlimited) refl more
-  where
-    go : (b : Bool) → nat_eq (word ws (i + 3)) unlimited ≡ b → (b || nat_lt n (word ws (i + 3))) ≡ true
-        → (cond b (e - (p + 1)) (min (word ws (i + 3)) e - (n + 1)) ≡ cond b (e - p) (min (word ws (i + 3)) e - n) - 1)
-        × (1 ≤ cond b (e - p) (min (word ws (i + 3)) e - n))
-    go true is l = (omega arith, omega arith)
-    go false is l =
-        let below : n < word ws (i + 3) = grind (arith, nat_tests) in
-        (omega (arith, below), omega (arith, below))
+one_end_less ws e i n p past inside more = (grind (arith, nat_tests), grind (arith, nat_tests))
 
 -- what an instruction has, with its credits, pays for a step and for where it goes on
 module _ (ws : List ℕ) (e i : ℕ) (ks : List ℕ) where
@@ -212,43 +200,6 @@ module _ (ws : List ℕ) (s : Subject) (p : ℕ) (fs : List Frame) (o : SreOpcod
       let same = ap (λ d. d * end_price ws i) left.0 in
       omega (arith, same, one_end (end_price ws i) (more_ends ws s.end i n p) left.1)
 
-  some_price : (pt : Point) (mv : Move) (m : Marks) → MovesAt ws s pt (spot_at pt fs p m) mv → 1 ≤ Has pt
-  some_price (Instruction i) mv m h = omega (arith, some_steps ws i)
-  some_price (Alternatives q) mv m h = omega (arith, branch_some ws (length ws - q) q)
-  some_price (Shorter t k) mv m h = omega arith
-  some_price (Longer i n) mv m h = omega arith
-  some_price Again mv m h = omega arith
-  some_price pt mv m h = absurd h
-
-  -- a body of a possessive loop, and what is put aside there, or the loop's end
-  again_paid : (low high n : ℕ) (f : Frame) (outer : List Frame) (x : Spot)
-      → 1 + loop_toll ws (f.repeat ∷ repeats outer) (skip ws (f.repeat + 1)) ≤ n
-      → Covers true ws s.end n (again_move low high (skip ws (f.repeat + 1)) f outer x)
-  again_paid low high n f outer x l = go (nat_lt f.count low) (may_repeat high f.count f.last x.position)
-    where
-      u : ℕ
-      u = skip ws (f.repeat + 1)
-
-      go : (owed more : Bool) → Covers true ws s.end n (cond owed (enter_body Owed f f.last outer x)
-          (cond more (enter_body (Further (u + 1)) f (Some x.position) outer x) (Go (behind u outer x))))
-      go true more = (refl, omega (arith, l, some_steps ws (u + 1)))
-      go false true = (refl, omega (arith, l))
-      go false false = omega (arith, l)
-
-  -- a further body of a loop, or its end
-  until_paid : (may : Bool) (order : Order) (low high u n : ℕ) (f : Frame) (outer : List Frame) (x : Spot)
-      → 1 + loop_toll ws (f.repeat ∷ repeats outer) u ≤ n
-      → Covers may ws s.end n (until_move order low high u f outer x)
-  until_paid may order low high u n f outer x l =
-      go order (nat_lt f.count low) (may_repeat high f.count f.last x.position)
-    where
-      go : (order : Order) (owed more : Bool) → Covers may ws s.end n (cond owed (Go (at_body f f.last outer x))
-          (cond more (in_order order (at_body f (Some x.position) outer x) (behind u outer x)) (Go (behind u outer x))))
-      go order true more = omega (arith, l)
-      go Greedy false true = omega (arith, l)
-      go Lazy false true = omega (arith, l)
-      go order false false = omega (arith, l)
-
   turn_paid : {gs : List Frame} {m n : Marks} {pt : Point} {v w : Move} → Turned ws s p fs gs m n pt v w
       → 1 ≤ Has pt → CodeAt ws pt o → Covers (enters_at o pt) ws s.end (Has pt) v
   turn_paid stopped some code = some
@@ -280,22 +231,25 @@ module _ (ws : List ℕ) (s : Subject) (p : ℕ) (fs : List Frame) (o : SreOpcod
       enters_paid f i c atomic_group = (refl, omega arith)
       enters_paid f i c (lookaround {sign = Positive} there) = (refl, omega arith)
       enters_paid f i c (lookaround {sign = Negative} there) = (refl, omega arith)
-  turn_paid {m = m} (looped {u = u} c order there is h k) some code =
+  turn_paid (looped {u = u} c order there is h k) some code =
       let has : 1 + loop_toll ws (repeats fs) u ≤ Has (Instruction u) = omega (arith, (has_is u c code there is).0) in
-      rw h.is (until_paid (enters_at o (Instruction u)) order h.low h.high u (Has (Instruction u)) h.frame h.outer
-      (spot_at (Instruction u) fs p m)
-      (subst (λ gs. 1 + loop_toll ws (repeats gs) u ≤ Has (Instruction u)) h.inside has))
-  turn_paid {m = m} (repeated h k) some code =
+      let paid = subst (λ gs. 1 + loop_toll ws (repeats gs) u ≤ Has (Instruction u)) h.inside has in
+      until_holds (Covers (enters_at o (Instruction u)) ws s.end (Has (Instruction u))) order u h (omega (arith, paid))
+      (omega (arith, paid)) (omega (arith, paid)) (omega (arith, paid))
+  turn_paid (repeated h k) some code =
       let has : 1 + again_toll ws (repeats fs) ≤ Has Again = omega arith in
-      rw h.is (again_paid h.low h.high (Has Again) h.frame h.outer (spot_at Again fs p m)
-      (subst (λ gs. 1 + again_toll ws (repeats gs) ≤ Has Again) h.inside has))
+      let paid = subst (λ gs. 1 + again_toll ws (repeats gs) ≤ Has Again) h.inside has in
+      again_holds (Covers true ws s.end (Has Again)) h
+      (refl, omega (arith, paid, some_steps ws (skip ws (h.frame.repeat + 1) + 1))) (refl, omega (arith, paid))
+      (omega (arith, paid))
 
 -- a step from any point is paid for, with the credits of the point
 pub step_covered : (ws : List ℕ) (s : Subject) (pt : Point) (fs : List Frame) (p : ℕ) (m : Marks) (o : SreOpcode)
     (mv : Move) → CodeAt ws pt o → MovesAt ws s pt (spot_at pt fs p m) mv
     → Covers (enters_at o pt) ws s.end (price ws s.end pt p + toll ws s.end o pt (repeats fs)) mv
 step_covered ws s pt fs p m o mv w h =
-    turn_paid ws s p fs o (point_turned ws s p fs fs m m pt mv mv h h) (some_price ws s p fs o pt mv m h) w
+    turn_paid ws s p fs o (point_turned ws s p fs fs m m pt mv mv h h)
+    (omega (arith, some_price ws s.end pt p (is_place ws s pt (spot_at pt fs p m) mv h))) w
 
 -- what is put aside where a scope is entered pays for what is behind it, and for the step to come there
 pub behind_covered : (ws : List ℕ) (e q : ℕ) (g : Region) → price ws e (point_behind g) q + 1 ≤ aside ws g

@@ -30,6 +30,7 @@ use Rattle.sre_turns.specs.Prices.{steps, branch_in, bit_by, bit_toll, end_price
 use Rattle.sre_turns.proofs.bound.NestedMoves.{begins}
 use Rattle.sre_turns.proofs.bound.Steps.{role_there, steps_told}
 use Rattle.sre_turns.proofs.bound.TreePrices.{tree_steps, body_steps, body_end, jump_steps}
+use Rattle.std.proofs.lemmas.Bool.Decides.{nat_tests}
 
 regrouped : {A B C D : Type 0} → A ⊎ ((B ⊎ C) ⊎ D) → A ⊎ (B ⊎ (C ⊎ D))
 regrouped (inl x) = inl x
@@ -112,11 +113,7 @@ module _ (ws : List ℕ) (e : ℕ) {A : Type 0} (point : A → Point) (loops : A
       Here x = IsAt q js (point x) (loops x)
 
       other : (m k : ℕ) → (m ≡ k → ⊥) → eqb m k ≡ false
-      other m k unlike = go (eqb m k) refl
-        where
-          go : (b : Bool) → eqb m k ≡ b → b ≡ false
-          go true same = absurd (unlike (eqb-true m k same))
-          go false same = refl
+      other m k unlike = grind (arith, nat_tests)
 
       numbers : (xs : List A) → AllByRecursion Here xs → Distinct xs → IsDistinct eqb (map at xs)
       numbers [] all d = tt
@@ -218,9 +215,10 @@ module _ (ws : List ℕ) (e : ℕ) {A : Type 0} (point : A → Point) (loops : A
 
   -- one that costs nothing
   with_free : {P : Point → List ℕ → Type 0} {m : ℕ} (i : ℕ) (f : Role) (js : List ℕ) → HasRole ws i f
-      → bit_by ws e i js f ≡ 0 → Costs P m → Costs (λ pt ks. IsAt (Instruction i) js pt ks ⊎ P pt ks) (0 + m)
+      → bit_by ws e i js f ≡ 0 → Costs P m → Costs (λ pt ks. IsAt (Instruction i) js pt ks ⊎ P pt ks) m
   with_free i f js h none others =
-      beside (free (λ pt ks y. free_at (Instruction i) y (bit_is i f js h ∙ none))) others
+      wider (omega arith) (λ pt ks y. y)
+      (beside (free (λ pt ks y. free_at (Instruction i) y (bit_is i f js h ∙ none))) others)
 
   -- each alternative costs no more than the tree says
   branch_most : (n q j : ℕ) (ts : Trees) → ReadsBranch ws q j ts → branch_in ws n q ≤ branch_steps ts (steps ws j)
@@ -316,7 +314,7 @@ module _ (ws : List ℕ) (e : ℕ) {A : Type 0} (point : A → Point) (loops : A
       → Costs (λ pt ks. In pt ks ⊎ Rest pt ks) (c + n)
   ended In j js c f h none tree Rest n rest =
       wider (omega arith) (λ pt ks y. elim y [ inl z ↦ inl z | inr z ↦ inr (inr z) ])
-      (tree (λ pt ks. IsAt (Instruction j) js pt ks ⊎ Rest pt ks) (0 + n) (with_free j f js h none rest)
+      (tree (λ pt ks. IsAt (Instruction j) js pt ks ⊎ Rest pt ks) n (with_free j f js h none rest)
       (inl (refl, refl)))
 
   -- as at the end of a body of an atomic scope, and of an alternative
@@ -399,19 +397,16 @@ module _ (ws : List ℕ) (e : ℕ) {A : Type 0} (point : A → Point) (loops : A
         (body_ended _ u _ r.1.4
         (tree_costs (i + 4) u body r.1.3 [] 1 2 refl (body_end ws u r.1.4)) Rest n rest)))
     item_costs i j (Atomic body) r js s b same behind Rest n rest at =
-        wider (omega arith) (λ pt ks y. y)
-        (with_free i _ js (item_here ws i j (Atomic body) r) refl
+        with_free i _ js (item_here ws i j (Atomic body) r) refl
         (body_ended _ (j - 1) _ r.1.2
-        (tree_costs (i + 2) (j - 1) body r.1.1 [] 1 2 refl (body_end ws (j - 1) r.1.2)) Rest n rest))
+        (tree_costs (i + 2) (j - 1) body r.1.1 [] 1 2 refl (body_end ws (j - 1) r.1.2)) Rest n rest)
     item_costs i j (Look sign back body) r js s b same behind Rest n rest at =
-        wider (omega arith) (λ pt ks y. y)
-        (with_free i _ js (item_here ws i j (Look sign back body) r) refl
+        with_free i _ js (item_here ws i j (Look sign back body) r) refl
         (body_ended _ (j - 1) _ r.1.3
-        (tree_costs (i + 3) (j - 1) body r.1.2 [] 1 2 refl (body_end ws (j - 1) r.1.3)) Rest n rest))
+        (tree_costs (i + 3) (j - 1) body r.1.2 [] 1 2 refl (body_end ws (j - 1) r.1.3)) Rest n rest)
     item_costs i j (Exists g there) r js s b same behind Rest n rest at =
-        wider (omega arith) (λ pt ks y. y)
-        (with_free i _ js (item_here ws i j (Exists g there) r) refl
-        (tree_costs (i + 3) j there r.1.2 js s b same behind Rest n rest at))
+        with_free i _ js (item_here ws i j (Exists g there) r) refl
+        (tree_costs (i + 3) j there r.1.2 js s b same behind Rest n rest at)
     item_costs i j (ExistsElse g there absent) r js s b same behind Rest n rest at =
         let k : ℕ = i + 1 + word ws (i + 2) in
         wider (omega arith) (λ pt ks y. regrouped y)

@@ -1,7 +1,7 @@
 -- Equivalent loops: how long they stay so, and that they decide the same on a further body. So the memo of failures
 -- stores of a loop its count, as far as it makes a difference, and one bit of its last body.
-use Rattle.std.proofs.Common.{◌≡◌, ℕ, ◌+◌, ◌≤◌, Bool, true, false, not, ◌&&◌, ◌||◌, List, [], ◌∷◌, min, max, drop}
-use Rattle.std.proofs.Common.{nat_eq, nat_lt, Option, Some, None, refl, sym, ap, ◌∙◌, arith}
+use Rattle.std.proofs.Common.{◌≡◌, ℕ, ◌+◌, ◌≤◌, not, ◌&&◌, ◌||◌, List, [], ◌∷◌, min, drop, nat_eq}
+use Rattle.std.proofs.Common.{nat_lt, Option, Some, None, refl, sym, ap, ◌∙◌, arith}
 use Rattle.std.proofs.lemmas.Bool.Decides.{nat_tests}
 use Rattle.sre_model.specs.Ways.{unlimited, may_repeat}
 use Rattle.sre_model.specs.Grammar.{Word}
@@ -57,32 +57,14 @@ module _ (ws : List ℕ) (p low high : ℕ) (f g : Frame) (h : FramesAlike ws p 
 
   -- whether a body is owed
   pub below-alike : nat_lt f.count low ≡ nat_lt g.count low
-  below-alike = go (nat_eq high unlimited) refl
-    where
-      go : (b : Bool) → nat_eq high unlimited ≡ b → nat_lt f.count low ≡ nat_lt g.count low
-      go true y = let held : min f.count low ≡ min g.count low = rw y at same_count in grind (arith, nat_tests)
-      go false y =
-          let held : min f.count (max low high) ≡ min g.count (max low high) = rw y at same_count in
-          grind (arith, nat_tests)
+  below-alike = let same = same_count in grind (arith, nat_tests)
 
   under-alike : (nat_eq high unlimited || nat_lt f.count high) ≡ (nat_eq high unlimited || nat_lt g.count high)
-  under-alike = go (nat_eq high unlimited) refl
-    where
-      go : (b : Bool) → nat_eq high unlimited ≡ b
-          → (nat_eq high unlimited || nat_lt f.count high) ≡ (nat_eq high unlimited || nat_lt g.count high)
-      go true y = rw y refl
-      go false y =
-          let held : min f.count (max low high) ≡ min g.count (max low high) = rw y at same_count in
-          let below : nat_lt f.count high ≡ nat_lt g.count high = grind (arith, nat_tests) in
-          ap (λ b. nat_eq high unlimited || b) below
+  under-alike = let same = same_count in grind (arith, nat_tests)
 
   repeats : (count : ℕ) (last : Option ℕ) (q : ℕ)
       → may_repeat high count last q ≡ ((nat_eq high unlimited || nat_lt count high) && not (is_last last q))
-  repeats count None q = by_test (nat_eq high unlimited || nat_lt count high)
-    where
-      by_test : (b : Bool) → b ≡ (b && true)
-      by_test true = refl
-      by_test false = refl
+  repeats count None q = grind (arith, nat_tests)
   repeats count (Some last) q = refl
 
   -- whether a further one may be tried

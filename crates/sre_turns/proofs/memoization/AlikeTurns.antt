@@ -9,7 +9,7 @@ use Rattle.sre_chars.specs.declared.constants.SreOpcode.{SreOpcode}
 use Rattle.sre_model.specs.Tree.{Order, Greedy, Lazy, Positive, Negative}
 use Rattle.sre_model.specs.Marks.{Marks, group}
 use Rattle.sre_model.specs.Subject.{Subject}
-use Rattle.sre_model.specs.Ways.{Way, may_repeat}
+use Rattle.sre_model.specs.Ways.{Way, may_repeat, first}
 use Rattle.sre_model.specs.Grammar.{Word, Opcode, word, skip}
 use Rattle.sre_model.proofs.Words.{same_word}
 use Rattle.sre_model.specs.Roles.{Role, ToRefer, ToCheckGroup, role}
@@ -20,7 +20,7 @@ use Rattle.sre_turns.specs.declared.Point.TheVariants.{Instruction, Again}
 use Rattle.sre_turns.specs.declared.Point.{Point}
 use Rattle.sre_turns.specs.Moves.{Spot, spot_at, Move, Stop, End, Go, Split, Enter, closing_move}
 use Rattle.sre_turns.specs.MovesInLoops.{first_frame, next_frame, at_body, behind, in_order, until_move, enter_body}
-use Rattle.sre_turns.specs.MovesInLoops.{again_move}
+use Rattle.sre_turns.specs.MovesInLoops.{again_move, LoopMove}
 use Rattle.sre_turns.specs.MovesAtReferences.{Asks, asks}
 use Rattle.sre_turns.specs.Asked.{MarksAgree, OutcomesAlike}
 use Rattle.sre_turns.specs.AskedPlaces.{Lies, Within, PlacesAsk, GroupLies, AsksAt, AskedByPlace, MarkLeads, PointAsks}
@@ -32,12 +32,9 @@ use Rattle.sre_turns.specs.Straight.{goes_behind}
 use Rattle.sre_turns.proofs.semantics.Onward.{EndFrom}
 use Rattle.sre_turns.proofs.semantics.Turned.{GoesOn, behind_test, behind_reference, behind_look, run_on, group_there}
 use Rattle.sre_turns.proofs.semantics.Turned.{group_missing, Forks, greedy_run, lazy_run, next_alternative}
-use Rattle.sre_turns.proofs.semantics.Turned.{next_shorter}
-use Rattle.sre_turns.proofs.semantics.Turned.{next_longer, Begins, plain_loop, possessive_loop, Enters, atomic_group}
-use Rattle.sre_turns.proofs.semantics.Turned.{lookaround}
-use Rattle.sre_turns.proofs.semantics.Turned.{Turned, stopped, ended, went, forked, marked, grouped, begun, entered}
-use Rattle.sre_turns.proofs.semantics.Turned.{looped}
-use Rattle.sre_turns.proofs.semantics.Turned.{repeated, point_turned}
+use Rattle.sre_turns.proofs.semantics.Turned.{next_shorter, next_longer, Begins, plain_loop, possessive_loop, Enters}
+use Rattle.sre_turns.proofs.semantics.Turned.{atomic_group, lookaround, Turned, stopped, ended, went, forked, marked}
+use Rattle.sre_turns.proofs.semantics.Turned.{grouped, begun, entered, looped, repeated, point_turned}
 use Rattle.sre_turns.proofs.memoization.AlikeLoops.{loops_later, loops_left, frame-alike, next-alike, below-alike}
 use Rattle.sre_turns.proofs.memoization.AlikeLoops.{repeat-alike}
 
@@ -51,6 +48,15 @@ each_case f g h (inr (inr e)) = h e
 pub record Twins (base : ℕ → Type 0) (ws : List ℕ) (a : PlacesAsk) (x y : Spot) : Type 0 where
   pub alike : Alike ws x y
   pub marks : MarksAgree (Matters base ws a x.point x.frames) x.marks y.marks
+
+-- so are those at one point, under loops that are alike from an earlier position on
+twins : {base : ℕ → Type 0} {ws : List ℕ} {a : PlacesAsk} {pt : Point} {p q r : ℕ} {fs gs : List Frame} {m n : Marks}
+    → q ≡ r → LoopsAlike ws p fs gs → p ≤ least_from pt q → MarksAgree (Matters base ws a pt fs) m n
+    → Twins base ws a (spot_at pt fs q m) (spot_at pt gs r n)
+twins {ws = ws} {pt = pt} {p = p} {q = q} {fs = fs} {gs = gs} same h l marks = record {
+  alike = record { point = refl; position = same; loops = loops_later ws p (least_from pt q) fs gs l h };
+  marks = marks;
+}
 
 -- an atomic scope of which the same comes, entered at one configuration or at another, where its body begins at the
 -- third or the last
@@ -82,20 +88,12 @@ module _ (base : ℕ → Type 0) (ws : List ℕ) (a : PlacesAsk) (x y : Spot) (h
       → MarksAgree (Matters base ws a pt x.frames) v.marks w.marks
       → least_from pt v.stop ≡ v.stop → x.position ≤ v.stop
       → Twins base ws a (spot_at pt x.frames v.stop v.marks) (spot_at pt y.frames w.stop w.marks)
-  behind_body pt v w same marks at l = record {
-    alike = record {
-      point = refl;
-      position = same;
-      loops = loops_later ws x.position (least_from pt v.stop) x.frames y.frames (omega (arith, at, l)) loops_here;
-    };
-    marks = marks;
-  }
+  behind_body pt v w same marks at l = twins same loops_here (omega (arith, at, l)) marks
 
   in_place : (t : ℕ) (m n : Marks) → MarksAgree (Matters base ws a (Instruction t) x.frames) m n
       → Twins base ws a (spot_at (Instruction t) x.frames x.position m)
       (spot_at (Instruction t) y.frames y.position n)
-  in_place t m n marks =
-      record { alike = record { point = refl; position = h.alike.position; loops = loops_here }; marks = marks }
+  in_place t m n marks = twins h.alike.position loops_here (omega arith) marks
 
   left_loop : (fs : List Frame) (k : ℕ) → LoopsAsk a (drop 1 fs) k → LoopsAsk a fs k
   left_loop [] k e = absurd e
@@ -114,16 +112,11 @@ module _ (base : ℕ → Type 0) (ws : List ℕ) (a : PlacesAsk) (x y : Spot) (h
   closing-alike (NotAhead t) [] [] left same from = in_place t x.marks y.marks left
   closing-alike (NotAhead t) (v ∷ now) (w ∷ after) left same from = tt
   closing-alike Owed (v ∷ now) (w ∷ after) left same from = behind_body Again v w same.0 same.1 refl (from refl).0
-  closing-alike (Further t) [] [] left same from = record {
-    alike = record {
-      point = refl;
-      position = h.alike.position;
-      loops = loops_left ws x.position x.frames y.frames loops_here;
-    };
-    marks = agree_less (MattersBehind base ws a (Further t) x.frames)
-        (Matters base ws a (Instruction t) (drop 1 x.frames)) x.marks y.marks
-        (λ k. each_case (λ e. inl e) (λ e. inr (inl (inr e))) (λ e. inr (inr (left_loop x.frames k e)))) left;
-  }
+  closing-alike (Further t) [] [] left same from =
+      twins h.alike.position (loops_left ws x.position x.frames y.frames loops_here) (omega arith)
+      (agree_less (MattersBehind base ws a (Further t) x.frames)
+      (Matters base ws a (Instruction t) (drop 1 x.frames)) x.marks y.marks
+      (λ k. each_case (λ e. inl e) (λ e. inr (inl (inr e))) (λ e. inr (inr (left_loop x.frames k e)))) left)
   closing-alike g [] [] left same from = tt
   closing-alike (Further t) (v ∷ now) (w ∷ after) left same from =
       behind_body Again v w same.0
@@ -145,14 +138,7 @@ enters-alike : (base : ℕ → Type 0) (ws : List ℕ) (a : PlacesAsk) (g : Regi
 enters-alike base ws a g pt p q j k fs gs m n same marks at loops here on before behind body = (
   refl,
   record {
-    entered = record {
-      alike = record {
-        point = refl;
-        position = refl;
-        loops = subst (λ r. LoopsAlike ws r fs gs) (sym here) loops;
-      };
-      marks = agree_less same (Matters base ws a pt fs) m n before marks;
-    };
+    entered = twins refl loops (omega (arith, here)) (agree_less same (Matters base ws a pt fs) m n before marks);
     behind = agree_less same (MattersBehind base ws a g fs) m n behind marks;
     begins = record {
       alike = record { point = ap (λ r. Instruction r) at; position = refl; loops = tt };
@@ -164,15 +150,15 @@ enters-alike base ws a g pt p q j k fs gs m n same marks at loops here on before
   },
 )
 
--- loops that are alike are so one by one, and have the same operands
-opened-alike : (ws : List ℕ) (p : ℕ) (f g : Frame) (outer others fs gs : List Frame) → fs ≡ f ∷ outer
-    → gs ≡ g ∷ others → LoopsAlike ws p fs gs → FramesAlike ws p f g × LoopsAlike ws p outer others
-opened-alike ws p f g outer others fs gs e k h = rw (e, k) at h
-
-same_operand : (ws : List ℕ) (p k v w : ℕ) (f g : Frame) → FramesAlike ws p f g → Word ws (f.repeat + k) v
-    → Word ws (g.repeat + k) w → v ≡ w
-same_operand ws p k v w f g h there other =
-    same_word ws (g.repeat + k) v w (subst (λ r. Word ws (r + k) v) h.repeat there) other
+-- of loops that are alike the innermost ones are, and have the same operands
+loops_opened : {ws : List ℕ} {p : ℕ} {turn other : ℕ → ℕ → Frame → List Frame → Move} {a b : Spot} {v w : Move}
+    → LoopsAlike ws p a.frames b.frames → (x : LoopMove ws turn a v) (y : LoopMove ws other b w)
+    → FramesAlike ws p x.frame y.frame × LoopsAlike ws p x.outer y.outer × (x.low ≡ y.low) × (x.high ≡ y.high)
+loops_opened {ws} {p} h x y =
+    let both : LoopsAlike ws p (x.frame ∷ x.outer) (y.frame ∷ y.outer) = rw (x.inside, y.inside) at h in
+    let same = λ (k v w : ℕ) (e : Word ws (x.frame.repeat + k) v) (f : Word ws (y.frame.repeat + k) w).
+    same_word ws (y.frame.repeat + k) v w (subst (λ r. Word ws (r + k) v) both.0.repeat e) f in
+    (both.0, both.1, same 2 x.low y.low x.lowest y.lowest, same 3 x.high y.high x.highest y.highest)
 
 -- what is asked for of captures in a loop: where it ends, and in a further body
 pub record LoopAsks (ws : List ℕ) (a : PlacesAsk) (u : ℕ) (pt : Point) (f : Frame) (fs : List Frame) : Type 0 where
@@ -208,11 +194,10 @@ module _ (base : ℕ → Type 0) (ws : List ℕ) (a : PlacesAsk) (u low high p :
   }
 
   end-alike : Twins base ws a (behind u fs in_one) (behind u gs in_other)
-  end-alike = record {
-    alike = record { point = refl; position = refl; loops = hs };
-    marks = fewer (Matters base ws a (Instruction (u + 1)) fs)
-        (λ k. each_case (λ e. inl e) (λ e. inr (inl (asks.behind k e))) (λ e. inr (inr (inr e))));
-  }
+  end-alike =
+      twins refl hs (omega arith)
+      (fewer (Matters base ws a (Instruction (u + 1)) fs)
+      (λ k. each_case (λ e. inl e) (λ e. inr (inl (asks.behind k e))) (λ e. inr (inr (inr e)))))
 
   order-alike : (o : Order) → MovesAlike base ws a (in_order o (at_body f (Some p) fs in_one) (behind u fs in_one))
       (in_order o (at_body g (Some p) gs in_other) (behind u gs in_other))
@@ -322,15 +307,10 @@ module _ (root base : ℕ → Type 0) (rooted : (k : ℕ) → root k → base k)
   onward-alike : (pt at : Point) (q : ℕ) → LoopsAlike ws (least_from pt p) fs gs → Agree pt
       → least_from pt p ≤ least_from at q → ((k : ℕ) → PointAsks ws a at fs k → PointAsks ws a pt fs k)
       → Twins base ws a (spot_at at fs q m) (spot_at at gs q n)
-  onward-alike pt at q h marks l fewer = record {
-    alike = record {
-      point = refl;
-      position = refl;
-      loops = loops_later ws (least_from pt p) (least_from at q) fs gs l h;
-    };
-    marks = agree_less (Matters base ws a pt fs) (Matters base ws a at fs) m n
-        (λ k. each_case (λ e. inl e) (λ e. inr (inl (fewer k e))) (λ e. inr (inr e))) marks;
-  }
+  onward-alike pt at q h marks l fewer =
+      twins refl h l
+      (agree_less (Matters base ws a pt fs) (Matters base ws a at fs) m n
+      (λ k. each_case (λ e. inl e) (λ e. inr (inl (fewer k e))) (λ e. inr (inr e))) marks)
 
   -- at an instruction
   module _ (i : ℕ) (h : LoopsAlike ws p fs gs) (marks : Agree (Instruction i)) where
@@ -357,16 +337,10 @@ module _ (root base : ℕ → Type 0) (rooted : (k : ℕ) → root k → base k)
     begins-alike : (pt : Point) → ((k : ℕ) → PointAsks ws a pt (first_frame i ∷ fs) k → Lies k (a.instruction i))
         → Within (a.instruction (i + 4)) (a.instruction i) → least_from pt p ≡ p
         → Twins base ws a (spot_at pt (first_frame i ∷ fs) p m) (spot_at pt (first_frame i ∷ gs) p n)
-    begins-alike pt at body same = record {
-      alike = record { point = refl; position = refl; loops = later };
-      marks = agree_less (Matters base ws a (Instruction i) fs) (Matters base ws a pt (first_frame i ∷ fs)) m n begun
-          marks;
-    }
+    begins-alike pt at body same =
+        twins refl (frame-alike ws p (first_frame i), h) (omega (arith, same))
+        (agree_less (Matters base ws a (Instruction i) fs) (Matters base ws a pt (first_frame i ∷ fs)) m n begun marks)
       where
-        later : LoopsAlike ws (least_from pt p) (first_frame i ∷ fs) (first_frame i ∷ gs)
-        later = loops_later ws p (least_from pt p) (first_frame i ∷ fs) (first_frame i ∷ gs) (omega (arith, same))
-            (frame-alike ws p (first_frame i), h)
-
         begun : (k : ℕ) → Matters base ws a pt (first_frame i ∷ fs) k → Matters base ws a (Instruction i) fs k
         begun k = each_case (λ e. inl e) (λ e. inr (inl (at k e))) (λ e. elim e [
           | (inl again) ↦ inr (inl (body k again))
@@ -384,11 +358,10 @@ module _ (root base : ℕ → Type 0) (rooted : (k : ℕ) → root k → base k)
     onward-alike pt first q h marks one (λ k. (forks_ask root ws a told f fs k).0),
     onward-alike pt rest q h marks other (λ k. (forks_ask root ws a told f fs k).1),
   )
-  turn-alike (marked {i = i} {k = k} o at is there) h marks = record {
-    alike = record { point = refl; position = refl; loops = h };
-    marks = agree_set (Matters base ws a (Instruction i) fs) (Matters base ws a (Instruction (i + 2)) fs) m n k p
-        (set_anew i h marks k (told_as i o at is) there) marks;
-  }
+  turn-alike (marked {i = i} {k = k} o at is there) h marks =
+      twins refl h (omega arith)
+      (agree_set (Matters base ws a (Instruction i) fs) (Matters base ws a (Instruction (i + 2)) fs) m n k p
+      (set_anew i h marks k (told_as i o at is) there) marks)
   turn-alike (grouped {i = i} {g = g} o at is asked there v w each) h marks =
       subst (λ span. MovesAlike base ws a (v (group m g)) (w span))
       (same_asked i h marks g (group_asked root ws a i g (role o) is (told.instruction i o at) asked there))
@@ -402,20 +375,16 @@ module _ (root base : ℕ → Type 0) (rooted : (k : ℕ) → root k → base k)
       refl on (λ v e. e) (λ v. each_case (λ e. inl e) (λ e. inr (inl (enters.0 fs v e))) (λ e. inr (inr e)))
       (λ v e. inr (inl (enters.1 v e)))
   turn-alike (looped {u = u} o order at is x y) h marks =
-      let loops = opened-alike ws p x.frame y.frame x.outer y.outer fs gs x.inside y.inside h in
-      let low = same_operand ws p 2 x.low y.low x.frame y.frame loops.0 x.lowest y.lowest in
-      let high = same_operand ws p 3 x.high y.high x.frame y.frame loops.0 x.highest y.highest in
-      rw (x.is, y.is, ← low, ← high)
+      let loops = loops_opened h x y in
+      rw (x.is, y.is, ← loops.2, ← loops.3)
       (until-alike base ws a u x.low x.high p x.frame y.frame x.outer y.outer m n (Instruction u) loops.0 loops.1
       (subst (λ l. MarksAgree (Matters base ws a (Instruction u) l) m n) x.inside marks)
       (record { behind = told_as u o at is; again = λ last k e. e }) x.lowest x.highest order)
   turn-alike (repeated x y) h marks =
-      let loops = opened-alike ws p x.frame y.frame x.outer y.outer fs gs x.inside y.inside h in
-      let low = same_operand ws p 2 x.low y.low x.frame y.frame loops.0 x.lowest y.lowest in
-      let high = same_operand ws p 3 x.high y.high x.frame y.frame loops.0 x.highest y.highest in
+      let loops = loops_opened h x y in
       let end : skip ws (x.frame.repeat + 1) ≡ skip ws (y.frame.repeat + 1) =
       ap (λ r. skip ws (r + 1)) loops.0.repeat in
-      rw (x.is, y.is, ← low, ← high, ← end)
+      rw (x.is, y.is, ← loops.2, ← loops.3, ← end)
       (again-alike base ws a (skip ws (x.frame.repeat + 1)) x.low x.high p x.frame y.frame x.outer y.outer m n Again
       loops.0 loops.1 (subst (λ l. MarksAgree (Matters base ws a Again l) m n) x.inside marks)
       (record { behind = λ k e. e; again = λ last k e. e }) x.lowest x.highest refl (λ last k e. e))

@@ -1,7 +1,7 @@
 -- Equivalent captures stay so, and say the same of a group.
 use Rattle.std.proofs.Common.{◌≡◌, ℕ, zero, suc, ◌+◌, ◌-◌, ◌*◌, ◌<◌, ◌≤◌, List, [], ◌∷◌, ◌++◌, length, replicate, cond}
-use Rattle.std.proofs.Common.{slice_set, slice_index_or, Option, Some, None, refl, sym, ap, ◌∙◌, arith, nat_le}
-use Rattle.std.proofs.Common.{◌⊎◌, inl, inr}
+use Rattle.std.proofs.Common.{slice_set, slice_index_or, Option, Some, None, refl, sym, ap, ◌∙◌, arith, nat_le, ◌⊎◌}
+use Rattle.std.proofs.Common.{inl, inr}
 use Rattle.std.proofs.lemmas.List.{length-append, length-replicate}
 use Rattle.sre_model.specs.Marks.{Marks, lengthened, set_mark, mark_at, group}
 use Rattle.sre_model.specs.Ways.{Way}

@@ -1,16 +1,16 @@
 -- In the body of an atomic scope that sets no capture slot the captures stay as they are: a run there stays in the
 -- body, and no step there is that of a MARK.
 -- The memo of body ends rests on this.
-use Rattle.std.proofs.Common.{◌≡◌, ℕ, Bool, true, false, cond, nat_lt, List, [], ◌∷◌, refl, sym, ap, ◌∙◌, subst}
+use Rattle.std.proofs.Common.{◌≡◌, ℕ, Bool, true, false, List, [], ◌∷◌, refl, sym, ap, ◌∙◌, subst}
 use Rattle.std.specs.Bool.{⊤}
 use Rattle.std.proofs.lemmas.Bool.{or_parts, true≢false}
 use Rattle.sre_chars.specs.declared.constants.SreOpcode.{SreOpcode}
 use Rattle.sre_chars.specs.declared.constants.SreOpcode.TheVariants as opcode
-use Rattle.sre_model.specs.Tree.{Tree, Item, Mark, Order, Greedy, Lazy}
+use Rattle.sre_model.specs.Tree.{Tree, Item, Mark}
 use Rattle.sre_model.specs.Marks.{Marks, group}
 use Rattle.sre_model.specs.MarksSet.{by_marks, marks_in_regions}
 use Rattle.sre_model.specs.Subject.{Subject}
-use Rattle.sre_model.specs.Ways.{Way, may_repeat}
+use Rattle.sre_model.specs.Ways.{Way}
 use Rattle.sre_model.specs.Folding.{of_item, of_parts}
 use Rattle.sre_model.specs.Grammar.{Opcode, WholeItems}
 use Rattle.sre_model.specs.Roles.{Role, ToEnd, ToMark, role}
@@ -25,7 +25,6 @@ use Rattle.sre_turns.specs.declared.Region.{Region}
 use Rattle.sre_turns.specs.declared.Point.TheVariants.{Instruction}
 use Rattle.sre_turns.specs.declared.Point.{Point}
 use Rattle.sre_turns.specs.Moves.{Spot, Move, Stop, End, Go, Split, Enter, closing_move}
-use Rattle.sre_turns.specs.MovesInLoops.{in_order}
 use Rattle.sre_turns.specs.Machine.{Moves, Runs, turns, Comes, stops, ends, goes, splits, enters}
 use Rattle.sre_turns.specs.Nested.{repeats, ClosesAt, LeadsTo}
 use Rattle.sre_turns.specs.Alike.{LoopsAlike, Alike}
@@ -33,9 +32,9 @@ use Rattle.sre_turns.specs.Bodies.{MarklessBody, LiesInBody, Confined, MarklessR
 use Rattle.sre_turns.specs.BodyEnds.{AllMarked, MarksStay}
 use Rattle.sre_turns.proofs.bound.NestedMoves.{body_moves}
 use Rattle.sre_turns.proofs.semantics.Turned.{Turned, stopped, ended, went, forked, marked, grouped, begun, entered}
-use Rattle.sre_turns.proofs.semantics.Turned.{looped}
-use Rattle.sre_turns.proofs.semantics.Turned.{repeated, point_turned}
+use Rattle.sre_turns.proofs.semantics.Turned.{looped, repeated, point_turned}
 use Rattle.sre_turns.proofs.bound.NestedPoints.{HoldsInGood, tree_holds}
+use Rattle.sre_turns.proofs.semantics.LoopTurns.{until_holds, again_holds}
 
 -- whether an opcode of this role sets a mark
 abbrev sets : Role → Bool
@@ -77,7 +76,7 @@ module _ (ws : List ℕ) where
   body_markless : (b : MarklessBody ws) (pt : Point) (ks : List ℕ) → LiesInBody ws b pt ks → Markless pt
   body_markless b pt ks y =
       tree_holds ws by_marks (λ a. a ≡ false) (λ at js. Markless at) markless_in b.start b.end b.tree b.reads [] pt ks
-      b.markless
+      b.is
       (markless_role b.end ToEnd (role_here ws b.end opcode.SUCCESS ToEnd b.ends refl) refl) y
 
 -- each configuration of a step has these captures
@@ -89,14 +88,6 @@ KeepsMarks m (Split y z) = (y.marks ≡ m) × (z.marks ≡ m)
 KeepsMarks m (Enter g y z) = (y.marks ≡ m) × (z.marks ≡ m)
 
 module _ (m : Marks) where
-  cond_keeps : (b : Bool) (a c : Move) → KeepsMarks m a → KeepsMarks m c → KeepsMarks m (cond b a c)
-  cond_keeps true a c h k = h
-  cond_keeps false a c h k = k
-
-  order_keeps : (o : Order) (y z : Spot) → y.marks ≡ m → z.marks ≡ m → KeepsMarks m (in_order o y z)
-  order_keeps Greedy y z h k = (h, k)
-  order_keeps Lazy y z h k = (k, h)
-
   -- where an atomic scope closes whose body keeps them
   closing_keeps : (g : Region) (y : Spot) (now : List Way) → y.marks ≡ m → AllMarked m now
       → KeepsMarks m (closing_move g y now)
@@ -117,14 +108,9 @@ module _ (m : Marks) where
   turn_keeps (grouped {g = g} o at is asked there v w each) e = turn_keeps (each (group m g)) e
   turn_keeps (begun o at b same) e = refl
   turn_keeps (entered o at b l k on) e = (refl, refl)
-  turn_keeps {p = p} (looped {u = u} o order at is h k) e =
-      subst (KeepsMarks m) (sym h.is)
-      (cond_keeps (nat_lt h.frame.count h.low) _ _ refl
-      (cond_keeps (may_repeat h.high h.frame.count h.frame.last p) _ _ (order_keeps order _ _ refl refl) refl))
-  turn_keeps {p = p} (repeated h k) e =
-      subst (KeepsMarks m) (sym h.is)
-      (cond_keeps (nat_lt h.frame.count h.low) _ _ (refl, refl)
-      (cond_keeps (may_repeat h.high h.frame.count h.frame.last p) _ _ (refl, refl) refl))
+  turn_keeps (looped {u = u} o order at is h k) e =
+      until_holds (KeepsMarks m) order u h refl (refl, refl) (refl, refl) refl
+  turn_keeps (repeated h k) e = again_holds (KeepsMarks m) h (refl, refl) (refl, refl) refl
 
 -- where a step leads, and an atomic scope closes, in a body
 onto_leads : (P : Point → List ℕ → Type 0) (g : Region) (y : Spot) (now : List Way) → ClosesAt P g y.frames

@@ -4,16 +4,15 @@
 use Rattle.std.proofs.Common.{◌≡◌, ℕ, ◌≤◌, true, List, [], ◌∷◌, drop, refl, subst, arith, ◌+◌, ◌++◌, sym, ap, ◌∙◌, inl}
 use Rattle.std.proofs.Common.{inr, ◌⊎◌}
 use Rattle.std.specs.List.{AllByRecursion}
-use Rattle.sre_model.proofs.Each.{each-append}
+use Rattle.sre_model.proofs.Each.{each-append, each-both, each-weaken}
 use Rattle.sre_model.specs.Ways.{Way, first, here}
 use Rattle.sre_turns.specs.Limits.{HereIn, EndsIn, Limit}
 use Rattle.sre_turns.specs.Machine.{Point, Instruction, Region, Ahead, NotAhead, Further, Spot, spot_at, Move, Stop}
 use Rattle.sre_turns.specs.Machine.{End, Go, Split, Enter, closing_move, Choice, Else, Keep, Trying, BoardValue}
 use Rattle.sre_turns.specs.Machine.{Counted, Run, StringCursor, Marks, Subject, Runs, turns, Comes, stops, ends, goes}
-use Rattle.sre_turns.specs.Machine.{splits, enters, Waits, otherwise, kept, tried, Arrives, Ends, Later, spot}
+use Rattle.sre_turns.specs.Machine.{splits, enters, Waits, otherwise, tried, Arrives, Ends, Later, spot}
 use Rattle.sre_turns.specs.Straight.{point_behind, goes_behind, InBody}
 use Rattle.sre_turns.proofs.bound.HereMoves.{InsideOnto, inside_moves}
-use Rattle.std.proofs.lemmas.Bool.{true≢false}
 use Rattle.sre_turns.specs.declared.Next.TheVariants as next
 use Rattle.sre_turns.specs.Fruit.{SameFruit, is_inside}
 use Rattle.sre_turns.specs.Asked.{MarksAlike}
@@ -22,7 +21,7 @@ use Rattle.sre_turns.specs.BodyEnds.{AllMarked, MarksStay, EndsAt, CameToEnd}
 use Rattle.sre_turns.specs.Confining.{AllConfined}
 use Rattle.sre_turns.specs.OpenMarks.{open_spots, EachOpen}
 use Rattle.sre_turns.proofs.memoization.Bodies.{confined_stay}
-use Rattle.sre_turns.proofs.semantics.FirstOutcomes.{first_append, closes_same}
+use Rattle.sre_turns.proofs.semantics.FirstOutcomes.{fruit_waits}
 use Rattle.sre_turns.proofs.memoization.SameComes.{marked_come}
 use Rattle.sre_turns.proofs.bound.Faring.{place_ended, run_code, run_place}
 use Rattle.sre_turns.proofs.semantics.Moving.{sooner, some_turns}
@@ -100,19 +99,6 @@ ends_again r q l m x stay one came = record {
       (marked_come r.words r.subject m h one other came.runs d).0 (stay.same y us k h d) came.begins;
 }
 
--- what waits inside an atomic scope for outcomes waits for all that begin with the same
-pub inside_waits : (r : Run) (cs : List Choice) (xs ys : List Way) {all : List Way} {u k : ℕ} → is_inside cs ≡ true
-    → first xs ≡ first ys → Waits r cs u xs all k → Waits r cs u ys all k
-inside_waits r [] xs ys inside h wt = absurd (true≢false (sym inside))
-inside_waits r (Else pt fs c m ∷ cs) xs ys inside h (otherwise {os = os} there placed d wt) =
-    otherwise there placed d (inside_waits r cs (xs ++ os) (ys ++ os) inside (first_append xs ys os h) wt)
-inside_waits r (Keep g fs c m ∷ cs) xs ys inside h (kept {pt = pt} there placed d wt) =
-    kept {pt = pt} there placed (rw (closes_same g _ xs ys h) at d) wt
-inside_waits r (Trying pt fs c m ∷ cs) xs ys inside h (tried {os = os} there placed d most same wt) =
-    let here_ : SameFruit r true os xs = subst (λ b. SameFruit r b os xs) inside same in
-    tried there placed d most (subst (λ b. SameFruit r b os ys) (sym inside) (here_ ∙ h))
-    (inside_waits r cs xs ys inside h wt)
-
 -- each instruction that is tried in the innermost atomic scope comes first to what the machine is to come to first
 tried_first : (r : Run) (cs : List Choice) (q : ℕ) (m : Marks) (xs : List Way) {all : List Way} {u k : ℕ}
     → is_inside cs ≡ true → first xs ≡ here q m → Waits r cs u xs all k → EachOpen (CameToEnd r q m) cs
@@ -143,12 +129,6 @@ tried_confined ws (Else pt fs c m ∷ cs) inside h = tried_confined ws cs inside
 tried_confined ws (Keep g fs c m ∷ cs) inside h = tt
 tried_confined ws (Trying pt fs c m ∷ cs) inside h = (h.0 inside, tried_confined ws cs inside h.1)
 
--- what holds of some configurations by two things that hold of each
-each_by : (P Q R : Spot → Type 0) → ((x : Spot) → P x → Q x → R x) → (xs : List Spot) → AllByRecursion P xs
-    → AllByRecursion Q xs → AllByRecursion R xs
-each_by P Q R f [] h k = tt
-each_by P Q R f (x ∷ xs) h k = (f x h.0 k.0, each_by P Q R f xs h.1 k.1)
-
 -- where marks stay, those of the end are those of the configuration
 end_marks : (r : Run) (q : ℕ) (l : Marks) (x : Spot) → MarksStay r x → CameToEnd r q l x → l ≡ x.marks
 end_marks r q l x stay came =
@@ -165,13 +145,15 @@ pub tried_end : (r : Run) → MarklessRegions r.words → (m : Marks) (all : Lis
     (b : BoardValue) → MarksAlike r.words m b.marks → is_inside b.choices ≡ true → Ends r all limit c b
     → EachOpen (λ (x : Spot). EndsAt r m x c.position) b.choices
 tried_end r none m all limit c b alike inside e =
-    each_by (CameToEnd r c.position b.marks) (Confined r.words) (λ (x : Spot). EndsAt r m x c.position)
-    (λ x came lies.
-    let stay = confined_stay r x lies in
+    each-weaken (λ (x : Spot). CameToEnd r c.position b.marks x × Confined r.words x)
+    (λ (x : Spot). EndsAt r m x c.position)
+    (λ x h.
+    let stay = confined_stay r x h.1 in
     ends_again r c.position b.marks m x stay
-    (subst (λ l. MarksAlike r.words m l) (end_marks r c.position b.marks x stay came) alike) came)
-    (open_spots b.choices) (tried_come r all limit c b inside e)
-    (tried_confined r.words b.choices inside (e.confined none).each)
+    (subst (λ l. MarksAlike r.words m l) (end_marks r c.position b.marks x stay h.0) alike) h.0)
+    (open_spots b.choices)
+    (each-both (CameToEnd r c.position b.marks) (Confined r.words) (open_spots b.choices)
+    (tried_come r all limit c b inside e) (tried_confined r.words b.choices inside (e.confined none).each))
 
 -- of two steps at least, if anything comes of it
 two_turns : {ws : List ℕ} {s : Subject} {x : Spot} {os : List Way} {n : ℕ} → Runs ws s x os n → (os ≡ []) ⊎ (2 ≤ n)
@@ -208,7 +190,8 @@ end_taken r pt c c' b m inside alike there known all limit g =
         stands = there;
         placed = g.placed;
         waits = sooner (g.turns + 1) 0 (omega arith)
-            (inside_waits r b.choices g.now (here c'.position b.marks) inside begins g.waits);
+            (fruit_waits r b.choices g.now (here c'.position b.marks)
+            (subst (λ i. SameFruit r i g.now (here c'.position b.marks)) (sym inside) begins) g.waits);
         within = omega (arith, two, g.within);
         fares = λ pl.
             let code = run_code r x g.runs in

@@ -1,7 +1,6 @@
 -- A configuration that failed is hopeless, and the machine may backtrack at once from an equivalent one.
 -- The memo of failures, which stores hopeless configurations, rests on these laws.
-use Rattle.std.proofs.Common.{◌≡◌, ℕ, Bool, true, false, List, [], ◌∷◌, refl, sym, ◌∙◌, subst, inl, inr}
-use Rattle.std.specs.List.{filter}
+use Rattle.std.proofs.Common.{◌≡◌, ℕ, Bool, true, false, List, [], ◌∷◌, refl, sym, ◌∙◌, inl, inr, ap}
 use Rattle.std.proofs.lemmas.Bool.{true≢false}
 use Rattle.sre_model.specs.Tree.{Tree}
 use Rattle.sre_model.specs.References.{refers}
@@ -9,12 +8,12 @@ use Rattle.sre_model.specs.Found.{Asked, is_accepted}
 use Rattle.sre_model.specs.Grammar.{WholeItems}
 use Rattle.sre_model.proofs.MarksApart.{SameStops}
 use Rattle.sre_turns.specs.MovesAtReferences.{HasReference}
-use Rattle.sre_turns.specs.Machine.{Spot, Choice, from_region, Run, Marks, Way, Runs, Waits}
+use Rattle.sre_turns.specs.Machine.{Spot, Choice, Run, Marks, Way, Runs, Waits}
 use Rattle.sre_turns.specs.Alike.{Alike}
 use Rattle.sre_turns.specs.Hopeless.{Fruitless, Hopeless, MarksServe, AcceptsByStop, is_inside}
-use Rattle.sre_turns.proofs.semantics.FirstOutcomes.{none_passes}
+use Rattle.sre_turns.proofs.semantics.FirstOutcomes.{none_passes, fruit_waits}
 use Rattle.sre_turns.proofs.memoization.SameComes.{marked_come}
-use Rattle.sre_turns.proofs.semantics.Start.{refused_waits}
+use Rattle.sre_model.specs.Ways.{first}
 
 -- the words of a tree that has no reference have none
 pub no_reference : (ws : List ℕ) (t : Tree) → WholeItems ws t → refers t ≡ false → HasReference ws → ⊥
@@ -49,30 +48,13 @@ hopeless_again r told inside m x one os n d e = record {
   none = λ y us k h other d'. same_fruitless r told inside os us (served_come r m x y os us n k one other h d d') e;
 }
 
--- outside all regions what is not accepted may be left out
-pub hopeless_waits : (r : Run) (cs : List Choice) (now : List Way) {all : List Way} {u k : ℕ} → from_region cs ≡ []
-    → filter r.accepts now ≡ [] → Waits r cs u now all k → Waits r cs u [] all k
-hopeless_waits r cs [] outside e wt = wt
-hopeless_waits r cs (w ∷ now) {all} {u} {k} outside e wt =
-    by_test (r.accepts w) refl (λ left wt'. hopeless_waits r cs now outside left wt')
-  where
-    by_test : (b : Bool) → r.accepts w ≡ b
-        → (filter r.accepts now ≡ [] → Waits r cs u now all k → Waits r cs u [] all k) → Waits r cs u [] all k
-    by_test true y later = let found : w ∷ filter r.accepts now ≡ [] = rw y at e in absurd (cc)
-    by_test false y later =
-        let left : filter r.accepts now ≡ [] = rw y at e in later left (refused_waits r cs w now outside y wt)
-
--- so anywhere what was fruitless may be left out
-pub fruitless_waits : (r : Run) (cs : List Choice) (now : List Way) {all : List Way} {u k : ℕ}
-    → Fruitless r (is_inside cs) now → Waits r cs u now all k → Waits r cs u [] all k
-fruitless_waits r cs now {all} {u} {k} fruitless wt = go (from_region cs) refl fruitless
-  where
-    go : (waiting : List Choice) → from_region cs ≡ waiting
-        → Fruitless r (elim waiting [ [] ↦ false | (c ∷ rest) ↦ true ]) now → Waits r cs u [] all k
-    go [] outside e = hopeless_waits r cs now outside e wt
-    go (c ∷ rest) inside e = subst (λ os. Waits r cs u os all k) e wt
-
 -- where there is no outcome, nothing came
 pub fruitless_none : (r : Run) (inside : Bool) → Fruitless r inside []
 fruitless_none r true = refl
 fruitless_none r false = refl
+
+-- so what was fruitless may be left out
+pub fruitless_waits : (r : Run) (cs : List Choice) (now : List Way) {all : List Way} {u k : ℕ}
+    → Fruitless r (is_inside cs) now → Waits r cs u now all k → Waits r cs u [] all k
+fruitless_waits r cs now fruitless =
+    fruit_waits r cs now [] (ap (λ os. first os) (fruitless ∙ sym (fruitless_none r (is_inside cs))))

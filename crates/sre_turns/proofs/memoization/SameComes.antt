@@ -7,7 +7,7 @@ use Rattle.sre_model.specs.Subject.{Subject}
 use Rattle.sre_model.specs.Ways.{Way}
 use Rattle.sre_model.proofs.MarksApart.{SameStops}
 use Rattle.sre_turns.specs.declared.Frame.{Frame}
-use Rattle.sre_turns.specs.declared.Point.TheVariants.{Instruction, Alternatives, Shorter, Longer, Again}
+use Rattle.sre_turns.specs.declared.Point.TheVariants.{Instruction, Again}
 use Rattle.sre_turns.specs.declared.Point.{Point}
 use Rattle.sre_turns.specs.declared.Region.{Region}
 use Rattle.sre_turns.specs.Moves.{Spot, spot_at, Move, Stop, End, Go, Split, Enter, closing_move}
@@ -22,8 +22,7 @@ use Rattle.sre_turns.proofs.analyses.AskedPlaces.{told_alike}
 use Rattle.sre_turns.proofs.semantics.Onward.{outcomes-onward}
 use Rattle.sre_turns.proofs.memoization.AlikeTurns.{Twins, EntersAlike, MovesAlike, closing-alike, turns-alike}
 use Rattle.sre_turns.proofs.memoization.Asked.{agree_less, outcomes_appended, stops_of, both_agree, start_asked}
-use Rattle.sre_turns.proofs.memoization.Asked.{end_asked}
-use Rattle.sre_turns.proofs.memoization.Asked.{apart_alike}
+use Rattle.sre_turns.proofs.memoization.Asked.{end_asked, apart_alike}
 
 -- a region closes alike: its body ends no earlier than where it is gone on from
 region-alike : (base : ℕ → Type 0) (ws : List ℕ) (a : PlacesAsk) (s : Subject) (g : Region) (x y body other : Spot)
@@ -90,13 +89,9 @@ module _ (ws : List ℕ) where
   none_in_loops (f ∷ fs) k (inr e) = none_in_loops fs k e
 
   none_at : (pt : Point) (fs : List Frame) (k : ℕ) → PointAsks ws nowhere pt fs k → ⊥
-  none_at (Instruction i) fs k e = absurd (omega (arith, e.1))
-  none_at (Alternatives q) fs k e = absurd (omega (arith, e.1))
-  none_at (Shorter t c) fs k e = absurd (omega (arith, e.1))
-  none_at (Longer i c) fs k e = absurd (omega (arith, e.1))
   none_at Again [] k e = e
   none_at Again (f ∷ fs) k e = absurd (omega (arith, e.1))
-  none_at pt fs k e = e
+  none_at pt fs k e = grind arith
 
   asked_alone : (pt : Point) (fs : List Frame) (k : ℕ) → Matters (AskedMark ws) ws nowhere pt fs k → AskedMark ws k
   asked_alone pt fs k (inl e) = e

@@ -1,16 +1,14 @@
 -- In a body that does not branch the machine has at most one way to go on at each point. An atomic scope that is
 -- entered has a body, with what its tree has.
 -- That the step bound suffices (`enough` of sre_engine) rests on this.
-use Rattle.std.proofs.Common.{◌≡◌, ℕ, ◌+◌, ◌-◌, ◌≤◌, Bool, true, false, ◌||◌, cond, nat_lt, List, [], ◌∷◌, Some, refl}
-use Rattle.std.proofs.Common.{sym, ap, ◌∙◌, subst, arith}
+use Rattle.std.proofs.Common.{◌≡◌, ℕ, ◌+◌, ◌-◌, ◌≤◌, Bool, true, false, List, [], ◌∷◌, refl, sym, ap, ◌∙◌, subst, arith}
 use Rattle.std.specs.Bool.{⊤}
-use Rattle.std.proofs.lemmas.Bool.{or_parts, true≢false}
+use Rattle.std.proofs.lemmas.Bool.{or_parts, true≢false, or_left, or_right}
 use Rattle.sre_chars.specs.declared.constants.SreOpcode.{SreOpcode}
 use Rattle.sre_chars.specs.declared.constants.SreOpcode.TheVariants as opcode
-use Rattle.sre_model.specs.Tree.{Tree, Item, Branch, Loop, Run, PossessiveLoop, Atomic, Look, Sign, Order, Greedy, Lazy}
+use Rattle.sre_model.specs.Tree.{Tree, Item, Branch, Loop, Run, PossessiveLoop, Atomic, Look, Sign}
 use Rattle.sre_model.specs.Marks.{Marks, group}
 use Rattle.sre_model.specs.Subject.{Subject}
-use Rattle.sre_model.specs.Ways.{may_repeat}
 use Rattle.sre_model.specs.Folding.{Folding, of_tree, of_item, of_parts}
 use Rattle.sre_model.specs.Grammar.{skip, Opcode, Operands, ReadsItem}
 use Rattle.sre_model.specs.LooksBehind.{by_backs, backs}
@@ -24,16 +22,15 @@ use Rattle.sre_turns.specs.declared.Region.TheVariants.{Owed, Further}
 use Rattle.sre_turns.specs.declared.Region.{Region}
 use Rattle.sre_turns.specs.declared.Point.TheVariants.{Instruction, Again}
 use Rattle.sre_turns.specs.declared.Point.{Point}
-use Rattle.sre_turns.specs.Moves.{Spot, spot_at, Move, Go, Enter}
-use Rattle.sre_turns.specs.MovesInLoops.{in_order, behind, enter_body, AgainMove}
+use Rattle.sre_turns.specs.Moves.{Spot, spot_at, Move, Enter}
 use Rattle.sre_turns.specs.Machine.{MovesAt}
 use Rattle.sre_turns.specs.Nested.{repeats, LiesIn}
 use Rattle.sre_turns.specs.Straight.{forking, ForksAt, BodyOf, IsBodyIn}
 use Rattle.sre_turns.proofs.bound.NestedPoints.{HoldsInGood, tree_holds}
 use Rattle.sre_turns.proofs.bound.PriceMoves.{enters}
 use Rattle.sre_turns.proofs.semantics.Turned.{Enters, atomic_group, lookaround, Turned, stopped, ended, went, forked}
-use Rattle.sre_turns.proofs.semantics.Turned.{marked}
-use Rattle.sre_turns.proofs.semantics.Turned.{grouped, begun, entered, looped, repeated, point_turned}
+use Rattle.sre_turns.proofs.semantics.Turned.{marked, grouped, begun, entered, looped, repeated, point_turned}
+use Rattle.sre_turns.proofs.semantics.LoopTurns.{until_holds, again_holds}
 
 item_straight : (a : Item) → of_item by_forks a ≡ false
     → (forking (item_role a) ≡ false) × (of_parts by_forks a ≡ false)
@@ -187,14 +184,6 @@ all_told = paired by_forked_regions by_backs
 tree_told : (t : Tree) → of_tree all_told t ≡ (has_forked_region t, backs t)
 tree_told = tree_paired by_forked_regions by_backs
 
-or_left : (a b : Bool) → a ≡ true → (a || b) ≡ true
-or_left true b e = refl
-or_left false b e = absurd (cc)
-
-or_right : (a b : Bool) → b ≡ true → (a || b) ≡ true
-or_right true b e = refl
-or_right false b e = e
-
 -- bodies in a tree whose atomic scopes are counted, and whose lookbehinds go back so far at most, are such, too
 module _ (whole : Tree) (n : ℕ) where
   abbrev Good : Bool × ℕ → Type 0
@@ -241,14 +230,6 @@ pub record Entered (ws : List ℕ) (P : Tree → Type 0) (Q : ℕ → Tree → T
   pub is : Q back body.tree
   pub far : p ≤ z.position + back
 
--- no end of a body of a loop enters one
-never_enters : (o : Order) (owed more : Bool) (x y z u v : Spot) (g : Region)
-    → cond owed (Go x) (cond more (in_order o y z) (Go z)) ≡ Enter g u v → ⊥
-never_enters o true more x y z u v g e = cc
-never_enters Greedy false true x y z u v g e = cc
-never_enters Lazy false true x y z u v g e = cc
-never_enters o false false x y z u v g e = cc
-
 module _ (ws : List ℕ) (P : Tree → Type 0) (Q : ℕ → Tree → Type 0) (s : Subject) (p : ℕ) (fs : List Frame)
     (m : Marks) (g : Region) (y z : Spot) where
   entered_as : (h : Region) (q back j : ℕ) (x : Spot) → BodyFrom ws P Q back j → p ≤ q + back
@@ -264,27 +245,6 @@ module _ (ws : List ℕ) (P : Tree → Type 0) (Q : ℕ → Tree → Type 0) (s 
         far = omega (arith, position, far);
       }
 
-  again_entered : Entry ws P Q Again (repeats fs) → AgainMove ws (spot_at Again fs p m) (Enter g y z)
-      → Entered ws P Q p g z
-  again_entered entry h =
-      go (nat_lt h.frame.count h.low) (may_repeat h.high h.frame.count h.frame.last p) (sym h.is)
-    where
-      u : ℕ
-      u = skip ws (h.frame.repeat + 1)
-
-      x : Spot
-      x = spot_at Again fs p m
-
-      b : BodyFrom ws P Q 0 (h.frame.repeat + 4)
-      b = entry h.frame.repeat (repeats h.outer) (ap (λ gs. repeats gs) h.inside)
-
-      go : (owed more : Bool) → cond owed (enter_body Owed h.frame h.frame.last h.outer x)
-          (cond more (enter_body (Further (u + 1)) h.frame (Some p) h.outer x) (Go (behind u h.outer x))) ≡ Enter g y z
-          → Entered ws P Q p g z
-      go true more same = entered_as Owed p 0 (h.frame.repeat + 4) _ b (omega arith) same
-      go false true same = entered_as (Further (u + 1)) p 0 (h.frame.repeat + 4) _ b (omega arith) same
-      go false false same = absurd (cc)
-
   turn_entered : {gs : List Frame} {n : Marks} {pt : Point} {v w : Move} → Turned ws s p fs gs m n pt v w
       → Entry ws P Q pt (repeats fs) → v ≡ Enter g y z → Entered ws P Q p g z
   turn_entered stopped entry e = absurd (cc)
@@ -297,8 +257,13 @@ module _ (ws : List ℕ) (P : Tree → Type 0) (Q : ℕ → Tree → Type 0) (s 
   turn_entered (begun o at b same) entry e = absurd (cc)
   turn_entered (entered {back = back} {j = j} {q = q} {g = h} o at b l far on) entry e =
       entered_as h q back j _ (entry o at back j h b) far e
-  turn_entered (looped o order at is h k) entry e = absurd (never_enters order _ _ _ _ _ _ _ _ (sym h.is ∙ e))
-  turn_entered (repeated h k) entry e = again_entered entry (subst (AgainMove ws (spot_at Again fs p m)) e h)
+  turn_entered (looped {u = u} o order at is h k) entry e =
+      absurd (until_holds (λ v. v ≡ Enter g y z → ⊥) order u h (λ a. cc a) (λ a. cc a) (λ a. cc a) (λ a. cc a) e)
+  turn_entered (repeated h k) entry e =
+      let b = entry h.frame.repeat (repeats h.outer) (ap (λ gs. repeats gs) h.inside) in
+      again_holds (λ v. v ≡ Enter g y z → Entered ws P Q p g z) h
+      (entered_as Owed p 0 (h.frame.repeat + 4) _ b (omega arith))
+      (entered_as (Further _) p 0 (h.frame.repeat + 4) _ b (omega arith)) (λ a. absurd (cc a)) e
 
 -- so wherever one is entered
 pub point_entered : (ws : List ℕ) (P : Tree → Type 0) (Q : ℕ → Tree → Type 0) (s : Subject) (pt : Point)

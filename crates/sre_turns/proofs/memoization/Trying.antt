@@ -1,6 +1,6 @@
 -- An instruction or a possessive loop that is tried: a marker waits below all its outcomes, and where that marker is
 -- reached again, it has failed, and always will.
-use Rattle.std.proofs.Common.{◌≡◌, ℕ, ◌+◌, ◌≤◌, Bool, List, [], ◌∷◌, drop, ap, refl, sym, subst, arith}
+use Rattle.std.proofs.Common.{◌≡◌, ℕ, ◌≤◌, Bool, List, [], ◌∷◌, drop, ap, refl, sym, subst, arith}
 use Rattle.sre_turns.specs.declared.Next.TheVariants as next
 use Rattle.sre_turns.specs.Limits.{Limit, attempt, with_tried, without_tried, Stage, Going, Splitting, spare, FaresBack}
 use Rattle.sre_turns.specs.Machine.{Frame, Point, Spot, Trying, BoardValue, Counted, Run, StringCursor, Marks, Way}
@@ -11,9 +11,7 @@ use Rattle.sre_turns.specs.Alike.{Alike, LoopsAlike, least_from}
 use Rattle.sre_turns.specs.Hopeless.{Hopeless, AcceptsByStop, MarksServe}
 use Rattle.sre_turns.proofs.semantics.FirstOutcomes.{first_none}
 use Rattle.sre_turns.proofs.memoization.Hopeless.{hopeless_again, fruitless_waits, fruitless_none}
-use Rattle.sre_turns.specs.Prices.{price_of}
-use Rattle.sre_turns.proofs.semantics.Moving.{sooner, some_turns}
-use Rattle.sre_turns.proofs.bound.Faring.{run_code, run_place, place_left}
+use Rattle.sre_turns.proofs.semantics.Moving.{standing, back_from}
 
 -- what is tried has its mark wait
 tried_with : (stage : Stage) → spare stage ≡ 0 → (r : Run) (pt : Point) (c : StringCursor) (b b' : BoardValue)
@@ -22,28 +20,20 @@ tried_with : (stage : Stage) → spare stage ≡ 0 → (r : Run) (pt : Point) (c
     → GoesWith stage r all (with_tried (attempt b.choices (spot pt c b)) limit) pt c b'
 tried_with stage none r pt c b b' e all limit g =
     subst (λ x. GoesWith stage r all (with_tried (attempt b.choices (spot pt c b)) limit) pt c x) (sym e)
-    (record {
-      now = g.now;
-      turns = g.turns;
-      later = g.later;
-      stands = g.stands;
-      placed = g.placed;
-      runs = g.runs;
-      waits = tried g.stands g.placed g.runs (omega (arith, none)) refl g.waits;
-      within = g.within;
-      fares = λ pl o w.
-          let f = g.fares pl o w in
-          record {
-            here = f.here;
-            fares = record {
-              settled = (f.here, f.fares.settled);
-              trying = ap (λ xs. attempt b.choices (spot pt c b) ∷ xs) f.fares.trying;
-              left = omega (arith, f.fares.left);
-            };
-          };
-      confined = λ none.
-          let f = g.confined none in record { here = f.here; others = record { each = (f.here, f.others.each) } };
+    (standing stage (tried g.stands g.placed g.runs (omega (arith, none)) refl g.waits) refl refl g.runs (omega arith)
+    g.within g.stands g.placed
+    (λ pl o w.
+    let f = g.fares pl o w in
+    record {
+      here = f.here;
+      fares = record {
+        settled = (f.here, f.fares.settled);
+        trying = ap (λ xs. attempt b.choices (spot pt c b) ∷ xs) f.fares.trying;
+        left = omega (arith, f.fares.left);
+      };
     })
+    (λ none.
+    let f = g.confined none in record { here = f.here; others = record { each = (f.here, f.others.each) } }))
 
 -- so it is where its step is under way
 pub trying_goes : (r : Run) (pt : Point) (c : StringCursor) (b b' : BoardValue)
@@ -139,18 +129,6 @@ pub hopeless_left : (r : Run) (pt : Point) (c : StringCursor) (b : BoardValue) (
     → MarksServe r.words m (spot pt c b) → Hopeless r (is_inside b.choices) m (spot pt c b) → (all : List Way)
     (limit : Limit) → Arrives r all limit pt c b → Later r all limit next.Back b
 hopeless_left r pt c b m serves hopeless all limit g =
-    let x : Spot = spot pt c b in (
-      omega (arith, some_turns g.runs, g.within),
-      record {
-        later = g.later;
-        waits = sooner (g.turns + 1) 0 (omega arith)
-            (fruitless_waits r b.choices g.now
-            (hopeless.none x g.now g.turns (alike_itself r.words x) serves g.runs) g.waits);
-        within = omega (arith, some_turns g.runs, g.within);
-        fares = λ pl.
-            let code = run_code r x g.runs in
-            place_left r pl limit (price_of r.words r.subject.end x) x b.choices (run_place r x g.runs)
-            (omega arith) (g.fares pl code.0 code.1);
-        confined = λ none. (g.confined none).others;
-      },
-    )
+    let x : Spot = spot pt c b in
+    back_from r pt c b all limit g
+    (fruitless_waits r b.choices g.now (hopeless.none x g.now g.turns (alike_itself r.words x) serves g.runs) g.waits)

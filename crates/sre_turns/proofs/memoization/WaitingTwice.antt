@@ -1,36 +1,26 @@
 -- What waits twice: where the newest saved alternative is to continue right where the machine continues, it may go. All
 -- its outcomes come of continuing, too, and before.
-use Rattle.std.proofs.Common.{◌≡◌, ◌∙◌, inl, inr, ℕ, ◌+◌, ◌≤◌, Bool, true, false, List, [], ◌∷◌, ◌++◌, refl, sym, subst}
+use Rattle.std.proofs.Common.{◌≡◌, inl, inr, ℕ, ◌+◌, ◌≤◌, Bool, true, false, List, [], ◌∷◌, ◌++◌, refl, sym, subst}
 use Rattle.std.proofs.Common.{arith}
 use Rattle.sre_model.proofs.MarksApart.{SameStops}
-use Rattle.sre_turns.specs.Board.{Choice, Else, Keep, Trying, BoardValue, Dropped}
+use Rattle.sre_turns.specs.Board.{Else, BoardValue, Dropped}
 use Rattle.sre_turns.specs.declared.Next.TheVariants as next
 use Rattle.sre_turns.specs.MovesAtReferences.{HasReference}
 use Rattle.sre_turns.specs.Hopeless.{AcceptsByStop, SameFruit, is_inside}
 use Rattle.sre_turns.specs.Machine.{Instruction, Spot, Move, Stop, End, Go, Split, Enter, closing_move, Limit, earlier}
 use Rattle.sre_turns.specs.Machine.{Run, StringCursor, Marks, Subject, Way, Runs, turns, Comes, stops, ends, goes}
-use Rattle.sre_turns.specs.Machine.{splits, enters, Waits, outermost, otherwise, kept, tried, Arrives, Later, spot}
-use Rattle.sre_turns.proofs.semantics.FirstOutcomes.{SameFirsts, firsts_append, firsts_begin, closes_same, firsts_again}
-use Rattle.sre_turns.proofs.semantics.Moving.{sooner}
+use Rattle.sre_turns.specs.Machine.{splits, enters, Waits, otherwise, Arrives, Later, spot}
+use Rattle.sre_turns.proofs.semantics.FirstOutcomes.{SameFirsts, firsts_begin, firsts_again, fruit_waits}
+use Rattle.sre_turns.proofs.semantics.Moving.{standing}
 use Rattle.sre_turns.proofs.semantics.OneTurn.{comes}
 use Rattle.sre_turns.proofs.memoization.SameComes.{marks_apart}
+use Rattle.sre_turns.specs.Limits.{Coming}
 
 -- of outcomes that begin with the same under each test the first that counts is the same
 fruit_alike : (r : Run) → AcceptsByStop r → (inside : Bool) (xs ys : List Way) → SameFirsts xs ys
     → SameFruit r inside xs ys
 fruit_alike r told true xs ys h = firsts_begin xs ys h
 fruit_alike r told false xs ys h = h r.accepts told
-
--- what waits behind some outcomes waits behind all that begin with the same under each test
-pub waits_alike : (r : Run) → AcceptsByStop r → (cs : List Choice) (xs ys : List Way) {all : List Way} {u k : ℕ}
-    → SameFirsts xs ys → Waits r cs u xs all k → Waits r cs u ys all k
-waits_alike r told [] xs ys h (outermost begins) = outermost (begins ∙ h r.accepts told)
-waits_alike r told (Else pt fs c m ∷ cs) xs ys h (otherwise {os = os} there placed d wt) =
-    otherwise there placed d (waits_alike r told cs (xs ++ os) (ys ++ os) (firsts_append xs ys os h) wt)
-waits_alike r told (Keep g fs c m ∷ cs) xs ys h (kept {pt = pt} there placed d wt) =
-    kept {pt = pt} there placed (rw (closes_same g _ xs ys (firsts_begin xs ys h)) at d) wt
-waits_alike r told (Trying pt fs c m ∷ cs) xs ys h (tried there placed d most same wt) =
-    tried there placed d most (same ∙ fruit_alike r told (is_inside cs) xs ys h) (waits_alike r told cs xs ys h wt)
 
 -- what comes of a spot is determined
 module _ (ws : List ℕ) (s : Subject) where
@@ -80,33 +70,24 @@ dropped_arrives r told i c matter b b' m same none e all limit g =
       where
         by_choice : {later : ℕ} → Waits r both.choices (a.turns + 1) a.now all later → a.turns + later ≤ limit.turns
             → Arrives r all limit (Instruction i) c b'
-        by_choice (otherwise {n = n} {k = k} {os = os} there placed d wt) l = record {
-          now = a.now;
-          turns = a.turns;
-          later = k;
-          stands = a.stands;
-          placed = a.placed;
-          runs = a.runs;
-          waits =
-              sooner (a.turns + 1 + n + 1) (a.turns + 1) (omega arith)
-              (waits_alike r told b'.choices (a.now ++ os) a.now (firsts_again a.now os
-              (stops_again r (spot (Instruction i) c b') m matter same none a.runs d)) wt);
-          within = omega (arith, l);
-          fares = λ pl o w.
-              let f = a.fares pl o w in
-              record {
-                here = f.here;
-                fares = record {
-                  settled = f.fares.settled.1;
-                  trying = f.fares.trying;
-                  left = omega (arith, f.fares.left);
-                };
+        by_choice (otherwise {n = n} {k = k} {os = os} there placed d wt) l =
+            standing Coming
+            (fruit_waits r b'.choices (a.now ++ os) a.now
+            (fruit_alike r told (is_inside b'.choices) (a.now ++ os) a.now
+            (firsts_again a.now os (stops_again r (spot (Instruction i) c b') m matter same none a.runs d))) wt)
+            refl refl a.runs (omega arith) (omega (arith, l)) a.stands a.placed
+            (λ pl o w.
+            let f = a.fares pl o w in
+            record {
+              here = f.here;
+              fares = record {
+                settled = f.fares.settled.1;
+                trying = f.fares.trying;
+                left = omega (arith, f.fares.left);
               };
-          confined = λ none. let f = a.confined none in record {
-            here = f.here;
-            others = record { each = f.others.each.1 };
-          };
-        }
+            })
+            (λ none.
+            let f = a.confined none in record { here = f.here; others = record { each = f.others.each.1 } })
 
 -- a turn later, where it went or did not
 pub later_dropped : (r : Run) → AcceptsByStop r → (i : ℕ) (c : StringCursor) (matter : Bool)

@@ -1,6 +1,6 @@
 -- The first outcome that passes a test: outcomes that come again after others change nothing of it, whatever the test
 -- is, as long as it depends on where they stop. So what waits twice may be left out where it comes later.
-use Rattle.std.proofs.Common.{◌≡◌, Bool, true, false, List, [], ◌∷◌, ◌++◌, refl, sym, ap, ◌∙◌}
+use Rattle.std.proofs.Common.{◌≡◌, Bool, true, false, List, [], ◌∷◌, ◌++◌, refl, sym, ap, ◌∙◌, ℕ}
 use Rattle.std.specs.List.{filter}
 use Rattle.std.proofs.lemmas.List.Elements.{filter-append}
 use Rattle.sre_model.specs.Ways.{Way, first}
@@ -8,6 +8,10 @@ use Rattle.sre_model.proofs.MarksApart.{SameStops}
 use Rattle.sre_turns.specs.declared.Region.{Region}
 use Rattle.sre_turns.specs.declared.Region.TheVariants.{NotAhead}
 use Rattle.sre_turns.specs.Moves.{Spot, closing_move}
+use Rattle.sre_turns.specs.Fruit.{SameFruit, is_inside}
+use Rattle.sre_turns.specs.Machine.{Waits, outermost, otherwise, kept, tried}
+use Rattle.sre_turns.specs.Board.{Choice, Else, Keep, Trying}
+use Rattle.sre_model.specs.Runs.{Run}
 
 -- a test that looks at where an outcome stops
 abbrev pub ByStop : (Way → Bool) → Type 0
@@ -28,12 +32,14 @@ first_append [] (y ∷ ys) zs h = absurd (cc)
 first_append (x ∷ xs) [] zs h = absurd (cc)
 first_append (x ∷ xs) (y ∷ ys) zs h = h
 
--- the same behind which the same comes
-pub firsts_append : (xs ys zs : List Way) → SameFirsts xs ys → SameFirsts (xs ++ zs) (ys ++ zs)
-firsts_append xs ys zs h = λ test told.
-    ap (λ ws. first ws) (filter-append test xs zs)
-    ∙ first_append (filter test xs) (filter test ys) (filter test zs) (h test told)
-    ∙ sym (ap (λ ws. first ws) (filter-append test ys zs))
+-- and so it is of those that count
+fruit_append : (r : Run) (inside : Bool) (xs ys zs : List Way) → SameFruit r inside xs ys
+    → SameFruit r inside (xs ++ zs) (ys ++ zs)
+fruit_append r true xs ys zs h = first_append xs ys zs h
+fruit_append r false xs ys zs h =
+    ap (λ ws. first ws) (filter-append r.accepts xs zs)
+    ∙ first_append (filter r.accepts xs) (filter r.accepts ys) (filter r.accepts zs) h
+    ∙ sym (ap (λ ws. first ws) (filter-append r.accepts ys zs))
 
 all_pass : (xs : List Way) → filter (λ (w : Way). true) xs ≡ xs
 all_pass [] = refl
@@ -79,3 +85,14 @@ firsts_again xs ys h = λ test told.
         → first (filter test xs ++ filter test ys) ≡ first (filter test xs)
     go test [] e none = rw (e, none e) refl
     go test (w ∷ ws) e none = rw e refl
+
+-- what waits for outcomes waits for others whose first that counts is the same
+pub fruit_waits : (r : Run) (cs : List Choice) (xs ys : List Way) {all : List Way} {u k : ℕ}
+    → SameFruit r (is_inside cs) xs ys → Waits r cs u xs all k → Waits r cs u ys all k
+fruit_waits r [] xs ys h (outermost begins) = outermost (begins ∙ h)
+fruit_waits r (Else pt fs c m ∷ cs) xs ys h (otherwise {os = os} there placed d wt) =
+    otherwise there placed d (fruit_waits r cs (xs ++ os) (ys ++ os) (fruit_append r (is_inside cs) xs ys os h) wt)
+fruit_waits r (Keep g fs c m ∷ cs) xs ys h (kept {pt = pt} there placed d wt) =
+    kept {pt = pt} there placed (rw (closes_same g _ xs ys h) at d) wt
+fruit_waits r (Trying pt fs c m ∷ cs) xs ys h (tried there placed d most same wt) =
+    tried there placed d most (same ∙ h) (fruit_waits r cs xs ys h wt)

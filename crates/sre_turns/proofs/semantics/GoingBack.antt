@@ -1,7 +1,7 @@
 -- Steps that take the newest saved alternative.
-use Rattle.std.proofs.Common.{◌≡◌, ℕ, ◌+◌, ◌≤◌, List, [], ◌∷◌, refl, sym, ap, ◌∙◌, subst, arith}
+use Rattle.std.proofs.Common.{◌≡◌, ℕ, ◌≤◌, List, [], ◌∷◌, refl, sym, ap, ◌∙◌, subst, arith}
 use Rattle.sre_turns.specs.Board.{Else, Keep, choice, BoardValue}
-use Rattle.sre_turns.specs.Limits.{Limit, earlier, Wider, FaresBack}
+use Rattle.sre_turns.specs.Limits.{Limit, earlier, Wider, FaresBack, Coming}
 use Rattle.sre_turns.specs.Machine.{Point, Instruction, Again, Inside, Region, Run, StringCursor, Way, spot, Waits}
 use Rattle.sre_turns.specs.Machine.{outermost, otherwise, Goes, Arrives, Backs, Stands, Later, without_outcome}
 use Rattle.sre_turns.specs.Machine.{without_loop, IsBack, HasRun}
@@ -9,9 +9,10 @@ use Rattle.sre_turns.specs.Confining.{ChoicesConfined}
 use Rattle.sre_turns.specs.declared.Next.{Next}
 use Rattle.sre_turns.specs.declared.Next.TheVariants as next
 use Rattle.sre_turns.proofs.semantics.FirstOutcomes.{first_none}
-use Rattle.sre_turns.proofs.semantics.Moving.{sooner, arrived}
+use Rattle.sre_turns.proofs.semantics.Moving.{arrived, standing}
 use Rattle.sre_turns.proofs.semantics.StepsInRegions.{region_back}
 use Rattle.sre_turns.proofs.bound.Faring.{FreeOfToll, choice_taken, fares_wider, fares_at_wider}
+use Rattle.sre_turns.proofs.semantics.AfterSteps.{has_run}
 
 -- a choice is resumed
 pub back_none : (r : Run) (b : BoardValue) → b.choices ≡ [] → (all : List Way) (limit : Limit)
@@ -30,21 +31,13 @@ back_goes r b b' pt c e all limit g = go (subst (λ x. Waits r x 0 [] all g.late
         → (1 ≤ limit.turns) × Arrives r xs (earlier limit) pt c b'
     go (otherwise {n = n} there placed x wt) l = (
       omega arith,
-      record {
-        now = _;
-        turns = _;
-        later = _;
-        stands = there;
-        placed = placed;
-        runs = x;
-        waits = sooner (0 + n + 1) (n + 1) (omega arith) wt;
-        within = omega arith;
-        fares = λ pl o w. choice_taken r pl limit pt b'.frames c b'.marks b'.choices
-            (subst (λ x. FaresBack r pl limit x) e (g.fares pl));
-        confined = λ none.
-            let f = subst (λ x. ChoicesConfined r.words x) e (g.confined none) in
-            record { here = f.each.0; others = record { each = f.each.1 } };
-      },
+      standing Coming wt refl refl x (omega arith) (omega arith) there placed
+          (λ pl o w.
+          choice_taken r pl limit pt b'.frames c b'.marks b'.choices
+          (subst (λ x. FaresBack r pl limit x) e (g.fares pl)))
+          (λ none.
+          let f = subst (λ x. ChoicesConfined r.words x) e (g.confined none) in
+          record { here = f.each.0; others = record { each = f.each.1 } }),
     )
 
 -- the same for a point that is known
@@ -70,14 +63,8 @@ pub back_run : (r : Run) (b b' : BoardValue) (pt pt' : Point) (c : StringCursor)
     → b.choices ≡ choice pt b'.frames c b'.marks ∷ b'.choices → pt ≡ pt'
     → choice pt' b'.frames c b'.marks ≡ Else pt' b'.frames c b'.marks → IsBack r b → HasRun r pt' c
 back_run r b b' pt pt' c e same is x =
-    let g = (back_arrives r b b' pt pt' c e same is x.all x.limit x.backs).1 in record {
-      frames = b'.frames;
-      marks = b'.marks;
-      outcomes = g.now;
-      turns = g.turns;
-      stands = g.stands;
-      runs = g.runs;
-    }
+    let g = (back_arrives r b b' pt pt' c e same is x.all x.limit x.backs).1 in
+    has_run r pt' c g.stands g.runs
 
 -- a region whose body has no outcome
 pub back_region : (r : Run) (b b' b'' : BoardValue) (pt : Point) (g : Region) (c : StringCursor) (n : Next)
@@ -96,18 +83,9 @@ back_region r b b' b'' pt g c n e same is left all limit k =
 -- what is come to within a limit is come to within a wider one
 arrives_wider : (r : Run) (all : List Way) (limit more : Limit) (pt : Point) (c : StringCursor) (b : BoardValue)
     → Wider limit more → Arrives r all limit pt c b → Arrives r all more pt c b
-arrives_wider r all limit more pt c b l g = record {
-  now = g.now;
-  turns = g.turns;
-  later = g.later;
-  stands = g.stands;
-  placed = g.placed;
-  runs = g.runs;
-  waits = g.waits;
-  within = omega (arith, g.within, l.turns);
-  fares = λ pl o w. fares_at_wider r pl limit more _ (spot pt c b) b.choices l (g.fares pl o w);
-  confined = g.confined;
-}
+arrives_wider r all limit more pt c b l g =
+    standing Coming g.waits refl refl g.runs (omega arith) (omega (arith, g.within, l.turns)) g.stands g.placed
+    (λ pl o w. fares_at_wider r pl limit more _ (spot pt c b) b.choices l (g.fares pl o w)) g.confined
 
 -- a state within a limit is one within a wider limit
 pub stands_wider : (r : Run) (all : List Way) (limit more : Limit) (n : Next) (b : BoardValue) → Wider limit more

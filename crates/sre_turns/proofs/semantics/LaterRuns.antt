@@ -4,7 +4,7 @@
 use Rattle.std.proofs.Common.{◌≡◌, ℕ, ◌+◌, ◌<◌, ◌≤◌, inl, inr, true, List, [], refl, arith}
 use Rattle.sre_chars.specs.declared.constants.SreOpcode.TheVariants as opcode
 use Rattle.sre_model.specs.Tree.{Tree, Item, LazyRun}
-use Rattle.sre_model.specs.Ways.{Way, unlimited}
+use Rattle.sre_model.specs.Ways.{Way, unlimited, first}
 use Rattle.sre_model.specs.Grammar.{Word, Opcode, Reads, Operands}
 use Rattle.sre_model.specs.Runs as runs
 use Rattle.sre_model.specs.Standing.{HasTest}
@@ -22,6 +22,8 @@ use Rattle.sre_turns.proofs.bound.HereMoves.{here_reached}
 use Rattle.sre_turns.proofs.semantics.LazyRunEnds.{longer_run}
 use Rattle.sre_turns.proofs.semantics.Onward.{all_later}
 use Rattle.sre_turns.proofs.semantics.Parts.{Own, Law, lies_law, longer}
+use Rattle.sre_turns.proofs.semantics.Moving.{both_standing}
+use Rattle.sre_model.specs.Runs.{Run}
 
 -- where the longer counts of a repeat lie in the words of a tree, its instruction does
 module _ (ws : List ℕ) where
@@ -81,31 +83,17 @@ module _ (r : runs.Run) (i low v : ℕ) (fs : List Frame) (m : Marks) (w : Opcod
   -- the second of two configurations may be that repeat instead of what waited
   pub later_goes : (all : List Way) (limit : Limit) (first : Spot) (c : StringCursor) (cs : List Choice)
       → GoesBoth r all limit first counts c cs → GoesBoth r all limit first anew c cs
-  later_goes all limit first c cs g = record {
-    now = g.now;
-    next = g.next;
-    turns = g.turns;
-    further = g.further;
-    later = g.later;
-    stands = g.stands;
-    placed = g.placed;
-    others_placed = g.others_placed;
-    runs = g.runs;
-    others =
-        longer_run r i low v fs m w there wv wl wh n p q g.next g.further e all_pass taken g.others;
-    waits = g.waits;
-    within = g.within;
-    fares = λ pl.
-        let f : FaresBoth r pl limit first counts cs = g.fares pl in
-        record {
-          first = f.first;
-          second = here pl limit.start cs f.second;
-          fares = fares_less r pl limit cs _ _ (omega (arith, enough)) f.fares;
-        };
-    confined = λ none.
-        let f = g.confined none in record {
-          first = f.first;
-          second = λ inside. later_confined (repeats fs) (f.second inside);
-          others = f.others;
-        };
-  }
+  later_goes all limit first c cs g =
+      both_standing g.waits refl g.runs
+      (longer_run r i low v fs m w there wv wl wh n p q g.next g.further e all_pass taken g.others) (omega arith)
+      g.within g.stands g.placed g.others_placed
+      (λ pl.
+      let f : FaresBoth r pl limit first counts cs = g.fares pl in
+      record {
+        first = f.first;
+        second = here pl limit.start cs f.second;
+        fares = fares_less r pl limit cs _ _ (omega (arith, enough)) f.fares;
+      })
+      (λ none.
+      let f = g.confined none in
+      record { first = f.first; second = λ inside. later_confined (repeats fs) (f.second inside); others = f.others })

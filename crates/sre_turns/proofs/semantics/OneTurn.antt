@@ -8,14 +8,48 @@ use Rattle.sre_model.proofs.Words.{same_word}
 use Rattle.sre_turns.specs.declared.Frame.{Frame}
 use Rattle.sre_turns.specs.declared.Point.{Point}
 use Rattle.sre_turns.specs.Moves.{Spot, Move}
+use Rattle.sre_turns.specs.MovesInLoops.{LoopMove}
 use Rattle.sre_turns.specs.Machine.{Moves, Runs, turns, Comes}
 use Rattle.sre_turns.proofs.semantics.Turned.{Turned, stopped, ended, went, forked, marked, grouped, begun, entered}
-use Rattle.sre_turns.proofs.semantics.Turned.{looped}
-use Rattle.sre_turns.proofs.semantics.Turned.{repeated, point_turned}
+use Rattle.sre_turns.proofs.semantics.Turned.{looped, repeated, point_turned}
 
 module _ (ws : List ℕ) where
-  same_words : (k a b : ℕ) (f g : Frame) → f ≡ g → Word ws (f.repeat + k) a → Word ws (g.repeat + k) b → a ≡ b
-  same_words k a b f g e v w = same_word ws (g.repeat + k) a b (subst (λ (x : Frame). Word ws (x.repeat + k) a) e v) w
+  -- a turn of a loop whose frame is known
+  pub loop_opened : {turn : ℕ → ℕ → Frame → List Frame → Move} {x : Spot} {mv : Move} {f : Frame} {outer : List Frame}
+      → LoopMove ws turn x mv → x.frames ≡ f ∷ outer
+      → (low : ℕ) × (high : ℕ) × Word ws (f.repeat + 2) low × Word ws (f.repeat + 3) high × (mv ≡ turn low high f outer)
+  loop_opened {f = f} {outer = outer} h e =
+      let frames : h.frame ∷ h.outer ≡ f ∷ outer = sym h.inside ∙ e in
+      let frame : h.frame ≡ f = cc in
+      let rest : h.outer ≡ outer = cc in (
+        h.low,
+        h.high,
+        subst (λ (g : Frame). Word ws (g.repeat + 2) h.low) frame h.lowest,
+        subst (λ (g : Frame). Word ws (g.repeat + 3) h.high) frame h.highest,
+        rw (← frame, ← rest) h.is,
+      )
+
+  pub loop_move : {turn : ℕ → ℕ → Frame → List Frame → Move} {x : Spot} {mv : Move} {f : Frame} {outer : List Frame}
+      {low high : ℕ} → x.frames ≡ f ∷ outer → Word ws (f.repeat + 2) low → Word ws (f.repeat + 3) high
+      → mv ≡ turn low high f outer → LoopMove ws turn x mv
+  loop_move {f = f} {outer = outer} {low = low} {high = high} inside wl wh is = record {
+    frame = f;
+    outer = outer;
+    low = low;
+    high = high;
+    inside = inside;
+    lowest = wl;
+    highest = wh;
+    is = is;
+  }
+
+  same_loop : {turn : ℕ → ℕ → Frame → List Frame → Move} {x : Spot} {v w : Move} → LoopMove ws turn x v
+      → LoopMove ws turn x w → v ≡ w
+  same_loop {turn} h k =
+      let o = loop_opened h k.inside in
+      let low : o.0 ≡ k.low = same_word ws (k.frame.repeat + 2) o.0 k.low o.2 k.lowest in
+      let high : o.1 ≡ k.high = same_word ws (k.frame.repeat + 3) o.1 k.high o.3 k.highest in
+      o.4 ∙ rw (low, high) (sym k.is)
 
   -- two steps at one configuration are the same
   same_turn : {s : Subject} {p : ℕ} {fs : List Frame} {m : Marks} {pt : Point} {v w : Move}
@@ -28,20 +62,8 @@ module _ (ws : List ℕ) where
   same_turn {m = m} (grouped {g = g} o here e asked there v w each) = same_turn (each (group m g))
   same_turn (begun o here e at) = refl
   same_turn (entered o here e l k on) = refl
-  same_turn (looped o order here e h k) =
-      let frames : h.frame ∷ h.outer ≡ k.frame ∷ k.outer = sym h.inside ∙ k.inside in
-      let frame : h.frame ≡ k.frame = cc in
-      let outer : h.outer ≡ k.outer = cc in
-      let low : h.low ≡ k.low = same_words 2 h.low k.low h.frame k.frame frame h.lowest k.lowest in
-      let high : h.high ≡ k.high = same_words 3 h.high k.high h.frame k.frame frame h.highest k.highest in
-      h.is ∙ rw (low, high, frame, outer) (sym k.is)
-  same_turn (repeated h k) =
-      let frames : h.frame ∷ h.outer ≡ k.frame ∷ k.outer = sym h.inside ∙ k.inside in
-      let frame : h.frame ≡ k.frame = cc in
-      let outer : h.outer ≡ k.outer = cc in
-      let low : h.low ≡ k.low = same_words 2 h.low k.low h.frame k.frame frame h.lowest k.lowest in
-      let high : h.high ≡ k.high = same_words 3 h.high k.high h.frame k.frame frame h.highest k.highest in
-      h.is ∙ rw (low, high, frame, outer) (sym k.is)
+  same_turn (looped o order here e h k) = same_loop h k
+  same_turn (repeated h k) = same_loop h k
 
 -- a step is determined
 pub moves_same : (ws : List ℕ) (s : Subject) (x : Spot) (a b : Move) → Moves ws s x a → Moves ws s x b → a ≡ b

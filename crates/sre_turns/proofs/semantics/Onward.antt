@@ -1,30 +1,27 @@
 -- How far a step reaches: no further back than its configuration, not out of the range, and not before the last bodies
 -- of its loops began. So its outcomes end no earlier than at the least position to which its point comes back: after an
 -- atomic group and a body of a possessive loop no position is earlier than before it. Equivalence rests on that.
-use Rattle.std.proofs.Common.{◌≡◌, ℕ, ◌+◌, ◌≤◌, Bool, true, false, cond, nat_lt, List, [], ◌∷◌, ◌++◌, drop, Option}
-use Rattle.std.proofs.Common.{Some, None, refl, sym, subst, arith}
+use Rattle.std.proofs.Common.{◌≡◌, ℕ, ◌≤◌, true, List, [], ◌∷◌, ◌++◌, drop, Option, Some, None, refl, subst, arith}
 use Rattle.std.specs.Bool.{⊤}
 use Rattle.std.specs.List.{AllByRecursion}
-use Rattle.sre_model.specs.Tree.{Order, Greedy, Lazy}
 use Rattle.sre_model.specs.Marks.{Marks, group}
 use Rattle.sre_model.specs.Subject.{Subject}
-use Rattle.sre_model.specs.Ways.{Way, may_repeat}
-use Rattle.sre_model.specs.Grammar.{skip}
+use Rattle.sre_model.specs.Ways.{Way, first}
 use Rattle.sre_turns.specs.declared.Frame.{Frame}
 use Rattle.sre_turns.specs.declared.Region.TheVariants.{Ahead, NotAhead, Further}
 use Rattle.sre_turns.specs.declared.Region.{Region}
-use Rattle.sre_turns.specs.declared.Point.TheVariants.{Instruction, Again}
+use Rattle.sre_turns.specs.declared.Point.TheVariants.{Instruction}
 use Rattle.sre_turns.specs.declared.Point.{Point}
 use Rattle.sre_turns.specs.Moves.{Spot, spot_at, Move, Stop, End, Go, Split, Enter, closing_move}
-use Rattle.sre_turns.specs.MovesInLoops.{next_frame, in_order, until_move, again_move}
+use Rattle.sre_turns.specs.MovesInLoops.{next_frame}
 use Rattle.sre_turns.specs.Machine.{MovesAt, Runs, turns, Comes, stops, ends, goes, splits, enters}
 use Rattle.sre_turns.specs.Alike.{least_from}
 use Rattle.sre_turns.specs.Straight.{goes_behind}
 use Rattle.sre_turns.specs.Nested.{BegunBy, AllBegunBy}
 use Rattle.sre_turns.proofs.semantics.Turned.{Turned, stopped, ended, went, forked, marked, grouped, begun, entered}
-use Rattle.sre_turns.proofs.semantics.Turned.{looped}
-use Rattle.sre_turns.proofs.semantics.Turned.{repeated, point_turned}
+use Rattle.sre_turns.proofs.semantics.Turned.{looped, repeated, point_turned}
 use Rattle.sre_model.proofs.Each.{each-append, each-weaken}
+use Rattle.sre_turns.proofs.semantics.LoopTurns.{until_holds, again_holds}
 
 -- each of some ways ends no earlier than at a position
 abbrev pub EndFrom : ℕ → List Way → Type 0
@@ -69,15 +66,6 @@ module _ (s : Subject) (o p : ℕ) (fs : List Frame) where
   on : (q r : ℕ) → p ≤ r → (o ≤ s.end → q ≤ s.end) → Reaches s o p fs q r fs
   on q r l k = record { onward = l; inside = k; begun = λ b. all_later p r fs l b }
 
-  cond_reaches : (b : Bool) (x y : Move) → (b ≡ true → Reaching x) → (b ≡ false → Reaching y)
-      → Reaching (cond b x y)
-  cond_reaches true x y h k = h refl
-  cond_reaches false x y h k = k refl
-
-  order_reaches : (order : Order) (body end : Spot) → Reached body → Reached end → Reaching (in_order order body end)
-  order_reaches Greedy body end h k = (h, k)
-  order_reaches Lazy body end h k = (k, h)
-
 module _ (s : Subject) (p : ℕ) (fs : List Frame) where
   here : Reaches s p p fs p p fs
   here = on s p p fs p p (omega arith) (λ l. l)
@@ -96,20 +84,6 @@ module _ (s : Subject) (p : ℕ) (fs : List Frame) where
     out : Reaches s p p fs p p outer
     out = record { onward = omega arith; inside = λ l. l; begun = λ b. (inner b).1 }
 
-    until_reaches : (o : Order) (low high u : ℕ) (m : Marks)
-        → Reaching s p p fs (until_move o low high u f outer (spot_at (Instruction u) fs p m))
-    until_reaches o low high u m =
-        cond_reaches s p p fs (nat_lt f.count low) _ _ (λ y. owed)
-        (λ y. cond_reaches s p p fs (may_repeat high f.count f.last p) _ _
-        (λ z. order_reaches s p p fs o _ _ further out) (λ z. out))
-
-    again_reaches : (low high u : ℕ) (m : Marks)
-        → Reaching s p p fs (again_move low high u f outer (spot_at Again fs p m))
-    again_reaches low high u m =
-        cond_reaches s p p fs (nat_lt f.count low) _ _ (λ y. (owed, λ l. l, refl, λ z. omega arith))
-        (λ y. cond_reaches s p p fs (may_repeat high f.count f.last p) _ _
-        (λ z. (further, λ l. l, refl, λ g. omega arith)) (λ z. out))
-
 -- a step at any point
 turn_reaches : {ws : List ℕ} {s : Subject} {p : ℕ} {fs gs : List Frame} {m n : Marks} {pt : Point} {v w : Move}
     → Turned ws s p fs gs m n pt v w → Reaching s p (least_from pt p) fs v
@@ -127,11 +101,15 @@ turn_reaches {s = s} {p = p} (begun o at b same) =
     record { onward = omega (arith, same); inside = λ l. l; begun = λ b. (tt, all_later p _ _ (omega (arith, same)) b) }
 turn_reaches {s = s} {p = p} {fs = fs} (entered o at b l k stays) =
     (here s p fs, λ e. omega (arith, l, e), refl, stays)
-turn_reaches {s = s} {p = p} {fs = fs} {m = m} (looped {u = u} o order at e h k) =
-    subst (Reaching s p p fs) (sym h.is) (until_reaches s p fs h.frame h.outer h.inside order h.low h.high u m)
-turn_reaches {ws = ws} {s = s} {p = p} {fs = fs} {m = m} (repeated h k) =
-    subst (Reaching s p p fs) (sym h.is)
-    (again_reaches s p fs h.frame h.outer h.inside h.low h.high (skip ws (h.frame.repeat + 1)) m)
+turn_reaches {s = s} {p = p} {fs = fs} (looped {u = u} o order at e h k) =
+    let body = further s p fs h.frame h.outer h.inside in
+    let end = out s p fs h.frame h.outer h.inside in
+    until_holds (Reaching s p p fs) order u h (owed s p fs h.frame h.outer h.inside) (body, end) (end, body) end
+turn_reaches {s = s} {p = p} {fs = fs} (repeated h k) =
+    again_holds (Reaching s p p fs) h
+    (owed s p fs h.frame h.outer h.inside, (λ l. l), refl, (λ g. omega arith))
+    (further s p fs h.frame h.outer h.inside, (λ l. l), refl, (λ g. omega arith))
+    (out s p fs h.frame h.outer h.inside)
 
 pub point_reaches : (ws : List ℕ) (s : Subject) (fs : List Frame) (p : ℕ) (m : Marks) (pt : Point) (a : Move)
     → MovesAt ws s pt (spot_at pt fs p m) a → Reaching s p (least_from pt p) fs a

@@ -2,7 +2,7 @@
 -- repeat from the next character on, and else those of its tail. So they are those of its tail after all characters
 -- that pass.
 use Rattle.std.proofs.Common.{◌≡◌, ℕ, zero, suc, ◌+◌, ◌-◌, ◌<◌, ◌≤◌, Bool, true, false, List, refl, sym, subst, arith}
-use Rattle.std.proofs.Common.{nat_lt}
+use Rattle.std.proofs.Common.{nat_lt, nat_eq, cond}
 use Rattle.std.proofs.lemmas.Bool.Decides.{nat_tests}
 use Rattle.sre_chars.specs.declared.constants.SreOpcode.TheVariants as opcode
 use Rattle.sre_model.specs.Tree.{Test, PossessiveRun}
@@ -13,8 +13,8 @@ use Rattle.sre_turns.specs.Machine.{Frame, Instruction, Spot, spot_at, Move, Sto
 use Rattle.sre_turns.specs.Machine.{skip, Moves, Runs, turns, goes}
 use Rattle.sre_turns.specs.MovesInRuns.{RunOperands, onward_turn}
 use Rattle.sre_turns.specs.RunEnds.{AllPass}
-use Rattle.sre_turns.proofs.semantics.AtRuns.{at_run}
-use Rattle.sre_turns.proofs.semantics.AfterSteps.{went}
+use Rattle.sre_turns.proofs.semantics.AtRuns.{at_run, bounded_stops, bounded_goes}
+use Rattle.sre_turns.proofs.semantics.AfterSteps.{went, stopped}
 use Rattle.sre_turns.proofs.semantics.LazyRunEnds.{least_passed}
 use Rattle.sre_turns.proofs.semantics.RunEnds.{passed}
 
@@ -148,3 +148,42 @@ longest_stretch s t low p l =
           (omega (arith, to, l)),
       subst (λ q. passes s t q ≡ false) same (longest_ended s t p),
     )
+
+-- a possessive run, with a greatest count or without
+module _ (ws : List ℕ) (s : Subject) (i low high end : ℕ) (t : Test) (fs : List Frame) (m : Marks)
+    (w : Opcode ws i opcode.POSSESSIVE_REPEAT_ONE) (o : RunOperands ws i low high end t) (p : ℕ) where
+  -- that is too short comes to nothing
+  pub longest_none : longest_run s t high p < low → Moves ws s (spot_at (Instruction i) fs p m) Stop
+  longest_none l = go (nat_eq high unlimited) refl
+    where
+      go : (y : Bool) → nat_eq high unlimited ≡ y → Moves ws s (spot_at (Instruction i) fs p m) Stop
+      go true y =
+          let same : high ≡ unlimited = grind (arith, nat_tests) in
+          onward_stops ws s i low end t fs m w (subst (λ n. RunOperands ws i low n end t) same o) p
+          (longest_lacks s t low p (subst (λ n. longest_run s t n p < low) same l))
+      go false y = bounded_stops o w y refl l
+
+  -- else what comes of its tail behind it comes of it
+  abbrev Behind : ℕ → List Way → ℕ → Type 0
+  Behind high os n = Runs ws s (spot_at (Instruction (skip ws (i + 1))) fs (p + longest_run s t high p) m) os n
+
+  pub longest_runs : (os : List Way) (n : ℕ) → low ≤ longest_run s t high p → Behind high os n
+      → Runs ws s (spot_at (Instruction i) fs p m) os
+      (cond (nat_eq high unlimited) (longest_run s t high p - low) 0 + suc n)
+  longest_runs os n l d = go (nat_eq high unlimited) refl
+    where
+      go : (y : Bool) → nat_eq high unlimited ≡ y
+          → Runs ws s (spot_at (Instruction i) fs p m) os (cond y (longest_run s t high p - low) 0 + suc n)
+      go true y =
+          let same : high ≡ unlimited = grind (arith, nat_tests) in
+          let k : ℕ = longest_run s t unlimited p in
+          let long : low ≤ k = subst (λ h. low ≤ longest_run s t h p) same l in
+          let there : p + k ≡ p + low + (k - low) = omega (arith, long) in
+          rw same
+          (stretch_runs ws s i low end t fs m w (subst (λ h. RunOperands ws i low h end t) same o) (k - low) p os n
+          (longest_stretch s t low p long)
+          (subst (λ q. Runs ws s (spot_at (Instruction (skip ws (i + 1))) fs q m) os n) there
+          (subst (λ h. Behind h os n) same d)))
+      go false y =
+          subst (λ k. Runs ws s (spot_at (Instruction i) fs p m) os k) (omega arith)
+          (turns _ (bounded_goes o w refl y refl l refl) (goes d))

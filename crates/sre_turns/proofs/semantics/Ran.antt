@@ -27,9 +27,8 @@ use Rattle.sre_model.proofs.Places.{reads_within, alternative_long, branch_past}
 use Rattle.sre_model.specs.Cost.{Costs, cost, item_cost, branch_cost}
 use Rattle.sre_turns.proofs.semantics.Outcomes.{followed, Follows, Ran, moved, alone}
 use Rattle.sre_turns.proofs.semantics.RanAtItems.{one-ran, at-ran, mark-ran, alternative-ran, last_alternative}
-use Rattle.sre_turns.proofs.semantics.RanAtItems.{skip_there}
-use Rattle.sre_turns.proofs.semantics.RanAtItems.{jump-ran, atomic-ran, look-ran, reference-ran, condition-ran}
-use Rattle.sre_turns.proofs.semantics.RanAtItems.{present-followed}
+use Rattle.sre_turns.proofs.semantics.RanAtItems.{skip_there, jump-ran, atomic-ran, look-ran, reference-ran}
+use Rattle.sre_turns.proofs.semantics.RanAtItems.{condition-ran, present-followed}
 use Rattle.sre_turns.proofs.semantics.RanInRuns.{run-ran, lazy-run-ran, longest-run-ran}
 use Rattle.sre_turns.proofs.semantics.RanInLoops.{loop-ran, possessive-ran}
 
@@ -62,7 +61,7 @@ body_lies ws i j t r w none markless = (
     tree = t;
     reads = r;
     ends = w;
-    markless = (or_parts (sets_mark t) (marks_in_regions t) (none markless)).0;
+    is = (or_parts (sets_mark t) (marks_in_regions t) (none markless)).0;
   },
   begins ws i j t r [],
 )

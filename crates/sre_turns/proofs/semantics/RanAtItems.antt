@@ -14,7 +14,6 @@ use Rattle.sre_model.specs.Ways.{Way, Body, here, item_ways, reference_ways, fir
 use Rattle.sre_model.specs.Grammar.{Word, Opcode, skip, JumpsTo, test_opcode, TestOperands, word, reference_opcode}
 use Rattle.sre_model.specs.Grammar.{look_opcode}
 use Rattle.sre_model.proofs.Bounds.{passes-below, Bounded, EachBetween}
-use Rattle.sre_model.specs.Standing.{TestStands}
 use Rattle.sre_turns.specs.Machine.{Frame, Instruction, Alternatives, AtomicGroup, spot_at, Stop, Go, Spot, Move, Enter}
 use Rattle.sre_turns.specs.Machine.{closing_move, Runs, turns, stops, goes, splits, Moves, enters, Comes}
 use Rattle.sre_model.specs.Roles.{ToTest, ToCheckPosition, ToMark, ToJump, ToRefer, ToCheckGroup, ToGroupAtomically}
@@ -30,37 +29,29 @@ use Rattle.sre_turns.specs.MovesAtReferences.{MayAsk, Asks, asks, reference_turn
 use Rattle.sre_turns.specs.Bodies.{IsConfined, MarklessRegions}
 use Rattle.sre_turns.specs.MovesInRegions.{look}
 
+-- a step that goes on where a test holds, and else comes to nothing
+tested : {ws : List ℕ} {s : Subject} {x : Spot} {j q : ℕ} {fs : List Frame} {m : Marks} (K : Body) (C : Costs)
+    (y : Bool) → Moves ws s x (cond y (Go (spot_at (Instruction j) fs q m)) Stop)
+    → (y ≡ true → Runs ws s (spot_at (Instruction j) fs q m) (K q m) (C q m))
+    → Runs ws s x (followed K (cond y (here q m) [])) (cond y (suc (C q m)) 1)
+tested K C true h d = turns _ h (goes (alone (d refl)))
+tested K C false h d = turns Stop h stops
+
 pub one-ran : (ws : List ℕ) (s : Subject) (i j : ℕ) (t : Test) → Opcode ws i (test_opcode t) → TestOperands ws i j t
     → Ran ws s (Instruction i) j (λ p m. item_ways s (One t) p m) (λ C p m. item_cost s (One t) C p m)
-one-ran ws s i j t w h fs K C p m e f = go (passes s t p) refl
-  where
-    st : TestStands ws i j t
-    st = record { code = w; operands = h }
-
-    go : (y : Bool) → passes s t p ≡ y
-        → Runs ws s (spot_at (Instruction i) fs p m) (followed K (cond y (here (p + 1) m) []))
-        (cond y (suc (C (p + 1) m)) 1)
-    go true y =
-        turns _ (at_instruction (test_opcode t) (ToTest (test_kind t)) (test_role t) w
-        (record { end = j; test = t; stands = st; is = rw y refl }))
-        (goes (alone (f (p + 1) m (omega arith) (omega (arith, passes-below s t p y)))))
-    go false y =
-        turns Stop (at_instruction (test_opcode t) (ToTest (test_kind t)) (test_role t) w
-        (record { end = j; test = t; stands = st; is = rw y refl })) stops
+one-ran ws s i j t w h fs K C p m e f =
+    tested K C (passes s t p)
+    (at_instruction (test_opcode t) (ToTest (test_kind t)) (test_role t) w
+    (record { end = j; test = t; stands = record { code = w; operands = h }; is = refl }))
+    (λ y. f (p + 1) m (omega arith) (omega (arith, passes-below s t p y)))
 
 pub at-ran : (ws : List ℕ) (s : Subject) (i j : ℕ) (a : SreAtCode) → Opcode ws i opcode.AT
     → Word ws (i + 1) (at_number a) → j ≡ i + 2
     → Ran ws s (Instruction i) j (λ p m. item_ways s (At a) p m) (λ C p m. item_cost s (At a) C p m)
-at-ran ws s i j a w h l fs K C p m e f = go (holds_at s a p) refl
-  where
-    go : (y : Bool) → holds_at s a p ≡ y
-        → Runs ws s (spot_at (Instruction i) fs p m) (followed K (cond y (here p m) [])) (cond y (suc (C p m)) 1)
-    go true y =
-        turns _ (at_instruction opcode.AT ToCheckPosition refl w (record { code = a; there = h; is = rw y refl }))
-        (goes (moved l (alone (f p m (omega arith) e))))
-    go false y =
-        turns Stop (at_instruction opcode.AT ToCheckPosition refl w (record { code = a; there = h; is = rw y refl }))
-        stops
+at-ran ws s i j a w h l fs K C p m e f =
+    tested K C (holds_at s a p)
+    (at_instruction opcode.AT ToCheckPosition refl w (record { code = a; there = h; is = refl }))
+    (λ y. moved l (f p m (omega arith) e))
 
 -- an alternative, and those behind it
 pub alternative-ran : (ws : List ℕ) (s : Subject) (q v n₁ n₂ : ℕ) (fs : List Frame) (p : ℕ) (m : Marks)
@@ -82,11 +73,7 @@ last_alternative ws s q v n fs p m os w l z h =
 
 -- a skip word that leads on is there
 pub skip_there : (ws : List ℕ) (q : ℕ) → q < skip ws q → q < length ws
-skip_there ws q l = go (nat_lt q (length ws)) refl
-  where
-    go : (y : Bool) → nat_lt q (length ws) ≡ y → q < length ws
-    go true y = grind (arith, nat_tests)
-    go false y = let g : length ws ≤ q = grind (arith, nat_tests) in absurd (omega (arith, word_past ws q g))
+skip_there ws q l = grind (arith, word_past ws q)
 
 pub jump-ran : (ws : List ℕ) (s : Subject) (k j : ℕ) → k + 1 < j → JumpsTo ws k j
     → (fs : List Frame) (K : Body) (C : Costs) (q : ℕ) (m : Marks)
@@ -129,17 +116,6 @@ reference-ran ws s i j g f may w there l fs K C p m e after = from (group m g) r
         at_instruction (reference_opcode f) ToRefer (reference_role f) w
         (record { fold = f; number = g; asked = asked; code = w; there = there; is = is })
 
-    go : (u : ℕ × ℕ) (y : Bool) → group m g ≡ Some u
-        → (nat_le (p + (u.1 - u.0)) s.end && same_folded s f (u.1 - u.0) u.0 p) ≡ y
-        → Runs ws s x (followed K (cond y (here (p + (u.1 - u.0)) m) [])) (cond y (suc (C (p + (u.1 - u.0)) m)) 1)
-    go u true known y =
-        let n : ℕ = u.1 - u.0 in
-        let inside : p + n ≤ s.end =
-        leb-true (p + n) s.end (and_parts (nat_le (p + n) s.end) (same_folded s f n u.0 p) y).0 in
-        turns (Go (spot_at (Instruction (i + 2)) fs (p + n) m)) (move _ (rw (known, y, reference_turn) refl))
-        (goes (moved l (alone (after (p + n) m (omega arith) inside))))
-    go u false known y = turns Stop (move Stop (rw (known, y, reference_turn) refl)) stops
-
     from : (o : Option (ℕ × ℕ)) → group m g ≡ o
         → Runs ws s x
         (followed K (elim o [
@@ -148,7 +124,12 @@ reference-ran ws s i j g f may w there l fs K C p m e after = from (group m g) r
               cond (nat_le (p + (u.1 - u.0)) s.end && same_folded s f (u.1 - u.0) u.0 p) (here (p + (u.1 - u.0)) m) []
         ])) (reference_cost s f o C p m)
     from None known = turns Stop (move Stop (rw (known, reference_turn) refl)) stops
-    from (Some u) known = go u _ known refl
+    from (Some u) known =
+        let n : ℕ = u.1 - u.0 in
+        tested K C (nat_le (p + n) s.end && same_folded s f n u.0 p) (move _ (rw (known, reference_turn) refl))
+        (λ y.
+        let inside = leb-true (p + n) s.end (and_parts (nat_le (p + n) s.end) (same_folded s f n u.0 p) y).0 in
+        moved l (after (p + n) m (omega arith) inside))
 
 -- what follows the part that is taken
 pub present-followed : (K : Body) (o : Option (ℕ × ℕ)) (present absent : List Way)

@@ -1,7 +1,7 @@
 -- The bytecode of a loop has its match paths, and that of a possessive loop.
 use Rattle.std.proofs.Common.{◌≡◌, ℕ, zero, suc, ◌+◌, ◌-◌, ◌<◌, ◌≤◌, ◌⊎◌, inl, inr, Bool, true, false, cond, ◌&&◌, ◌||◌}
-use Rattle.std.proofs.Common.{not, nat_lt, nat_eq, min, Option, Some, None, List, [], ◌∷◌, ◌++◌, refl, ap, ◌∙◌}
-use Rattle.std.proofs.Common.{subst, arith}
+use Rattle.std.proofs.Common.{not, nat_lt, nat_eq, min, Option, Some, None, List, [], ◌∷◌, ◌++◌, refl, ap, ◌∙◌, subst}
+use Rattle.std.proofs.Common.{arith}
 use Rattle.std.specs.List.{flat_map}
 use Rattle.std.proofs.lemmas.List.{append-nil}
 use Rattle.std.proofs.lemmas.Grind.{flat_map-append}
@@ -28,6 +28,7 @@ use Rattle.sre_turns.proofs.semantics.Outcomes.{followed, Follows, Ran, alone, r
 use Rattle.sre_model.specs.Loops.{first_of_body, or_here}
 use Rattle.sre_turns.specs.Bodies.{IsConfined, MarklessRegions}
 use Rattle.sre_model.proofs.PossessiveCases.{first-bounded, first_of_body-all}
+use Rattle.sre_turns.proofs.semantics.OneTurn.{loop_move}
 
 -- counts that are held at the greatest word decide alike
 pub may_repeat-held : (high n c p : ℕ) (last : Option ℕ) → high ≤ unlimited → n ≡ min c unlimited
@@ -100,16 +101,8 @@ module _ (ws : List ℕ) (s : Subject) (i u low high : ℕ) (o : Order) (W : Bod
   -- a turn at the loop's end
   until_turn : (n : ℕ) (last : Option ℕ) (fs : List Frame) (p : ℕ) (m : Marks) (mv : Move)
       → mv ≡ until_move o low high u (frame n last) fs (in_loop n last fs p m) → Moves ws s (in_loop n last fs p m) mv
-  until_turn n last fs p m mv e = at_instruction (until_opcode o) (ToLoop o) (until_role o) wu (record {
-    frame = frame n last;
-    outer = fs;
-    low = low;
-    high = high;
-    inside = refl;
-    lowest = wl;
-    highest = wh;
-    is = e;
-  })
+  until_turn n last fs p m mv e =
+      at_instruction (until_opcode o) (ToLoop o) (until_role o) wu (loop_move ws refl wl wh e)
 
   until_ends : (n : ℕ) (last : Option ℕ) (fs : List Frame) (p : ℕ) (m : Marks) (os : List Way) (k : ℕ) → low ≤ n
       → may_repeat high n last p ≡ false → Runs ws s (spot_at (Instruction (u + 1)) fs p m) os k
@@ -211,18 +204,7 @@ module _ (ws : List ℕ) (s : Subject) (i u low high : ℕ) (W : Body) (counted 
       → Moves ws s (at_loop n last fs p m) mv
   loop_turn n last fs p m mv e =
       let x : Spot = at_loop n last fs p m in
-      let is : mv ≡ again_move low high (skip ws (i + 1)) (held_frame n last) fs x =
-      e ∙ ap (λ v. again_move low high v (held_frame n last) fs x) leads in
-      record {
-        frame = held_frame n last;
-        outer = fs;
-        low = low;
-        high = high;
-        inside = refl;
-        lowest = wl;
-        highest = wh;
-        is = is;
-      }
+      loop_move ws refl wl wh (e ∙ ap (λ v. again_move low high v (held_frame n last) fs x) leads)
 
   loop_ends : (n : ℕ) (last : Option ℕ) (fs : List Frame) (p : ℕ) (m : Marks) (os : List Way) (k : ℕ) → low ≤ n
       → may_repeat high n last p ≡ false → Runs ws s (spot_at (Instruction (u + 1)) fs p m) os k

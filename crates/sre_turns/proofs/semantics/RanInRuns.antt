@@ -1,22 +1,21 @@
 -- The bytecode of a single-character repeat has its match paths.
-use Rattle.std.proofs.Common.{[], ◌∷◌, ◌++◌, ◌≡◌, ℕ, zero, suc, ◌+◌, ◌-◌, ◌<◌, ◌≤◌, Bool, true, false, cond, nat_lt}
-use Rattle.std.proofs.Common.{nat_eq, List, map, refl, sym, subst, arith, nat_le}
+use Rattle.std.proofs.Common.{[], ◌∷◌, ◌≡◌, ℕ, zero, suc, ◌+◌, ◌-◌, ◌<◌, ◌≤◌, Bool, true, false, cond, nat_lt, nat_eq}
+use Rattle.std.proofs.Common.{List, map, refl, arith, nat_le}
 use Rattle.std.proofs.lemmas.Bool.Decides.{nat_tests}
 use Rattle.sre_chars.specs.declared.constants.SreOpcode.TheVariants as opcode
 use Rattle.sre_model.specs.Tree.{GreedyRun, Test, LazyRun, PossessiveRun}
 use Rattle.sre_model.specs.Ways.{Body, unlimited, run_length, longest_run, falling, rising, run_ways}
 use Rattle.sre_model.specs.Grammar.{Word, Opcode, skip, test_opcode, TestOperands}
 use Rattle.sre_turns.specs.MovesInRuns.{RunOperands}
-use Rattle.sre_turns.specs.Machine.{Frame, Instruction, Shorter, Longer, Spot, spot_at, Stop, Go, Marks, Subject, Runs}
-use Rattle.sre_turns.specs.Machine.{turns, stops, splits, goes}
+use Rattle.sre_turns.specs.Machine.{Frame, Instruction, Shorter, Longer, spot_at, Stop, Marks, Subject, Runs, turns}
+use Rattle.sre_turns.specs.Machine.{stops, splits}
 use Rattle.sre_turns.proofs.semantics.AtRuns.{greedy_stops, greedy_splits, lazy_none, lazy_splits, longer_none}
 use Rattle.sre_turns.proofs.semantics.AtRuns.{longer_splits}
-use Rattle.sre_turns.proofs.semantics.AtRuns.{bounded_stops, bounded_goes}
 use Rattle.sre_model.proofs.Bounds.{longest_run-fits}
 use Rattle.sre_model.proofs.Longest.{goes_on, longest_goes_on, longest_stops, least_there, least_short}
 use Rattle.sre_model.specs.Cost.{Costs, shorter_cost, run_cost, longer_cost, lazy_run_cost, longest_run_cost}
 use Rattle.sre_turns.proofs.semantics.Outcomes.{followed, Follows, Ran, moved, alone}
-use Rattle.sre_turns.proofs.semantics.PossessiveRunEnds.{longest_lacks, longest_stretch, onward_stops, stretch_runs}
+use Rattle.sre_turns.proofs.semantics.PossessiveRunEnds.{longest_runs, longest_none}
 
 shorter-ran : (ws : List ℕ) (s : Subject) (j low n : ℕ) (fs : List Frame) (K : Body) (C : Costs) (p : ℕ) (m : Marks)
     → p + (low + n) ≤ s.end → Follows ws s p (Instruction j) fs K C
@@ -116,88 +115,26 @@ lazy-run-ran ws s i j low high t w tail wl wh le wt h fs K C p m e f = go (nat_l
         (splits (f (p + low) m (omega arith) (omega (arith, fits)))
         (longer-ran ws s i j low high t (k - low) low fs K C p m tail o e (omega (arith, l)) f)))
 
--- of a possessive run with a greatest count, in one turn
-bounded-ran : (ws : List ℕ) (s : Subject) (i j low high : ℕ) (t : Test)
-    → Opcode ws i opcode.POSSESSIVE_REPEAT_ONE → j ≡ skip ws (i + 1) → RunOperands ws i low high (j - 1) t
-    → nat_eq high unlimited ≡ false
-    → Ran ws s (Instruction i) j (λ p m. run_ways s PossessiveRun low high t p m)
-    (λ C p m. longest_run_cost low high (longest_run s t high p) C p m)
-bounded-ran ws s i j low high t w tail o bounded fs K C p m e f = go (nat_lt k low) refl
-  where
-    k : ℕ
-    k = longest_run s t high p
-
-    x : Spot
-    x = spot_at (Instruction i) fs p m
-
-    fits : p + k ≤ s.end
-    fits = longest_run-fits s t high p e
-
-    go : (y : Bool) → nat_lt k low ≡ y
-        → Runs ws s x (followed K (map (λ n. record { stop = p + n; marks = m }) (cond (nat_le low k) (k ∷ []) [])))
-        (cond y 1 (cond (nat_eq high unlimited) (k - low) 0 + suc (C (p + k) m)))
-    go true y =
-        let few : nat_le low k ≡ false = grind (arith, nat_tests) in
-        let short : k < low = grind (arith, nat_tests) in
-        rw few (turns Stop (bounded_stops o w bounded refl short) stops)
-    go false y =
-        let enough : nat_le low k ≡ true = grind (arith, nat_tests) in
-        let there : Spot = spot_at (Instruction j) fs (p + k) m in
-        let cost : suc (C (p + k) m) ≡ cond (nat_eq high unlimited) (k - low) 0 + suc (C (p + k) m) =
-        subst (λ b. suc (C (p + k) m) ≡ cond b (k - low) 0 + suc (C (p + k) m)) (sym bounded) (omega arith) in
-        rw enough
-        (subst (λ n. Runs ws s x (K (p + k) m ++ []) n) cost
-        (turns (Go there) (bounded_goes o w tail bounded refl (grind (arith, nat_tests)) refl)
-        (goes (alone (f (p + k) m (omega arith) fits)))))
-
--- and of one without, turn by turn
-unbounded-ran : (ws : List ℕ) (s : Subject) (i j low : ℕ) (t : Test)
-    → Opcode ws i opcode.POSSESSIVE_REPEAT_ONE → j ≡ skip ws (i + 1) → RunOperands ws i low unlimited (j - 1) t
-    → Ran ws s (Instruction i) j (λ p m. run_ways s PossessiveRun low unlimited t p m)
-    (λ C p m. longest_run_cost low unlimited (longest_run s t unlimited p) C p m)
-unbounded-ran ws s i j low t w tail o fs K C p m e f = go (nat_lt k low) refl
-  where
-    k : ℕ
-    k = longest_run s t unlimited p
-
-    x : Spot
-    x = spot_at (Instruction i) fs p m
-
-    fits : p + k ≤ s.end
-    fits = longest_run-fits s t unlimited p e
-
-    go : (y : Bool) → nat_lt k low ≡ y
-        → Runs ws s x (followed K (map (λ n. record { stop = p + n; marks = m }) (cond (nat_le low k) (k ∷ []) [])))
-        (cond y 1 (k - low + suc (C (p + k) m)))
-    go true y =
-        let few : nat_le low k ≡ false = grind (arith, nat_tests) in
-        let short : k < low = grind (arith, nat_tests) in
-        rw few (turns Stop (onward_stops ws s i low (j - 1) t fs m w o p (longest_lacks s t low p short)) stops)
-    go false y =
-        let enough : nat_le low k ≡ true = grind (arith, nat_tests) in
-        let l : low ≤ k = grind (arith, nat_tests) in
-        let same : p + k ≡ p + low + (k - low) = omega (arith, l) in
-        let behind : Runs ws s (spot_at (Instruction (skip ws (i + 1))) fs (p + low + (k - low)) m) (K (p + k) m)
-        (C (p + k) m) =
-        subst (λ q. Runs ws s (spot_at (Instruction (skip ws (i + 1))) fs q m) (K (p + k) m) (C (p + k) m)) same
-        (moved tail (f (p + k) m (omega arith) fits)) in
-        rw enough
-        (alone (stretch_runs ws s i low (j - 1) t fs m w o (k - low) p (K (p + k) m) (C (p + k) m)
-        (longest_stretch s t low p l) behind))
-
+-- of a possessive run, in one turn with a greatest count, and else turn by turn
 pub longest-run-ran : (ws : List ℕ) (s : Subject) (i j low high : ℕ) (t : Test)
     → Opcode ws i opcode.POSSESSIVE_REPEAT_ONE → j ≡ skip ws (i + 1) → RunOperands ws i low high (j - 1) t
     → Ran ws s (Instruction i) j (λ p m. run_ways s PossessiveRun low high t p m)
     (λ C p m. longest_run_cost low high (longest_run s t high p) C p m)
-longest-run-ran ws s i j low high t w tail o = go (nat_eq high unlimited) refl
+longest-run-ran ws s i j low high t w tail o fs K C p m e f = go (nat_lt k low) refl
   where
-    Whole : ℕ → Type 0
-    Whole n = Ran ws s (Instruction i) j (λ p m. run_ways s PossessiveRun low n t p m)
-        (λ C p m. longest_run_cost low n (longest_run s t n p) C p m)
+    k : ℕ
+    k = longest_run s t high p
 
-    go : (y : Bool) → nat_eq high unlimited ≡ y → Whole high
+    go : (y : Bool) → nat_lt k low ≡ y
+        → Runs ws s (spot_at (Instruction i) fs p m)
+        (followed K (map (λ n. record { stop = p + n; marks = m }) (cond (nat_le low k) (k ∷ []) [])))
+        (cond y 1 (cond (nat_eq high unlimited) (k - low) 0 + suc (C (p + k) m)))
     go true y =
-        let same : high ≡ unlimited = grind (arith, nat_tests) in
-        subst Whole (sym same)
-        (unbounded-ran ws s i j low t w tail (subst (λ n. RunOperands ws i low n (j - 1) t) same o))
-    go false y = bounded-ran ws s i j low high t w tail o y
+        let few : nat_le low k ≡ false = grind (arith, nat_tests) in
+        let short : k < low = grind (arith, nat_tests) in
+        rw few (turns Stop (longest_none ws s i low high (j - 1) t fs m w o p short) stops)
+    go false y =
+        let enough : nat_le low k ≡ true = grind (arith, nat_tests) in
+        rw enough
+        (alone (longest_runs ws s i low high (j - 1) t fs m w o p (K (p + k) m) (C (p + k) m) (grind (arith, nat_tests))
+        (moved tail (f (p + k) m (omega arith) (longest_run-fits s t high p e)))))

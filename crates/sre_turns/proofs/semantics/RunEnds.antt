@@ -69,15 +69,7 @@ passed s t n p q l c from to =
 
 -- where one more passes, all up to it do
 pub pass_last : (s : Subject) (t : Test) (p q : ℕ) → AllPass s t p q → passes s t q ≡ true → AllPass s t p (q + 1)
-pass_last s t p q earlier last c from to = go (nat_lt c q) refl
-  where
-    go : (b : Bool) → nat_lt c q ≡ b → passes s t c ≡ true
-    go true l =
-        let before : c < q = grind (arith, nat_tests) in earlier c from before
-    go false l =
-        let behind : q ≤ c = grind (arith, nat_tests) in
-        let same : q ≡ c = omega (arith, behind, to) in
-        subst (λ z. passes s t z ≡ true) same last
+pass_last s t p q earlier last c from to = grind (arith, earlier)
 
 -- a run from the next character on ends where this one does
 longest_later : (r : Run) (t : Test) (p count : ℕ) → longest_run r.subject t unlimited p ≡ count → 1 ≤ count
@@ -96,27 +88,20 @@ longest_later r t p count e l =
 -- a run is as long as its characters pass
 pub longest_reaches : (r : Run) (t : Test) (p q : ℕ) → AllPass r.subject t p q
     → q ≤ p + longest_run r.subject t unlimited p
-longest_reaches r t p q all_pass =
-    go (nat_lt (p + count) q) (nat_lt count (r.subject.end - p)) refl refl
+longest_reaches r t p q all_pass = go (nat_lt (p + count) q) refl
   where
     count : ℕ
     count = run_length r.subject t (r.subject.end - p) p
 
-    go : (a b : Bool) → nat_lt (p + count) q ≡ a → nat_lt count (r.subject.end - p) ≡ b
-        → q ≤ p + longest_run r.subject t unlimited p
-    go false b e f = grind (arith, nat_tests)
-    go true true e f =
+    go : (a : Bool) → nat_lt (p + count) q ≡ a → q ≤ p + longest_run r.subject t unlimited p
+    go false e = grind (arith, nat_tests)
+    go true e =
         let short : p + count < q = grind (arith, nat_tests) in
-        let less : count < r.subject.end - p = grind (arith, nat_tests) in
         let yes_ : passes r.subject t (p + count) ≡ true = all_pass (p + count) (omega arith) short in
-        let no_ : passes r.subject t (p + count) ≡ false = run_stopped r.subject t (r.subject.end - p) p less in
+        let inside : p + count < r.subject.end = passes-below r.subject t (p + count) yes_ in
+        let no_ : passes r.subject t (p + count) ≡ false =
+        run_stopped r.subject t (r.subject.end - p) p (omega (arith, inside)) in
         absurd (cc)
-    go true false e f =
-        let short : p + count < q = grind (arith, nat_tests) in
-        let full : r.subject.end - p ≤ count = grind (arith, nat_tests) in
-        let inside : p + count < r.subject.end =
-        passes-below r.subject t (p + count) (all_pass (p + count) (omega arith) short) in
-        absurd (omega (arith, inside, full))
 
 -- a greedy run without a greatest count
 module _ (r : Run) (i low v : ℕ) (fs : List Frame) (m : Marks) (w : Opcode r.words i opcode.REPEAT_ONE)
@@ -191,21 +176,12 @@ module _ (r : Run) (i low v : ℕ) (fs : List Frame) (m : Marks) (w : Opcode r.w
   pub run_only_moves : (p : ℕ) → AllPass r.subject there.test p (p + low)
       → passes r.subject there.test (p + low) ≡ false
       → Moves r.words r.subject (starts_at p) (Split (ends_at (p + low)) (shorter_at (low - low) (p + low)))
-  run_only_moves p all_pass stopped = run_moves p low (only (nat_lt low count) refl) (omega arith)
-    where
-      count : ℕ
-      count = longest_run r.subject there.test unlimited p
-
-      only : (b : Bool) → nat_lt low count ≡ b → count ≡ low
-      only true l =
-          let more : low < count = grind (arith, nat_tests) in
-          let taken = passed r.subject there.test (r.subject.end - p) p (p + count) (omega arith) (p + low)
-          (omega arith) (omega (arith, more)) in
-          absurd (cc)
-      only false l =
-          let most : count ≤ low = grind (arith, nat_tests) in
-          let reaches = longest_reaches r there.test p (p + low) all_pass in
-          omega (arith, most, reaches)
+  run_only_moves p all_pass stopped =
+      let reaches = longest_reaches r there.test p (p + low) all_pass in
+      let most = run_at_most r.subject there.test (r.subject.end - p) p in
+      run_moves p low
+      (run_has r.subject there.test (r.subject.end - p) p low (omega (arith, reaches, most))
+      (λ c l. all_pass (p + c) (omega arith) (omega (arith, l))) (λ l. stopped)) (omega arith)
 
   -- where its least count is not there it comes to nothing
   pub run_short_moves : (p : ℕ) → run_length r.subject there.test low p < low

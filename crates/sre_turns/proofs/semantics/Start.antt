@@ -27,6 +27,7 @@ use Rattle.sre_model.proofs.Unique.{items_same}
 use Rattle.sre_turns.proofs.semantics.Outcomes.{region}
 use Rattle.sre_turns.proofs.semantics.Placed.{none_placed}
 use Rattle.sre_turns.proofs.semantics.Ran.{ran, PartOf}
+use Rattle.sre_turns.proofs.semantics.FirstOutcomes.{fruit_waits}
 
 -- a reference behind some items is one of the whole
 behind_refers : (n : ℕ) (t : Tree) → refers (behind_items n t) ≡ true → refers t ≡ true
@@ -105,11 +106,6 @@ started r i t c b start v has reads ends stands inside fresh settled =
       confined = λ none. record { here = λ inside. absurd (true≢false (sym inside)); others = record { each = tt } };
     })
 
--- an outcome that is not accepted changes nothing of what came
-refused_fruit : (r : Run) (os : List Way) (w : Way) (now : List Way) → r.accepts w ≡ false
-    → SameFruit r false os (w ∷ now) → SameFruit r false os now
-refused_fruit r os w now e h = rw e at h
-
 -- what waits outside all atomic scopes is not inside one
 pub none_inside : (cs : List Choice) → from_region cs ≡ [] → is_inside cs ≡ false
 none_inside cs e = ap (λ (rest : List Choice). elim rest [ [] ↦ false | (c ∷ others) ↦ true ]) e
@@ -132,16 +128,9 @@ first_waits r (Keep g fs c m ∷ cs) w rest none y wt = absurd (cc)
 -- and else it is passed over
 pub refused_waits : (r : Run) (cs : List Choice) (w : Way) (rest : List Way) {all : List Way} {u k : ℕ}
     → from_region cs ≡ [] → r.accepts w ≡ false → Waits r cs u (w ∷ rest) all k → Waits r cs u rest all k
-refused_waits r [] w rest none n (outermost begins) = outermost (rw n at begins)
-refused_waits r (Else pt fs c m ∷ cs) w rest none n (otherwise {os = os} there placed d wt) =
-    otherwise there placed d (refused_waits r cs w (rest ++ os) none n wt)
-refused_waits r (Trying pt fs c m ∷ cs) w rest none n (tried {os = os} there placed d most same wt) =
-    let outside : is_inside cs ≡ false = none_inside cs none in
-    let was : SameFruit r false os (w ∷ rest) = subst (λ b. SameFruit r b os (w ∷ rest)) outside same in
-    let left : SameFruit r (is_inside cs) os rest =
-    subst (λ b. SameFruit r b os rest) (sym outside) (refused_fruit r os w rest n was) in
-    tried there placed d most left (refused_waits r cs w rest none n wt)
-refused_waits r (Keep g fs c m ∷ cs) w rest none n wt = absurd (cc)
+refused_waits r cs w rest none n =
+    fruit_waits r cs (w ∷ rest) rest
+    (subst (λ i. SameFruit r i (w ∷ rest) rest) (sym (none_inside cs none)) (rw n refl))
 
 -- the machine stands at the end of the whole
 module _ (r : Run) (all : List Way) (limit : Limit) (p : ℕ) (n : Next) (c : StringCursor) (old b : BoardValue)

@@ -1,6 +1,5 @@
 -- Steps at tests, positions, MARKs, jumps, and at the ends of an atomic scope.
-use Rattle.std.proofs.Common.{◌≡◌, ◌≢◌, ℕ, ◌+◌, ◌<◌, ◌≤◌, Bool, true, false, nat_eq, nat_lt, ◌&&◌, List, length, refl}
-use Rattle.std.proofs.Common.{sym, ◌∙◌, arith}
+use Rattle.std.proofs.Common.{◌≡◌, ◌≢◌, ℕ, ◌+◌, ◌<◌, ◌≤◌, Bool, true, false, List, length, refl, ◌∙◌, arith}
 use Rattle.std.proofs.lemmas.Bool.Decides.{nat_tests}
 use Rattle.sre_chars.specs.Numbers.{at_number}
 use Rattle.sre_chars.specs.declared.constants.SreAtCode.{SreAtCode}
@@ -11,28 +10,29 @@ use Rattle.sre_model.specs.Marks.{Marks, set_mark}
 use Rattle.sre_model.specs.Characters.{holds}
 use Rattle.sre_model.specs.Subject.{Subject, passes, char_at, holds_at}
 use Rattle.sre_turns.specs.Lying.{repeats}
-use Rattle.sre_turns.specs.Machine.{Frame, Instruction, spot_at, Go, BoardValue, Limit, Run, StringCursor, Way, Word}
-use Rattle.sre_turns.specs.Machine.{Opcode, Moves, Goes, Later, HasRun, Refuses, Demands, Continues}
+use Rattle.sre_turns.specs.Machine.{Frame, Instruction, spot_at, Go, BoardValue, Run, StringCursor, Word, Opcode, Moves}
+use Rattle.sre_turns.specs.Machine.{HasRun, Refuses, Demands, Continues, Advances}
 use Rattle.sre_model.specs.Standing.{TestStands, HasTest}
 use Rattle.sre_model.specs.Roles.{ToFail, ToEnd, ToCheckPosition, ToMark, ToJump, begins_test}
 use Rattle.sre_turns.specs.declared.Next.TheVariants as next
 use Rattle.sre_model.proofs.Words.{same_word, at_low, word_of, word_within}
 use Rattle.sre_turns.proofs.bound.Faring.{next_less, test_pool}
-use Rattle.sre_turns.proofs.semantics.Moving.{in_role, in_test, at_instruction, at_test, run_nothing, run_goes, run_on}
-use Rattle.sre_turns.proofs.semantics.Moving.{nothing_after, has_run, turn_stops, turn_ends, turn_goes}
+use Rattle.sre_turns.proofs.semantics.Moving.{in_role, in_test, at_instruction, at_test, run_nothing, turn_stops}
+use Rattle.sre_turns.proofs.semantics.Moving.{turn_ends, turn_goes}
 use Rattle.sre_turns.proofs.memoization.Confining.{turn_confines}
 use Rattle.sre_model.proofs.Passing.{past_end, read_passes, stands_at_own}
 use Rattle.sre_turns.proofs.semantics.Placed.{set_placed}
 use Rattle.sre_model.proofs.Families.{is_literal}
+use Rattle.sre_turns.proofs.semantics.AfterSteps.{run_on, nothing_after, has_run}
 
 -- FAILURE
 pub failure_step : (r : Run) (i : ℕ) (c : StringCursor) (b : BoardValue) → Opcode r.words i opcode.FAILURE
-    → (all : List Way) (limit : Limit) → Goes r all limit (Instruction i) c b → Later r all limit next.Back b
+    → Advances r (Instruction i) c b next.Back b
 failure_step r i c b w = turn_stops r (Instruction i) c b (at_instruction opcode.FAILURE ToFail refl w refl)
 
 -- SUCCESS
 pub success_step : (r : Run) (i : ℕ) (c : StringCursor) (b : BoardValue) → Opcode r.words i opcode.SUCCESS
-    → (all : List Way) (limit : Limit) → Goes r all limit (Instruction i) c b → Later r all limit (next.Done c) b
+    → Advances r (Instruction i) c b (next.Done c) b
 success_step r i c b w = turn_ends r (Instruction i) c b (at_instruction opcode.SUCCESS ToEnd refl w refl)
 
 -- a test of one character stands where its opcode does
@@ -45,15 +45,13 @@ test_there r i c o w f x =
 module _ (r : Run) (i : ℕ) (c : StringCursor) (b : BoardValue) (o : SreOpcode) (w : Opcode r.words i o)
     (f : begins_test o ≡ true) (j : ℕ) (t : Test) (stands : TestStands r.words i j t) where
   test_taken : (after : StringCursor) → passes r.subject t c.position ≡ true → r.stands after after.position
-      → after.position ≡ c.position + 1 → (all : List Way) (limit : Limit) → Goes r all limit (Instruction i) c b
-      → Later r all limit (next.At j after) b
+      → after.position ≡ c.position + 1 → Advances r (Instruction i) c b (next.At j after) b
   test_taken after taken there moved_on all limit g =
       turn_goes r (Instruction i) c b (Instruction j) after b
       (at_test o f w (record { end = j; test = t; stands = stands; is = rw (taken, moved_on) refl }))
       there g.placed refl all limit g
 
-  test_refused : passes r.subject t c.position ≡ false → (all : List Way) (limit : Limit)
-      → Goes r all limit (Instruction i) c b → Later r all limit next.Back b
+  test_refused : passes r.subject t c.position ≡ false → Advances r (Instruction i) c b next.Back b
   test_refused left =
       turn_stops r (Instruction i) c b
       (at_test o f w (record { end = j; test = t; stands = stands; is = rw left refl }))
@@ -63,8 +61,7 @@ pub test_read : (r : Run) (i j ch : ℕ) (o : SreOpcode) (t : Test) (c after : S
     (b : BoardValue) (takes : Bool)
     → Opcode r.words i o → begins_test o ≡ true → TestStands r.words i j t → c.position < r.subject.end
     → ch ≡ char_at r.subject c.position → takes ≡ holds r.subject.table t ch → r.stands after (c.position + 1)
-    → after.position ≡ c.position + 1 → takes ≡ true → (all : List Way) (limit : Limit)
-    → Goes r all limit (Instruction i) c b → Later r all limit (next.At j after) b
+    → after.position ≡ c.position + 1 → takes ≡ true → Advances r (Instruction i) c b (next.At j after) b
 test_read r i j ch o t c after b takes w f st l e h there moved_on y =
     test_taken r i c b o w f j t st after (read_passes r.subject t c.position ch takes l e h ∙ y)
     (stands_at_own r.stands after (c.position + 1) moved_on there) moved_on
@@ -72,13 +69,12 @@ test_read r i j ch o t c after b takes w f st l e h there moved_on y =
 pub test_unlike : (r : Run) (i j ch : ℕ) (o : SreOpcode) (t : Test) (c : StringCursor) (b : BoardValue) (takes : Bool)
     → Opcode r.words i o → begins_test o ≡ true → TestStands r.words i j t → c.position < r.subject.end
     → ch ≡ char_at r.subject c.position → takes ≡ holds r.subject.table t ch → takes ≡ false
-    → (all : List Way) (limit : Limit) → Goes r all limit (Instruction i) c b → Later r all limit next.Back b
+    → Advances r (Instruction i) c b next.Back b
 test_unlike r i j ch o t c b takes w f st l e h n =
     test_refused r i c b o w f j t st (read_passes r.subject t c.position ch takes l e h ∙ n)
 
 pub test_past : (r : Run) (i : ℕ) (o : SreOpcode) (c : StringCursor) (b : BoardValue) → Opcode r.words i o
-    → begins_test o ≡ true → HasTest r.words i → r.subject.end ≤ c.position → (all : List Way) (limit : Limit)
-    → Goes r all limit (Instruction i) c b → Later r all limit next.Back b
+    → begins_test o ≡ true → HasTest r.words i → r.subject.end ≤ c.position → Advances r (Instruction i) c b next.Back b
 test_past r i o c b w f t l = test_refused r i c b o w f t.end t.test t.stands (past_end r.subject t.test c.position l)
 
 -- AT
@@ -98,16 +94,16 @@ at_known r i v c w x wv l =
     omega (arith, at_low a.0, same_word r.words (i + 1) v (at_number a.0) wv a.1)
 
 pub at_step : (r : Run) (i : ℕ) (a : SreAtCode) (c : StringCursor) (b : BoardValue) → Opcode r.words i opcode.AT
-    → Word r.words (i + 1) (at_number a) → holds_at r.subject a c.position ≡ true → (all : List Way) (limit : Limit)
-    → Goes r all limit (Instruction i) c b → Later r all limit (next.At (i + 2) c) b
+    → Word r.words (i + 1) (at_number a) → holds_at r.subject a c.position ≡ true
+    → Advances r (Instruction i) c b (next.At (i + 2) c) b
 at_step r i a c b w wa y all limit g =
     turn_goes r (Instruction i) c b (Instruction (i + 2)) c b
     (at_instruction opcode.AT ToCheckPosition refl w (record { code = a; there = wa; is = rw y refl }))
     g.stands g.placed refl all limit g
 
 pub at_refused : (r : Run) (i : ℕ) (a : SreAtCode) (c : StringCursor) (b : BoardValue) → Opcode r.words i opcode.AT
-    → Word r.words (i + 1) (at_number a) → holds_at r.subject a c.position ≡ false → (all : List Way) (limit : Limit)
-    → Goes r all limit (Instruction i) c b → Later r all limit next.Back b
+    → Word r.words (i + 1) (at_number a) → holds_at r.subject a c.position ≡ false
+    → Advances r (Instruction i) c b next.Back b
 at_refused r i a c b w wa n =
     turn_stops r (Instruction i) c b
     (at_instruction opcode.AT ToCheckPosition refl w (record { code = a; there = wa; is = rw n refl }))
@@ -121,8 +117,7 @@ mark_operand r i c w x =
 
 pub mark_step : (r : Run) (i v p : ℕ) (c : StringCursor) (b b' : BoardValue) → Opcode r.words i opcode.MARK
     → Word r.words (i + 1) v → p ≡ c.position → c.position ≤ length r.subject.text
-    → b' ≡ record b { marks = set_mark b.marks v p }
-    → (all : List Way) (limit : Limit) → Goes r all limit (Instruction i) c b → Later r all limit (next.At (i + 2) c) b'
+    → b' ≡ record b { marks = set_mark b.marks v p } → Advances r (Instruction i) c b (next.At (i + 2) c) b'
 mark_step r i v p c b b' w wv same_place inside eb all limit g =
     rw (eb, same_place)
     (turn_goes r (Instruction i) c b (Instruction (i + 2)) c _
@@ -135,8 +130,7 @@ pub jump_operand : (r : Run) (i : ℕ) (c : StringCursor) → Opcode r.words i o
 jump_operand r i c w x = (in_role opcode.JUMP ToJump refl w x.runs).1.there
 
 pub jump_step : (r : Run) (i v : ℕ) (c : StringCursor) (b : BoardValue) → Opcode r.words i opcode.JUMP
-    → Word r.words (i + 1) v → (all : List Way) (limit : Limit) → Goes r all limit (Instruction i) c b
-    → Later r all limit (next.At (i + 1 + v) c) b
+    → Word r.words (i + 1) v → Advances r (Instruction i) c b (next.At (i + 1 + v) c) b
 jump_step r i v c b w wv all limit g =
     turn_goes r (Instruction i) c b (Instruction (i + 1 + v)) c b
     (at_instruction opcode.JUMP ToJump refl w
@@ -232,18 +226,10 @@ pub mark_run : (r : Run) (i : ℕ) (c : StringCursor) → Opcode r.words i opcod
 mark_run r i c w x =
     let h = (in_role opcode.MARK ToMark refl w x.runs).1 in
     let after = set_mark x.marks h.number c.position in
-    has_run r (Instruction (i + 2)) x.frames after c x.stands
-    (run_goes (spot_at (Instruction (i + 2)) x.frames c.position after)
-    (mark_moves r i c.position h.number x.frames x.marks w h.there) x.runs)
+    has_run r (Instruction (i + 2)) c x.stands
+    (run_on (spot_at (Instruction (i + 2)) x.frames c.position after)
+    (mark_moves r i c.position h.number x.frames x.marks w h.there) x.runs).2
 
 -- a character that is read, inside the range or not, and is another one than a literal's
 pub other_character : (s : Subject) (v ch p : ℕ) → ch ≡ char_at s p → ch ≢ v → passes s (Literal Plain v) p ≡ false
-other_character s v ch p e unlike =
-    and_never (nat_lt p s.end) (nat_eq v (char_at s p)) (other v (char_at s p) (λ x. unlike (e ∙ sym x)))
-  where
-    and_never : (a b : Bool) → b ≡ false → (a && b) ≡ false
-    and_never true b is = is
-    and_never false b is = refl
-
-    other : (v ch : ℕ) → v ≢ ch → nat_eq v ch ≡ false
-    other v ch ne = grind (arith, nat_tests)
+other_character s v ch p e unlike = grind (arith, nat_tests)

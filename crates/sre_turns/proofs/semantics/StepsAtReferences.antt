@@ -10,7 +10,7 @@ use Rattle.sre_model.specs.Grammar.{Word, Opcode, reference_opcode}
 use Rattle.sre_turns.specs.MovesAtReferences.{Asks, reference_turn, condition_place}
 use Rattle.sre_model.specs.Roles.{ToRefer, role, ToCheckGroup}
 use Rattle.sre_turns.specs.Machine.{Instruction, Move, Stop, Go, BoardValue, Limit, Run, StringCursor, Way, Moves, Goes}
-use Rattle.sre_turns.specs.Machine.{Later, spot, HasRun}
+use Rattle.sre_turns.specs.Machine.{spot, HasRun, Advances}
 use Rattle.sre_model.proofs.Families.{reference_role}
 use Rattle.sre_turns.specs.declared.Next.TheVariants as next
 use Rattle.sre_model.proofs.Words.{same_opcode, word_of, word_within}
@@ -53,31 +53,27 @@ module _ (r : Run) (fold : Fold) (i g : ℕ) (c : StringCursor) (b : BoardValue)
         is = is;
       })
 
-  pub reference_missing : group b.marks g ≡ None → (all : List Way) (limit : Limit)
-      → Goes r all limit (Instruction i) c b
-      → Later r all limit next.Back b
+  pub reference_missing : group b.marks g ≡ None → Advances r (Instruction i) c b next.Back b
   reference_missing known all limit k =
       turn_stops r (Instruction i) c b (turn_there all limit k Stop (rw (known, reference_turn) refl)) all limit k
 
   module _ (x y : ℕ) (known : group b.marks g ≡ Some (x, y)) where
     -- the group is longer than what is left of the window, or the window goes on otherwise
-    pub reference_past : nat_le (c.position + (y - x)) r.subject.end ≡ false → (all : List Way) (limit : Limit)
-        → Goes r all limit (Instruction i) c b → Later r all limit next.Back b
+    pub reference_past : nat_le (c.position + (y - x)) r.subject.end ≡ false
+        → Advances r (Instruction i) c b next.Back b
     reference_past past all limit k =
         turn_stops r (Instruction i) c b (turn_there all limit k Stop (rw (known, past, reference_turn) refl)) all limit
         k
 
     pub reference_unlike : nat_le (c.position + (y - x)) r.subject.end ≡ true
-        → same_folded r.subject fold (y - x) x c.position ≡ false → (all : List Way) (limit : Limit)
-        → Goes r all limit (Instruction i) c b → Later r all limit next.Back b
+        → same_folded r.subject fold (y - x) x c.position ≡ false → Advances r (Instruction i) c b next.Back b
     reference_unlike inside unlike all limit k =
         turn_stops r (Instruction i) c b
         (turn_there all limit k Stop (rw (known, inside, unlike, reference_turn) refl)) all limit k
 
     pub reference_step : (after : StringCursor) → nat_le (c.position + (y - x)) r.subject.end ≡ true
         → same_folded r.subject fold (y - x) x c.position ≡ true → after.position ≡ c.position + (y - x)
-        → r.stands after after.position → (all : List Way) (limit : Limit) → Goes r all limit (Instruction i) c b
-        → Later r all limit (next.At (i + 2) after) b
+        → r.stands after after.position → Advances r (Instruction i) c b (next.At (i + 2) after) b
     reference_step after inside alike place stands all limit k =
         turn_goes r (Instruction i) c b (Instruction (i + 2)) after b
         (turn_there all limit k (Go (spot (Instruction (i + 2)) after b))
@@ -86,29 +82,22 @@ module _ (r : Run) (fold : Fold) (i g : ℕ) (c : StringCursor) (b : BoardValue)
 
 module _ (r : Run) (i g v : ℕ) (c : StringCursor) (b : BoardValue) (w : Opcode r.words i opcode.GROUPREF_EXISTS)
     (there : Word r.words (i + 1) g) (leads : Word r.words (i + 2) v) where
-  pub condition_present : (u : ℕ × ℕ) → group b.marks g ≡ Some u → (all : List Way) (limit : Limit)
-      → Goes r all limit (Instruction i) c b → Later r all limit (next.At (i + 3) c) b
-  condition_present u known all limit k =
+  -- it goes on behind its operands, or at the other part
+  condition_step : (t : ℕ) → t ≡ condition_place r.words i g b.marks → Advances r (Instruction i) c b (next.At t c) b
+  condition_step t e all limit k =
       let h = (in_role opcode.GROUPREF_EXISTS ToCheckGroup refl w k.runs).1 in
-      turn_goes r (Instruction i) c b (Instruction (i + 3)) c b
-      (at_instruction opcode.GROUPREF_EXISTS ToCheckGroup refl w
-      (record {
-        number = g;
-        asked = same_asked r.words (i + 1) h.number g h.there there h.asked;
-        there = there;
-        skips = word_within r.words (i + 2) v leads;
-        is = rw (known, condition_place) refl;
-      })) k.stands k.placed refl all limit k
-
-  pub condition_absent : group b.marks g ≡ None → (all : List Way) (limit : Limit)
-      → Goes r all limit (Instruction i) c b → Later r all limit (next.At (i + 1 + v) c) b
-  condition_absent known all limit k =
-      let h = (in_role opcode.GROUPREF_EXISTS ToCheckGroup refl w k.runs).1 in
-      turn_goes r (Instruction i) c b (Instruction (i + 1 + v)) c b
+      turn_goes r (Instruction i) c b (Instruction t) c b
       (at_instruction opcode.GROUPREF_EXISTS ToCheckGroup refl w (record {
         number = g;
         asked = same_asked r.words (i + 1) h.number g h.there there h.asked;
         there = there;
         skips = word_within r.words (i + 2) v leads;
-        is = rw (known, word_of r.words (i + 2) v leads, condition_place) refl;
+        is = rw e refl;
       })) k.stands k.placed refl all limit k
+
+  pub condition_present : (u : ℕ × ℕ) → group b.marks g ≡ Some u → Advances r (Instruction i) c b (next.At (i + 3) c) b
+  condition_present u known = condition_step (i + 3) (rw (known, condition_place) refl)
+
+  pub condition_absent : group b.marks g ≡ None → Advances r (Instruction i) c b (next.At (i + 1 + v) c) b
+  condition_absent known =
+      condition_step (i + 1 + v) (rw (known, word_of r.words (i + 2) v leads, condition_place) refl)

@@ -4,18 +4,16 @@ use Rattle.std.proofs.lemmas.Bool.Decides.{nat_tests}
 use Rattle.sre_chars.specs.declared.constants.SreOpcode.TheVariants as opcode
 use Rattle.sre_turns.specs.Moves.{Spot, spot_at, Stop, Go, Split, to_point}
 use Rattle.sre_turns.specs.Machine.{Instruction, Alternatives, BoardValue, Limit, earlier, Run, StringCursor, Subject}
-use Rattle.sre_turns.specs.Machine.{Way, Word, Opcode, Moves, Runs, turns, Goes, GoesBoth, Later, spot, HasRun, Refuses}
-use Rattle.sre_turns.specs.Machine.{Exhausted, Continues}
+use Rattle.sre_turns.specs.Machine.{Way, Word, Opcode, Moves, Runs, turns, Goes, GoesBoth, spot, HasRun, Refuses}
+use Rattle.sre_turns.specs.Machine.{Exhausted, Continues, Advances}
 use Rattle.sre_model.specs.Roles.{ToBranch}
 use Rattle.sre_turns.specs.declared.Next.TheVariants as next
 use Rattle.sre_model.proofs.Words.{word_within}
 use Rattle.sre_turns.proofs.bound.Faring.{second_less, alternatives_free}
 use Rattle.sre_model.specs.Marks.{no_marks}
-use Rattle.sre_turns.proofs.semantics.AfterSteps.{both_run}
+use Rattle.sre_turns.proofs.semantics.AfterSteps.{run_on, both_run, run_second, has_run}
 use Rattle.sre_turns.proofs.memoization.Confining.{confined_leads}
-use Rattle.sre_turns.proofs.semantics.Moving.{at_instruction, has_run, run_goes, turn_stops, turn_goes, turn_splits}
-use Rattle.sre_turns.proofs.semantics.Moving.{run_nothing}
-use Rattle.sre_turns.proofs.semantics.Moving.{run_second, arrived}
+use Rattle.sre_turns.proofs.semantics.Moving.{at_instruction, turn_stops, turn_goes, turn_splits, run_nothing, arrived}
 
 pub positive : (n : ℕ) → (n ≡ 0 → ⊥) → 0 < n
 positive zero no_ = absurd (no_ refl)
@@ -37,8 +35,7 @@ branch_step r i c b w all limit g =
 pub branch_run : (r : Run) (i : ℕ) (c : StringCursor) → Opcode r.words i opcode.BRANCH → HasRun r (Instruction i) c
     → HasRun r (Alternatives (i + 1)) c
 branch_run r i c w x =
-    has_run r (Alternatives (i + 1)) x.frames x.marks c x.stands
-    (run_goes _ (branch_moves r.words r.subject i _ refl w) x.runs)
+    has_run r (Alternatives (i + 1)) c x.stands (run_on _ (branch_moves r.words r.subject i _ refl w) x.runs).2
 
 -- alternatives
 pub alternatives_move : (ws : List ℕ) (s : Subject) (q v : ℕ) (x : Spot) → x.point ≡ Alternatives q → Word ws q v
@@ -59,7 +56,7 @@ alternatives_there r q c x = go x.runs
     go (turns mv h d) = word_within r.words q h.value h.there
 
 pub alternatives_none : (r : Run) (q : ℕ) (c : StringCursor) (b : BoardValue) {v : ℕ} → Word r.words q v → v ≡ 0
-    → (all : List Way) (limit : Limit) → Goes r all limit (Alternatives q) c b → Later r all limit next.Back b
+    → Advances r (Alternatives q) c b next.Back b
 alternatives_none r q c b {v} w e =
     turn_stops r (Alternatives q) c b (alternatives_stop r.words r.subject q v (spot (Alternatives q) c b) refl w e)
 

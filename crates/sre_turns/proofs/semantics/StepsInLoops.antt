@@ -1,6 +1,6 @@
 -- Steps at a loop: its REPEAT, and the MAX_UNTIL or MIN_UNTIL that ends a body.
-use Rattle.std.proofs.Common.{◌≡◌, ℕ, ◌+◌, ◌<◌, ◌≤◌, true, false, nat_lt, List, ◌∷◌, length, drop, Some, refl, sym, ap}
-use Rattle.std.proofs.Common.{◌∙◌, subst, arith}
+use Rattle.std.proofs.Common.{◌≡◌, ℕ, ◌+◌, ◌<◌, ◌≤◌, true, false, nat_lt, List, ◌∷◌, length, drop, Some, refl, ap}
+use Rattle.std.proofs.Common.{arith}
 use Rattle.std.proofs.lemmas.Bool.Decides.{nat_tests}
 use Rattle.sre_chars.specs.declared.constants.SreOpcode.TheVariants as opcode
 use Rattle.sre_model.specs.Tree.{Order, Greedy, Lazy}
@@ -9,7 +9,7 @@ use Rattle.sre_model.specs.Grammar.{Word, Opcode, until_opcode, skip}
 use Rattle.sre_turns.specs.MovesInLoops.{first_frame, next_frame, at_body, behind, in_order, until_move}
 use Rattle.sre_turns.specs.Limits.{Limit, earlier, share, Going}
 use Rattle.sre_turns.specs.Machine.{Frame, Instruction, Spot, Move, Else, BoardValue, Run, StringCursor, Moves, Goes}
-use Rattle.sre_turns.specs.Machine.{Later, spot, HasRun, IsAt, Refuses, with_loop}
+use Rattle.sre_turns.specs.Machine.{Later, spot, HasRun, IsAt, Refuses, with_loop, Advances}
 use Rattle.sre_turns.specs.declared.Next.{Next}
 use Rattle.sre_model.specs.Roles.{ToRepeat, ToLoop, role}
 use Rattle.sre_turns.specs.Prices.{steps, toll, toll_by, loop_toll}
@@ -18,14 +18,15 @@ use Rattle.sre_turns.specs.Lying.{repeats}
 use Rattle.sre_model.proofs.Families.{until_role}
 use Rattle.sre_turns.specs.declared.Next.TheVariants as next
 use Rattle.sre_model.proofs.Words.{same_opcode, word_of, word_within}
-use Rattle.sre_turns.proofs.semantics.Moving.{in_role, at_instruction, has_run, run_goes, run_splits, turn_goes}
-use Rattle.sre_turns.proofs.semantics.Moving.{turn_splits}
-use Rattle.sre_turns.proofs.semantics.Moving.{both_wait, both_first, both_second, sooner}
+use Rattle.sre_turns.proofs.semantics.Moving.{in_role, at_instruction, turn_goes, turn_splits, both_wait_there}
+use Rattle.sre_turns.proofs.semantics.Moving.{both_first, both_second, standing}
 use Rattle.sre_turns.proofs.semantics.GoingBack.{later_again}
+use Rattle.sre_turns.proofs.semantics.AfterSteps.{parted, run_on, has_run}
+use Rattle.sre_turns.proofs.semantics.OneTurn.{loop_opened, loop_move}
 
 pub repeat_step : (r : Run) (i v : ℕ) (c : StringCursor) (b b' : BoardValue) → Opcode r.words i opcode.REPEAT
-    → Word r.words (i + 1) v → b' ≡ record b { frames = first_frame i ∷ b.frames } → (all : List Way) (limit : Limit)
-    → Goes r all limit (Instruction i) c b → Later r all limit (next.At (i + 1 + v) c) b'
+    → Word r.words (i + 1) v → b' ≡ record b { frames = first_frame i ∷ b.frames }
+    → Advances r (Instruction i) c b (next.At (i + 1 + v) c) b'
 repeat_step r i v c b b' w wv eb all limit g =
     rw eb
     (turn_goes r (Instruction i) c b (Instruction (i + 1 + v)) c _ (at_instruction opcode.REPEAT ToRepeat refl w
@@ -38,59 +39,50 @@ pub repeat_begun : (r : Run) (i v : ℕ) (c : StringCursor) (b : BoardValue) →
     → IsAt r (Instruction (i + 1 + v)) c (with_loop (first_frame i) b)
 repeat_begun r i v c b w wv x =
     let begun : BoardValue = with_loop (first_frame i) b in
-    let y = run_goes (spot (Instruction (i + 1 + v)) c begun) (at_instruction opcode.REPEAT ToRepeat refl w
+    let y = run_on (spot (Instruction (i + 1 + v)) c begun) (at_instruction opcode.REPEAT ToRepeat refl w
     (record { there = word_within r.words (i + 1) v wv; is = rw (word_of r.words (i + 1) v wv) refl })) x.runs in
-    record { outcomes = y.outcomes; turns = y.turns; stands = x.stands; placed = x.placed; runs = y.runs }
+    record { outcomes = x.outcomes; turns = y.0; stands = x.stands; placed = x.placed; runs = y.2 }
 
 -- a step at the end of a greedy loop, taken in the same step
 pub repeat_further : (r : Run) (i v : ℕ) (c : StringCursor) (b b' : BoardValue) (n : Next)
     → Opcode r.words i opcode.REPEAT → Word r.words (i + 1) v → Opcode r.words (i + 1 + v) opcode.MAX_UNTIL
     → ((all : List Way) (limit : Limit) → Goes r all limit (Instruction (i + 1 + v)) c (with_loop (first_frame i) b)
-    → Later r all limit n b') → (all : List Way) (limit : Limit) → Goes r all limit (Instruction i) c b
-    → Later r all limit n b'
+    → Later r all limit n b') → Advances r (Instruction i) c b n b'
 repeat_further r i v c b b' n w wv we h all limit g =
     let ended : BoardValue = with_loop (first_frame i) b in
     let begun = repeat_step r i v c b ended w wv refl all limit g in
     let at = begun.1 in
-    let goes : Goes r all (earlier limit) (Instruction (i + 1 + v)) c ended = record {
-      now = at.now;
-      turns = at.turns;
-      later = at.later;
-      stands = at.stands;
-      placed = at.placed;
-      runs = at.runs;
-      waits = sooner (at.turns + 1) (at.turns + 0) (omega arith) at.waits;
-      within = at.within;
-      fares = λ pl o x.
-          let f = at.fares pl o x in
-          let ks : List ℕ = i ∷ repeats b.frames in
-          let one : toll r.words r.subject.end o (Instruction (i + 1 + v)) ks ≡ loop_toll r.words ks (i + 1 + v) =
-          ap (λ q. toll_by r.words r.subject.end (i + 1 + v) ks (role q))
-          (same_opcode r.words (i + 1 + v) o opcode.MAX_UNTIL x we) in
-          let there : steps r.words (skip r.words (i + 1)) + loop_toll r.words ks (skip r.words (i + 1))
-          ≡ steps r.words (i + 1 + v) + loop_toll r.words ks (i + 1 + v) =
-          ap (λ k. steps r.words (i + 1 + k) + loop_toll r.words ks (i + 1 + k)) (word_of r.words (i + 1) v wv) in
-          let had : share Going r.words r.subject.end opcode.REPEAT (spot (Instruction i) c b)
-          ≡ steps r.words i + (steps r.words (skip r.words (i + 1)) + loop_toll r.words ks (skip r.words (i + 1))) =
-          refl in
-          record {
-            here = f.here;
-            fares = record {
-              settled = f.fares.settled;
-              trying = f.fares.trying;
-              left =
-                  omega (
-                    arith,
-                    (g.fares pl opcode.REPEAT w).fares.left,
-                    some_steps r.words i,
-                    had,
-                    there,
-                    one,
-                  );
-            };
-          };
-      confined = at.confined;
-    } in
+    let goes : Goes r all (earlier limit) (Instruction (i + 1 + v)) c ended =
+    standing Going at.waits refl refl at.runs (omega arith) at.within at.stands at.placed
+    (λ pl o x.
+    let f = at.fares pl o x in
+    let ks : List ℕ = i ∷ repeats b.frames in
+    let one : toll r.words r.subject.end o (Instruction (i + 1 + v)) ks ≡ loop_toll r.words ks (i + 1 + v) =
+    ap (λ q. toll_by r.words r.subject.end (i + 1 + v) ks (role q))
+    (same_opcode r.words (i + 1 + v) o opcode.MAX_UNTIL x we) in
+    let there : steps r.words (skip r.words (i + 1)) + loop_toll r.words ks (skip r.words (i + 1))
+    ≡ steps r.words (i + 1 + v) + loop_toll r.words ks (i + 1 + v) =
+    ap (λ k. steps r.words (i + 1 + k) + loop_toll r.words ks (i + 1 + k)) (word_of r.words (i + 1) v wv) in
+    let had : share Going r.words r.subject.end opcode.REPEAT (spot (Instruction i) c b)
+    ≡ steps r.words i + (steps r.words (skip r.words (i + 1)) + loop_toll r.words ks (skip r.words (i + 1))) =
+    refl in
+    record {
+      here = f.here;
+      fares = record {
+        settled = f.fares.settled;
+        trying = f.fares.trying;
+        left =
+            omega (
+              arith,
+              (g.fares pl opcode.REPEAT w).fares.left,
+              some_steps r.words i,
+              had,
+              there,
+              one,
+            );
+      };
+    })
+    at.confined in
     later_again r all limit n b' begun.0 (h all (earlier limit) goes)
 
 -- the innermost loop, whose body ends at u, and its counts
@@ -104,18 +96,8 @@ pub until_there : (r : Run) (o : Order) (u : ℕ) (c : StringCursor) (b : BoardV
     → Opcode r.words u (until_opcode o) → IsAt r (Instruction u) c b → b.frames ≡ f ∷ drop 1 b.frames
     → (low : ℕ) × (high : ℕ) × InLoop r o u low high b f
 until_there r o u c b f w x e =
-    let h = (in_role (until_opcode o) (ToLoop o) (until_role o) w x.runs).1 in
-    let frames : h.frame ∷ h.outer ≡ f ∷ drop 1 b.frames = sym h.inside ∙ e in
-    let frame : h.frame ≡ f = cc in (
-      h.low,
-      h.high,
-      record {
-        code = w;
-        inside = e;
-        lowest = subst (λ g. Word r.words (g.repeat + 2) h.low) frame h.lowest;
-        highest = subst (λ g. Word r.words (g.repeat + 3) h.high) frame h.highest;
-      },
-    )
+    let h = loop_opened r.words (in_role (until_opcode o) (ToLoop o) (until_role o) w x.runs).1 e in
+    (h.0, h.1, record { code = w; inside = e; lowest = h.2; highest = h.3 })
 
 -- and its operands are there
 pub until_operands : (r : Run) (o : Order) (u : ℕ) (c : StringCursor) (b : BoardValue) (f : Frame)
@@ -128,22 +110,14 @@ until_operands r o u c b f w x e =
 until_at : (r : Run) (o : Order) (u low high : ℕ) (c : StringCursor) (b : BoardValue) (f : Frame) (mv : Move)
     → InLoop r o u low high b f → mv ≡ until_move o low high u f (drop 1 b.frames) (spot (Instruction u) c b)
     → Moves r.words r.subject (spot (Instruction u) c b) mv
-until_at r o u low high c b f mv h e = at_instruction (until_opcode o) (ToLoop o) (until_role o) h.code (record {
-  frame = f;
-  outer = drop 1 b.frames;
-  low = low;
-  high = high;
-  inside = h.inside;
-  lowest = h.lowest;
-  highest = h.highest;
-  is = e;
-})
+until_at r o u low high c b f mv h e =
+    at_instruction (until_opcode o) (ToLoop o) (until_role o) h.code
+    (loop_move r.words h.inside h.lowest h.highest e)
 
 -- below the least count a further body is tried
 pub until_below : (r : Run) (o : Order) (u low high : ℕ) (c : StringCursor) (b b' : BoardValue) (f : Frame)
     → InLoop r o u low high b f → f.count < low → b' ≡ record b { frames = next_frame f f.last ∷ drop 1 b.frames }
-    → (all : List Way) (limit : Limit) → Goes r all limit (Instruction u) c b
-    → Later r all limit (next.At (f.repeat + 4) c) b'
+    → Advances r (Instruction u) c b (next.At (f.repeat + 4) c) b'
 until_below r o u low high c b b' f h l eb all limit g =
     let below : nat_lt f.count low ≡ true = grind (arith, nat_tests) in
     rw eb
@@ -153,9 +127,7 @@ until_below r o u low high c b b' f h l eb all limit g =
 -- the loop ends where no further one may be tried
 pub until_done : (r : Run) (o : Order) (u low high : ℕ) (c : StringCursor) (b b' : BoardValue) (f : Frame)
     → InLoop r o u low high b f → low ≤ f.count → may_repeat high f.count f.last c.position ≡ false
-    → b' ≡ record b { frames = drop 1 b.frames } → (all : List Way) (limit : Limit)
-    → Goes r all limit (Instruction u) c b
-    → Later r all limit (next.At (u + 1) c) b'
+    → b' ≡ record b { frames = drop 1 b.frames } → Advances r (Instruction u) c b (next.At (u + 1) c) b'
 until_done r o u low high c b b' f h l no_ eb all limit g =
     let beyond : nat_lt f.count low ≡ false = grind (arith, nat_tests) in
     rw eb
@@ -181,18 +153,17 @@ pub until_runs : (r : Run) (o : Order) (u low high : ℕ) (c : StringCursor) (b 
     → InLoop r o u low high b f → low ≤ f.count → may_repeat high f.count f.last c.position ≡ true
     → IsAt r (Instruction u) c b → HasRun r (Instruction (f.repeat + 4)) c × HasRun r (Instruction (u + 1)) c
 until_runs r Greedy u low high c b f h l y x =
-    let t = run_splits _ _ (until_splits r Greedy u low high c b f h l y) x.runs in
-    (has_run r (Instruction (f.repeat + 4)) _ _ c x.stands t.0, has_run r (Instruction (u + 1)) _ _ c x.stands t.1)
+    let t = parted (until_splits r Greedy u low high c b f h l y) x.runs in
+    (has_run r (Instruction (f.repeat + 4)) c x.stands t.runs, has_run r (Instruction (u + 1)) c x.stands t.others)
 until_runs r Lazy u low high c b f h l y x =
-    let t = run_splits _ _ (until_splits r Lazy u low high c b f h l y) x.runs in
-    (has_run r (Instruction (f.repeat + 4)) _ _ c x.stands t.1, has_run r (Instruction (u + 1)) _ _ c x.stands t.0)
+    let t = parted (until_splits r Lazy u low high c b f h l y) x.runs in
+    (has_run r (Instruction (f.repeat + 4)) c x.stands t.others, has_run r (Instruction (u + 1)) c x.stands t.runs)
 
 -- nothing comes of the body
 pub until_refused : (r : Run) (o : Order) (u low high : ℕ) (c : StringCursor) (b b' : BoardValue) (f : Frame)
     → InLoop r o u low high b f → low ≤ f.count → may_repeat high f.count f.last c.position ≡ true
     → Refuses r (f.repeat + 4) c.position → b' ≡ record b { frames = drop 1 b.frames }
-    → (all : List Way) (limit : Limit)
-    → Goes r all limit (Instruction u) c b → Later r all limit (next.At (u + 1) c) b'
+    → Advances r (Instruction u) c b (next.At (u + 1) c) b'
 until_refused r Greedy u low high c b b' f h l y no_ eb all limit g =
     rw eb
     (both_second r (body_spot u c b f) (u + 1) c _ b.choices (λ os n x. no_ _ _ os n x) refl all limit
@@ -208,8 +179,7 @@ until_refused r Lazy u low high c b b' f h l y no_ eb all limit g =
 pub until_alone : (r : Run) (o : Order) (u low high : ℕ) (c : StringCursor) (b b' : BoardValue) (f : Frame)
     → InLoop r o u low high b f → low ≤ f.count → may_repeat high f.count f.last c.position ≡ true
     → Refuses r (u + 1) c.position → b' ≡ record b { frames = next_frame f (Some c.position) ∷ drop 1 b.frames }
-    → (all : List Way) (limit : Limit) → Goes r all limit (Instruction u) c b
-    → Later r all limit (next.At (f.repeat + 4) c) b'
+    → Advances r (Instruction u) c b (next.At (f.repeat + 4) c) b'
 until_alone r Greedy u low high c b b' f h l y no_ eb all limit g =
     rw eb
     (both_first r (end_spot u c b) (f.repeat + 4) c _ b.choices (λ os n x. no_ _ _ os n x) refl all limit
@@ -227,11 +197,10 @@ pub until_greedy : (r : Run) (u low high : ℕ) (c : StringCursor) (b b' : Board
     → b' ≡ record b {
       frames = next_frame f (Some c.position) ∷ drop 1 b.frames;
       choices = Else (Instruction (u + 1)) (drop 1 b.frames) c b.marks ∷ b.choices;
-    } → (all : List Way) (limit : Limit) → Goes r all limit (Instruction u) c b
-    → Later r all limit (next.At (f.repeat + 4) c) b'
+    } → Advances r (Instruction u) c b (next.At (f.repeat + 4) c) b'
 until_greedy r u low high c b b' f h l y eb all limit g =
     rw eb
-    (both_wait r (f.repeat + 4) (end_spot u c b) c b _ b.choices refl refl all limit
+    (both_wait_there r (f.repeat + 4) (end_spot u c b) c c b _ b.choices refl g.stands refl all limit
     (turn_splits r (Instruction u) c b _ _ c (until_splits r Greedy u low high c b f h l y) g.stands refl refl all limit
     g))
 
@@ -240,11 +209,10 @@ pub until_lazy : (r : Run) (u low high : ℕ) (c : StringCursor) (b b' : BoardVa
       frames = drop 1 b.frames;
       choices =
           Else (Instruction (f.repeat + 4)) (next_frame f (Some c.position) ∷ drop 1 b.frames) c b.marks ∷ b.choices;
-    } → (all : List Way) (limit : Limit) → Goes r all limit (Instruction u) c b
-    → Later r all limit (next.At (u + 1) c) b'
+    } → Advances r (Instruction u) c b (next.At (u + 1) c) b'
 until_lazy r u low high c b b' f h l y eb all limit g =
     rw eb
-    (both_wait r (u + 1) (body_spot u c b f) c b _ b.choices refl refl all limit
+    (both_wait_there r (u + 1) (body_spot u c b f) c c b _ b.choices refl g.stands refl all limit
     (turn_splits r (Instruction u) c b _ _ c (until_splits r Lazy u low high c b f h l y) g.stands refl refl all limit
     g))
 

@@ -1,22 +1,23 @@
 -- Steps at a possessive loop: POSSESSIVE_REPEAT, and a body or the end.
 use Rattle.std.proofs.Common.{◌≡◌, ℕ, ◌+◌, ◌<◌, ◌≤◌, true, false, nat_lt, List, [], ◌∷◌, length, drop, Option, Some}
-use Rattle.std.proofs.Common.{refl, sym, ap, ◌∙◌, subst, arith}
+use Rattle.std.proofs.Common.{refl, ap, arith}
 use Rattle.std.proofs.lemmas.Bool.Decides.{nat_tests}
 use Rattle.sre_chars.specs.declared.constants.SreOpcode.TheVariants as opcode
 use Rattle.sre_model.specs.Ways.{Way, may_repeat}
 use Rattle.sre_turns.specs.Nested.{repeats, place_under, place_of}
 use Rattle.sre_turns.specs.MovesInLoops.{first_frame, next_frame, enter_body, again_move}
-use Rattle.sre_turns.specs.Machine.{Frame, Instruction, Again, Region, Owed, Further, Move, Keep, BoardValue, Limit}
-use Rattle.sre_turns.specs.Machine.{Run, StringCursor, Word, Opcode, Moves, Runs, turns, Goes, Later, spot, IsAt}
+use Rattle.sre_turns.specs.Machine.{Frame, Instruction, Again, Region, Owed, Further, Move, Keep, BoardValue, Run}
+use Rattle.sre_turns.specs.Machine.{StringCursor, Word, Opcode, Moves, Runs, turns, spot, IsAt, Advances}
 use Rattle.sre_model.specs.Roles.{ToRepeatPossessively}
 use Rattle.sre_turns.specs.declared.Next.TheVariants as next
 use Rattle.sre_model.proofs.Words.{word_of, word_within}
 use Rattle.sre_turns.proofs.semantics.Moving.{at_instruction, turn_goes, turn_enters}
+use Rattle.sre_turns.proofs.semantics.OneTurn.{loop_opened, loop_move}
 
 -- POSSESSIVE_REPEAT
 pub possessive_step : (r : Run) (i : ℕ) (c : StringCursor) (b b' : BoardValue)
     → Opcode r.words i opcode.POSSESSIVE_REPEAT → b' ≡ record b { frames = first_frame i ∷ b.frames }
-    → (all : List Way) (limit : Limit) → Goes r all limit (Instruction i) c b → Later r all limit (next.Again c) b'
+    → Advances r (Instruction i) c b (next.Again c) b'
 possessive_step r i c b b' w eb all limit g =
     rw eb
     (turn_goes r (Instruction i) c b Again c _
@@ -35,10 +36,7 @@ pub again_operands : (r : Run) (c : StringCursor) (b : BoardValue) (f : Frame) �
 again_operands r c b f x e = go x.runs
   where
     go : {os : List Way} {n : ℕ} → Runs r.words r.subject (spot Again c b) os n → f.repeat + 3 < length r.words
-    go (turns mv h d) =
-        let frames : h.frame ∷ h.outer ≡ f ∷ drop 1 b.frames = sym h.inside ∙ e in
-        let frame : h.frame ≡ f = cc in
-        word_within r.words (f.repeat + 3) h.high (subst (λ g. Word r.words (g.repeat + 3) h.high) frame h.highest)
+    go (turns mv h d) = let l = loop_opened r.words h e in word_within r.words (f.repeat + 3) l.1 l.3
 
 -- so it has a place within the words
 pub again_place : (r : Run) (c : StringCursor) (b : BoardValue) {os : List Way} {n : ℕ}
@@ -56,22 +54,12 @@ again_at : (r : Run) (v low high : ℕ) (c : StringCursor) (b : BoardValue) (f :
     → mv ≡ again_move low high (f.repeat + 1 + v) f (drop 1 b.frames) (spot Again c b)
     → Moves r.words r.subject (spot Again c b) mv
 again_at r v low high c b f mv h e =
-    record {
-      frame = f;
-      outer = drop 1 b.frames;
-      low = low;
-      high = high;
-      inside = h.inside;
-      lowest = h.lowest;
-      highest = h.highest;
-      is = rw (word_of r.words (f.repeat + 1) v h.leads) e;
-    }
+    loop_move r.words h.inside h.lowest h.highest (rw (word_of r.words (f.repeat + 1) v h.leads) e)
 
 -- the loop ends where no further body may be tried
 pub again_done : (r : Run) (v low high : ℕ) (c : StringCursor) (b b' : BoardValue) (f : Frame)
     → InPossessiveLoop r v low high b f → low ≤ f.count → may_repeat high f.count f.last c.position ≡ false
-    → b' ≡ record b { frames = drop 1 b.frames } → (all : List Way) (limit : Limit) → Goes r all limit Again c b
-    → Later r all limit (next.At (f.repeat + 1 + v + 1) c) b'
+    → b' ≡ record b { frames = drop 1 b.frames } → Advances r Again c b (next.At (f.repeat + 1 + v + 1) c) b'
 again_done r v low high c b b' f h l no_ eb all limit g =
     let beyond : nat_lt f.count low ≡ false = grind (arith, nat_tests) in
     rw eb
@@ -87,8 +75,7 @@ begun k f last c b = record b {
 
 again_enters : (r : Run) (k : Region) (last : Option ℕ) (c : StringCursor) (b b' : BoardValue) (f : Frame)
     → Moves r.words r.subject (spot Again c b) (enter_body k f last (drop 1 b.frames) (spot Again c b))
-    → b' ≡ begun k f last c b
-    → (all : List Way) (limit : Limit) → Goes r all limit Again c b → Later r all limit (next.At (f.repeat + 4) c) b'
+    → b' ≡ begun k f last c b → Advances r Again c b (next.At (f.repeat + 4) c) b'
 again_enters r k last c b b' f h eb all limit g =
     rw eb
     (turn_enters r Again (next_frame f last ∷ drop 1 b.frames) (f.repeat + 4) k c c b _ h g.stands refl refl all limit
@@ -97,7 +84,7 @@ again_enters r k last c b b' f h eb all limit g =
 -- below the least count one is owed
 pub again_owed : (r : Run) (v low high : ℕ) (c : StringCursor) (b b' : BoardValue) (f : Frame)
     → InPossessiveLoop r v low high b f → f.count < low → b' ≡ begun Owed f f.last c b
-    → (all : List Way) (limit : Limit) → Goes r all limit Again c b → Later r all limit (next.At (f.repeat + 4) c) b'
+    → Advances r Again c b (next.At (f.repeat + 4) c) b'
 again_owed r v low high c b b' f h l eb =
     let below : nat_lt f.count low ≡ true = grind (arith, nat_tests) in
     again_enters r Owed f.last c b b' f
@@ -107,7 +94,7 @@ again_owed r v low high c b b' f h l eb =
 pub again_further : (r : Run) (v low high : ℕ) (c : StringCursor) (b b' : BoardValue) (f : Frame)
     → InPossessiveLoop r v low high b f → low ≤ f.count → may_repeat high f.count f.last c.position ≡ true
     → b' ≡ begun (Further (f.repeat + 1 + v + 1)) f (Some c.position) c b
-    → (all : List Way) (limit : Limit) → Goes r all limit Again c b → Later r all limit (next.At (f.repeat + 4) c) b'
+    → Advances r Again c b (next.At (f.repeat + 4) c) b'
 again_further r v low high c b b' f h l y eb =
     let k : Region = Further (f.repeat + 1 + v + 1) in
     let beyond : nat_lt f.count low ≡ false = grind (arith, nat_tests) in

@@ -7,11 +7,11 @@ use Rattle.sre_chars.specs.declared.constants.SreOpcode.TheVariants as opcode
 use Rattle.sre_model.specs.Tree.{Test}
 use Rattle.sre_model.specs.Ways.{Way, unlimited, longest_run}
 use Rattle.sre_turns.specs.Confining.{StandsConfined}
-use Rattle.sre_turns.specs.Limits.{Limit, Stage, share, Going, spare, HereIn}
+use Rattle.sre_turns.specs.Limits.{Limit, Stage, share, Going, HereIn, Coming}
 use Rattle.sre_turns.specs.Prices.{steps}
 use Rattle.sre_turns.proofs.bound.Steps.{some_steps}
-use Rattle.sre_turns.specs.Machine.{Instruction, spot_at, Stop, Go, BoardValue, Run, StringCursor, passes, Opcode}
-use Rattle.sre_turns.specs.Machine.{skip, Moves, Goes, GoesWith, Later, spot}
+use Rattle.sre_turns.specs.Machine.{Instruction, spot_at, Go, BoardValue, Run, StringCursor, passes, Opcode, skip}
+use Rattle.sre_turns.specs.Machine.{Moves, GoesWith, Later, spot, Advances}
 use Rattle.sre_turns.specs.MovesInRuns.{RunOperands}
 use Rattle.sre_turns.specs.OperandsOfRuns.{OperandsOfRun}
 use Rattle.sre_turns.specs.RunEnds.{AllPass}
@@ -19,11 +19,12 @@ use Rattle.sre_turns.specs.declared.Next.TheVariants as next
 use Rattle.sre_turns.proofs.memoization.Confining.{goes_confined}
 use Rattle.sre_turns.proofs.bound.Faring.{fares_earlier}
 use Rattle.sre_turns.proofs.bound.HereMoves.{here_moves}
-use Rattle.sre_turns.proofs.semantics.Moving.{sooner, turn_goes, turn_stops}
-use Rattle.sre_turns.proofs.semantics.PossessiveRunEnds.{longest_lacks, longest_stretch, onward_stops, onward_goes}
-use Rattle.sre_turns.proofs.semantics.PossessiveRunEnds.{ComesTo, one_turn, stretch_comes}
-use Rattle.sre_turns.proofs.semantics.AtRuns.{bounded_stops, bounded_goes}
+use Rattle.sre_turns.proofs.semantics.Moving.{turn_goes, turn_stops, standing}
+use Rattle.sre_turns.proofs.semantics.PossessiveRunEnds.{longest_stretch, onward_goes, ComesTo, one_turn, stretch_comes}
+use Rattle.sre_turns.proofs.semantics.PossessiveRunEnds.{longest_none}
+use Rattle.sre_turns.proofs.semantics.AtRuns.{bounded_goes}
 use Rattle.sre_turns.proofs.semantics.StepsInRuns.{CountsRun, stands_of}
+use Rattle.sre_turns.proofs.semantics.AfterSteps.{stopped}
 
 -- where all steps go on, the machine may go there at once, if it has enough for an instruction there
 pub comes_at_once : (stage : Stage) (r : Run) (i j : ℕ) (c d : StringCursor) (b : BoardValue) (o : SreOpcode)
@@ -34,26 +35,17 @@ pub comes_at_once : (stage : Stage) (r : Run) (i j : ℕ) (c d : StringCursor) (
 comes_at_once stage r i j c d b o w enough on stands all limit g =
     let f = on.runs g.now g.turns g.runs in (
       omega (arith, f.1, g.within),
-      record {
-        now = g.now;
-        turns = f.0;
-        later = g.later;
-        stands = stands;
-        placed = g.placed;
-        runs = f.2;
-        waits = sooner (g.turns + spare stage) (f.0 + 1) (omega (arith, f.1)) g.waits;
-        within = omega (arith, f.1, g.within);
-        fares = λ pl o' w'.
-            let at = g.fares pl o w in record {
-              here =
-                  on.keeps (λ x. HereIn r pl limit.start b.choices x)
-                  (λ x y mv h. here_moves r pl limit.start b.choices x (Go y) h mv) at.here;
-              fares = fares_earlier r pl limit b.choices _ _ enough at.fares;
-            };
-        confined = λ none.
-            on.keeps (λ x. StandsConfined r.words x b.choices)
-            (λ x y mv h. goes_confined r.words r.subject x y b.choices mv h) (g.confined none);
-      },
+      standing Coming g.waits refl refl f.2 (omega (arith, f.1)) (omega (arith, f.1, g.within)) stands g.placed
+          (λ pl o' w'.
+          let at = g.fares pl o w in record {
+            here =
+                on.keeps (λ x. HereIn r pl limit.start b.choices x)
+                (λ x y mv h. here_moves r pl limit.start b.choices x (Go y) h mv) at.here;
+            fares = fares_earlier r pl limit b.choices _ _ enough at.fares;
+          })
+          (λ none.
+          on.keeps (λ x. StandsConfined r.words x b.choices)
+          (λ x y mv h. goes_confined r.words r.subject x y b.choices mv h) (g.confined none)),
     )
 
 -- a possessive repeat without a greatest count
@@ -108,21 +100,14 @@ module _ (r : Run) (i tail low high count : ℕ) (c : StringCursor) (b : BoardVa
         subst (λ n. longest_run r.subject o.test.test n c.position ≡ count) same longest_is,
       )
 
-  pub longest_short : count < low → (all : List Way) (limit : Limit) → Goes r all limit (Instruction i) c b
-      → Later r all limit next.Back b
-  longest_short l = turn_stops r (Instruction i) c b (go (nat_eq high unlimited) refl)
-    where
-      go : (y : Bool) → nat_eq high unlimited ≡ y → Moves r.words r.subject (spot (Instruction i) c b) Stop
-      go true y =
-          let x = endless y in
-          onward_stops r.words r.subject i low o.test.end o.test.test b.frames b.marks w x.0 c.position
-          (longest_lacks r.subject o.test.test low c.position (omega (arith, x.1, l)))
-      go false y =
-          bounded_stops (stands_of r.words i tail low high o) w y longest_is l
+  pub longest_short : count < low → Advances r (Instruction i) c b next.Back b
+  longest_short l =
+      turn_stops r (Instruction i) c b
+      (longest_none r.words r.subject i low high o.test.end o.test.test b.frames b.marks w
+      (stands_of r.words i tail low high o) c.position (omega (arith, longest_is, l)))
 
   pub longest_step : (after : StringCursor) → low ≤ count → after.position ≡ c.position + count
-      → r.stands after after.position → (all : List Way) (limit : Limit) → Goes r all limit (Instruction i) c b
-      → Later r all limit (next.At tail after) b
+      → r.stands after after.position → Advances r (Instruction i) c b (next.At tail after) b
   longest_step after l moved_on there all limit g = go (nat_eq high unlimited) refl
     where
       go : (y : Bool) → nat_eq high unlimited ≡ y → Later r all limit (next.At tail after) b

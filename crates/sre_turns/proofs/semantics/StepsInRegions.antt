@@ -1,6 +1,6 @@
 -- Steps at an atomic scope: ATOMIC_GROUP, the lookarounds, and the end of a body.
 use Rattle.std.proofs.Common.{◌≡◌, ℕ, ◌+◌, ◌-◌, ◌<◌, ◌≤◌, true, false, nat_lt, List, [], ◌∷◌, length, drop, refl, sym}
-use Rattle.std.proofs.Common.{suc, subst, arith}
+use Rattle.std.proofs.Common.{subst, arith}
 use Rattle.std.proofs.lemmas.Bool.Decides.{nat_tests}
 use Rattle.sre_chars.specs.declared.constants.SreOpcode.TheVariants as opcode
 use Rattle.sre_model.specs.Tree.{Sign, Positive, Negative}
@@ -14,18 +14,19 @@ use Rattle.sre_turns.specs.Nested.{repeats, ClosesAt}
 use Rattle.sre_turns.specs.Straight.{point_behind}
 use Rattle.sre_turns.proofs.memoization.Confining.{region_confined}
 use Rattle.sre_turns.proofs.bound.FaringInRegions.{cut_fares, region_on, region_off, loop_left}
-use Rattle.sre_turns.specs.Limits.{Limit, earlier, without_open, FaresAt, FaresBack, FaresEnd}
+use Rattle.sre_turns.specs.Limits.{Limit, earlier, without_open, FaresAt, FaresBack, FaresEnd, Coming}
 use Rattle.sre_turns.specs.Prices.{price, price_of}
-use Rattle.sre_turns.specs.Machine.{Frame, Point, Instruction, Region, AtomicGroup, Ahead, NotAhead, Further, Spot}
-use Rattle.sre_turns.specs.Machine.{spot_at, Stop, Go, closing_move, Counted, Run, StringCursor, Marks, Way, Moves}
-use Rattle.sre_turns.specs.Machine.{Comes, stops, goes, Waits, kept, Goes, Arrives, Placed, Ends, Later, spot, HasRun}
-use Rattle.sre_turns.specs.Machine.{after_outcome, without_outcome, without_loop}
+use Rattle.sre_turns.specs.Machine.{Point, Instruction, Region, AtomicGroup, Ahead, NotAhead, Further, Spot, spot_at}
+use Rattle.sre_turns.specs.Machine.{Stop, Go, closing_move, Counted, Run, StringCursor, Marks, Way, Moves, Comes, stops}
+use Rattle.sre_turns.specs.Machine.{goes, Waits, kept, Arrives, Placed, Ends, Later, spot, HasRun, after_outcome}
+use Rattle.sre_turns.specs.Machine.{without_outcome, without_loop, Advances}
 use Rattle.sre_model.specs.Roles.{ToGroupAtomically, ToLook}
 use Rattle.sre_model.proofs.Families.{look_role}
 use Rattle.sre_turns.specs.declared.Next.TheVariants as next
 use Rattle.sre_model.proofs.Words.{word_of, word_within}
 use Rattle.sre_turns.proofs.semantics.Moving.{in_role, at_instruction, turn_stops, turn_goes, turn_enters, cut_waits}
-use Rattle.sre_turns.proofs.semantics.Moving.{sooner}
+use Rattle.sre_turns.proofs.semantics.Moving.{sooner, standing}
+use Rattle.sre_turns.proofs.bound.HereMoves.{closes_behind}
 
 -- ATOMIC_GROUP
 pub atomic_operand : (r : Run) (i : ℕ) (c : StringCursor) → Opcode r.words i opcode.ATOMIC_GROUP
@@ -37,8 +38,8 @@ abbrev pub entered : Region → StringCursor → BoardValue → BoardValue
 entered g c b = record b { frames = []; choices = Keep g b.frames c b.marks ∷ b.choices }
 
 pub atomic_step : (r : Run) (i v : ℕ) (c : StringCursor) (b b' : BoardValue) → Opcode r.words i opcode.ATOMIC_GROUP
-    → Word r.words (i + 1) v → b' ≡ entered (AtomicGroup (i + 1 + v)) c b → (all : List Way) (limit : Limit)
-    → Goes r all limit (Instruction i) c b → Later r all limit (next.At (i + 2) c) b'
+    → Word r.words (i + 1) v → b' ≡ entered (AtomicGroup (i + 1 + v)) c b
+    → Advances r (Instruction i) c b (next.At (i + 2) c) b'
 atomic_step r i v c b b' w wv eb all limit g =
     rw eb
     (turn_enters r (Instruction i) b.frames (i + 2) (AtomicGroup (i + 1 + v)) c c b _
@@ -70,13 +71,11 @@ look_early r sign i v back c b h l =
     (record { back = back; there = h.there; is = rw (word_of r.words (i + 1) v h.leads, early) refl })
 
 pub ahead_early : (r : Run) (i v back : ℕ) (c : StringCursor) (b : BoardValue) → AtLook r Positive i v back
-    → c.position < back → (all : List Way) (limit : Limit) → Goes r all limit (Instruction i) c b
-    → Later r all limit next.Back b
+    → c.position < back → Advances r (Instruction i) c b next.Back b
 ahead_early r i v back c b h l = turn_stops r (Instruction i) c b (look_early r Positive i v back c b h l)
 
 pub not_ahead_early : (r : Run) (i v back : ℕ) (c : StringCursor) (b : BoardValue) → AtLook r Negative i v back
-    → c.position < back → (all : List Way) (limit : Limit) → Goes r all limit (Instruction i) c b
-    → Later r all limit (next.At (i + 1 + v) c) b
+    → c.position < back → Advances r (Instruction i) c b (next.At (i + 1 + v) c) b
 not_ahead_early r i v back c b h l all limit g =
     turn_goes r (Instruction i) c b (Instruction (i + 1 + v)) c b
     (look_early r Negative i v back c b h l) g.stands g.placed refl all limit g
@@ -84,8 +83,7 @@ not_ahead_early r i v back c b h l all limit g =
 -- else its body is tried
 pub look_step : (r : Run) (sign : Sign) (i v back : ℕ) (c c' : StringCursor) (b b' : BoardValue)
     → AtLook r sign i v back → back ≤ c.position → c'.position ≡ c.position - back → r.stands c' c'.position
-    → b' ≡ entered (look sign (i + 1 + v)) c b → (all : List Way) (limit : Limit) → Goes r all limit (Instruction i) c b
-    → Later r all limit (next.At (i + 3) c') b'
+    → b' ≡ entered (look sign (i + 1 + v)) c b → Advances r (Instruction i) c b (next.At (i + 3) c') b'
 look_step r sign i v back c c' b b' h l place there eb all limit g =
     let late : nat_lt c.position back ≡ false = grind (arith, nat_tests) in
     rw eb
@@ -123,25 +121,9 @@ module _ (r : Run) (b' : BoardValue) {all : List Way} (limit : Limit) where
       → n + k ≤ limit.turns → (1 ≤ limit.turns) × Arrives r all (earlier limit) pt at b'
   goes_on pt at left lies there placed (goes {n = n'} e) wt l = (
     omega arith,
-    record {
-      now = _;
-      turns = n';
-      later = _;
-      stands = there;
-      placed = placed;
-      runs = e;
-      waits = sooner (0 + suc n') (n' + 1) (omega arith) wt;
-      within = omega arith;
-      fares = λ pl o w. left pl;
-      confined = λ none. let f = lies none in record { here = f.0; others = record { each = f.1 } };
-    },
+    standing Coming wt refl refl e (omega arith) (omega arith) there placed (λ pl o w. left pl)
+        (λ none. let f = lies none in record { here = f.0; others = record { each = f.1 } }),
   )
-
--- where one goes on behind it
-behind_is : (P : Point → List ℕ → Type 0) (g : Region) (fs : List Frame) → ClosesAt P g fs
-    → P (point_behind g) (repeats fs)
-behind_is P (Further t) fs h = h.0
-behind_is P g fs h = h
 
 -- a body has an outcome at a cursor: what comes of the atomic scope that is cut
 module _ (r : Run) (c d : StringCursor) (b b' : BoardValue) where
@@ -177,7 +159,7 @@ module _ (r : Run) (c d : StringCursor) (b b' : BoardValue) where
   region_ends g lies m us all limit j left there placed (kept at _ f wt) l =
       goes_on r b' limit (point_behind g) c
       (λ pl. ends_on limit g m left pl c.position ((left pl).at.0 refl) (left pl).at.1)
-      (λ none. let k = lies none in (behind_is Inside g b'.frames k.0, k.1)) there placed f wt (omega (arith, l))
+      (λ none. let k = lies none in (closes_behind Inside g b'.frames k.0, k.1)) there placed f wt (omega (arith, l))
 
   pub region_closes : (g : Region) → Cuts b g d b' → (all : List Way) (limit : Limit) → Ends r all limit c b
       → Later r all (without_open b.choices limit) (after_outcome g c d) b'

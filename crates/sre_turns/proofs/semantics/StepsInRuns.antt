@@ -1,6 +1,6 @@
 -- Steps at a single-character repeat, and at its shorter counts.
-use Rattle.std.proofs.Common.{◌≡◌, ◌⊎◌, inl, inr, ℕ, zero, suc, ◌+◌, ◌-◌, ◌<◌, ◌≤◌, Bool, true, false, ◌&&◌, ◌||◌}
-use Rattle.std.proofs.Common.{nat_eq, nat_lt, List, [], length, Option, refl, sym, subst, arith}
+use Rattle.std.proofs.Common.{◌≡◌, ◌⊎◌, inl, inr, ℕ, zero, suc, ◌+◌, ◌-◌, ◌<◌, ◌≤◌, Bool, true, false, ◌||◌, nat_eq}
+use Rattle.std.proofs.Common.{nat_lt, List, [], length, Option, refl, sym, subst, arith}
 use Rattle.std.proofs.lemmas.Bool.Decides.{nat_tests}
 use Rattle.sre_chars.specs.declared.constants.SreOpcode.TheVariants as opcode
 use Rattle.sre_model.specs.Tree.{Test, RunKind, GreedyRun}
@@ -11,8 +11,8 @@ use Rattle.sre_model.specs.Grammar.{Word, Opcode, test_opcode, run_opcode}
 use Rattle.sre_turns.specs.MovesInRuns.{RunOperands}
 use Rattle.sre_turns.specs.OperandsOfRuns.{OperandsOfRun}
 use Rattle.sre_turns.specs.Machine.{Frame, Point, Instruction, Shorter, Longer, spot_at, Stop, Split, BoardValue, Limit}
-use Rattle.sre_turns.specs.Machine.{Run, StringCursor, Marks, Moves, Runs, turns, Goes, GoesBoth, Later, spot, HasRun}
-use Rattle.sre_turns.specs.Machine.{Skips, SkipsBoth, Exhausted, Refuses, Demands, DemandsAny, Excludes}
+use Rattle.sre_turns.specs.Machine.{Run, StringCursor, Marks, Moves, Runs, turns, Goes, GoesBoth, spot, HasRun, Skips}
+use Rattle.sre_turns.specs.Machine.{SkipsBoth, Exhausted, Refuses, Demands, DemandsAny, Excludes, Advances, Chooses}
 use Rattle.sre_model.specs.Standing.{TestStands, HasTest}
 use Rattle.sre_model.specs.Roles.{ToRun}
 use Rattle.sre_model.proofs.Families.{run_role}
@@ -20,8 +20,8 @@ use Rattle.sre_turns.specs.declared.Next.TheVariants as next
 use Rattle.sre_model.proofs.Words.{opcode_within}
 use Rattle.sre_model.proofs.Passing.{past_end, read_passes, other_taken}
 use Rattle.sre_model.proofs.Longest.{goes_on, run_passes, run_at_most, run_inside, run_none}
-use Rattle.sre_turns.proofs.semantics.Moving.{in_role, turn_stops, turn_splits, both_last, run_nothing, run_second}
-use Rattle.sre_turns.proofs.semantics.AfterSteps.{both_run}
+use Rattle.sre_turns.proofs.semantics.Moving.{in_role, turn_stops, turn_splits, both_last, run_nothing}
+use Rattle.sre_turns.proofs.semantics.AfterSteps.{both_run, run_second}
 use Rattle.sre_turns.proofs.semantics.AtRuns.{greedy_stops, greedy_splits, lazy_none, lazy_splits, longer_none}
 use Rattle.sre_turns.proofs.semantics.AtRuns.{longer_splits}
 use Rattle.sre_turns.proofs.semantics.StepsInBranches.{positive}
@@ -44,8 +44,8 @@ pub shorter_within : (r : Run) {t k p n : ℕ} {fs : List Frame} {m : Marks} {os
     → Runs r.words r.subject (spot_at (Shorter t k) fs p m) os n → k ≤ p
 shorter_within r (turns mv h d) = h.past
 
-pub shorter_none : (r : Run) (t k : ℕ) (c : StringCursor) (b : BoardValue) → k ≡ 0 → (all : List Way) (limit : Limit)
-    → Goes r all limit (Shorter t k) c b → Later r all limit next.Back b
+pub shorter_none : (r : Run) (t k : ℕ) (c : StringCursor) (b : BoardValue) → k ≡ 0
+    → Advances r (Shorter t k) c b next.Back b
 shorter_none r t k c b e = turn_stops r (Shorter t k) c b (shorter_stop r t k c.position b.frames b.marks e)
 
 pub shorter_past : (r : Run) (t k : ℕ) (c : StringCursor) → 0 < k → HasRun r (Shorter t k) c → 1 ≤ c.position
@@ -80,9 +80,8 @@ shorter_skips r pt start t k c c' more place there x skips =
           shorter_both r t k (k - 1) c c' b less place there all limit (skips b all limit g);
     }
 
-pub shorter_last : (r : Run) (i t k : ℕ) (c : StringCursor) (b : BoardValue) → k ≡ 0 → (all : List Way) (limit : Limit)
-    → GoesBoth r all limit (spot (Instruction i) c b) (spot (Shorter t k) c b) c b.choices
-    → Later r all limit (next.At i c) b
+pub shorter_last : (r : Run) (i t k : ℕ) (c : StringCursor) (b : BoardValue) → k ≡ 0
+    → Chooses r (Instruction i) (Shorter t k) c b (next.At i c) b
 shorter_last r i t k c b e =
     both_last r i (spot (Shorter t k) c b) c b (shorter_stop r t k c.position b.frames b.marks e)
 
@@ -121,8 +120,7 @@ CountsRun r i high p count =
 
 pub run_short : (r : Run) (i tail low high count : ℕ) (c : StringCursor) (b : BoardValue)
     → Opcode r.words i opcode.REPEAT_ONE → OperandsOfRun r.words i tail low high → CountsRun r i high c.position count
-    → count < low → (all : List Way) (limit : Limit) → Goes r all limit (Instruction i) c b
-    → Later r all limit next.Back b
+    → count < low → Advances r (Instruction i) c b next.Back b
 run_short r i tail low high count c b w o k l =
     let longest : longest_run r.subject o.test.test high c.position ≡ count =
     sym (k o.test.end o.test.test o.test.stands) in
@@ -212,17 +210,15 @@ CountsUpTo r i most p count =
 module _ (r : Run) (i tail low high : ℕ) (c : StringCursor) (w : Opcode r.words i opcode.MIN_REPEAT_ONE)
     (o : OperandsOfRun r.words i tail low high) where
   lazy_stops : (b : BoardValue) → run_length r.subject o.test.test low c.position < low
-      → (all : List Way) (limit : Limit)
-      → Goes r all limit (Instruction i) c b → Later r all limit next.Back b
+      → Advances r (Instruction i) c b next.Back b
   lazy_stops b l = turn_stops r (Instruction i) c b (lazy_none (stands_of r.words i tail low high o) w l)
 
   -- the window is too short, or a character does not pass
-  pub lazy_cut : (b : BoardValue) → r.subject.end - c.position < low → (all : List Way) (limit : Limit)
-      → Goes r all limit (Instruction i) c b → Later r all limit next.Back b
+  pub lazy_cut : (b : BoardValue) → r.subject.end - c.position < low → Advances r (Instruction i) c b next.Back b
   lazy_cut b l = lazy_stops b (omega (arith, run_inside r.subject o.test.test low c.position))
 
   pub lazy_short : (b : BoardValue) (count : ℕ) → CountsUpTo r i low c.position count → count < low
-      → (all : List Way) (limit : Limit) → Goes r all limit (Instruction i) c b → Later r all limit next.Back b
+      → Advances r (Instruction i) c b next.Back b
   lazy_short b count k l = lazy_stops b (omega (arith, k o.test.end o.test.test o.test.stands))
 
   module _ (count : ℕ) (after : StringCursor) (k : CountsUpTo r i low c.position count) (l : low ≤ count)
@@ -259,26 +255,19 @@ longer_past r i n c x = (longer_within r x.runs).1
 module _ (r : Run) (i tail low high n : ℕ) (c : StringCursor) (o : OperandsOfRun r.words i tail low high)
     (past : n ≤ c.position) where
   longer_stops : (b : BoardValue) → goes_on r.subject o.test.test high n c.position ≡ false
-      → (all : List Way) (limit : Limit) → Goes r all limit (Longer i n) c b → Later r all limit next.Back b
+      → Advances r (Longer i n) c b next.Back b
   longer_stops b e = turn_stops r (Longer i n) c b (longer_none (stands_of r.words i tail low high o) past e)
 
   -- the greatest count is reached, or the window's end, or a character does not pass
   pub longer_full : (b : BoardValue) → (nat_eq high unlimited || nat_lt n high) ≡ false
-      → (all : List Way) (limit : Limit)
-      → Goes r all limit (Longer i n) c b → Later r all limit next.Back b
+      → Advances r (Longer i n) c b next.Back b
   longer_full b e = longer_stops b (rw e refl)
 
   pub longer_unlike : (b : BoardValue) → passes r.subject o.test.test c.position ≡ false
-      → (all : List Way) (limit : Limit)
-      → Goes r all limit (Longer i n) c b → Later r all limit next.Back b
-  longer_unlike b e = longer_stops b (rw e (and_false (nat_eq high unlimited || nat_lt n high)))
-    where
-      and_false : (a : Bool) → (a && false) ≡ false
-      and_false true = refl
-      and_false false = refl
+      → Advances r (Longer i n) c b next.Back b
+  longer_unlike b e = longer_stops b (rw e (grind (arith, nat_tests)))
 
-  pub longer_end : (b : BoardValue) → r.subject.end ≤ c.position → (all : List Way) (limit : Limit)
-      → Goes r all limit (Longer i n) c b → Later r all limit next.Back b
+  pub longer_end : (b : BoardValue) → r.subject.end ≤ c.position → Advances r (Longer i n) c b next.Back b
   longer_end b l =
       longer_unlike b (past_end r.subject o.test.test c.position l)
 

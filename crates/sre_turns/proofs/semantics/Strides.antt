@@ -11,36 +11,32 @@ use Rattle.sre_model.specs.Characters.{holds}
 use Rattle.sre_model.specs.Roles.{begins_test}
 use Rattle.sre_model.specs.Standing.{HasTest, TestStands}
 use Rattle.sre_model.specs.Ways.{Way, unlimited}
-use Rattle.sre_turns.specs.Limits.{Limit, Fares}
+use Rattle.sre_turns.specs.Limits.{Limit, Fares, Going}
 use Rattle.sre_turns.specs.Prices.{price, toll}
 use Rattle.sre_turns.specs.Lying.{repeats}
 use Rattle.sre_turns.specs.Machine.{Frame, Point, Instruction, Alternatives, Spot, spot_at, Go, Split, BoardValue, Run}
-use Rattle.sre_turns.specs.Machine.{StringCursor, Marks, Word, Opcode, Moves, Runs, Comes, splits, Goes, HasRun, IsAt}
-use Rattle.sre_turns.specs.Machine.{Exhausted, Refuses, Continues, Demands, with_loop, spot}
+use Rattle.sre_turns.specs.Machine.{StringCursor, Marks, Word, Opcode, Moves, Runs, Goes, HasRun, IsAt, Exhausted}
+use Rattle.sre_turns.specs.Machine.{Refuses, Continues, Demands, with_loop, spot}
 use Rattle.sre_turns.specs.MovesInLoops.{next_frame}
 use Rattle.sre_turns.specs.Strides.{Yields, YieldsTo, MayRepeat, EndsBody, Strides, ReadsAscii, TellsTest}
 use Rattle.sre_turns.specs.Strides.{TellsAlternatives, TellsBodies}
 use Rattle.sre_turns.proofs.memoization.Confining.{confined_leads}
-use Rattle.sre_turns.proofs.semantics.Moving.{Barren, run_on, sooner, continues_then, continues_exhausted}
-use Rattle.sre_turns.proofs.semantics.OneTurn.{comes}
+use Rattle.sre_turns.proofs.semantics.Moving.{Barren, continues_then, continues_exhausted, standing}
 use Rattle.sre_turns.proofs.bound.HereMoves.{here_moves}
 use Rattle.sre_turns.proofs.semantics.StepsAtItems.{test_misses, test_continues, jump_continues}
 use Rattle.sre_turns.proofs.semantics.StepsInBranches.{branch_moves, alternatives_move, alternatives_pass}
 use Rattle.sre_turns.proofs.semantics.StepsInBranches.{alternatives_exhausted}
 use Rattle.sre_turns.proofs.semantics.StepsInLoops.{InLoop, body_spot, end_spot, until_splits, until_runs}
+use Rattle.sre_turns.proofs.semantics.AfterSteps.{run_on, parted}
 
 -- of a configuration that splits, where nothing comes of the second
 run_first : {ws : List ℕ} {s : Subject} {x : Spot} {os : List Way} {n : ℕ} (y z : Spot) → Moves ws s x (Split y z)
     → ((os : List Way) (n : ℕ) → Runs ws s z os n → os ≡ []) → Runs ws s x os n
     → (k : ℕ) × (k ≤ n) × Runs ws s y os k
-run_first {ws} {s} {x} y z h none d = go (comes (Split y z) h d)
-  where
-    go : {os : List Way} {n : ℕ} → Comes ws s x (Split y z) os n → (k : ℕ) × (k ≤ n) × Runs ws s y os k
-    go (splits {os₁ = os₁} {os₂ = os₂} {n₁ = n₁} {n₂ = n₂} e f) = (
-      n₁,
-      omega arith,
-      subst (λ o. Runs ws s y o n₁) (sym (ap (λ o. os₁ ++ o) (none os₂ n₂ f) ∙ append-nil os₁)) e,
-    )
+run_first {ws} {s} y z h none d =
+    let c = parted h d in
+    let same = c.both ∙ ap (λ us. c.now ++ us) (none c.next c.further c.others) ∙ append-nil c.now in
+    (c.turns, omega (arith, c.sum), subst (λ us. Runs ws s y us c.turns) (sym same) c.runs)
 
 module _ (r : Run) (x y : Spot) where
   yields_goes : Moves r.words r.subject x (Go y) → Yields r x y
@@ -203,28 +199,17 @@ module _ (r : Run) (u : ℕ) (c c' : StringCursor) (f f' : Frame) (s : Strides r
   strides_goes b all limit g =
       let y = s.yields b.frames b.marks in
       let d = y.runs g.now g.turns g.runs in
+      standing Going g.waits refl refl d.2 (omega (arith, d.1)) (omega (arith, g.within, d.1)) s.stands g.placed
+      (λ pl o w.
+      let old = g.fares pl o w in
       record {
-        now = g.now;
-        turns = d.0;
-        later = g.later;
-        stands = s.stands;
-        placed = g.placed;
-        runs = d.2;
-        waits = sooner (g.turns + 0) (d.0 + 0) (omega (arith, d.1)) g.waits;
-        within = omega (arith, g.within, d.1);
-        fares = λ pl o w.
-            let old = g.fares pl o w in
-            record {
-              here = y.here pl limit.start b.choices old.here;
-              fares =
-                  subst (λ q. Fares r pl limit (price r.words r.subject.end (Instruction u) c'.position
-                  + toll r.words r.subject.end o (Instruction u) (q ∷ repeats b.frames)) b.choices) (sym s.same)
-                  old.fares;
-            };
-        confined = λ none.
-            let old = g.confined none in
-            record { here = λ inside. y.confines (old.here inside); others = old.others };
-      }
+        here = y.here pl limit.start b.choices old.here;
+        fares =
+            subst (λ q. Fares r pl limit (price r.words r.subject.end (Instruction u) c'.position
+            + toll r.words r.subject.end o (Instruction u) (q ∷ repeats b.frames)) b.choices) (sym s.same) old.fares;
+      })
+      (λ none.
+      let old = g.confined none in record { here = λ inside. y.confines (old.here inside); others = old.others })
 
 -- a set tells the characters of a test, behind which a JUMP stands perhaps
 pub tells_test : (r : Run) (i end behind : ℕ) (o : SreOpcode) (set : ℕ → Bool) → Opcode r.words i o
