@@ -1,9 +1,9 @@
 -- Loops with the same number are equivalent.
-use Rattle.std.proofs.Common.{◌≡◌, ℕ, zero, suc, ◌+◌, ◌*◌, ◌<◌, ◌≤◌, Bool, true, false, List, [], ◌∷◌, length}
-use Rattle.std.proofs.Common.{Option, Some, None, cond, min, refl, sym, ap, ◌∙◌, subst}
-use Rattle.std.proofs.Common.{arith}
+use Rattle.std.proofs.Common.{◌≡◌, ℕ, ◌+◌, ◌*◌, ◌<◌, ◌≤◌, Bool, true, false, List, [], ◌∷◌, length, Option, Some, None}
+use Rattle.std.proofs.Common.{cond, min, refl, sym, ap, ◌∙◌, subst, arith}
 use Rattle.std.proofs.lemmas.Bool.Decides.{nat_tests}
 use Rattle.std.proofs.lemmas.Nat.{same_from_place}
+use Rattle.std.proofs.lemmas.Option.{get_or_from_slice_get, same_Some}
 use Rattle.sre_model.specs.Grammar.{Word, word}
 use Rattle.sre_turns.specs.Alike.{FramesAlike, LoopsAlike, counted_to, is_last}
 use Rattle.sre_turns.specs.declared.Frame.{Frame}
@@ -31,9 +31,7 @@ same_pair m n b c e =
 
 -- what a word is that is there
 word_at : (ws : List ℕ) (i v : ℕ) → Word ws i v → word ws i ≡ v
-word_at [] i v e = absurd (cc)
-word_at (w ∷ ws) zero v e = cc
-word_at (w ∷ ws) (suc i) v e = word_at ws i v e
+word_at ws i v e = get_or_from_slice_get ws i v 0 e
 
 pub digit_below : (ws : List ℕ) (p : ℕ) (f : Frame) → digit ws p f < radix ws f.repeat
 digit_below ws p f = below (min f.count (counted_at ws f.repeat)) (is_last f.last p) (omega arith)
@@ -80,7 +78,7 @@ loops_alike ws p shapes j i a b [] (g ∷ gs) s h k =
 loops_alike ws p shapes j i a b (f ∷ fs) [] s h k =
     absurd (omega (arith, k.0, slot_length ws p shapes j i a (f ∷ fs) s h))
 loops_alike ws p shapes j i a b (f ∷ fs) (g ∷ gs) s h k =
-    let er : f.repeat ≡ g.repeat = same_some f.repeat g.repeat (sym h.0 ∙ k.0) in
+    let er : f.repeat ≡ g.repeat = same_Some f.repeat g.repeat (sym h.0 ∙ k.0) in
     let ih = loops_alike ws p shapes j (i + 1) (a * radix ws f.repeat + digit ws p f)
     (b * radix ws g.repeat + digit ws p g) fs gs s h.2 k.2 in
     let one : a * radix ws f.repeat + digit ws p f ≡ b * radix ws f.repeat + digit ws p g =
@@ -89,6 +87,3 @@ loops_alike ws p shapes j i a b (f ∷ fs) (g ∷ gs) s h k =
     subst (λ q. digit ws p g < radix ws q) (sym er) (digit_below ws p g) in
     let parts = same_from_place a (digit ws p f) b (digit ws p g) (radix ws f.repeat) (digit_below ws p f) below one in
     (parts.0, (frames_alike ws p f g er h.1 k.1 parts.1, ih.1))
-  where
-    same_some : (x y : ℕ) → ◌≡◌ {A = Option ℕ} (Some x) (Some y) → x ≡ y
-    same_some x y e = cc

@@ -1,14 +1,16 @@
 -- Laws of the table of chains.
 use Rattle.std.proofs.Common.{◌≡◌, ℕ, zero, suc, ◌+◌, ◌-◌, ◌<◌, ◌≤◌, List, [], ◌∷◌, ◌++◌, length, take, drop, add-zero}
-use Rattle.std.proofs.Common.{Bool, true, false, nat_lt, Some, slice_index_or, slice_get, refl, sym, ap, ◌∙◌, arith}
-use Rattle.std.proofs.Common.{length-append, append_assoc, ◌⊎◌, inl, inr}
+use Rattle.std.proofs.Common.{Some, slice_index_or, slice_get, refl, sym, ap, ◌∙◌, arith}
+use Rattle.std.proofs.Common.{length-append, append_assoc, inl, inr}
 use Rattle.std.proofs.lemmas.List.{take-append-drop, length-take-le, append-nil, get_or_past}
 use Rattle.std.proofs.Math.Seq.{take-append_seam, get_or-append_seam}
 use Rattle.std.proofs.Math.ListN.{get_or-append}
-use Rattle.std.proofs.lemmas.Bool.Decides.{nat_tests}
+use Rattle.std.proofs.lemmas.Bool.{cases_lt}
+use Rattle.std.proofs.lemmas.Option.{slice_get-get_or, slice_get_read, slice_get_cases}
 use Rattle.sre_board.specs.Chains.{frame_of, grown, table, Based}
 use Rattle.sre_turns.specs.declared.Frame.{Frame}
 use Rattle.sre_board.specs.declared.chains.Node.{Node}
+use Rattle.sre_board.proofs.Listed.{got_more}
 
 abbrev Table : Type 0
 Table = List (List Frame)
@@ -70,9 +72,7 @@ grown_at (suc k) (x ∷ ns) t n e h =
 
 pub get_some : {X : Type 0} (xs : List X) (k : ℕ) (d : X) → k < length xs
     → slice_get xs k ≡ Some (slice_index_or xs k d)
-get_some [] k d h = absurd (omega arith)
-get_some (x ∷ xs) zero d h = refl
-get_some (x ∷ xs) (suc k) d h = get_some xs k d (omega arith)
+get_some xs k d h = slice_get-get_or xs k d h
 
 -- the empty chain is the first, and the others are not empty
 pub first_empty : (ns : List Node) (t : Table) (id : ℕ) → table ns ≡ t → id ≡ 0 → slice_index_or t id [] ≡ []
@@ -81,62 +81,53 @@ first_empty ns t id e z =
     ap (λ (x : Table). slice_index_or x 0 []) (sym e) ∙ grown_before ns ([] ∷ []) 0 (omega arith) in
     rw z first
 
+pub count_law : (ns : List Node) (t : Table) → table ns ≡ t → length t ≡ length ns + 1
+count_law ns t e = rw (← e) (omega (arith, length-grown ns ([] ∷ [])))
+
+-- the chain of a number is that of its node
+chain_of : (ns : List Node) (t : Table) (id : ℕ) (n : Node) → table ns ≡ t → Based ns → 1 ≤ id
+    → slice_get ns (id - 1) ≡ Some n → slice_index_or t id [] ≡ frame_of n ∷ slice_index_or t n.parent []
+chain_of ns t id n e b l found =
+    let one : 1 + (id - 1) ≡ id = omega (arith, l) in
+    rw (← e, ← one) (grown_at (id - 1) ns ([] ∷ []) n found (omega (arith, b (id - 1) n found)))
+
 pub later_some : (ns : List Node) (t : Table) (id : ℕ) → table ns ≡ t → Based ns → 1 ≤ id → id < length t
     → 0 < length (slice_index_or t id [])
-later_some ns t id e b l h =
-    let l1 : 1 + (id - 1) ≡ id = omega (arith, l) in
-    let there : id - 1 < length ns = omega (arith, h, l, ap (λ (x : Table). length x) e, length-grown ns ([] ∷ [])) in
-    let found = get_within ns (id - 1) there in
-    let low : found.0.parent ≤ id - 1 = b (id - 1) found.0 found.1 in
-    let a : slice_index_or (table ns) (1 + (id - 1)) []
-    ≡ frame_of found.0 ∷ slice_index_or (table ns) found.0.parent [] =
-    grown_at (id - 1) ns ([] ∷ []) found.0 found.1 (omega (arith, low)) in
-    let same : slice_index_or t (1 + (id - 1)) [] ≡ slice_index_or (table ns) (1 + (id - 1)) [] =
-    ap (λ (x : Table). slice_index_or x (1 + (id - 1)) []) (sym e) in
-    let moved : slice_index_or t id [] ≡ slice_index_or t (1 + (id - 1)) [] =
-    ap (λ n. slice_index_or t n []) (sym l1) in
-    omega (arith, ap (λ (x : List Frame). length x) (moved ∙ same ∙ a))
-  where
-    get_within : (xs : List Node) (k : ℕ) → k < length xs → (n : Node) × (slice_get xs k ≡ Some n)
-    get_within [] k h = absurd (omega arith)
-    get_within (x ∷ xs) zero h = (x, refl)
-    get_within (x ∷ xs) (suc k) h = get_within xs k (omega arith)
+later_some ns t id e b l h = elim (slice_get_cases ns (id - 1)).1 [
+  | inl at ↦ omega (arith, ap (λ (x : List Frame). length x) (chain_of ns t id at.0 e b l at.2))
+  | inr far ↦ absurd (omega (arith, far.0, h, l, count_law ns t e))
+]
 
 pub in_table : (ns : List Node) (t : Table) (id : ℕ) → table ns ≡ t → 0 < length (slice_index_or t id [])
     → (1 ≤ id) × (id - 1 < length ns)
-in_table ns t zero e h =
-    let z : slice_index_or t 0 [] ≡ [] =
-    ap (λ (x : Table). slice_index_or x 0 []) (sym e) ∙ grown_before ns ([] ∷ []) 0 (omega arith) in
-    absurd (omega (arith, ap (λ (x : List Frame). length x) z))
-in_table ns t (suc k) e h = (omega arith, inside (nat_lt k (length ns)) refl)
-  where
-    inside : (b : Bool) → nat_lt k (length ns) ≡ b → suc k - 1 < length ns
-    inside true x = grind (arith, nat_tests)
-    inside false x =
-        let far : length ns ≤ k = grind (arith, nat_tests) in
-        let out : length t ≤ suc k = omega (arith, far, ap (λ (x : Table). length x) e, length-grown ns ([] ∷ [])) in
-        let z : slice_index_or t (suc k) [] ≡ [] = get_or_past t (suc k) [] out in
-        absurd (omega (arith, ap (λ (x : List Frame). length x) z))
+in_table ns t id e h = elim (cases_lt 0 id) [
+  | inr zero_is ↦
+      let none = first_empty ns t id e (omega (arith, zero_is)) in
+      absurd (omega (arith, h, ap (λ (x : List Frame). length x) none))
+  | inl later ↦ elim (cases_lt (id - 1) (length ns)) [
+    | inl within ↦ (omega (arith, later), within)
+    | inr far ↦
+        let none : slice_index_or t id [] ≡ [] =
+        get_or_past t id [] (omega (arith, far, later, count_law ns t e)) in
+        absurd (omega (arith, h, ap (λ (x : List Frame). length x) none))
+  ]
+]
 
 pub node_law : (ns : List Node) (t : Table) (id : ℕ) (n : Node) → table ns ≡ t → Based ns
     → 0 < length (slice_index_or t id []) → n ≡ slice_index_or ns (id - 1) n
     → (slice_index_or t id [] ≡ frame_of n ∷ slice_index_or t n.parent []) × (n.parent < id) × (id < length t)
 node_law ns t id n e b h is =
     let at = in_table ns t id e h in
-    let found : slice_get ns (id - 1) ≡ Some n = get_some ns (id - 1) n at.1 ∙ ap (λ (x : Node). Some x) (sym is) in
-    let low : n.parent ≤ id - 1 = b (id - 1) n found in
-    let l : 1 + (id - 1) ≡ id = omega (arith, at.0) in
-    let a : slice_index_or (table ns) (1 + (id - 1)) [] ≡ frame_of n ∷ slice_index_or (table ns) n.parent [] =
-    grown_at (id - 1) ns ([] ∷ []) n found (omega (arith, low)) in (
-      rw (← e, ← l) a,
-      omega (arith, low, at.0),
-      omega (arith, at.0, at.1, ap (λ (x : Table). length x) e, length-grown ns ([] ∷ [])),
+    let found : slice_get ns (id - 1) ≡ Some n = slice_get_read ns (length ns) (id - 1) n refl at.1 is in (
+      chain_of ns t id n e b at.0 found,
+      omega (arith, b (id - 1) n found, at.0),
+      omega (arith, at.0, at.1, count_law ns t e),
     )
 
 pub cut_law : (ns ms : List Node) (t : Table) (keep : ℕ) → table ns ≡ t → ms ≡ take keep ns → keep < length t
     → table ms ≡ take (keep + 1) t
 cut_law ns ms t keep e m h =
-    let l : keep ≤ length ns = omega (arith, h, ap (λ (x : Table). length x) e, length-grown ns ([] ∷ [])) in
+    let l : keep ≤ length ns = omega (arith, h, count_law ns t e) in
     let one : 1 + keep ≡ keep + 1 = omega arith in
     rw (m, ← e, ← one) (sym (grown_taken keep ns ([] ∷ []) l))
 
@@ -144,20 +135,10 @@ pub push_law : (ns ms : List Node) (t : Table) (n : Node) (f : Frame) (p : ℕ) 
     → frame_of n ≡ f → n.parent ≡ p → table ms ≡ t ++ (f ∷ slice_index_or t p []) ∷ []
 push_law ns ms t n f p e m ef ep = rw (m, ← e, ← ef, ← ep) (grown-append ns (n ∷ []) ([] ∷ []))
 
-pub count_law : (ns : List Node) (t : Table) → table ns ≡ t → length t ≡ length ns + 1
-count_law ns t e = rw (← e) (omega (arith, length-grown ns ([] ∷ [])))
-
-got_pushed : (ns : List Node) (n : Node) (k : ℕ) (x : Node) → slice_get (ns ++ n ∷ []) k ≡ Some x
-    → (slice_get ns k ≡ Some x) ⊎ ((k ≡ length ns) × (n ≡ x))
-got_pushed [] n zero x e = inr (refl, cc)
-got_pushed [] n (suc k) x e = inl e
-got_pushed (y ∷ ns) n zero x e = inl e
-got_pushed (y ∷ ns) n (suc k) x e = elim (got_pushed ns n k x e) [ inl l ↦ inl l | inr r ↦ inr (ap suc r.0, r.1) ]
-
 pub based_push : (ns ms : List Node) (t : Table) (n : Node) (p : ℕ) → table ns ≡ t → ms ≡ ns ++ n ∷ [] → Based ns
     → n.parent ≡ p → p < length t → Based ms
 based_push ns ms t n p e m b ep h = λ k x g.
-    elim (got_pushed ns n k x (ap (λ (l : List Node). slice_get l k) (sym m) ∙ g)) [
+    elim (got_more ns n k x (ap (λ (l : List Node). slice_get l k) (sym m) ∙ g)) [
       | inl l ↦ b k x l
       | inr r ↦ omega (arith, r.0, h, ep, count_law ns t e, ap (λ (y : Node). y.parent) r.1)
     ]

@@ -1,7 +1,6 @@
 -- Laws of saved alternatives with one trail and one table of chains.
-use Rattle.std.proofs.Common.{◌≡◌, ℕ, ◌+◌, ◌-◌, ◌<◌, ◌≤◌, List, [], ◌∷◌, ◌++◌, length, map, reverse, take, drop}
-use Rattle.std.proofs.Common.{Bool, true, inr, Option, Some, slice_index_or, refl, sym, ap, ◌∙◌, subst, arith}
-use Rattle.std.proofs.Common.{length-append}
+use Rattle.std.proofs.Common.{◌≡◌, ℕ, ◌+◌, ◌-◌, ◌<◌, ◌≤◌, List, [], ◌∷◌, ◌++◌, length, map, reverse, take, drop, Bool}
+use Rattle.std.proofs.Common.{true, inr, Option, Some, slice_index_or, refl, sym, ap, ◌∙◌, subst, arith, length-append}
 use Rattle.std.specs.Option.{option_to_list}
 use Rattle.std.proofs.lemmas.List.{get_or-take, reverse-append, length-take-le}
 use Rattle.std.proofs.Math.ListN.{get_or-append}
@@ -21,6 +20,10 @@ Table = List (List Frame)
 -- tables that agree below a number of chains
 abbrev pub Agree : Table → Table → ℕ → Type 0
 Agree a b n = (i : ℕ) → i < n → slice_index_or b i [] ≡ slice_index_or a i []
+
+-- as one does with what is left when it is cut
+pub agree_cut : (t : Table) (k : ℕ) → Agree t (take (k + 1) t) (k + 1)
+agree_cut t k = λ i h. get_or-take (k + 1) t i [] h
 
 -- a longer trail and a greater table hold what smaller ones do
 pub fits-more : (ss : List Saved) (n n' c c' : ℕ) → n ≤ n' → c ≤ c' → Fits ss n c → Fits ss n' c'
@@ -70,10 +73,9 @@ pub forget_held : (b : BoardValue) (t : Trail) (chains chains' : Table) (frame p
     → parent ≤ keep → chains' ≡ take (keep + 1) chains → Fits (reverse saved) (keep + 1) (length t.past)
     → board_of t chains' parent saved ≡ record b { frames = drop 1 b.frames }
 forget_held b t chains chains' frame parent keep saved f e n l ec fit =
-    let cut : Agree chains (take (keep + 1) chains) (keep + 1) = λ i h. get_or-take (keep + 1) chains i [] h in
     let same = same_choices (reverse saved) chains (take (keep + 1) chains) (states t) (states t) (keep + 1)
-    (length t.past) fit cut (λ i h. refl) in
-    rw (ec, ← e, same, cut parent (omega arith), n) refl
+    (length t.past) fit (agree_cut chains keep) (λ i h. refl) in
+    rw (ec, ← e, same, agree_cut chains keep parent (omega arith), n) refl
 
 reversed : (old new : List Saved) (s : Saved) → old ≡ new ++ s ∷ [] → reverse old ≡ s ∷ reverse new
 reversed old new s e = ap (λ (x : List Saved). reverse x) e ∙ reverse-append new (s ∷ [])
@@ -103,14 +105,12 @@ back_held b t t' chains chains' frame old new s e f eo et ec =
     let same : SameUpTo (states t) (states t') s.changes =
     λ i h. ap (λ (x : List Marks). slice_index_or x i no_marks) et
     ∙ get_or-take (s.changes + 1) (states t) i no_marks (omega arith) in
-    let cut : Agree chains (take (s.chains + 1) chains) (s.chains + 1) =
-    λ i h. get_or-take (s.chains + 1) chains i [] h in
     let now : slice_index_or (states t) s.changes no_marks ≡ t'.now =
     sym (same s.changes (omega arith))
     ∙ ap (λ i. slice_index_or (states t') i no_marks) (sym (length-back t t' s.changes fits.1 et))
     ∙ get_or-append_seam t'.past t'.now [] no_marks in
     let frames : slice_index_or (take (s.chains + 1) chains) s.frame [] ≡ slice_index_or chains s.frame [] =
-    cut s.frame (omega (arith, fits.2)) in
+    agree_cut chains s.chains s.frame (omega (arith, fits.2)) in
     let was : map (choice_of chains (states t)) (reverse old) ≡ b.choices = ap (λ (x : BoardValue). x.choices) e in
     sym was ∙ rw (
       ec,
@@ -118,7 +118,7 @@ back_held b t t' chains chains' frame old new s e f eo et ec =
       frames,
       now,
       same_choices (reverse new) chains (take (s.chains + 1) chains) (states t) (states t') (s.chains + 1) s.changes
-          fits.3 cut same,
+          fits.3 (agree_cut chains s.chains) same,
     ) refl
 
 -- the newest choice goes, which is to go on with the loops as they are now, and with the marks where these matter

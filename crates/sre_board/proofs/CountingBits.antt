@@ -5,7 +5,8 @@ use Rattle.std.specs.Prelude.{bit_or}
 use Rattle.std.specs.Int.{bit_at}
 use Rattle.std.specs.List.{sum_by}
 use Rattle.std.proofs.lemmas.Bool.{cases_eq}
-use Rattle.std.proofs.lemmas.List.Sums.{sum_by-append, sum_by-set, sum_by-cons}
+use Rattle.std.proofs.lemmas.List.Sums.{sum_by-append, sum_by-set}
+use Rattle.std.proofs.lemmas.List.Folds.{sum_by-replicate}
 use Rattle.std.proofs.lemmas.Nat.Bits.{bit_at_set_same, bit_at_set_other, bit_at-zero}
 use Rattle.sre_board.specs.Failures.{ones_below}
 
@@ -49,13 +50,10 @@ unfolding ones_below
 zero_below zero = refl
 zero_below (suc n) = omega (arith, zero_below n, bit_at-zero n)
 
-sum_zeros : (f : ℕ → ℕ) (n : ℕ) → f 0 ≡ 0 → sum_by f (replicate n 0) ≡ 0
-sum_zeros f zero e = refl
-sum_zeros f (suc n) e = sum_by-cons f 0 (replicate n 0) ∙ omega (arith, e, sum_zeros f n e)
-
 -- words of noughts behind others
 pub sum_filled : (f : ℕ → ℕ) (xs : List ℕ) (n : ℕ) → f 0 ≡ 0 → sum_by f (xs ++ replicate n 0) ≡ sum_by f xs
-sum_filled f xs n e = omega (arith, sum_by-append f xs (replicate n 0), sum_zeros f n e)
+sum_filled f xs n e =
+    omega (arith, sum_by-append f xs (replicate n 0), sum_by-replicate f n 0, ap (λ m. n * m) e)
 
 pub none_in_zero : ones_below 64 0 ≡ 0
 none_in_zero = zero_below 64

@@ -5,7 +5,7 @@ use Rattle.std.proofs.Common.{◌≡◌, ℕ, inl, inr, Bool, true, List, [], �
 use Rattle.std.proofs.Common.{Option, Some, None, IfNone, sym, ap, ◌∙◌, subst, arith}
 use Rattle.std.specs.List.{AllByRecursion}
 use Rattle.sre_chars.specs.declared.string.StringCursor.{StringCursor}
-use Rattle.sre_model.specs.Marks.{Marks, no_marks}
+use Rattle.sre_model.specs.Marks.{no_marks}
 use Rattle.sre_model.specs.Runs.{Run}
 use Rattle.sre_turns.specs.Alike.{Alike}
 use Rattle.sre_turns.specs.BodyEnds.{EndsAt}
@@ -13,9 +13,8 @@ use Rattle.sre_turns.specs.Board.{Choice}
 use Rattle.sre_turns.specs.Moves.{Spot}
 use Rattle.sre_turns.specs.OpenMarks.{EachOpen}
 use Rattle.sre_board.specs.Failures.{Kept, Entry, Laid, BitsStay, HasBit}
-use Rattle.sre_board.specs.Ends.{EndsTable, end_at, HoldsEnd, HoldsNoEnd, HoldsOneEndMore}
-use Rattle.sre_board.specs.Ends.{HoldsOpenMore, HasEnd, TellsEnd}
-use Rattle.sre_board.specs.Ends.{NumberOf, EndRight, EndsRight}
+use Rattle.sre_board.specs.Ends.{EndsTable, end_at, HoldsEnd, HoldsNoEnd, HoldsOpenMore, HasEnd, TellsEnd, NumberOf}
+use Rattle.sre_board.specs.Ends.{EndRight, EndsRight}
 use Rattle.sre_board.proofs.OneEntry.{one_entry}
 use Rattle.sre_board.proofs.KeptSpots.{one_bit}
 use Rattle.sre_board.proofs.Remembering.{alike_onward}
@@ -58,12 +57,6 @@ number_stays old new ws inside x n stay a = record {
   number = a.number;
 }
 
--- where the body of a region ends for a spot, it ends for each that is alike
-pub ends_alike : (r : Run) (m : Marks) (x y : Spot) (q : ℕ) → Alike r.words x y → EndsAt r m x q → EndsAt r m y q
-ends_alike r m x y q a h = record {
-  begins = λ z os n b marks d. h.begins z os n (alike_onward r.words x y z a b) marks d;
-}
-
 -- where no end is kept, each is right
 pub right_none : (r : Run) (k : Kept) (t : EndsTable) → HoldsNoEnd t → EndsRight r k t
 right_none r k t none = λ n c h. absurd (none n c h)
@@ -80,32 +73,17 @@ right_stays r old new t stay was = λ n c h.
       stands = e.stands;
     }
 
--- an end that is right may be kept
-pub right_more : (r : Run) (k : Kept) (old new : EndsTable) (n : ℕ) (c : StringCursor)
-    → HoldsOneEndMore n c old new → EndRight r k n c → EndsRight r k old → EndsRight r k new
-right_more r k old new n c more right was = λ m d h.
-    elim (more m d h) [
-      | inl before ↦ was m d before
-      | inr one ↦
-          subst (λ (e : StringCursor). EndRight r k m e) (sym one.1)
-          (subst (λ i. EndRight r k i c) (sym one.0) right)
-    ]
-
--- an end that is kept for a spot's number is where the body ends for that spot
-pub right_end : (r : Run) (k : Kept) (t : EndsTable) (x : Spot) (n : ℕ) (c : StringCursor)
-    → EndsRight r k t → Laid k → NumberOf k r.words true x n → HoldsEnd t n c
-    → EndsAt r no_marks x c.position × r.stands c c.position
-right_end r k t x n c right laid number h =
-    let e = right n c h in
-    let alike = one_number k r.words true true e.spot x n laid e.number number in (
-      ends_alike r no_marks e.spot x c.position alike.1 e.ends,
-      e.stands,
-    )
-
 -- an end that is kept for a spot is where the body ends for that spot
 pub end_told : (r : Run) (k : Kept) (t : EndsTable) (x : Spot) (c : StringCursor) → EndsRight r k t → Laid k
     → TellsEnd k t r.words true x c → EndsAt r no_marks x c.position × r.stands c c.position
-end_told r k t x c right laid told = right_end r k t x told.number c right laid told.is told.held
+end_told r k t x c right laid told =
+    let e = right told.number c told.held in
+    let alike = (one_number k r.words true true e.spot x told.number laid e.number told.is).1 in (
+      record {
+        begins = λ z os n b marks d. e.ends.begins z os n (alike_onward r.words e.spot x z alike b) marks d;
+      },
+      e.stands,
+    )
 
 -- where none is told of its number a spot has no end
 pub none_told : (k : Kept) (t : EndsTable) (ws : List ℕ) (inside : Bool) (x : Spot) (n : ℕ) → Laid k

@@ -1,50 +1,60 @@
--- Rows of addresses below a bound are no more than the bound, and fewer where one of these addresses has none.
-use Rattle.std.proofs.Common.{◌≡◌, ℕ, zero, suc, ◌<◌, ◌≤◌, List, [], ◌∷◌, length, map, Some, slice_get}
-use Rattle.std.proofs.Common.{refl, sym, ap, ◌∙◌, arith}
+-- Rows of addresses below a bound are fewer than the bound where one of these addresses has none.
+use Rattle.std.proofs.Common.{◌≡◌, ℕ, suc, ◌<◌, inl, inr, true, false, List, [], ◌∷◌, length, map, Some, slice_get}
+use Rattle.std.proofs.Common.{refl, sym, arith}
+use Rattle.std.specs.List.{AllByRecursion, IsDistinct, list_any}
+use Rattle.std.proofs.Math.Dec.{eqb}
+use Rattle.std.proofs.lemmas.Bool.Decides.{eqb_tells}
+use Rattle.std.proofs.lemmas.List.{length-map}
+use Rattle.std.proofs.lemmas.Map.Keys.{IsDistinct-cons}
+use Rattle.std.proofs.lemmas.Map.Steps.{length-le_from_distinct_below}
 use Rattle.sre_board.specs.declared.failures.Row.{Row}
 use Rattle.sre_board.specs.Failures.{Kept, Laid, HasNoRow}
-use Rattle.sre_board.proofs.Apart.{few_by_place}
 
-abbrev pub places : List Row → List ℕ
+abbrev places : List Row → List ℕ
 places rs = map (λ (r : Row). r.place) rs
 
-place_of : (rs : List Row) (i v : ℕ) → slice_get (places rs) i ≡ Some v
-    → (r : Row) × (slice_get rs i ≡ Some r) × (r.place ≡ v)
-place_of [] i v e = absurd (cc)
-place_of (r ∷ rs) zero v e = (r, refl, cc)
-place_of (r ∷ rs) (suc i) v e = place_of rs i v e
+-- the row of one of the places
+row_of : (rs : List Row) (v : ℕ) → list_any (eqb v) (places rs) ≡ true
+    → (n : ℕ) × (r : Row) × (slice_get rs n ≡ Some r) × (r.place ≡ v)
+row_of [] v h = absurd (cc)
+row_of (r ∷ rs) v h = elim (eqb_tells v r.place) [
+  | inl e ↦ (0, r, refl, sym e.1)
+  | inr e ↦ let below = row_of rs v (rw e.0 at h) in (suc below.0, below.1, below.2, below.3)
+]
 
-as_many : (rs : List Row) → length (places rs) ≡ length rs
-as_many [] = refl
-as_many (r ∷ rs) = ap suc (as_many rs)
+-- a number that is not in a list differs from each
+others : (x : ℕ) (xs : List ℕ) → (list_any (eqb x) xs ≡ true → ⊥) → AllByRecursion (λ y. eqb x y ≡ false) xs
+others x [] none = tt
+others x (y ∷ ys) none = elim (eqb_tells x y) [
+  | inl e ↦ absurd (none (rw e.0 refl))
+  | inr e ↦ (e.0, others x ys (λ h. none (rw e.0 h)))
+]
 
-module _ (k : Kept) (n : ℕ) (laid : Laid k)
-    (below : (i : ℕ) (r : Row) → slice_get k.rows i ≡ Some r → r.place < n) where
-  one_each : (i j v : ℕ) → slice_get (places k.rows) i ≡ Some v → slice_get (places k.rows) j ≡ Some v → i ≡ j
-  one_each i j v a b =
-      let r = place_of k.rows i v a in
-      let s = place_of k.rows j v b in
-      laid.alone i j r.0 s.0 r.1 s.1 (r.2 ∙ sym s.2)
+-- rows of places of their own have distinct places
+distinct : (rs : List Row) → ((m n : ℕ) (r s : Row) → slice_get rs m ≡ Some r → slice_get rs n ≡ Some s
+    → r.place ≡ s.place → m ≡ n) → IsDistinct eqb (places rs)
+unfolding IsDistinct
+distinct [] alone = tt
+distinct (r ∷ rs) alone = (
+  others r.place (places rs) (λ h.
+      let s = row_of rs r.place h in absurd (omega (arith, alone 0 (suc s.0) r s.1 refl s.2 (sym s.3)))),
+  distinct rs (λ m n a b ea eb e. omega (arith, alone (suc m) (suc n) a b ea eb e)),
+)
 
-  all_below : (i v : ℕ) → slice_get (places k.rows) i ≡ Some v → v < n
-  all_below i v a = let r = place_of k.rows i v a in omega (arith, below i r.0 r.1, r.2)
+pub fewer_rows : (k : Kept) (n : ℕ) → Laid k → ((i : ℕ) (r : Row) → slice_get k.rows i ≡ Some r → r.place < n)
+    → (place : ℕ) → place < n → HasNoRow k place → length k.rows < n
+fewer_rows k n laid below place h none =
+    let few = length-le_from_distinct_below (place ∷ places k.rows) n apart small in
+    omega (arith, few, length-map k.rows (λ (r : Row). r.place))
+  where
+    apart : IsDistinct eqb (place ∷ places k.rows)
+    apart =
+        IsDistinct-cons eqb place (places k.rows)
+        (others place (places k.rows) (λ m. let r = row_of k.rows place m in none r.0 r.1 r.2 r.3))
+        (distinct k.rows laid.alone)
 
-  pub few_rows : length k.rows ≤ n
-  few_rows = omega (arith, few_by_place n (places k.rows) one_each all_below, as_many k.rows)
-
-  pub fewer_rows : (place : ℕ) → place < n → HasNoRow k place → length k.rows < n
-  fewer_rows place h none =
-      omega (arith, few_by_place n (place ∷ places k.rows) one_each_more all_below_more, as_many k.rows)
-    where
-      one_each_more : (i j v : ℕ) → slice_get (place ∷ places k.rows) i ≡ Some v
-          → slice_get (place ∷ places k.rows) j ≡ Some v → i ≡ j
-      one_each_more zero zero v a b = refl
-      one_each_more zero (suc j) v a b =
-          let s = place_of k.rows j v b in absurd (none j s.0 s.1 (s.2 ∙ cc))
-      one_each_more (suc i) zero v a b =
-          let r = place_of k.rows i v a in absurd (none i r.0 r.1 (r.2 ∙ cc))
-      one_each_more (suc i) (suc j) v a b = ap suc (one_each i j v a b)
-
-      all_below_more : (i v : ℕ) → slice_get (place ∷ places k.rows) i ≡ Some v → v < n
-      all_below_more zero v a = let e : place ≡ v = cc in omega arith
-      all_below_more (suc i) v a = all_below i v a
+    small : (q : ℕ) → list_any (eqb q) (place ∷ places k.rows) ≡ true → q < n
+    small q m = elim (eqb_tells q place) [
+      | inl e ↦ omega (arith, e.1, h)
+      | inr e ↦ let r = row_of k.rows q (rw e.0 at m) in omega (arith, below r.0 r.1 r.2, r.3)
+    ]

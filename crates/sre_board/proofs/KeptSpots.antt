@@ -1,35 +1,32 @@
--- Configurations that are memoized as bits: when one more is, and when a row is added.
-use Rattle.std.proofs.Common.{◌≡◌, ℕ, zero, suc, ◌+◌, ◌-◌, ◌*◌, ◌/◌, ◌%◌, ◌^◌, ◌<◌, ◌≤◌, ◌⊎◌, inl, inr}
-use Rattle.std.proofs.Common.{Bool, List, [], ◌∷◌, ◌++◌, length, replicate, Option, Some, slice_get, slice_index}
-use Rattle.std.proofs.Common.{slice_set, get_or, refl, sym, ap, ◌∙◌, subst, arith, w64, length-append}
+-- Configurations that are memoized as bits: those with one bit are alike, and one more is memoized where a bit is set.
+use Rattle.std.proofs.Common.{◌≡◌, ℕ, ◌+◌, ◌-◌, ◌*◌, ◌/◌, ◌%◌, ◌^◌, ◌<◌, ◌⊎◌, inl, inr, Bool, List, length, Some}
+use Rattle.std.proofs.Common.{slice_get, slice_index, slice_set, get_or, sym, ap, ◌∙◌, subst, arith, w64}
 use Rattle.std.specs.Prelude.{bit_or}
 use Rattle.std.specs.Int.{bit_at}
 use Rattle.std.proofs.lemmas.Bool.{cases_order, cases_eq}
-use Rattle.std.proofs.lemmas.List.{get_or-set_same, get_or-set_other, get_or_append_left, get_or-append_right}
-use Rattle.std.proofs.lemmas.List.{length-replicate, get_or_read}
+use Rattle.std.proofs.lemmas.List.{get_or-set_same, get_or-set_other, get_or_read}
 use Rattle.std.proofs.lemmas.Nat.{same_from_place}
-use Rattle.std.proofs.lemmas.Nat.Bits.{bit_at_set_other, bit_at-zero}
+use Rattle.std.proofs.lemmas.Nat.Bits.{bit_at_set_same, bit_at_set_other}
+use Rattle.std.proofs.lemmas.Option.{same_Some}
 use Rattle.sre_turns.specs.Alike.{LoopsAlike, Alike, least_from}
 use Rattle.sre_turns.specs.Moves.{Spot}
-use Rattle.sre_turns.specs.declared.Frame.{Frame}
 use Rattle.sre_turns.specs.Nested.{repeats, place_of, is_again}
 use Rattle.sre_turns.proofs.bound.NestedPlaces.{same_point, placed_from}
-use Rattle.sre_board.specs.Failures.{Kept, kept_of, Entry, HoldsNoMore, HoldsOneMore, HasSlot, Laid, radix, digit}
-use Rattle.sre_board.specs.Failures.{HasNoRow}
+use Rattle.sre_board.specs.Failures.{Kept, kept_of, Entry, HoldsOneMore, HoldsStill, BitsStay, BitsKept, Sets, HasSlot}
+use Rattle.sre_board.specs.Failures.{Laid, ones_below}
 use Rattle.sre_board.specs.declared.failures.Row.{Row}
-use Rattle.sre_board.proofs.ChainLaws.{get_some}
-use Rattle.sre_board.proofs.AlikeBySlot.{one_if, same_pair, slot_length, loops_alike}
+use Rattle.sre_board.proofs.AlikeBySlot.{one_if, same_pair, loops_alike}
+use Rattle.sre_board.proofs.CountingBits.{one_set, sum_set}
+use Rattle.sre_board.proofs.OneEntry.{entry_at}
 
+-- the words of bits belong to one row each
 pub same_row : (k : Kept) (m n : ℕ) (r s : Row) (i j at : ℕ) → Laid k → slice_get k.rows m ≡ Some r
     → slice_get k.rows n ≡ Some s → i < r.length → j < s.length → at ≡ r.base + i → at ≡ s.base + j → r ≡ s
 same_row k m n r s i j at laid er es hi hj ei ej = elim (cases_order m n) [
-  | inl e ↦ same_some (sym er ∙ ap (λ x. slice_get k.rows x) e ∙ es)
+  | inl e ↦ same_Some r s (sym er ∙ ap (λ x. slice_get k.rows x) e ∙ es)
   | inr (inl h) ↦ absurd (omega (arith, laid.apart m n r s h er es))
   | inr (inr h) ↦ absurd (omega (arith, laid.apart n m s r h es er))
 ]
-  where
-    same_some : ◌≡◌ {A = Option Row} (Some r) (Some s) → r ≡ s
-    same_some e = cc
 
 -- spots with one bit are alike
 pub one_bit : (k : Kept) (ws : List ℕ) (inside other : Bool) (x y : Spot) (at bit : ℕ) → Laid k
@@ -66,254 +63,106 @@ one_bit k ws inside other x y at bit laid a b =
       },
     )
 
--- a word with a bit set, in the bits
-abbrev pub with_bit : Kept → ℕ → ℕ → Kept
-with_bit k at bit =
-    record k { bits = slice_set k.bits at (bit_or (get_or k.bits at 0) ((1 * 2 ^ bit) % 2 ^ 64)) }
+-- a word with a bit set, alone and among the words
+abbrev set_word : List ℕ → ℕ → ℕ → ℕ
+set_word bits at bit = bit_or (get_or bits at 0) ((1 * 2 ^ bit) % 2 ^ 64)
 
--- an entry rests on rows and shapes alone
-pub entry_below : (old new : Kept) (ws : List ℕ) (inside : Bool) (x : Spot) (at bit : ℕ) → new.rows ≡ old.rows
-    → new.shapes ≡ old.shapes → Entry new ws inside x at bit → Entry old ws inside x at bit
-entry_below old new ws inside x at bit er es e = record {
-  number = e.number;
-  row = e.row;
-  slot = e.slot;
-  index = e.index;
-  there = ap (λ (rs : List Row). slice_get rs e.number) (sym er) ∙ e.there;
-  place = e.place;
-  kind = e.kind;
-  read = e.read;
-  few = e.few;
-  loops = subst (λ (ss : List ℕ). HasSlot ws x.position ss e.row.end e.row.shape 0 x.frames e.slot) es e.loops;
-  from = e.from;
-  to = e.to;
-  index_is = e.index_is;
-  within = e.within;
-  at_is = e.at_is;
-  bit_is = e.bit_is;
-}
+abbrev with_bit : List ℕ → ℕ → ℕ → List ℕ
+with_bit bits at bit = slice_set bits at (set_word bits at bit)
 
--- one more spot is kept
-pub kept_more : (k : Kept) (ws : List ℕ) (inside : Bool) (x : Spot) (at bit : ℕ) → Laid k → bit < 64
-    → at < length k.bits → Entry k ws inside x at bit → HoldsOneMore ws inside x k (with_bit k at bit)
-kept_more k ws inside x at bit laid small there e = λ other y held.
-    let entry : Entry k ws other y held.at held.bit =
-    entry_below k (with_bit k at bit) ws other y held.at held.bit refl refl held.entry in
-    elim (cases_eq held.at at) [
-      | inr apart ↦
-          let word : ℕ = bit_or (get_or k.bits at 0) ((1 * 2 ^ bit) % 2 ^ 64) in
-          let same = get_or-set_other k.bits at held.at word 0 apart in
-          inl (record {
-            at = held.at;
-            bit = held.bit;
-            entry = entry;
-            is_set = ap (λ w. bit_at w held.bit) (sym same) ∙ held.is_set;
-          })
-      | inl one ↦ elim (cases_eq held.bit bit) [
-        | inl other_bit ↦
-            let here = subst (λ b. Entry k ws other y at b) other_bit
-            (subst (λ a. Entry k ws other y a held.bit) one entry) in
-            inr (one_bit k ws inside other x y at bit laid e here)
-        | inr apart ↦
-            let word : ℕ = bit_or (get_or k.bits at 0) ((1 * 2 ^ bit) % 2 ^ 64) in
-            let same : get_or (slice_set k.bits at word) at 0 ≡ word = get_or-set_same k.bits at word 0 there in
-            let kept : bit_at word held.bit ≡ bit_at (get_or k.bits at 0) held.bit =
-            bit_at_set_other w64 (get_or k.bits at 0) bit small held.bit apart in
-            let was : bit_at word held.bit ≡ 1 =
-            ap (λ w. bit_at w held.bit) (sym same)
-            ∙ ap (λ a. bit_at (get_or (slice_set k.bits at word) a 0) held.bit) (sym one) ∙ held.is_set in
-            inl (record {
-              at = held.at;
-              bit = held.bit;
-              entry = entry;
-              is_set = ap (λ a. bit_at (get_or k.bits a 0) held.bit) one ∙ sym kept ∙ was;
-            })
-      ]
-    ]
-
--- the word of a longer list, before its end
-pub get_before : (xs ys : List ℕ) (i : ℕ) → i < length xs → slice_get (xs ++ ys) i ≡ slice_get xs i
-get_before [] ys i h = absurd (omega arith)
-get_before (x ∷ xs) ys zero h = refl
-get_before (x ∷ xs) ys (suc i) h = get_before xs ys i (omega arith)
-
--- loops of a shape are those of it before others followed
-slot_before : (ws : List ℕ) (p : ℕ) (shapes more : List ℕ) (j i a : ℕ) (fs : List Frame) (s : ℕ) → j ≤ length shapes
-    → HasSlot ws p (shapes ++ more) j i a fs s → HasSlot ws p shapes j i a fs s
-slot_before ws p shapes more j i a [] s h k = k
-slot_before ws p shapes more j i a (f ∷ fs) s h k =
-    let before : i < length shapes =
-    omega (arith, h, slot_length ws p (shapes ++ more) j (i + 1) (a * radix ws f.repeat + digit ws p f) fs s k.2) in (
-      sym (get_before shapes more i before) ∙ k.0,
-      k.1,
-      slot_before ws p shapes more j (i + 1) (a * radix ws f.repeat + digit ws p f) fs s h k.2,
-    )
-
--- more shapes
-abbrev pub with_shapes : Kept → List ℕ → Kept
-with_shapes k more = record k { shapes = k.shapes ++ more }
-
-pub laid_shapes : (k : Kept) (more : List ℕ) → Laid k → Laid (with_shapes k more)
-laid_shapes k more laid = record {
-  within = λ n r e. ((laid.within n r e).0, omega (arith, length-append k.shapes more, (laid.within n r e).1));
-  apart = laid.apart;
-  alone = laid.alone;
-  few = laid.few;
-}
-
-pub shapes_no_more : (k : Kept) (more : List ℕ) → Laid k → HoldsNoMore k (with_shapes k more)
-shapes_no_more k more laid = λ ws inside x h.
-    let e = h.entry in
-    record {
-      at = h.at;
-      bit = h.bit;
-      is_set = h.is_set;
-      entry = record {
-        number = e.number;
-        row = e.row;
-        slot = e.slot;
-        index = e.index;
-        there = e.there;
-        place = e.place;
-        kind = e.kind;
-        read = e.read;
-        few = e.few;
-        loops =
-            slot_before ws x.position k.shapes more e.row.end e.row.shape 0 x.frames e.slot
-            (laid.within e.number e.row e.there).1 e.loops;
-        from = e.from;
-        to = e.to;
-        index_is = e.index_is;
-        within = e.within;
-        at_is = e.at_is;
-        bit_is = e.bit_is;
-      };
-    }
-
--- past the bits there were, none is set
-pub bits_after : (bits : List ℕ) (n at bit : ℕ) → length bits ≤ at
-    → bit_at (slice_index (bits ++ replicate n 0) at) bit ≡ 1 → ⊥
-bits_after bits n at bit h is_set =
-    let moved : slice_index (bits ++ replicate n 0) at ≡ slice_index (replicate n 0) (at - length bits) =
-    get_or-append_right bits (replicate n 0) (length bits) at 0 refl h in
-    let none : slice_index (bits ++ replicate n 0) at ≡ 0 = moved ∙ zeros n (at - length bits) in
-    omega (arith, sym (ap (λ w. bit_at w bit) none) ∙ is_set, bit_at-zero bit)
+-- each bit is that one, or as it was
+bit_then : (bits : List ℕ) (at bit m b : ℕ) → bit < 64 → at < length bits
+    → ((m ≡ at) × (b ≡ bit) × (bit_at (slice_index (with_bit bits at bit) m) b ≡ 1))
+    ⊎ (bit_at (slice_index (with_bit bits at bit) m) b ≡ bit_at (slice_index bits m) b)
+bit_then bits at bit m b small there = elim (cases_eq m at) [
+  | inr apart ↦ inr (ap (λ w. bit_at w b) (get_or-set_other bits at m (set_word bits at bit) 0 apart))
+  | inl e ↦ elim (cases_eq b bit) [
+    | inl f ↦
+        inl (
+          e,
+          f,
+          read e ∙ ap (λ i. bit_at (set_word bits at bit) i) f
+              ∙ bit_at_set_same w64 (get_or bits at 0) bit small,
+        )
+    | inr other ↦
+        inr (read e ∙ bit_at_set_other w64 (get_or bits at 0) bit small b other
+        ∙ ap (λ i. bit_at (get_or bits i 0) b) (sym e))
+  ]
+]
   where
-    zeros : (n i : ℕ) → slice_index (replicate n 0) i ≡ 0
-    zeros zero i = refl
-    zeros (suc n) zero = refl
-    zeros (suc n) (suc i) = zeros n i
+    read : m ≡ at → bit_at (slice_index (with_bit bits at bit) m) b ≡ bit_at (set_word bits at bit) b
+    read e =
+        ap (λ i. bit_at (slice_index (with_bit bits at bit) i) b) e
+        ∙ ap (λ w. bit_at w b) (get_or-set_same bits at (set_word bits at bit) 0 there)
 
-bits_before : (bits : List ℕ) (n at bit : ℕ) → at < length bits
-    → bit_at (slice_index (bits ++ replicate n 0) at) bit ≡ 1 → bit_at (slice_index bits at) bit ≡ 1
-bits_before bits n at bit h is_set =
-    ap (λ w. bit_at w bit) (sym (get_or_append_left bits (replicate n 0) 0 at h)) ∙ is_set
+-- a spot's bit was set: none but those that are alike is kept in addition, and all else is as it was
+pub record Written (ws : List ℕ) (inside : Bool) (x : Spot) (old new : Kept) : Type 0 where
+  pub more : HoldsOneMore ws inside x old new
+  pub still : HoldsStill old new
+  pub stay : BitsStay old new
+  pub bits : BitsKept old new
+  pub sets : Sets ws inside x old new
 
--- a row more, with bits of its own
-abbrev pub with_row : Kept → Row → ℕ → Kept
-with_row k row n = record k { rows = k.rows ++ row ∷ []; bits = k.bits ++ replicate n 0 }
+-- what is kept is kept still where its bits stay and those that are set stay so
+pub still_kept : (old new : Kept) → BitsStay old new → BitsKept old new → HoldsStill old new
+still_kept old new stay kept = λ ws inside x h. record {
+  at = h.at;
+  bit = h.bit;
+  entry = stay ws inside x h.at h.bit h.entry;
+  is_set = kept h.at h.bit h.is_set;
+}
 
-pub got_row : (rs : List Row) (row : Row) (n : ℕ) (r : Row) → slice_get (rs ++ row ∷ []) n ≡ Some r
-    → (slice_get rs n ≡ Some r) ⊎ ((n ≡ length rs) × (row ≡ r))
-got_row [] row zero r e = inr (refl, cc)
-got_row [] row (suc n) r e = absurd (cc)
-got_row (x ∷ rs) row zero r e = inl e
-got_row (x ∷ rs) row (suc n) r e = elim (got_row rs row n r e) [ inl l ↦ inl l | inr g ↦ inr (ap suc g.0, g.1) ]
+module _ (k : Kept) (ws : List ℕ) (inside : Bool) (x : Spot) (at bit : ℕ) (laid : Laid k) (small : bit < 64)
+    (there : at < length k.bits) (e : Entry k ws inside x at bit) where
+  abbrev now : Kept
+  now = record k { bits = with_bit k.bits at bit }
 
--- what is found is within the list
-pub got_within : (rs : List Row) (n : ℕ) (r : Row) → slice_get rs n ≡ Some r → n < length rs
-got_within [] n r e = absurd (cc)
-got_within (x ∷ rs) zero r e = omega arith
-got_within (x ∷ rs) (suc n) r e = omega (arith, got_within rs n r e)
+  stay : BitsStay k now
+  stay wt other y m b d = entry_at d d.number d.there d.loops
 
-module _ (k : Kept) (row : Row) (n : ℕ) (laid : Laid k) (base : row.base ≡ length k.bits) (room : row.length ≤ n)
-    (shape : row.end ≤ length k.shapes) where
-  pub laid_row : HasNoRow k row.place → length k.bits + n ≤ 2 ^ 32 → Laid (with_row k row n)
-  laid_row none few = record {
-    within = λ m r e. elim (got_row k.rows row m r e) [
-      | inl l ↦ (
-        omega (arith, length-append k.bits (replicate n 0), (laid.within m r l).0),
-        (laid.within m r l).1,
-      )
-      | inr g ↦
-          subst (λ (x : Row). (x.base + x.length ≤ length (k.bits ++ replicate n 0)) × (x.end ≤ length k.shapes)) g.1
-          (omega (arith, length-append k.bits (replicate n 0), length-replicate {A = ℕ} n 0), shape)
-    ];
-    apart = λ i j r s less er es. elim (got_row k.rows row j s es) [
-      | inl l ↦ elim (got_row k.rows row i r er) [
-        | inl m ↦ laid.apart i j r s less m l
-        | inr g ↦ absurd (omega (arith, g.0, got_within k.rows j s l))
+  kept : BitsKept k now
+  kept m b was = elim (bit_then k.bits at bit m b small there) [ inl one ↦ one.2 | inr same ↦ same ∙ was ]
+
+  one_more : HoldsOneMore ws inside x k now
+  one_more other y h =
+      let d : Entry k ws other y h.at h.bit = entry_at h.entry h.entry.number h.entry.there h.entry.loops in
+      elim (bit_then k.bits at bit h.at h.bit small there) [
+        | inl one ↦
+            inr (one_bit k ws inside other x y at bit laid e
+            (subst (λ b. Entry k ws other y at b) one.1 (subst (λ a. Entry k ws other y a h.bit) one.0 d)))
+        | inr same ↦ inl (record { at = h.at; bit = h.bit; entry = d; is_set = sym same ∙ h.is_set })
       ]
-      | inr h ↦ elim (got_row k.rows row i r er) [
-        | inl m ↦ omega (arith, (laid.within i r m).0, base, ap (λ (x : Row). x.base) h.1)
-        | inr g ↦ absurd (omega (arith, g.0, h.0))
-      ]
-    ];
-    alone = λ i j r s er es e. elim (got_row k.rows row j s es) [
-      | inl l ↦ elim (got_row k.rows row i r er) [
-        | inl m ↦ laid.alone i j r s m l e
-        | inr g ↦ absurd (none j s l (sym e ∙ ap (λ (x : Row). x.place) (sym g.1)))
-      ]
-      | inr h ↦ elim (got_row k.rows row i r er) [
-        | inl m ↦ absurd (none i r m (e ∙ ap (λ (x : Row). x.place) (sym h.1)))
-        | inr g ↦ g.0 ∙ sym h.0
-      ]
-    ];
-    few = omega (arith, few, length-append k.bits (replicate n 0), length-replicate {A = ℕ} n 0);
+
+  pub bit_written : Written ws inside x k now
+  bit_written = record {
+    more = one_more;
+    still = still_kept k now stay kept;
+    stay = stay;
+    bits = kept;
+    sets = record {
+      at = at;
+      bit = bit;
+      entry = e;
+      is_set =
+          ap (λ w. bit_at w bit) (get_or-set_same k.bits at _ 0 there)
+          ∙ bit_at_set_same w64 (get_or k.bits at 0) bit small;
+      count =
+          sum_set (ones_below 64) k.bits at _ (bit_at (get_or k.bits at 0) bit) there
+          (one_set 64 (get_or k.bits at 0) bit (omega arith) small);
+    };
   }
 
-  pub row_no_more : HoldsNoMore k (with_row k row n)
-  row_no_more = λ ws inside x h.
-      let e = h.entry in
-      elim (got_row k.rows row e.number e.row e.there) [
-        | inl l ↦
-            let before : h.at < length k.bits = omega (arith, (laid.within e.number e.row l).0, e.at_is, e.within) in
-            record {
-              at = h.at;
-              bit = h.bit;
-              is_set = bits_before k.bits n h.at h.bit before h.is_set;
-              entry = record {
-                number = e.number;
-                row = e.row;
-                slot = e.slot;
-                index = e.index;
-                there = l;
-                place = e.place;
-                kind = e.kind;
-                read = e.read;
-                few = e.few;
-                loops = e.loops;
-                from = e.from;
-                to = e.to;
-                index_is = e.index_is;
-                within = e.within;
-                at_is = e.at_is;
-                bit_is = e.bit_is;
-              };
-            }
-        | inr g ↦
-            let far : length k.bits ≤ h.at = omega (arith, base, ap (λ (r : Row). r.base) g.1, e.at_is) in
-            absurd (bits_after k.bits n h.at h.bit far h.is_set)
-      ]
-
 -- the same, as the bits are written
-pub kept_written : (k : Kept) (rows : List Row) (shapes bits : List ℕ) (ws : List ℕ) (inside : Bool) (x : Spot)
+pub written : (k : Kept) (rows : List Row) (shapes bits : List ℕ) (ws : List ℕ) (inside : Bool) (x : Spot)
     (at bit v : ℕ) → kept_of rows shapes bits ≡ k → Laid (kept_of rows shapes bits) → bit < 64 → at < length k.bits
     → Entry k ws inside x at bit → v ≡ get_or bits at v
-    → HoldsOneMore ws inside x k (kept_of rows shapes (slice_set bits at (bit_or v ((1 * 2 ^ bit) % 2 ^ 64))))
-kept_written k rows shapes bits ws inside x at bit v is laid small there e ev =
+    → Written ws inside x k (kept_of rows shapes (slice_set bits at (bit_or v ((1 * 2 ^ bit) % 2 ^ 64))))
+written k rows shapes bits ws inside x at bit v is laid small there e ev =
     let room : at < length bits = omega (arith, there, ap (λ (y : Kept). length y.bits) is) in
-    let read : v ≡ get_or bits at 0 = get_or_read bits at v room ev 0 in
     let entry : Entry (kept_of rows shapes bits) ws inside x at bit =
     subst (λ (y : Kept). Entry y ws inside x at bit) (sym is) e in
-    let more = kept_more (kept_of rows shapes bits) ws inside x at bit laid small room entry in
     subst
-    (λ (y : Kept). HoldsOneMore ws inside x y
+    (λ (y : Kept). Written ws inside x y
     (kept_of rows shapes (slice_set bits at (bit_or v ((1 * 2 ^ bit) % 2 ^ 64))))) is
-    (rw read more)
-
--- the row of a number
-pub row_at : (k : Kept) (rows : List Row) (shapes bits : List ℕ) (n : ℕ) (r : Row) → kept_of rows shapes bits ≡ k
-    → n < length rows → r ≡ get_or rows n r → slice_get k.rows n ≡ Some r
-row_at k rows shapes bits n r is h e =
-    ap (λ (y : Kept). slice_get y.rows n) (sym is) ∙ get_some rows n r h ∙ ap (λ (x : Row). Some x) (sym e)
+    (rw (get_or_read bits at v room ev 0)
+    (bit_written (kept_of rows shapes bits) ws inside x at bit laid small room entry))

@@ -1,30 +1,20 @@
--- No memoized configuration is lost when another is memoized, or a row is added. So a further row extends the memo.
-use Rattle.std.proofs.Common.{◌≡◌, ℕ, zero, suc, ◌+◌, ◌-◌, ◌*◌, ◌%◌, ◌^◌, ◌<◌, ◌≤◌, inl, inr}
-use Rattle.std.proofs.Common.{Bool, List, [], ◌∷◌, ◌++◌, length, take, replicate, Some, slice_get, slice_index}
-use Rattle.std.proofs.Common.{slice_set, get_or, refl, sym, ap, ◌∙◌, subst, arith, w64, length-append}
-use Rattle.std.specs.Prelude.{bit_or}
+-- No memoized configuration is lost where a row is added, and none is new. So a further row extends the memo.
+use Rattle.std.proofs.Common.{◌≡◌, ℕ, zero, suc, ◌+◌, ◌-◌, ◌*◌, ◌^◌, ◌<◌, ◌≤◌, ◌⊎◌, inl, inr, List, [], ◌∷◌, ◌++◌}
+use Rattle.std.proofs.Common.{length, replicate, Some, slice_get, slice_index, sum_by, Bool, true, false, cond, refl}
+use Rattle.std.proofs.Common.{sym, ap, ◌∙◌, subst, arith, length-append}
 use Rattle.std.specs.Int.{bit_at}
-use Rattle.std.proofs.lemmas.Bool.{cases_eq}
-use Rattle.std.proofs.lemmas.List.{get_or-set_same, get_or-set_other, get_or_append_left}
-use Rattle.std.proofs.lemmas.List.{take_all, take-append-le, append-nil}
-use Rattle.std.proofs.lemmas.List.{get_or_read, length-replicate}
-use Rattle.std.proofs.lemmas.Nat.Bits.{bit_at_set_same, bit_at_set_other, bit_at-zero}
-use Rattle.sre_turns.specs.Moves.{Spot}
+use Rattle.std.proofs.lemmas.List.{get_or_append_left, get_or-append_right, append-nil, length-replicate}
+use Rattle.std.proofs.lemmas.Nat.Bits.{bit_at-zero}
+use Rattle.std.proofs.lemmas.Option.{slice_get_within}
 use Rattle.sre_turns.specs.declared.Frame.{Frame}
-use Rattle.sre_board.specs.Failures.{Kept, kept_of, Entry, HoldsNoMore, HoldsStill, BitsStay, BitsKept}
-use Rattle.sre_board.specs.Failures.{Grows, Sets, OneRowMore, HasSlot, Laid, ones_below}
-use Rattle.sre_board.specs.Failures.{radix, digit, HasNoRow}
+use Rattle.sre_board.specs.Failures.{Kept, kept_of, HoldsNoMore, BitsStay, BitsKept, Grows, OneRowMore, HasSlot, Laid}
+use Rattle.sre_board.specs.Failures.{ones_below, radix, digit, HasNoRow}
 use Rattle.sre_board.specs.declared.failures.Row.{Row}
-use Rattle.sre_board.proofs.CountingBits.{one_set, sum_set, sum_filled, none_in_zero}
-use Rattle.sre_board.proofs.KeptSpots.{entry_below, with_bit, with_shapes, with_row, laid_shapes, laid_row}
-use Rattle.sre_board.proofs.KeptSpots.{shapes_no_more, row_no_more}
-
--- what stands in a list stands there in a longer one
-pub got_still : {X : Type 0} (xs ys : List X) (i : ℕ) (v : X) → slice_get xs i ≡ Some v
-    → slice_get (xs ++ ys) i ≡ Some v
-got_still [] ys i v e = absurd (cc)
-got_still (x ∷ xs) ys zero v e = e
-got_still (x ∷ xs) ys (suc i) v e = got_still xs ys i v e
+use Rattle.sre_board.proofs.AlikeBySlot.{slot_length}
+use Rattle.sre_board.proofs.CountingBits.{sum_filled, none_in_zero}
+use Rattle.sre_board.proofs.KeptSpots.{still_kept}
+use Rattle.sre_board.proofs.Listed.{got_before, got_still, got_more}
+use Rattle.sre_board.proofs.OneEntry.{entry_at}
 
 -- a bit that is set is set in a longer list
 bits_longer : (bs cs : List ℕ) (at bit : ℕ) → bit_at (slice_index bs at) bit ≡ 1
@@ -33,59 +23,87 @@ bits_longer [] cs at bit h = absurd (omega (arith, h, bit_at-zero bit))
 bits_longer (b ∷ bs) cs zero bit h = h
 bits_longer (b ∷ bs) cs (suc at) bit h = bits_longer bs cs at bit h
 
-slot_still : (ws : List ℕ) (p : ℕ) (shapes more : List ℕ) (j i a : ℕ) (fs : List Frame) (s : ℕ)
-    → HasSlot ws p shapes j i a fs s → HasSlot ws p (shapes ++ more) j i a fs s
-slot_still ws p shapes more j i a [] s h = h
-slot_still ws p shapes more j i a (f ∷ fs) s h = (
-  got_still shapes more i f.repeat h.0,
+-- past the bits there were, none is set
+bits_after : (bits : List ℕ) (n at bit : ℕ) → length bits ≤ at
+    → bit_at (slice_index (bits ++ replicate n 0) at) bit ≡ 1 → ⊥
+bits_after bits n at bit h is_set =
+    let moved : slice_index (bits ++ replicate n 0) at ≡ slice_index (replicate n 0) (at - length bits) =
+    get_or-append_right bits (replicate n 0) (length bits) at 0 refl h in
+    let none : slice_index (bits ++ replicate n 0) at ≡ 0 = moved ∙ zeros n (at - length bits) in
+    omega (arith, sym (ap (λ w. bit_at w bit) none) ∙ is_set, bit_at-zero bit)
+  where
+    zeros : (n i : ℕ) → slice_index (replicate n 0) i ≡ 0
+    zeros zero i = refl
+    zeros (suc n) zero = refl
+    zeros (suc n) (suc i) = zeros n i
+
+-- a slot of a shape is one in other shapes that agree with these up to its end
+slot_moved : (ws : List ℕ) (p : ℕ) (ss ts : List ℕ) (j i a : ℕ) (fs : List Frame) (s : ℕ)
+    → ((n v : ℕ) → n < j → slice_get ss n ≡ Some v → slice_get ts n ≡ Some v)
+    → HasSlot ws p ss j i a fs s → HasSlot ws p ts j i a fs s
+slot_moved ws p ss ts j i a [] s same h = h
+slot_moved ws p ss ts j i a (f ∷ fs) s same h = (
+  same i f.repeat (omega (arith, slot_length ws p ss j i a (f ∷ fs) s h)) h.0,
   h.1,
-  slot_still ws p shapes more j (i + 1) (a * radix ws f.repeat + digit ws p f) fs s h.2,
+  slot_moved ws p ss ts j (i + 1) (a * radix ws f.repeat + digit ws p f) fs s same h.2,
 )
 
--- rows, shapes and bits behind those of others
-module _ (k : Kept) (rs : List Row) (ss : List ℕ) (n : ℕ) (laid : Laid k) where
-  entry_still : (ws : List ℕ) (inside : Bool) (x : Spot) (at bit : ℕ) → Entry k ws inside x at bit
-      → Entry (kept_of (k.rows ++ rs) (k.shapes ++ ss) (k.bits ++ replicate n 0)) ws inside x at bit
-  entry_still ws inside x at bit e = record {
-    number = e.number;
-    row = e.row;
-    slot = e.slot;
-    index = e.index;
-    there = got_still k.rows rs e.number e.row e.there;
-    place = e.place;
-    kind = e.kind;
-    read = e.read;
-    few = e.few;
-    loops = slot_still ws x.position k.shapes ss e.row.end e.row.shape 0 x.frames e.slot e.loops;
-    from = e.from;
-    to = e.to;
-    index_is = e.index_is;
-    within = e.within;
-    at_is = e.at_is;
-    bit_is = e.bit_is;
-  }
+-- rows, shapes and bits behind those there were: no new bit is set, and the new rows begin behind the bits there were
+record Longer (old new : Kept) : Type 0 where
+  rs : List Row
+  ss : List ℕ
+  n : ℕ
+  rows : new.rows ≡ old.rows ++ rs
+  shapes : new.shapes ≡ old.shapes ++ ss
+  bits : new.bits ≡ old.bits ++ replicate n 0
+  behind : (i : ℕ) (r : Row) → slice_get new.rows i ≡ Some r
+      → (slice_get old.rows i ≡ Some r) ⊎ (length old.bits ≤ r.base)
 
-  holds_still : HoldsStill k (kept_of (k.rows ++ rs) (k.shapes ++ ss) (k.bits ++ replicate n 0))
-  holds_still ws inside x h =
+module _ (old new : Kept) (laid : Laid old) (more : Longer old new) where
+  kept : BitsKept old new
+  kept at bit set =
+      ap (λ (bs : List ℕ). bit_at (slice_index bs at) bit) more.bits
+      ∙ bits_longer old.bits (replicate more.n 0) at bit set
+
+  stay : BitsStay old new
+  stay ws inside x at bit e =
+      entry_at e e.number
+      (ap (λ (rs : List Row). slice_get rs e.number) more.rows ∙ got_still old.rows more.rs e.number e.row e.there)
+      (slot_moved ws x.position old.shapes new.shapes e.row.end e.row.shape 0 x.frames e.slot
+      (λ n v l h. ap (λ (ss : List ℕ). slice_get ss n) more.shapes ∙ got_still old.shapes more.ss n v h) e.loops)
+
+  no_more : HoldsNoMore old new
+  no_more ws inside x h =
       let e = h.entry in
-      let before : h.at < length k.bits =
-      omega (arith, (laid.within e.number e.row e.there).0, e.at_is, e.within) in
-      record {
-        at = h.at;
-        bit = h.bit;
-        entry = entry_still ws inside x h.at h.bit e;
-        is_set =
-            ap (λ w. bit_at w h.bit) (get_or_append_left k.bits (replicate n 0) 0 h.at before) ∙ h.is_set;
-      }
+      let set : bit_at (slice_index (old.bits ++ replicate more.n 0) h.at) h.bit ≡ 1 =
+      ap (λ (bs : List ℕ). bit_at (slice_index bs h.at) h.bit) (sym more.bits) ∙ h.is_set in
+      elim (more.behind e.number e.row e.there) [
+        | inr far ↦ absurd (bits_after old.bits more.n h.at h.bit (omega (arith, far, e.at_is)) set)
+        | inl there ↦
+            let within = laid.within e.number e.row there in
+            let before : h.at < length old.bits = omega (arith, within.0, e.at_is, e.within) in
+            record {
+              at = h.at;
+              bit = h.bit;
+              is_set =
+                  ap (λ w. bit_at w h.bit) (sym (get_or_append_left old.bits (replicate more.n 0) 0 h.at before)) ∙ set;
+              entry =
+                  entry_at e e.number there
+                  (slot_moved ws x.position new.shapes old.shapes e.row.end e.row.shape 0 x.frames e.slot
+                  (λ n v l g. sym (got_before old.shapes more.ss n (omega (arith, l, within.1)))
+                  ∙ ap (λ (ss : List ℕ). slice_get ss n) (sym more.shapes) ∙ g) e.loops);
+            }
+      ]
 
-  grows_longer : HoldsNoMore k (kept_of (k.rows ++ rs) (k.shapes ++ ss) (k.bits ++ replicate n 0))
-      → Grows k (kept_of (k.rows ++ rs) (k.shapes ++ ss) (k.bits ++ replicate n 0))
-  grows_longer no_more = record {
+  longer : Grows old new
+  longer = record {
     no_more = no_more;
-    still = holds_still;
-    stay = entry_still;
-    bits = λ at bit set. bits_longer k.bits (replicate n 0) at bit set;
-    same = sum_filled (ones_below 64) k.bits n none_in_zero;
+    still = still_kept old new stay kept;
+    stay = stay;
+    bits = kept;
+    same =
+        ap (λ (bs : List ℕ). sum_by (ones_below 64) bs) more.bits
+        ∙ sum_filled (ones_below 64) old.bits more.n none_in_zero;
   }
 
 pub grows_not : (k : Kept) → Grows k k
@@ -107,164 +125,100 @@ grows_after k l m a b = record {
 }
 
 -- the shapes of a further row are appended
-grows_shapes : (k : Kept) (more : List ℕ) → Laid k → Grows k (with_shapes k more)
-grows_shapes k more laid =
-    let rows : k.rows ++ [] ≡ k.rows = append-nil k.rows in
-    let bits : k.bits ++ replicate 0 0 ≡ k.bits = append-nil k.bits in
-    subst (λ (rs : List Row). Grows k (kept_of rs (k.shapes ++ more) k.bits)) rows
-    (subst (λ (bs : List ℕ). Grows k (kept_of (k.rows ++ []) (k.shapes ++ more) bs)) bits
-    (grows_longer k [] more 0 laid (rw (rows, bits) (shapes_no_more k more laid))))
-
--- a row is appended, with bits of its own
-grows_row : (k : Kept) (row : Row) (n : ℕ) → Laid k → row.base ≡ length k.bits → row.length ≤ n
-    → row.end ≤ length k.shapes → Grows k (with_row k row n)
-grows_row k row n laid base room shape =
-    let shapes : k.shapes ++ [] ≡ k.shapes = append-nil k.shapes in
-    subst (λ (ss : List ℕ). Grows k (kept_of (k.rows ++ row ∷ []) ss (k.bits ++ replicate n 0))) shapes
-    (grows_longer k (row ∷ []) [] n laid (rw shapes (row_no_more k row n laid base room shape)))
-
 module _ (k : Kept) (rows : List Row) (shapes bits new : List ℕ) (is : kept_of rows shapes bits ≡ k)
     (laid : Laid (kept_of rows shapes bits)) (more : (xs : List ℕ) × (new ≡ shapes ++ xs)) where
-  pub laid_grown : Laid (kept_of rows new bits)
-  laid_grown =
-      subst (λ (ss : List ℕ). Laid (kept_of rows ss bits)) (sym more.1)
-      (laid_shapes (kept_of rows shapes bits) more.0 laid)
-
   pub grown : Grows k (kept_of rows new bits)
   grown =
       subst (λ (y : Kept). Grows y (kept_of rows new bits)) is
-      (subst (λ (ss : List ℕ). Grows (kept_of rows shapes bits) (kept_of rows ss bits)) (sym more.1)
-      (grows_shapes (kept_of rows shapes bits) more.0 laid))
+      (longer (kept_of rows shapes bits) (kept_of rows new bits) laid (record {
+        rs = [];
+        ss = more.0;
+        n = 0;
+        rows = sym (append-nil rows);
+        shapes = more.1;
+        bits = sym (append-nil bits);
+        behind = λ i r e. inl e;
+      }))
 
--- bits that are filled up
-filled : (bits new : List ℕ) (base n taken : ℕ) → base ≡ length bits → taken ≡ length bits
-    → new ≡ take (base + n) bits ++ replicate (base + n - taken) 0 → new ≡ bits ++ replicate n 0
-filled bits new base n taken eb et e =
-    let all : take (base + n) bits ≡ bits = take_all (base + n) bits (omega (arith, eb)) in
-    let left : base + n - taken ≡ n = omega (arith, eb, et) in
-    e ∙ rw (all, left) refl
+-- a row was appended, with bits of its own, or nothing was
+pub record Pushed (row : Row) (old new : Kept) : Type 0 where
+  pub grows : Grows old new
+  pub laid : Laid new
+  pub size : OneRowMore row.length old new
 
--- the bits of a further row are appended, and then the row, or the bits are taken off again
-module _ (k : Kept) (rows : List Row) (shapes bits new : List ℕ) (row : Row) (taken : ℕ)
-    (is : kept_of rows shapes bits ≡ k) (laid : Laid (kept_of rows shapes bits)) (base : row.base ≡ length k.bits)
-    (end : row.end ≤ length k.shapes) (et : taken ≡ length bits)
-    (e : new ≡ take (row.base + row.length) bits ++ replicate (row.base + row.length - taken) 0) where
-  here : row.base ≡ length bits
-  here = base ∙ ap (λ (y : Kept). length y.bits) (sym is)
+module _ (rows : List Row) (shapes bits : List ℕ) (row : Row) (laid : Laid (kept_of rows shapes bits))
+    (base : row.base ≡ length bits) (end : row.end ≤ length shapes) (few : row.base + row.length ≤ 2 ^ 32)
+    (none : HasNoRow (kept_of rows shapes bits) row.place) where
+  abbrev filled : List ℕ
+  filled = bits ++ replicate row.length 0
 
-  long : new ≡ bits ++ replicate row.length 0
-  long = filled bits new row.base row.length taken here et e
+  wide : length filled ≡ length bits + row.length
+  wide =
+      length-append bits (replicate row.length 0)
+      ∙ ap (λ n. length bits + n) (length-replicate {A = ℕ} row.length 0)
 
-  pub taken_off : take row.base new ≡ bits
-  taken_off =
-      ap (λ (bs : List ℕ). take row.base bs) long
-      ∙ take-append-le row.base bits (replicate row.length 0) (omega (arith, here))
-      ∙ take_all row.base bits (omega (arith, here))
-
-  shaped : row.end ≤ length shapes
-  shaped = omega (arith, end, ap (λ (y : Kept). length y.shapes) is)
-
-  pub laid_pushed : HasNoRow k row.place → row.base + row.length ≤ 2 ^ 32 → (rs : List Row)
-      → rs ≡ rows ++ row ∷ [] → Laid (kept_of rs shapes new)
-  laid_pushed none few rs er =
-      let free : HasNoRow (kept_of rows shapes bits) row.place =
-      subst (λ (y : Kept). HasNoRow y row.place) (sym is) none in
-      rw (er, long)
-      (laid_row (kept_of rows shapes bits) row row.length laid here (omega arith) shaped free
-      (omega (arith, few, here)))
-
-  pub pushed : (rs : List Row) → rs ≡ rows ++ row ∷ [] → Grows k (kept_of rs shapes new)
-  pushed rs er =
-      subst (λ (y : Kept). Grows y (kept_of rs shapes new)) is
-      (rw (er, long) (grows_row (kept_of rows shapes bits) row row.length laid here (omega arith) shaped))
-
-  pub one_row : (rs : List Row) → rs ≡ rows ++ row ∷ [] → OneRowMore row.length k (kept_of rs shapes new)
-  one_row rs er =
-      let many : length rs ≡ length rows + 1 =
-      ap (λ (xs : List Row). length xs) er ∙ length-append rows (row ∷ []) in
-      let wide : length new ≡ length bits + row.length =
-      ap (λ (xs : List ℕ). length xs) long ∙ length-append bits (replicate row.length 0)
-      ∙ ap (λ n. length bits + n) (length-replicate {A = ℕ} row.length 0) in
-      inr (many ∙ ap (λ (y : Kept). length y.rows + 1) is, wide ∙ ap (λ (y : Kept). length y.bits + row.length) is)
-
-pub as_before : (rows : List Row) (shapes bits : List ℕ) (rs : List Row) (bs : List ℕ) → rs ≡ rows → bs ≡ bits
-    → kept_of rs shapes bs ≡ kept_of rows shapes bits
-as_before rows shapes bits rs bs er eb = rw (er, eb) refl
-
--- a spot is kept: its bit is set, and the others stay
-module _ (k : Kept) (ws : List ℕ) (inside : Bool) (x : Spot) (at bit : ℕ) (small : bit < 64)
-    (there : at < length k.bits) (e : Entry k ws inside x at bit) where
-  word : ℕ
-  word = bit_or (get_or k.bits at 0) ((1 * 2 ^ bit) % 2 ^ 64)
-
-  pub stays_at_bit : BitsStay k (with_bit k at bit)
-  stays_at_bit wt other y m b d = entry_below (with_bit k at bit) k wt other y m b refl refl d
-
-  pub kept_at_bit : BitsKept k (with_bit k at bit)
-  kept_at_bit m b was = elim (cases_eq m at) [
-    | inr apart ↦
-        ap (λ w. bit_at w b)
-        (get_or-set_other k.bits at m (bit_or (get_or k.bits at 0) ((1 * 2 ^ bit) % 2 ^ 64)) 0 apart) ∙ was
-    | inl one ↦
-        let v : ℕ = bit_or (get_or k.bits at 0) ((1 * 2 ^ bit) % 2 ^ 64) in
-        let read : get_or (slice_set k.bits at v) m 0 ≡ v =
-        ap (λ i. get_or (slice_set k.bits at v) i 0) one ∙ get_or-set_same k.bits at v 0 there in
-        ap (λ w. bit_at w b) read
-        ∙ elim (cases_eq b bit) [
-          | inl same ↦ ap (λ i. bit_at v i) same ∙ bit_at_set_same w64 (get_or k.bits at 0) bit small
-          | inr other_bit ↦
-              bit_at_set_other w64 (get_or k.bits at 0) bit small b other_bit
-              ∙ ap (λ i. bit_at (get_or k.bits i 0) b) (sym one) ∙ was
-        ]
-  ]
-
-  pub still_at_bit : HoldsStill k (with_bit k at bit)
-  still_at_bit wt other y h = record {
-    at = h.at;
-    bit = h.bit;
-    entry = stays_at_bit wt other y h.at h.bit h.entry;
-    is_set = kept_at_bit h.at h.bit h.is_set;
+  laid_pushed : Laid (kept_of (rows ++ row ∷ []) shapes filled)
+  laid_pushed = record {
+    within = λ m r g. elim (got_more rows row m r g) [
+      | inl l ↦ (omega (arith, wide, (laid.within m r l).0), (laid.within m r l).1)
+      | inr h ↦
+          subst (λ (x : Row). (x.base + x.length ≤ length filled) × (x.end ≤ length shapes)) h.1
+          (omega (arith, base, wide), end)
+    ];
+    apart = λ i j r s less gr gs. elim (got_more rows row j s gs) [
+      | inl l ↦ elim (got_more rows row i r gr) [
+        | inl m ↦ laid.apart i j r s less m l
+        | inr g ↦ absurd (omega (arith, g.0, slice_get_within rows j s l))
+      ]
+      | inr h ↦ elim (got_more rows row i r gr) [
+        | inl m ↦ omega (arith, (laid.within i r m).0, base, ap (λ (x : Row). x.base) h.1)
+        | inr g ↦ absurd (omega (arith, g.0, h.0))
+      ]
+    ];
+    alone = λ i j r s gr gs same. elim (got_more rows row j s gs) [
+      | inl l ↦ elim (got_more rows row i r gr) [
+        | inl m ↦ laid.alone i j r s m l same
+        | inr g ↦ absurd (none j s l (sym same ∙ ap (λ (x : Row). x.place) (sym g.1)))
+      ]
+      | inr h ↦ elim (got_more rows row i r gr) [
+        | inl m ↦ absurd (none i r m (same ∙ ap (λ (x : Row). x.place) (sym h.1)))
+        | inr g ↦ g.0 ∙ sym h.0
+      ]
+    ];
+    few = omega (arith, few, base, wide);
   }
 
-  pub sets_bit : Sets ws inside x k (with_bit k at bit)
-  sets_bit =
-      let v : ℕ = bit_or (get_or k.bits at 0) ((1 * 2 ^ bit) % 2 ^ 64) in
-      record {
-        at = at;
-        bit = bit;
-        entry = e;
-        is_set =
-            ap (λ w. bit_at w bit) (get_or-set_same k.bits at v 0 there)
-            ∙ bit_at_set_same w64 (get_or k.bits at 0) bit small;
-        count =
-            sum_set (ones_below 64) k.bits at v (bit_at (get_or k.bits at 0) bit) there
-            (one_set 64 (get_or k.bits at 0) bit (omega arith) small);
-      }
+  row_pushed : Pushed row (kept_of rows shapes bits) (kept_of (rows ++ row ∷ []) shapes filled)
+  row_pushed = record {
+    grows =
+        longer (kept_of rows shapes bits) (kept_of (rows ++ row ∷ []) shapes filled) laid (record {
+          rs = row ∷ [];
+          ss = [];
+          n = row.length;
+          rows = refl;
+          shapes = sym (append-nil shapes);
+          bits = refl;
+          behind = λ n r g. elim (got_more rows row n r g) [
+            | inl l ↦ inl l
+            | inr h ↦ inr (omega (arith, base, ap (λ (x : Row). x.base) h.1))
+          ];
+        });
+    laid = laid_pushed;
+    size = inr (length-append rows (row ∷ []), wide);
+  }
 
--- the same, as the bits are written
-pub record Written (ws : List ℕ) (inside : Bool) (x : Spot) (old new : Kept) : Type 0 where
-  pub still : HoldsStill old new
-  pub stay : BitsStay old new
-  pub bits : BitsKept old new
-  pub sets : Sets ws inside x old new
-
-pub still_written : (k : Kept) (rows : List Row) (shapes bits : List ℕ) (ws : List ℕ) (inside : Bool) (x : Spot)
-    (at bit v : ℕ) → kept_of rows shapes bits ≡ k → bit < 64 → at < length k.bits → Entry k ws inside x at bit
-    → v ≡ get_or bits at v
-    → Written ws inside x k (kept_of rows shapes (slice_set bits at (bit_or v ((1 * 2 ^ bit) % 2 ^ 64))))
-still_written k rows shapes bits ws inside x at bit v is small there e ev =
-    let room : at < length bits = omega (arith, there, ap (λ (y : Kept). length y.bits) is) in
-    let read : v ≡ get_or bits at 0 = get_or_read bits at v room ev 0 in
-    let entry : Entry (kept_of rows shapes bits) ws inside x at bit =
-    subst (λ (y : Kept). Entry y ws inside x at bit) (sym is) e in
-    let all : Written ws inside x (kept_of rows shapes bits) (with_bit (kept_of rows shapes bits) at bit) =
-    record {
-      still = still_at_bit (kept_of rows shapes bits) ws inside x at bit small room entry;
-      bits = kept_at_bit (kept_of rows shapes bits) ws inside x at bit small room entry;
-      stay = stays_at_bit (kept_of rows shapes bits) ws inside x at bit small room entry;
-      sets = sets_bit (kept_of rows shapes bits) ws inside x at bit small room entry;
-    } in
-    subst
-    (λ (y : Kept). Written ws inside x y
-    (kept_of rows shapes (slice_set bits at (bit_or v ((1 * 2 ^ bit) % 2 ^ 64))))) is
-    (rw read all)
+pub pushed : (k : Kept) (rows : List Row) (shapes bits : List ℕ) (row : Row) (ok : Bool) (rs : List Row) (bs : List ℕ)
+    → kept_of rows shapes bits ≡ k → Laid (kept_of rows shapes bits) → row.base + row.length ≤ 2 ^ 32
+    → rs ≡ cond ok (rows ++ row ∷ []) rows → bs ≡ cond ok (bits ++ replicate row.length 0) bits
+    → row.base ≡ length k.bits → row.end ≤ length k.shapes → HasNoRow k row.place → Pushed row k (kept_of rs shapes bs)
+pushed k rows shapes bits row ok rs bs is laid few er eb =
+    subst (λ (y : Kept). row.base ≡ length y.bits → row.end ≤ length y.shapes → HasNoRow y row.place
+    → Pushed row y (kept_of rs shapes bs)) is (rw (er, eb) (by_ok ok))
+  where
+    by_ok : (b : Bool) → row.base ≡ length bits → row.end ≤ length shapes
+        → HasNoRow (kept_of rows shapes bits) row.place
+        → Pushed row (kept_of rows shapes bits)
+        (kept_of (cond b (rows ++ row ∷ []) rows) shapes (cond b (bits ++ replicate row.length 0) bits))
+    by_ok true base end none = row_pushed rows shapes bits row laid base end few none
+    by_ok false base end none =
+        record { grows = grows_not (kept_of rows shapes bits); laid = laid; size = inl (refl, refl) }

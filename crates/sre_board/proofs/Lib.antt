@@ -1,9 +1,9 @@
+pub mod Listed
 pub mod Undo
 pub mod ChainLaws
 pub mod Choosing
 pub mod InnermostRegion
 pub mod AlikeBySlot
-pub mod SlotsThere
 pub mod Remembering
 pub mod KeptSpots
 mod OpenSpots
@@ -12,8 +12,6 @@ pub mod KeptStill
 pub mod RowNumbers
 pub mod OneEntry
 pub mod NoSlot
-pub mod NoBit
-pub mod Apart
 pub mod RowsThere
 pub mod ShapesAdded
 pub mod RowsAdded

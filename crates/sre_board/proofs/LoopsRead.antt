@@ -1,5 +1,6 @@
 -- The code words of each loop around a configuration exist.
-use Rattle.std.proofs.Common.{ℕ, ◌+◌, ◌-◌, List, [], ◌∷◌, length}
+use Rattle.std.proofs.Common.{ℕ, ◌+◌, ◌-◌, List, [], length}
+use Rattle.std.proofs.lemmas.Option.{slice_get_within}
 use Rattle.sre_model.specs.Tree.{Tree, Item}
 use Rattle.sre_model.specs.Grammar.{Reads, Operands, WholeItems}
 use Rattle.sre_turns.specs.declared.Point.{Point}
@@ -7,17 +8,16 @@ use Rattle.sre_turns.specs.Moves.{Spot}
 use Rattle.sre_turns.specs.Nested.{repeats, Lies}
 use Rattle.sre_turns.proofs.semantics.Parts.{Own, Ends, Law, lies_law, possessive, until, success}
 use Rattle.sre_board.specs.Failures.{WordsThere}
-use Rattle.sre_board.proofs.RowNumbers.{got_in}
 
 module _ (ws : List ℕ) where
   own_words : {i j : ℕ} {js : List ℕ} {x : Item} {r : Operands ws i j x} {pt : Point} {ks : List ℕ}
       → Own ws i j js x r pt ks → WordsThere ws js → WordsThere ws ks
-  own_words {i = i} (possessive {high = high} {r = r}) w = (got_in ws (i + 3) high r.1, w)
+  own_words {i = i} (possessive {high = high} {r = r}) w = (slice_get_within ws (i + 3) high r.1, w)
   own_words o w = w
 
   part_words : {i j : ℕ} {js : List ℕ} {x : Item} {a b : ℕ} {t : Tree} {ks : List ℕ} → Ends ws i j js x a b t ks
       → WordsThere ws js → WordsThere ws ks
-  part_words {i = i} (until {high = high} low most end next) w = (got_in ws (i + 3) high most, w)
+  part_words {i = i} (until {high = high} low most end next) w = (slice_get_within ws (i + 3) high most, w)
   part_words (success end last) w = tt
   part_words e w = w
 

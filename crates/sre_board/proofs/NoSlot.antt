@@ -1,5 +1,5 @@
--- Loops without a counter state of a shape, or without one below a number.
-use Rattle.std.proofs.Common.{◌≡◌, ℕ, ◌+◌, ◌*◌, ◌<◌, ◌≤◌, List, [], ◌∷◌, length, Some, slice_get, ◌^◌}
+-- Loops with a counter state of a shape, and loops without one below a number.
+use Rattle.std.proofs.Common.{◌≡◌, ◌↔◌, ℕ, ◌+◌, ◌*◌, ◌<◌, ◌≤◌, List, [], ◌∷◌, length, Some, slice_get, ◌^◌}
 use Rattle.std.proofs.Common.{sym, subst, ap, ◌∙◌, arith}
 use Rattle.sre_turns.specs.declared.Frame.{Frame}
 use Rattle.sre_board.specs.Failures.{HasSlot, AreRead, IsPassed, radix, digit}
@@ -12,6 +12,10 @@ slot_grows ws p shapes j i before (f ∷ fs) s h =
     let more : before ≤ before * radix ws f.repeat + digit ws p f = omega arith in
     omega (arith, more, slot_grows ws p shapes j (i + 1) (before * radix ws f.repeat + digit ws p f) fs s h.2)
 
+-- the loops' words are there, and the loops have a slot
+abbrev pub Slotted : List ℕ → ℕ → List ℕ → ℕ → ℕ → ℕ → List Frame → ℕ → Type 0
+Slotted ws p shapes j i before fs s = AreRead ws fs × HasSlot ws p shapes j i before fs s
+
 -- the newest loop is that of a frame
 module _ (ws : List ℕ) (p : ℕ) (shapes : List ℕ) (j i before : ℕ) (all : List Frame) (f g : Frame) (fs : List Frame)
     (is : all ≡ f ∷ fs) (same : g ≡ f) where
@@ -19,32 +23,18 @@ module _ (ws : List ℕ) (p : ℕ) (shapes : List ℕ) (j i before : ℕ) (all :
   one = is ∙ ap (λ (h : Frame). h ∷ fs) (sym same)
 
   pub no_slot_with : (g.repeat + 3 < length ws → IsPassed g.last p → 2 ^ 24 ≤ before * radix ws g.repeat + digit ws p g)
-      → (s : ℕ) → s < 2 ^ 24 → AreRead ws all → HasSlot ws p shapes j i before all s → ⊥
-  no_slot_with far s few read slot =
-      let there = subst (λ (gs : List Frame). AreRead ws gs) one read in
-      let has = subst (λ (gs : List Frame). HasSlot ws p shapes j i before gs s) one slot in
+      → (s : ℕ) → s < 2 ^ 24 → Slotted ws p shapes j i before all s → ⊥
+  no_slot_with far s few h =
+      let there = subst (λ (gs : List Frame). Slotted ws p shapes j i before gs s) one h in
       omega (
         arith,
         few,
-        far there.0 has.1,
-        slot_grows ws p shapes j (i + 1) (before * radix ws g.repeat + digit ws p g) fs s has.2,
+        far there.0.0 there.1.1,
+        slot_grows ws p shapes j (i + 1) (before * radix ws g.repeat + digit ws p g) fs s there.1.2,
       )
 
-  pub slot_onward : (next : ℕ) → slice_get shapes i ≡ Some g.repeat → IsPassed g.last p
-      → next ≡ before * radix ws g.repeat + digit ws p g → (s : ℕ) → HasSlot ws p shapes j (i + 1) next fs s
-      → HasSlot ws p shapes j i before all s
-  slot_onward next here passed e s h =
-      subst (λ (gs : List Frame). HasSlot ws p shapes j i before gs s) (sym one)
-      (here, passed, subst (λ n. HasSlot ws p shapes j (i + 1) n fs s) e h)
-
-  pub slot_back : (next : ℕ) → next ≡ before * radix ws g.repeat + digit ws p g → (s : ℕ)
-      → HasSlot ws p shapes j i before all s → HasSlot ws p shapes j (i + 1) next fs s
-  slot_back next e s h =
-      subst (λ n. HasSlot ws p shapes j (i + 1) n fs s) (sym e)
-      (subst (λ (gs : List Frame). HasSlot ws p shapes j i before gs s) one h).2
-
-  pub read_onward : g.repeat + 3 < length ws → AreRead ws fs → AreRead ws all
-  read_onward here read = subst (λ (gs : List Frame). AreRead ws gs) (sym one) (here, read)
-
-  pub read_back : AreRead ws all → AreRead ws fs
-  read_back read = (subst (λ (gs : List Frame). AreRead ws gs) one read).1
+  pub slot_with : (next : ℕ) → g.repeat + 3 < length ws → slice_get shapes i ≡ Some g.repeat → IsPassed g.last p
+      → next ≡ before * radix ws g.repeat + digit ws p g → (s : ℕ)
+      → Slotted ws p shapes j (i + 1) next fs s ↔ Slotted ws p shapes j i before all s
+  slot_with next read here passed e s =
+      rw (one, e) (λ h. ((read, h.0), (here, passed, h.1)), λ h. (h.0.1, h.1.2))

@@ -2,8 +2,8 @@
 use Rattle.std.specs.List.{AllByRecursion}
 use Rattle.std.proofs.Common.{◌≡◌, ℕ, zero, suc, ◌+◌, ◌-◌, ◌<◌, ◌≤◌, inl, inr, false, List, [], ◌∷◌, ◌++◌, drop, length}
 use Rattle.std.proofs.Common.{map, reverse, get_or, option_map, Some, slice_get, refl, sym, ap, ◌∙◌, subst, arith}
-use Rattle.std.proofs.lemmas.List.{append_assoc, drop_all, get_or-reverse, length-reverse}
-use Rattle.std.proofs.lemmas.Option.{slice_get-map, slice_get-get_or}
+use Rattle.std.proofs.lemmas.List.{append_assoc, drop_all, drop_more, get_or-reverse, length-reverse}
+use Rattle.std.proofs.lemmas.Option.{slice_get-map, slice_get-get_or, slice_get_within, get_or_from_slice_get}
 use Rattle.sre_chars.specs.declared.string.StringCursor.{StringCursor}
 use Rattle.sre_model.specs.Marks.{Marks}
 use Rattle.sre_turns.specs.Board.{Choice, Keep, Trying, choice}
@@ -12,8 +12,7 @@ use Rattle.sre_turns.specs.OpenMarks.{open_spots}
 use Rattle.sre_turns.specs.declared.Frame.{Frame}
 use Rattle.sre_turns.specs.declared.Region.{Region}
 use Rattle.sre_turns.specs.declared.Point.{Point}
-use Rattle.sre_turns.specs.declared.Point.TheVariants.{Instruction, Alternatives, Shorter, Longer, Inside, Again, Tried}
-use Rattle.sre_turns.specs.declared.Point.TheVariants.{TriedAgain}
+use Rattle.sre_turns.specs.declared.Point.TheVariants.{Inside, Tried, TriedAgain}
 use Rattle.sre_board.specs.Failures.{Kept}
 use Rattle.sre_board.specs.Choices.{Fits, is_tried}
 use Rattle.std.proofs.lemmas.Bool.{true≢false}
@@ -45,12 +44,9 @@ fits_at (x ∷ ss) n c (suc depth) s fits e =
 
 -- what is left of a list from an item on
 from_item : {A : Type 0} (xs : List A) (i : ℕ) (x : A) → slice_get xs i ≡ Some x → drop i xs ≡ x ∷ drop (i + 1) xs
-from_item [] zero x e = absurd (cc)
-from_item [] (suc i) x e = absurd (cc)
-from_item (y ∷ xs) zero x e = let same : y ≡ x = cc in ap (λ z. z ∷ xs) same
-from_item (y ∷ xs) (suc i) x e =
-    let one : suc i + 1 ≡ suc (i + 1) = omega arith in
-    from_item xs i x e ∙ ap (λ n. x ∷ drop n (y ∷ xs)) (sym one)
+from_item xs i x e =
+    drop_more xs i x (slice_get_within xs i x e)
+    ∙ ap (λ z. z ∷ drop (i + 1) xs) (get_or_from_slice_get xs i x x e)
 
 -- a choice that is neither a region nor the mark of what is tried
 pub passed_over : (pt : Point) (fs : List Frame) (c : StringCursor) (m : Marks) (cs : List Choice)
@@ -59,11 +55,7 @@ pub passed_over : (pt : Point) (fs : List Frame) (c : StringCursor) (m : Marks) 
 passed_over (Inside g) fs c m cs region plain = absurd (region g refl)
 passed_over (Tried i) fs c m cs region plain = absurd (true≢false plain)
 passed_over TriedAgain fs c m cs region plain = absurd (true≢false plain)
-passed_over (Instruction i) fs c m cs region plain = refl
-passed_over (Alternatives q) fs c m cs region plain = refl
-passed_over (Shorter j n) fs c m cs region plain = refl
-passed_over (Longer i n) fs c m cs region plain = refl
-passed_over Again fs c m cs region plain = refl
+passed_over pt fs c m cs region plain = refl
 
 -- the spots from a depth on, where an end is kept for each of those above it that has a number
 pub record GoneOver (k : Kept) (ws : List ℕ) (d : StringCursor) (t : EndsTable) (cs : List Choice) (depth : ℕ)
@@ -72,22 +64,13 @@ pub record GoneOver (k : Kept) (ws : List ℕ) (d : StringCursor) (t : EndsTable
   pub all : open_spots cs ≡ newer ++ open_spots (drop depth cs)
   pub held : AllByRecursion (HasEnd k ws d t) newer
 
-pub gone_none : (k : Kept) (ws : List ℕ) (d : StringCursor) (t : EndsTable) (cs : List Choice)
-    → GoneOver k ws d t cs 0
-gone_none k ws d t cs = record { newer = []; all = refl; held = tt }
-
--- an end that is kept for a spot is so where this one may be kept in its place
-has_still : (k : Kept) (ws : List ℕ) (d : StringCursor) (t u : EndsTable) (x : Spot)
-    → ((n : ℕ) → HoldsEnd t n d → HoldsEnd u n d) → HasEnd k ws d t x → HasEnd k ws d u x
-has_still k ws d t u x still has = λ n number. still n (has n number)
-
--- and for one spot more
+-- an end that is kept for spots is so where this one may be kept in its place, and for one spot more
 one_more : (k : Kept) (ws : List ℕ) (d : StringCursor) (t u : EndsTable) (xs : List Spot) (y : Spot)
     → ((n : ℕ) → HoldsEnd t n d → HoldsEnd u n d) → HasEnd k ws d u y → AllByRecursion (HasEnd k ws d t) xs
     → AllByRecursion (HasEnd k ws d u) (xs ++ y ∷ [])
 one_more k ws d t u [] y still has each = (has, tt)
 one_more k ws d t u (x ∷ xs) y still has each =
-    (has_still k ws d t u x still each.0, one_more k ws d t u xs y still has each.1)
+    (λ n number. still n (each.0 n number), one_more k ws d t u xs y still has each.1)
 
 -- none is left
 none_left : (P : Spot → Type 0) (xs ys : List Spot) → ys ≡ [] → AllByRecursion P xs → AllByRecursion P (xs ++ ys)
@@ -166,8 +149,3 @@ module _ (k : Kept) (ws : List ℕ) (d : StringCursor) (t : EndsTable) (cs : Lis
                 | inr one ↦ inr (one.0, (here, is_open, one.1))
               ]
         ]
-
--- nothing more is kept at first
-pub more_none : (k : Kept) (ws : List ℕ) (cs : List Choice) (d : StringCursor) (t : EndsTable)
-    → HoldsOpenMore k ws cs d t t
-more_none k ws cs d t = λ n b h. inl h

@@ -1,11 +1,11 @@
 -- The bits of the account pay for at most what the tree's instructions cost: each belongs to an address, a counter
 -- state, a side and a position.
 -- That the step bound suffices (`enough` of sre_engine) rests on this.
-use Rattle.std.proofs.Common.{◌≡◌, ℕ, ◌+◌, ◌-◌, ◌*◌, ◌<◌, ◌≤◌, inl, inr, Bool, true, false, cond, List, []}
-use Rattle.std.proofs.Common.{◌∷◌}
-use Rattle.std.proofs.Common.{length, Option, Some, slice_get, refl, sym, ap, ◌∙◌, arith}
+use Rattle.std.proofs.Common.{◌≡◌, ℕ, ◌+◌, ◌-◌, ◌*◌, ◌<◌, ◌≤◌, inl, inr, Bool, true, false, cond, List, [], ◌∷◌, length}
+use Rattle.std.proofs.Common.{Some, slice_get, refl, sym, ap, ◌∙◌, arith}
 use Rattle.std.specs.List.{AllByRecursion, sum_by}
 use Rattle.std.proofs.lemmas.Nat.{same_from_place}
+use Rattle.std.proofs.lemmas.Option.{same_Some}
 use Rattle.std.proofs.lemmas.List.Sums.{sum_by-cons}
 use Rattle.sre_model.specs.Regions.{has_forked_region}
 use Rattle.sre_model.specs.Remembered.{sides}
@@ -22,11 +22,10 @@ use Rattle.sre_board.specs.Apart.{IsIn, Apart}
 use Rattle.sre_board.specs.Failures.{Kept, HasSlot, RowsStay, Laid, radix, digit}
 use Rattle.sre_board.specs.declared.failures.Row.{Row}
 use Rattle.sre_board.proofs.AlikeBySlot.{digit_below}
-use Rattle.sre_board.proofs.RowsThere.{within_lines}
-use Rattle.sre_board.proofs.SlotsThere.{placed_below}
+use Rattle.sre_board.proofs.RowsThere.{placed_below, within_lines}
 
 -- a slot of some loops is below the number of their states
-slot_below : (ws shapes : List ℕ) (p j i before slot : ℕ) (fs : List Frame) → HasSlot ws p shapes j i before fs slot
+pub slot_below : (ws shapes : List ℕ) (p j i before slot : ℕ) (fs : List Frame) → HasSlot ws p shapes j i before fs slot
     → slot < (before + 1) * slots ws (repeats fs)
 slot_below ws shapes p j i before slot [] h = omega (arith, h.1)
 slot_below ws shapes p j i before slot (f ∷ fs) h =
@@ -34,15 +33,15 @@ slot_below ws shapes p j i before slot (f ∷ fs) h =
     (slot_below ws shapes p j (i + 1) (before * radix ws f.repeat + digit ws p f) slot fs h.2)
 
 -- what is inside an atomic scope is so in a tree of two sides
-side_below : (inside forked : Bool) → (inside ≡ true → forked ≡ true) → cond inside 1 0 < cond forked 2 1
+pub side_below : (inside forked : Bool) → (inside ≡ true → forked ≡ true) → cond inside 1 0 < cond forked 2 1
 side_below false false h = omega arith
 side_below false true h = omega arith
 side_below true true h = omega arith
 side_below true false h = absurd (let e = h refl in cc)
 
 module _ (r : Run) (pl : Counted r) (first : ℕ) where
-  -- the bit of a configuration that lies in the tree's words
-  pub owned_bit : (k : Kept) (a : Attempt) (b : ℕ) → (a.inside ≡ true → has_forked_region pl.tree ≡ true)
+  -- the bit of a configuration that lies in the tree's words pays for what the configuration costs
+  abbrev pub owned_bit : (k : Kept) (a : Attempt) (b : ℕ) → (a.inside ≡ true → has_forked_region pl.tree ≡ true)
       → Lies r.words pl.tree pl.whole a.spot
       → ((i : ℕ) (row : Row) → slice_get k.rows i ≡ Some row → RowLies r pl first k row)
       → BitOf k r.words a b → IsOwned r pl first k b
@@ -66,26 +65,19 @@ module _ (r : Run) (pl : Counted r) (first : ℕ) where
         few = omega (arith, below);
         few_sides = side_below a.inside (has_forked_region pl.tree) forked;
         within = omega (arith, e.to, for.positions);
-        is = omega (arith, g.is, e.at_is, e.bit_is, index);
+        is = omega (arith, g.number, e.at_is, e.bit_is, index);
       }
 
-  -- its bit pays for what the configuration costs
-  pub owned_toll : (k : Kept) (a : Attempt) (b : ℕ) (forked : a.inside ≡ true → has_forked_region pl.tree ≡ true)
-      (lies : Lies r.words pl.tree pl.whole a.spot)
-      (rows : (i : ℕ) (row : Row) → slice_get k.rows i ≡ Some row → RowLies r pl first k row) (g : BitOf k r.words a b)
-      → toll_at r (owned_bit k a b forked lies rows g).spot ≡ toll_at r a.spot
-  unfolding owned_bit
-  owned_toll k a b forked lies rows g = refl
-
-  -- rows stay where they are
+  -- rows stay where they are, and pay for the same
   pub owned_still : (old new : Kept) → RowsStay old new → (bs : List ℕ)
-      → AllByRecursion (λ (b : ℕ). IsOwned r pl first old b) bs
-      → AllByRecursion (λ (b : ℕ). IsOwned r pl first new b) bs
-  owned_still old new stay [] all = tt
-  owned_still old new stay (b ∷ bs) all = (owned_one all.0, owned_still old new stay bs all.1)
-    where
-      owned_one : IsOwned r pl first old b → IsOwned r pl first new b
-      owned_one o = record {
+      (all : AllByRecursion (λ (b : ℕ). IsOwned r pl first old b) bs)
+      → (still : AllByRecursion (λ (b : ℕ). IsOwned r pl first new b) bs)
+      × (charge r pl first new bs still ≡ charge r pl first old bs all)
+  owned_still old new stay [] all = (tt, refl)
+  owned_still old new stay (b ∷ bs) all =
+      let o = all.0 in
+      let rest = owned_still old new stay bs all.1 in
+      let here : IsOwned r pl first new b = record {
         number = o.number;
         row = o.row;
         slot = o.slot;
@@ -99,16 +91,8 @@ module _ (r : Run) (pl : Counted r) (first : ℕ) where
         few_sides = o.few_sides;
         within = o.within;
         is = o.is;
-      }
-
-  -- they pay for the same
-  pub charge_still : (old new : Kept) (stay : RowsStay old new) (bs : List ℕ)
-      (all : AllByRecursion (λ (b : ℕ). IsOwned r pl first old b) bs)
-      → charge r pl first new bs (owned_still old new stay bs all) ≡ charge r pl first old bs all
-  unfolding owned_still
-  charge_still old new stay [] all = refl
-  charge_still old new stay (b ∷ bs) all =
-      ap (λ n. toll_at r all.0.spot + n) (charge_still old new stay bs all.1)
+      } in
+      ((here, rest.0), ap (λ n. toll_at r o.spot + n) rest.1)
 
   module _ (k : Kept) (laid : Laid k) where
     -- a bit that was taken in, with what it is the bit of
@@ -152,21 +136,18 @@ module _ (r : Run) (pl : Counted r) (first : ℕ) where
     one_bit x y e f g =
         let o = x.owned in
         let q = y.owned in
-        let place = same_some (sym o.place_is ∙ ap (λ pt. place_under pt (loops x)) e
+        let place = same_Some _ _ (sym o.place_is ∙ ap (λ pt. place_under pt (loops x)) e
         ∙ ap (λ ks. place_under (point y) ks) f ∙ q.place_is) in
         let number = laid.alone o.number q.number o.row q.row o.there q.there place in
         let parts = same_from_place o.slot (line x) q.slot (line y) lines (line_few x) (line_few y) g in
         let side = same_from_place o.side o.behind q.side q.behind (positions_of r first) o.within q.within parts.1 in
-        let row : o.row ≡ q.row = same_some (sym o.there ∙ ap (λ i. slice_get k.rows i) number ∙ q.there) in
+        let row : o.row ≡ q.row = same_Some o.row q.row (sym o.there ∙ ap (λ i. slice_get k.rows i) number ∙ q.there) in
         o.is
         ∙ ap (λ (w : Row). w.base * 64 + ((o.slot * 2 + o.side) * positions_of r first + o.behind)) row
         ∙ ap (λ n. q.row.base * 64 + ((n * 2 + o.side) * positions_of r first + o.behind)) parts.0
         ∙ ap (λ n. q.row.base * 64 + ((q.slot * 2 + n) * positions_of r first + o.behind)) side.0
         ∙ ap (λ n. q.row.base * 64 + ((q.slot * 2 + q.side) * positions_of r first + n)) side.1
         ∙ sym q.is
-      where
-        same_some : {X : Type 0} {x y : X} → ◌≡◌ {A = Option X} (Some x) (Some y) → x ≡ y
-        same_some e = cc
 
     abbrev Owned : List ℕ → Type 0
     Owned bs = AllByRecursion (λ (b : ℕ). IsOwned r pl first k b) bs

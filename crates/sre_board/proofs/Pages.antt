@@ -1,11 +1,11 @@
 -- Pages of entries, one for each word of bits: the end of a number there, and what one more page, more entries and one
 -- more end change.
 use Rattle.std.proofs.Common.{◌≡◌, ◌≢◌, ℕ, zero, suc, ◌+◌, ◌-◌, ◌/◌, ◌%◌, ◌<◌, ◌≤◌, inl, inr, List, [], length}
-use Rattle.std.proofs.Common.{Option, Some, None, slice_index_or, slice_set, refl, sym, ap, ◌∙◌, arith}
+use Rattle.std.proofs.Common.{Option, Some, None, slice_index_or, slice_set, refl, sym, ap, ◌∙◌, subst, arith}
 use Rattle.std.proofs.lemmas.Bool.Decides.{eqb_tells, leb_tells}
 use Rattle.std.proofs.lemmas.List.{get_or_past, get_or-set_same, get_or-set_other}
 use Rattle.sre_chars.specs.declared.string.StringCursor.{StringCursor}
-use Rattle.sre_board.specs.Ends.{EndsTable, end_at, end_in, page_at, IsPaged, SameEnds, PutsEnd, HoldsNoEnd}
+use Rattle.sre_board.specs.Ends.{EndsTable, end_at, end_in, page_at, IsPaged, SameEnds, PutsEnd, HoldsNoEnd, table_of}
 
 abbrev Places : Type 0
 Places = List (Option StringCursor)
@@ -43,94 +43,89 @@ same_in es fs same zero i = refl
 same_in es fs same (suc b) i = same (b + i)
 
 -- the same pages and places without an end more keep all ends
-pub same_ends : (t u : EndsTable) → ((w : ℕ) → page_at u.pages w ≡ page_at t.pages w)
-    → ((i : ℕ) → slice_index_or u.ends i None ≡ slice_index_or t.ends i None) → SameEnds t u
+pub same_ends : (t : EndsTable) (ps qs : List ℕ) (es fs : Places) → table_of ps es ≡ t
+    → ((w : ℕ) → page_at qs w ≡ page_at ps w)
+    → ((i : ℕ) → slice_index_or fs i None ≡ slice_index_or es i None) → SameEnds t (table_of qs fs)
 unfolding end_at
-same_ends t u pages ends = record {
+same_ends t ps qs es fs is pages ends = subst (λ (x : EndsTable). SameEnds x (table_of qs fs)) is (record {
   same = λ n.
-      ap (λ p. end_in u.ends p (n % 64)) (pages (n / 64))
-      ∙ same_in t.ends u.ends ends (page_at t.pages (n / 64)) (n % 64);
-}
+      ap (λ p. end_in fs p (n % 64)) (pages (n / 64)) ∙ same_in es fs ends (page_at ps (n / 64)) (n % 64);
+})
 
 pub same_then : (t u v : EndsTable) → SameEnds t u → SameEnds u v → SameEnds t v
 same_then t u v a b = record { same = λ n. b.same n ∙ a.same n }
 
--- a page more, of a word that has none
-module _ (ps : List ℕ) (w page : ℕ) (there : w < length ps) (none : page_at ps w ≡ 0) where
-  page_set : page_at (slice_set ps w page) w ≡ page
-  page_set = get_or-set_same ps w page 0 there
-
-  page_else : (v : ℕ) → v ≢ w → page_at (slice_set ps w page) v ≡ page_at ps v
-  page_else v other = get_or-set_other ps w v page 0 other
-
-  -- it has no end yet where its places are behind those that there were
-  pub added_same : (t u : EndsTable) → t.pages ≡ ps → u.pages ≡ slice_set ps w page → page ≡ length t.ends + 1
-      → ((i : ℕ) → slice_index_or u.ends i None ≡ slice_index_or t.ends i None) → SameEnds t u
-  unfolding end_at
-  added_same t u before after is same = record {
-    same = λ n.
-        elim (eqb_tells (n / 64) w) [
-          | inl e ↦
-              let p : page ≡ page_at u.pages (n / 64) =
-              sym (ap (λ i. page_at u.pages i) e.1 ∙ ap (λ qs. page_at qs w) after ∙ page_set) in
-              let old : end_at t n ≡ None =
-              no_page t n 0 (sym (ap (λ i. page_at t.pages i) e.1 ∙ ap (λ qs. page_at qs w) before ∙ none)) refl in
-              let far : length t.ends ≤ page - 1 + n % 64 = omega (arith, is) in
-              end_there u n page p (omega (arith, is)) ∙ same (page - 1 + n % 64)
-              ∙ get_or_past t.ends (page - 1 + n % 64) None far ∙ sym old
-          | inr e ↦
-              let f = page_else (n / 64) e.1 in
-              elsewhere n (ap (λ qs. page_at qs (n / 64)) after ∙ f ∙ sym (ap (λ qs. page_at qs (n / 64)) before))
-        ];
-  }
-    where
-      elsewhere : (n : ℕ) → page_at u.pages (n / 64) ≡ page_at t.pages (n / 64) → end_at u n ≡ end_at t n
-      elsewhere n pages =
-          ap (λ p. end_in u.ends p (n % 64)) pages ∙ same_in t.ends u.ends same (page_at t.pages (n / 64)) (n % 64)
+-- a page more, of a word that has none: it has no end yet where its places are behind those that there were
+pub added_same : (t : EndsTable) (ps : List ℕ) (es fs : Places) (w page : ℕ) → table_of ps es ≡ t
+    → page ≡ length es + 1 → ((i : ℕ) → slice_index_or fs i None ≡ slice_index_or es i None)
+    → w < length t.pages → page_at t.pages w ≡ 0 → SameEnds t (table_of (slice_set ps w page) fs)
+unfolding end_at
+added_same t ps es fs w page is far same =
+    let new : EndsTable = table_of (slice_set ps w page) fs in
+    subst (λ (x : EndsTable). w < length x.pages → page_at x.pages w ≡ 0 → SameEnds x new) is
+    (λ there none. record {
+      same = λ n. elim (eqb_tells (n / 64) w) [
+        | inl e ↦
+            let p : page ≡ page_at new.pages (n / 64) =
+            sym (ap (λ i. page_at new.pages i) e.1 ∙ get_or-set_same ps w page 0 there) in
+            let past : length es ≤ page - 1 + n % 64 = omega (arith, far) in
+            end_there new n page p (omega (arith, far)) ∙ same (page - 1 + n % 64)
+            ∙ get_or_past es (page - 1 + n % 64) None past
+            ∙ sym (no_page (table_of ps es) n 0 (sym (ap (λ i. page_at ps i) e.1 ∙ none)) refl)
+        | inr e ↦
+            ap (λ q. end_in fs q (n % 64)) (get_or-set_other ps w (n / 64) page 0 e.1)
+            ∙ same_in es fs same (page_at ps (n / 64)) (n % 64)
+      ];
+    })
 
 -- an end at the place of its number
-pub end_put : (t u : EndsTable) (n page : ℕ) (c : StringCursor) → page ≡ page_at t.pages (n / 64) → 0 < page
-    → IsPaged t.pages (length t.ends) → u.pages ≡ t.pages
-    → u.ends ≡ slice_set t.ends (page - 1 + n % 64) (Some c) → PutsEnd n c t u
-end_put t u n page c is some paged pages ends = record {
-  held =
-      end_there u n page (here n is) some ∙ ap (λ es. slice_index_or es (page - 1 + n % 64) None) ends
-      ∙ get_or-set_same t.ends (page - 1 + n % 64) (Some c) None place;
-  same = λ m other. else_at m other (page_at t.pages (m / 64)) refl;
-}
-  where
-    here : (m : ℕ) {q : ℕ} → q ≡ page_at t.pages (m / 64) → q ≡ page_at u.pages (m / 64)
-    here m e = e ∙ sym (ap (λ ps. page_at ps (m / 64)) pages)
+module _ (ps : List ℕ) (es : Places) (n page : ℕ) (c : StringCursor) (is : page ≡ page_at ps (n / 64)) (some : 0 < page)
+    (paged : IsPaged ps (length es)) where
+  abbrev new : EndsTable
+  new = table_of ps (slice_set es (page - 1 + n % 64) (Some c))
 
-    place : page - 1 + n % 64 < length t.ends
-    place =
-        let within = paged.within (n / 64) (omega (arith, is, some)) in
-        omega (arith, is, some, within)
+  -- another number has another place
+  other_place : (m q : ℕ) → m ≢ n → q ≡ page_at ps (m / 64) → 0 < q → q - 1 + m % 64 ≢ page - 1 + n % 64
+  other_place m q other e there = λ met.
+      elim (leb_tells page q) [
+        | inl below ↦
+            let near : q < page + 64 = omega (arith, met, some, there) in
+            let same = paged.apart (n / 64) (m / 64) (omega (arith, is, some)) (omega (arith, is, e, below.1))
+            (omega (arith, is, e, near)) in
+            met_at (ap (λ i. page_at ps i) same) same met
+        | inr above ↦
+            let near : page < q + 64 = omega (arith, met, some, there) in
+            let same = paged.apart (m / 64) (n / 64) (omega (arith, e, there)) (omega (arith, is, e, above.1))
+            (omega (arith, is, e, near)) in
+            met_at (ap (λ i. page_at ps i) (sym same)) (sym same) met
+      ]
+    where
+      met_at : page_at ps (n / 64) ≡ page_at ps (m / 64) → n / 64 ≡ m / 64
+          → q - 1 + m % 64 ≡ page - 1 + n % 64 → ⊥
+      met_at p w i = other (omega (arith, p, w, i, is, e, some, there))
 
-    -- another number has another place
-    other_place : (m q : ℕ) → m ≢ n → q ≡ page_at t.pages (m / 64) → 0 < q → q - 1 + m % 64 ≢ page - 1 + n % 64
-    other_place m q other e there = λ met.
-        elim (leb_tells page q) [
-          | inl below ↦
-              let near : q < page + 64 = omega (arith, met, some, there) in
-              let same = paged.apart (n / 64) (m / 64) (omega (arith, is, some)) (omega (arith, is, e, below.1))
-              (omega (arith, is, e, near)) in
-              met_at (ap (λ i. page_at t.pages i) same) same met
-          | inr above ↦
-              let near : page < q + 64 = omega (arith, met, some, there) in
-              let same = paged.apart (m / 64) (n / 64) (omega (arith, e, there)) (omega (arith, is, e, above.1))
-              (omega (arith, is, e, near)) in
-              met_at (ap (λ i. page_at t.pages i) (sym same)) (sym same) met
-        ]
-      where
-        met_at : page_at t.pages (n / 64) ≡ page_at t.pages (m / 64) → n / 64 ≡ m / 64
-            → q - 1 + m % 64 ≡ page - 1 + n % 64 → ⊥
-        met_at p w i = other (omega (arith, p, w, i, is, e, some, there))
+  else_at : (m : ℕ) → m ≢ n → (q : ℕ) → q ≡ page_at ps (m / 64)
+      → end_in new.ends q (m % 64) ≡ end_in es q (m % 64)
+  else_at m other zero e = refl
+  else_at m other (suc b) e =
+      get_or-set_other es (page - 1 + n % 64) (b + m % 64) (Some c) None
+      (λ met. other_place m (suc b) other e (omega arith) (omega (arith, met)))
 
-    else_at : (m : ℕ) → m ≢ n → (q : ℕ) → q ≡ page_at t.pages (m / 64) → end_at u m ≡ end_at t m
-    else_at m other zero e = no_page u m 0 (here m e) refl ∙ sym (no_page t m 0 e refl)
-    else_at m other (suc b) e =
-        let there : 0 < suc b = omega arith in
-        end_there u m (suc b) (here m e) there ∙ ap (λ es. slice_index_or es (suc b - 1 + m % 64) None) ends
-        ∙ get_or-set_other t.ends (page - 1 + n % 64) (suc b - 1 + m % 64) (Some c) None
-        (other_place m (suc b) other e there) ∙ sym (end_there t m (suc b) e there)
+  put_there : PutsEnd n c (table_of ps es) new
+  unfolding end_at
+  put_there =
+      let within = paged.within (n / 64) (omega (arith, is, some)) in
+      record {
+        held =
+            end_there new n page is some
+            ∙ get_or-set_same es (page - 1 + n % 64) (Some c) None (omega (arith, is, some, within));
+        same = λ m other. else_at m other (page_at ps (m / 64)) refl;
+      }
+
+pub end_put : (t : EndsTable) (ps : List ℕ) (es : Places) (n page : ℕ) (c : StringCursor) → table_of ps es ≡ t
+    → 0 < page → IsPaged ps (length es) → page_at t.pages (n / 64) ≡ page
+    → PutsEnd n c t (table_of ps (slice_set es (page - 1 + n % 64) (Some c)))
+end_put t ps es n page c view some paged =
+    subst (λ (x : EndsTable). page_at x.pages (n / 64) ≡ page
+    → PutsEnd n c x (table_of ps (slice_set es (page - 1 + n % 64) (Some c)))) view
+    (λ e. put_there ps es n page c (sym e) some paged)

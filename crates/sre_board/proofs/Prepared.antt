@@ -3,6 +3,7 @@
 use Rattle.std.proofs.Common.{◌≡◌, ℕ, zero, suc, ◌+◌, ◌*◌, ◌^◌, ◌<◌, ◌≤◌, ◌⊎◌, inl, inr, Bool, List, [], ◌∷◌}
 use Rattle.std.proofs.Common.{length, Some, slice_get, refl, sym, ap, ◌∙◌, subst, arith}
 use Rattle.std.proofs.lemmas.Bool.{cases_eq}
+use Rattle.std.proofs.lemmas.Option.{slice_get_within}
 use Rattle.std.proofs.Math.Nat.{mul-le-mul_left, mul-le-mul_right}
 use Rattle.sre_model.specs.Runs.{Run}
 use Rattle.sre_turns.specs.Attempts.{Attempt}
@@ -16,9 +17,8 @@ use Rattle.sre_board.specs.Ends.{EndsTable}
 use Rattle.sre_board.specs.Failures.{Kept, HasRow, HasNoRow, NewRow, Capacity, BitsStay, BitsKept, Laid, Roomy, HasBit}
 use Rattle.sre_board.specs.Failures.{HasSlots, most_words}
 use Rattle.sre_board.specs.declared.failures.Row.{Row}
-use Rattle.sre_board.proofs.AccountLaws.{account_grows}
+use Rattle.sre_board.proofs.AccountLaws.{account_grows, lies_still}
 use Rattle.sre_board.proofs.FewRows.{fewer_rows}
-use Rattle.sre_board.proofs.KeptSpots.{got_within}
 use Rattle.sre_board.proofs.LoopsRead.{lies_words}
 use Rattle.sre_board.proofs.RowsAdded.{more_words}
 use Rattle.sre_board.proofs.RowsThere.{bit_there}
@@ -108,7 +108,7 @@ module _ (r : Run) (pl : Counted r) (first : ℕ) (old new : Kept) (es : EndsTab
     | inl h ↦
         let one : h.number ≡ i =
         laid.alone h.number i h.row row (rows.stay.there h.number h.row h.there) e (h.place_is ∙ sym ep) in
-        absurd (omega (arith, one, ei, got_within old.rows h.number h.row h.there))
+        absurd (omega (arith, one, ei, slice_get_within old.rows h.number h.row h.there))
   ]
 
   same_place : (row : Row) → place_of x ≡ Some row.place → row.place ≡ place
@@ -116,16 +116,7 @@ module _ (r : Run) (pl : Counted r) (first : ℕ) (old new : Kept) (es : EndsTab
 
   row_lies : (i : ℕ) (row : Row) → slice_get new.rows i ≡ Some row → RowLies r pl first new row
   row_lies i row e = elim (rows.rows i row e) [
-    | inl l ↦
-        let was = account.rows i row l in
-        record {
-          spot = was.spot;
-          place_is = was.place_is;
-          kind = was.kind;
-          lies = was.lies;
-          place = was.place;
-          is_for = rows.stay.still r.words first r.subject.end (repeats was.spot.frames) row was.is_for;
-        }
+    | inl l ↦ lies_still r pl first old new row rows.stay (account.rows i row l)
     | inr g ↦ record {
       spot = x;
       place_is = g.1;

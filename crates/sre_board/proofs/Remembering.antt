@@ -23,11 +23,10 @@ frames_onward ws p f g h a b = record {
 loops_onward : (ws : List ℕ) (p : ℕ) (fs gs hs : List Frame) → LoopsAlike ws p fs gs → LoopsAlike ws p gs hs
     → LoopsAlike ws p fs hs
 loops_onward ws p [] [] hs a b = b
-loops_onward ws p [] (g ∷ gs) hs a b = absurd a
-loops_onward ws p (f ∷ fs) [] hs a b = absurd a
-loops_onward ws p (f ∷ fs) (g ∷ gs) [] a b = absurd b
 loops_onward ws p (f ∷ fs) (g ∷ gs) (h ∷ hs) a b =
     (frames_onward ws p f g h a.0 b.0, loops_onward ws p fs gs hs a.1 b.1)
+loops_onward ws p (f ∷ fs) (g ∷ gs) [] a b = absurd b
+loops_onward ws p fs gs hs a b = absurd a
 
 -- alike to one that is alike
 pub alike_onward : (ws : List ℕ) (x y z : Spot) → Alike ws x y → Alike ws y z → Alike ws x z

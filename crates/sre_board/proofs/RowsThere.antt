@@ -1,15 +1,30 @@
 -- A configuration has a bit where a row exists for its address, its position and its loops.
 use Rattle.std.proofs.Common.{◌≡◌, ℕ, ◌+◌, ◌-◌, ◌*◌, ◌/◌, ◌%◌, ◌<◌, ◌≤◌, Bool, List, [], ◌∷◌, Some, sym, subst, refl}
-use Rattle.std.proofs.Common.{slice_get, arith}
-use Rattle.std.proofs.Math.Nat.{mul-le-mul_right}
+use Rattle.std.proofs.Common.{slice_get, arith, Option, None}
+use Rattle.std.proofs.Math.Nat.{mul_assoc, mul-le-mul_right}
 use Rattle.sre_turns.specs.declared.Frame.{Frame}
 use Rattle.sre_turns.proofs.bound.NestedPlaces.{placed_from}
 use Rattle.sre_turns.specs.Moves.{Spot}
-use Rattle.sre_turns.specs.Nested.{repeats, AllBegunBy, Passed, slots, place_of, is_again}
+use Rattle.sre_turns.specs.Nested.{repeats, BegunBy, AllBegunBy, Passed, slots, place_of, is_again}
 use Rattle.sre_board.specs.declared.failures.Row.{Row}
-use Rattle.sre_board.specs.Failures.{Kept, digit, radix, HasSlot, HasShape, HasBit, RowFor, WordsThere, AreRead}
+use Rattle.sre_board.specs.Failures.{Kept, IsPassed, digit, radix, HasSlot, HasShape, HasBit, RowFor, WordsThere}
 use Rattle.sre_board.proofs.AlikeBySlot.{one_if, one_if_few, digit_below}
-use Rattle.sre_board.proofs.SlotsThere.{is_passed, placed_below}
+
+-- a loop that was passed has a digit
+is_passed : (l : Option ℕ) (p : ℕ) → BegunBy l p → IsPassed l p
+is_passed None p h = tt
+is_passed (Some last) p h = h
+
+-- a digit below its radix
+pub placed_below : (a r d s n : ℕ) → d < r → n < (a * r + d + 1) * s → n < (a + 1) * (r * s)
+placed_below a r d s n l h =
+    let most : (a * r + d + 1) * s ≤ (a + 1) * r * s =
+    mul-le-mul_right s (one_more a r d l) in
+    let e : (a + 1) * r * s ≡ (a + 1) * (r * s) = mul_assoc (a + 1) r s in
+    omega (arith, most, e, h)
+  where
+    one_more : (a r d : ℕ) → d < r → a * r + d + 1 ≤ (a + 1) * r
+    one_more a r d l = grind arith
 
 -- loops that were passed have a slot of a shape of their places
 pub slot_of_shape : (ws shapes : List ℕ) (p j i before : ℕ) (fs : List Frame) → HasShape shapes j i (repeats fs)
@@ -28,10 +43,6 @@ within_lines line all n i h l = omega (arith, mul-le-mul_right n h, one_more lin
   where
     one_more : (a n : ℕ) → (a + 1) * n ≡ a * n + n
     one_more a n = grind arith
-
-pub are_read : (ws : List ℕ) (fs : List Frame) → WordsThere ws (repeats fs) → AreRead ws fs
-are_read ws [] h = tt
-are_read ws (f ∷ fs) h = (h.0, are_read ws fs h.1)
 
 pub bit_there : (k : Kept) (ws : List ℕ) (first end : ℕ) (js : List ℕ) (inside : Bool) (x : Spot) (n : ℕ) (row : Row)
     → place_of x ≡ Some row.place → row.again ≡ is_again x.point → repeats x.frames ≡ js → Passed x
@@ -63,7 +74,7 @@ bit_there k ws first end js inside x n row place_is kind loops passed from to wo
         there = there;
         place = place_is;
         kind = kind;
-        read = are_read ws x.frames (subst (λ (qs : List ℕ). WordsThere ws qs) (sym loops) words);
+        read = subst (λ (qs : List ℕ). WordsThere ws qs) (sym loops) words;
         loops = s.1;
         few = omega (arith, few, for.few);
         from = omega (arith, for.first_is, from);

@@ -1,13 +1,13 @@
 -- The addresses of the loops in progress as they are appended to the shapes, and the number of their counter states.
-use Rattle.std.proofs.Common.{◌≡◌, ℕ, ◌+◌, ◌*◌, ◌<◌, ◌≤◌, List, [], ◌∷◌, ◌++◌, length, take, Some, slice_get, ◌^◌}
-use Rattle.std.proofs.Common.{refl, sym, ap, ◌∙◌, subst, arith, length-append, append_assoc}
+use Rattle.std.proofs.Common.{◌≡◌, ℕ, ◌+◌, ◌*◌, ◌<◌, ◌≤◌, List, [], ◌∷◌, ◌++◌, length, take, slice_get, ◌^◌}
+use Rattle.std.proofs.Common.{sym, ap, ◌∙◌, subst, arith, length-append, append_assoc}
 use Rattle.std.proofs.lemmas.List.{append-nil}
 use Rattle.std.proofs.Math.Seq.{take-append_seam}
 use Rattle.std.proofs.Math.Nat.{mul_assoc, mul-le-mul_left, one-le-mul}
 use Rattle.sre_turns.specs.declared.Frame.{Frame}
 use Rattle.sre_turns.specs.Nested.{repeats, slots}
 use Rattle.sre_board.specs.Failures.{radix, HasShape, WordsThere}
-use Rattle.sre_board.proofs.KeptStill.{got_still}
+use Rattle.sre_board.proofs.Listed.{got_still, got_next}
 
 -- one place more
 pub place_more : (start now new : List ℕ) (f : Frame) (fs gs hs : List Frame)
@@ -54,11 +54,6 @@ pub cut_back : (old now new more : List ℕ) (n : ℕ) → now ≡ old ++ more �
     → new ≡ old ++ []
 cut_back old now new more n grown cut held =
     cut ∙ rw (held, grown, take-append_seam old more) (sym (append-nil old))
-
--- what stands behind a list
-pub got_next : {X : Type 0} (xs : List X) (y : X) (ys : List X) → slice_get (xs ++ y ∷ ys) (length xs) ≡ Some y
-got_next [] y ys = refl
-got_next (x ∷ xs) y ys = got_next xs y ys
 
 -- the places at the end of a list are a shape
 pub shape_at_end : (zs start qs : List ℕ) → zs ≡ start ++ qs → HasShape zs (length zs) (length start) qs

@@ -1,16 +1,11 @@
 -- Laws of the trail: undoing a change restores what was there before.
-use Rattle.std.proofs.Common.{◌≡◌, ℕ, zero, suc, ◌+◌, ◌-◌, ◌%◌, ◌<◌, ◌≤◌, List, [], ◌∷◌, ◌++◌, length, Option}
-use Rattle.std.proofs.Common.{Some, None, slice_set, slice_index_or, refl, sym, ap, ◌∙◌, arith, length-append}
+use Rattle.std.proofs.Common.{◌≡◌, ℕ, zero, suc, ◌+◌, ◌-◌, ◌<◌, List, [], ◌∷◌, ◌++◌, length, Option}
+use Rattle.std.proofs.Common.{Some, None, slice_set, slice_index_or, refl, sym, ap, ◌∙◌, arith}
 use Rattle.std.proofs.Math.ListN.{get_or-append}
-use Rattle.std.proofs.lemmas.List.{set-get_or, append-nil}
+use Rattle.std.proofs.lemmas.List.{set-get_or, set-set, append-nil}
 use Rattle.sre_model.specs.Marks.{Marks, no_marks, lengthened, set_mark, mark_at}
 use Rattle.sre_board.specs.Trail.{Trail, states, SetsMark, undo, undone, past_of, trail_of}
 use Rattle.sre_board.specs.declared.marks.Change.{Change}
-
-set-set : {X : Type 0} (l : List X) (i : ℕ) (a b : X) → slice_set (slice_set l i a) i b ≡ slice_set l i b
-set-set [] i a b = refl
-set-set (x ∷ l) zero a b = refl
-set-set (x ∷ l) (suc i) a b = ap (λ t. x ∷ t) (set-set l i a b)
 
 -- an entry that was there gets back what it had
 pub back_inside : (n : ℕ) (raw : List (Option ℕ)) (value former : Option ℕ) → n < length raw
@@ -62,10 +57,6 @@ raw_stays m n p e =
     let none : n + 1 - length m.raw ≡ 0 = omega arith in
     rw (none, append-nil, ← e) (set-get_or m.raw n None)
 
--- and so do all marks, where it begins a group
-pub mark_stays : (m : Marks) (n p : ℕ) → mark_at m n ≡ Some p → n % 2 ≡ 0 → set_mark m n p ≡ m
-mark_stays m n p e even = rw (raw_stays m n p e, even) refl
-
 -- what is taken back does not depend on the last index
 undone_same : (c : Change) (cs : List Change) (m n : Marks) → n.raw ≡ m.raw → undone (c ∷ cs) n ≡ undone (c ∷ cs) m
 undone_same c [] m n e = rw e refl
@@ -75,20 +66,7 @@ past_same : (cs : List Change) (m n : Marks) → n.raw ≡ m.raw → past_of cs 
 past_same [] m n e = refl
 past_same (c ∷ cs) m n e = rw (undone_same c cs m n e, past_same cs m n e) refl
 
--- what was before the first changes stays where one is added
-pub set_more : (t t' : Trail) (n p k : ℕ) → k ≤ length t.past
-    → t' ≡ record { past = states t; now = set_mark t.now n p } → SetsMark n p k t t'
-set_more t t' n p k l e = rw e (record {
-  now = refl;
-  before = λ i h.
-      get_or-append (t.past ++ t.now ∷ []) (set_mark t.now n p ∷ []) no_marks i
-      (omega (arith, length-append t.past (t.now ∷ [])));
-})
-
--- where a mark stands already, nothing changes, or the last index alone
-pub set_even : (t : Trail) (n p k : ℕ) → mark_at t.now n ≡ Some p → n % 2 ≡ 0 → SetsMark n p k t t
-set_even t n p k e even = record { now = sym (mark_stays t.now n p e even); before = λ i h. refl }
-
+-- where a mark stands already, nothing changes but the last index
 pub set_odd : (t : Trail) (cs : List Change) (m m' : Marks) (n p k : ℕ) → trail_of cs m ≡ t → mark_at m n ≡ Some p
     → k < length t.past → m' ≡ set_mark m n p → SetsMark n p k t (trail_of cs m')
 set_odd t cs m m' n p k e stands l em =

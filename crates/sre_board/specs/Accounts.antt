@@ -16,16 +16,13 @@ use Rattle.sre_turns.specs.Prices.{bit_toll}
 use Rattle.sre_model.specs.TreePrices.{cost_of}
 use Rattle.sre_turns.specs.Settled.{Counted}
 use Rattle.sre_board.specs.Apart.{Apart}
-use Rattle.sre_board.specs.Ends.{EndsTable, HoldsEnd}
-use Rattle.sre_board.specs.Failures.{Kept, Entry, RowFor, Roomy, Laid, most_words}
+use Rattle.sre_board.specs.Ends.{EndsTable, HoldsEnd, NumberOf}
+use Rattle.sre_board.specs.Failures.{Kept, RowFor, Roomy, Laid, most_words}
 use Rattle.sre_board.specs.declared.failures.Row.{Row}
 
 -- the number of the bit of what is tried
-pub record BitOf (k : Kept) (ws : List ℕ) (a : Attempt) (b : ℕ) : Type 0 where
-  pub at : ℕ
-  pub bit : ℕ
-  pub entry : Entry k ws a.inside a.spot at bit
-  pub is : b ≡ at * 64 + bit
+abbrev pub BitOf : Kept → List ℕ → Attempt → ℕ → Type 0
+BitOf k ws a b = NumberOf k ws a.inside a.spot b
 
 -- a bit is set
 pub record IsSet (k : Kept) (b : ℕ) : Type 0 where
@@ -46,9 +43,8 @@ StaysEnded old new = (b : ℕ) (c : StringCursor) → HoldsEnd old b c → IsEnd
 -- the bits of all that is tried, in its order
 abbrev pub BitsOf : Kept → List ℕ → List Attempt → List ℕ → Type 0
 BitsOf k ws [] [] = ⊤
-BitsOf k ws [] (b ∷ bs) = ⊥
-BitsOf k ws (x ∷ xs) [] = ⊥
 BitsOf k ws (x ∷ xs) (b ∷ bs) = BitOf k ws x b × BitsOf k ws xs bs
+BitsOf k ws xs bs = ⊥
 
 -- how many positions the range has from first on
 abbrev pub positions_of : Run → ℕ → ℕ

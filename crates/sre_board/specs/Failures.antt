@@ -10,7 +10,7 @@ use Rattle.sre_model.specs.Runs.{Run}
 use Rattle.sre_turns.specs.Alike.{Alike, counted_to, is_last}
 use Rattle.sre_turns.specs.Hopeless.{Hopeless}
 use Rattle.sre_turns.specs.Moves.{Spot}
-use Rattle.sre_turns.specs.Nested.{slots, place_under, place_of, is_again}
+use Rattle.sre_turns.specs.Nested.{repeats, slots, place_under, place_of, is_again}
 use Rattle.sre_turns.specs.declared.Frame.{Frame}
 use Rattle.sre_turns.specs.declared.Point.{Point}
 use Rattle.sre_board.specs.declared.failures.Row.{Row}
@@ -50,10 +50,14 @@ HasSlot ws p shapes j i before (f ∷ fs) slot =
     (slice_get shapes i ≡ Some f.repeat) × IsPassed f.last p
     × HasSlot ws p shapes j (i + 1) (before * radix ws f.repeat + digit ws p f) fs slot
 
--- the words of the loops in progress are there
+-- the words of the loops at these places are there
+abbrev pub WordsThere : List ℕ → List ℕ → Type 0
+WordsThere ws [] = ⊤
+WordsThere ws (q ∷ qs) = (q + 3 < length ws) × WordsThere ws qs
+
+-- those of the loops in progress are
 abbrev pub AreRead : List ℕ → List Frame → Type 0
-AreRead ws [] = ⊤
-AreRead ws (f ∷ fs) = (f.repeat + 3 < length ws) × AreRead ws fs
+AreRead ws fs = WordsThere ws (repeats fs)
 
 -- where the bit of a spot stands: in a row of its place, for its loops and its position
 pub record Entry (k : Kept) (ws : List ℕ) (inside : Bool) (x : Spot) (at bit : ℕ) : Type 0 where
@@ -150,11 +154,6 @@ Tells NoBit k ws inside x = HasBit k ws inside x → ⊥
 abbrev pub HasShape : List ℕ → ℕ → ℕ → List ℕ → Type 0
 HasShape shapes j i [] = i ≡ j
 HasShape shapes j i (q ∷ qs) = (slice_get shapes i ≡ Some q) × HasShape shapes j (i + 1) qs
-
--- the words of the loops at these places are there
-abbrev pub WordsThere : List ℕ → List ℕ → Type 0
-WordsThere ws [] = ⊤
-WordsThere ws (q ∷ qs) = (q + 3 < length ws) × WordsThere ws qs
 
 -- a row is for the positions from first to end and for the loops at these places, with a bit for each of their states
 pub record RowFor (k : Kept) (ws : List ℕ) (first end : ℕ) (js : List ℕ) (row : Row) : Type 0 where

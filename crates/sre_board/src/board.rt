@@ -14,13 +14,14 @@ ghost use Rattle.sre_board.specs.Choices.{WaitsAt};
 use crate::chains::{Chains, frame_of};
 use crate::marks::Marks;
 use crate::requests::Requests;
-use crate::saved::{Saved, goes_on_at, innermost, kept, mark_of, needed, regions_of};
+use crate::saved::{Saved, goes_on_at, innermost, mark_of, needs, regions_of};
 use crate::trail::Trail;
 use sre_chars::string::StringCursor;
 use sre_growth::Refusal;
 use sre_turns::{Frame, Point, Region};
 use std::alloc::Allocator;
 use std::marker::Model;
+use std::mem::replace;
 
 /// How many characters a search for one character scans, at least, in the time that a repeat takes for one.
 pub const LOOK_SPEED: usize = 32;
@@ -164,7 +165,7 @@ impl<A: Allocator> Board<A> {
         if self.choices.is_empty() {
             return self.trail.set_for_good(n, position);
         }
-        let needed = needed(&self.choices);
+        let (_chains, needed) = needs(&self.choices);
         self.trail.set_behind(n, position, needed)
     }
 
@@ -328,9 +329,7 @@ impl<A: Allocator> Board<A> {
     pub fn take_passed(&mut self) -> usize
         ensures { self.new ≡ self.old }
     {
-        let passed = self.passed;
-        self.passed = 0;
-        passed
+        replace(&mut self.passed, 0)
     }
 
     /// Notes that so many loop bodies began as one batch.
@@ -346,9 +345,7 @@ impl<A: Allocator> Board<A> {
     pub fn take_entered(&mut self) -> usize
         ensures { self.new ≡ self.old }
     {
-        let entered = self.entered;
-        self.entered = 0;
-        entered
+        replace(&mut self.entered, 0)
     }
 
     /// Notes that a repeat had so many shorter counts, and that all of them failed.
@@ -391,7 +388,8 @@ impl<A: Allocator> Board<A> {
             return;
         }
         self.frame = self.chains.node(id).parent;
-        if kept(&self.choices) < id {
+        let (kept, _changes) = needs(&self.choices);
+        if kept < id {
             self.chains.cut(id - 1);
         }
     }

@@ -170,7 +170,7 @@ impl<A: Allocator> Ends<A> {
             (spot_at point (slice_index_or chains.now saved.frame []) saved.cursor.position m)) }
     {
         let position = saved.cursor.position();
-        match failures.number_under(words, chains, saved.frame, point, position) {
+        match failures.bit_under(words, chains, saved.frame, true, point, position) {
             Some(number) => self.keep(number, end),
             None => Ok(()),
         }

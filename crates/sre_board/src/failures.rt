@@ -9,7 +9,8 @@
 //! a word is missing, there is no bit either.
 
 ghost use Rattle.std.specs.Prelude.{◌≡◌, ◌≢◌, ℕ, ◌+◌, ◌-◌, ◌*◌, ◌^◌, ◌<◌, ◌≤◌, true, false, [], ◌∷◌, ◌++◌, length};
-ghost use Rattle.std.specs.Prelude.{if◌then◌else◌, is_ok, MatchOption, Some, IfOk, slice_get, slice_index_or};
+ghost use Rattle.std.specs.Prelude.{if◌then◌else◌, is_ok, MatchOption, Some, IfOk, slice_get, slice_index_or, cond};
+ghost use Rattle.std.specs.Prelude.{◌/◌, ◌%◌, IfSome, replicate};
 ghost use Rattle.sre_model.specs.Marks.{Marks};
 ghost use Rattle.sre_turns.specs.Fruit.{is_inside};
 ghost use Rattle.sre_turns.specs.Moves.{spot_at};
@@ -72,13 +73,6 @@ impl<A: Allocator> Model for Failures<A> {
         Laid (kept_of f.rows.items f.shapes.items f.bits.items) × Numbered f.rows.items f.numbers.items };
 }
 
-// A bit: the index of its word, and its number in that word.
-#[derive(Clone, Copy)]
-struct Bit {
-    word: usize,
-    number: u32,
-}
-
 // A row has fewer positions, so that their bits can be counted.
 const MOST_POSITIONS: usize = 34359738368;
 
@@ -114,6 +108,27 @@ fn set_number<A: Allocator>(
     Ok(())
 }
 
+// Appends a row, and words for its bits behind those there are. On an error nothing is appended.
+#[inline(always)]
+fn append<A: Allocator>(
+    rows: &mut Vec<Row, A>,
+    bits: &mut Vec<u64, A>,
+    row: Row,
+) -> Result<(), Refusal<A>>
+    requires { (row.base ≡ length bits.old.items) × (row.base + row.length ≤ 2 ^ 32) }
+    ensures rows { rows.new.items
+        ≡ (if is_ok result then rows.old.items ++ row ∷ [] else rows.old.items) }
+    ensures bits { bits.new.items
+        ≡ (if is_ok result then bits.old.items ++ replicate row.length 0 else bits.old.items) }
+{
+    sre_growth::resize(bits, row.base + row.length, 0)?;
+    if let Err(refusal) = sre_growth::push(rows, row) {
+        bits.truncate(row.base);
+        return Err(refusal);
+    }
+    Ok(())
+}
+
 // The words of a row that would have `length` of them: with many slots it is a part.
 #[inline(always)]
 fn in_part(slots: usize, length: usize) -> usize
@@ -142,10 +157,26 @@ fn room(slots: usize, first: usize, end: usize, taken: usize) -> (usize, usize)
     }
     let positions = end - first + 1;
     let length = in_part(slots, (slots * 2).saturating_mul(positions) / 64 + 1);
-    if length > MOST_WORDS_IN_ROW || length > MOST_WORDS - taken {
+    if length > MOST_WORDS_IN_ROW.min(MOST_WORDS - taken) {
         return (0, 0);
     }
     (positions, length)
+}
+
+// The index of a bit in its row, by its slot, its side and its position, if it is within the row.
+#[inline(always)]
+fn index_in(row: Row, slot: usize, inside: bool, position: usize) -> Option<usize>
+    requires { (slot < 2 ^ 24) × (row.first ≤ position) × (row.length ≤ 2 ^ 32) }
+    ensures { let index = (slot * 2 + cond inside 1 0) * row.positions + (position - row.first) in
+        MatchOption result (row.length ≤ index / 64) (λ i. (i ≡ index) × (i / 64 < row.length)) }
+{
+    let index = (slot * 2 + usize::from(inside))
+        .checked_mul(row.positions)?
+        .checked_add(position - row.first)?;
+    if index / 64 >= row.length {
+        return None;
+    }
+    Some(index)
 }
 
 impl<A: Allocator + Copy> Failures<A> {
@@ -285,12 +316,7 @@ impl<A: Allocator> Failures<A> {
     {
         let number = self.rows.len();
         set_number(&mut self.numbers, places, row.place, number as u32)?;
-        sre_growth::resize(&mut self.bits, row.base + row.length, 0)?;
-        if let Err(refusal) = sre_growth::push(&mut self.rows, row) {
-            self.bits.truncate(row.base);
-            return Err(refusal);
-        }
-        Ok(())
+        append(&mut self.rows, &mut self.bits, row)
     }
 
     // The row of an address, if it has one.
@@ -314,9 +340,10 @@ impl<A: Allocator> Failures<A> {
         Some(row)
     }
 
-    // The bit of a configuration, if it has one, under the loops of a chain, inside or outside of an atomic scope.
+    // The number, among all bits, of the bit of a configuration, if it has one, under the loops of a chain, inside or
+    // outside of an atomic scope.
     #[inline(always)]
-    fn bit_under(
+    pub(crate) fn bit_under(
         &self,
         words: &[u32],
         chains: &Chains<A>,
@@ -324,14 +351,19 @@ impl<A: Allocator> Failures<A> {
         inside: bool,
         point: Point,
         position: usize,
-    ) -> Option<Bit>
+    ) -> Option<usize>
         requires { innermost < length chains.now }
-        ensures { (m : Marks)
+        ensures number { (m : Marks)
             → let spot = spot_at point (slice_index_or chains.now innermost []) position m in
             MatchOption result (HasBit self.now words.now inside spot → ⊥)
-            (λ b. (b.word < length self.now.bits) × (b.number < 64)
-            × Entry self.now words.now inside spot b.word b.number × (b.word < 2 ^ 32)) }
+            (λ n. NumberOf self.now words.now inside spot n) }
+        ensures bit { (m : Marks)
+            → let spot = spot_at point (slice_index_or chains.now innermost []) position m in
+            IfSome result (λ n. (n / 64 < length self.now.bits)
+            × Entry self.now words.now inside spot (n / 64) (n % 64)) }
+        ensures laid { Laid self.now }
     {
+        let _words = self.bits.len(); // in which the rows lie
         let place = place_under(words, point, chains, innermost)?;
         let row = self.row(place)?;
         if row.again != is_again(point) {
@@ -341,51 +373,23 @@ impl<A: Allocator> Failures<A> {
             return None;
         }
         let slot = slot_of(words, &self.shapes, row, chains, innermost, position)?;
-        let line = slot * 2 + if inside { 1 } else { 0 };
-        let index = line
-            .checked_mul(row.positions)?
-            .checked_add(position - row.first)?;
-        if index / 64 >= row.length {
-            return None;
-        }
-        Some(Bit {
-            word: row.base + index / 64,
-            number: (index % 64) as u32,
-        })
+        let index = index_in(row, slot, inside, position)?;
+        Some(row.base * 64 + index)
     }
 
-    // The bit of a configuration under the loops and the scopes of a stack.
+    // The number of the bit of a configuration under the loops and the scopes of a stack.
     #[inline(always)]
-    fn bit(&self, words: &[u32], board: &Board<A>, point: Point, position: usize) -> Option<Bit>
-        ensures { let spot = spot_at point board.now.frames position board.now.marks in
+    fn bit(&self, words: &[u32], board: &Board<A>, point: Point, position: usize) -> Option<usize>
+        ensures number { let spot = spot_at point board.now.frames position board.now.marks in
             MatchOption result (HasBit self.now words.now (is_inside board.now.choices) spot → ⊥)
-            (λ b. (b.word < length self.now.bits) × (b.number < 64)
-            × Entry self.now words.now (is_inside board.now.choices) spot b.word b.number × (b.word < 2 ^ 32)) }
+            (λ n. NumberOf self.now words.now (is_inside board.now.choices) spot n) }
+        ensures bit { let spot = spot_at point board.now.frames position board.now.marks in
+            IfSome result (λ n. (n / 64 < length self.now.bits)
+            × Entry self.now words.now (is_inside board.now.choices) spot (n / 64) (n % 64)) }
+        ensures laid { Laid self.now }
     {
         let (chains, innermost) = board.loops();
         self.bit_under(words, chains, innermost, board.is_inside(), point, position)
-    }
-
-    // The number of the bit of a configuration inside an atomic scope, under the loops of a chain, if it has one.
-    #[inline(always)]
-    pub(crate) fn number_under(
-        &self,
-        words: &[u32],
-        chains: &Chains<A>,
-        innermost: usize,
-        point: Point,
-        position: usize,
-    ) -> Option<usize>
-        requires { innermost < length chains.now }
-        ensures number { (m : Marks)
-            → let spot = spot_at point (slice_index_or chains.now innermost []) position m in
-            MatchOption result (HasBit self.now words.now true spot → ⊥)
-            (λ n. NumberOf self.now words.now true spot n) }
-        ensures laid { Laid self.now }
-    {
-        let _words = self.bits.len(); // in which the rows lie
-        let bit = self.bit_under(words, chains, innermost, true, point, position)?;
-        Some(bit.word * 64 + bit.number as usize)
     }
 
     /// The number, among all bits, of the bit of the configuration at a point and a position, under the loops and the
@@ -403,9 +407,7 @@ impl<A: Allocator> Failures<A> {
             (λ n. NumberOf self.now words.now (is_inside board.now.choices) spot n) }
         ensures laid { Laid self.now }
     {
-        let _words = self.bits.len(); // in which the rows lie
-        let bit = self.bit(words, board, point, position)?;
-        Some(bit.word * 64 + bit.number as usize)
+        self.bit(words, board, point, position)
     }
 
     /// What is known of the configuration at a point and a position, under the loops and the scopes of a stack.
@@ -418,7 +420,7 @@ impl<A: Allocator> Failures<A> {
         match self.bit(words, board, point, position) {
             None => Known::NoBit,
             Some(bit) => {
-                if (self.bits[bit.word] >> bit.number) & 1 == 1 {
+                if (self.bits[bit / 64] >> (bit % 64)) & 1 == 1 {
                     Known::Failed
                 } else {
                     Known::Open
@@ -448,7 +450,7 @@ impl<A: Allocator> Failures<A> {
         match self.bit(words, board, point, position) {
             None => false,
             Some(bit) => {
-                self.bits[bit.word] |= 1 << bit.number;
+                self.bits[bit / 64] |= 1 << (bit % 64);
                 true
             }
         }

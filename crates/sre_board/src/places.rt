@@ -20,13 +20,7 @@ pub(crate) fn is_again(point: Point) -> bool
 {
     match point {
         Point::Again => true,
-        Point::Instruction(_) => false,
-        Point::Alternatives(_) => false,
-        Point::Shorter(_, _) => false,
-        Point::Longer(_, _) => false,
-        Point::Inside(_) => false,
-        Point::Tried(_) => false,
-        Point::TriedAgain => false,
+        _ => false,
     }
 }
 
@@ -61,12 +55,7 @@ pub(crate) fn place_under<A: Allocator>(
     match point {
         Point::Instruction(place) => Some(place),
         Point::Again => loop_place(words, chains, innermost),
-        Point::Alternatives(_) => None,
-        Point::Shorter(_, _) => None,
-        Point::Longer(_, _) => None,
-        Point::Inside(_) => None,
-        Point::Tried(_) => None,
-        Point::TriedAgain => None,
+        _ => None,
     }
 }
 
@@ -78,10 +67,7 @@ fn says_of_body(list: &[bool], repeat: usize) -> bool
     let Some(body) = repeat.checked_add(4) else {
         return false;
     };
-    match list.get(body) {
-        Some(&says) => says,
-        None => false,
-    }
+    matches!(list.get(body), Some(true))
 }
 
 // Whether it has that for each loop of a chain.

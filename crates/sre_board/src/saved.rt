@@ -22,28 +22,19 @@ pub struct Saved {
     pub changes: usize,
 }
 
-/// How many chains the choices need.
+/// How many chains and how many changes the choices need.
 #[inline(always)]
-pub(crate) fn kept(saved: &[Saved]) -> usize
-    ensures { (n more changes : ℕ) → result < n → Fits (reverse saved.now) more changes
+pub(crate) fn needs(saved: &[Saved]) -> (usize, usize)
+    ensures chains { (n more changes : ℕ) → result.0 < n → Fits (reverse saved.now) more changes
         → Fits (reverse saved.now) n changes }
+    ensures changes { (n changes : ℕ) → Fits (reverse saved.now) n changes
+        → (result.1 ≤ changes) × Fits (reverse saved.now) n result.1 }
 {
     if saved.is_empty() {
-        return 0;
+        return (0, 0);
     }
-    saved[saved.len() - 1].chains
-}
-
-/// How many changes the choices need.
-#[inline(always)]
-pub(crate) fn needed(saved: &[Saved]) -> usize
-    ensures { (n changes : ℕ) → Fits (reverse saved.now) n changes
-        → (result ≤ changes) × Fits (reverse saved.now) n result }
-{
-    if saved.is_empty() {
-        return 0;
-    }
-    saved[saved.len() - 1].changes
+    let newest = saved[saved.len() - 1];
+    (newest.chains, newest.changes)
 }
 
 /// The number of atomic scopes that a choice is, 0 or 1.
@@ -66,12 +57,7 @@ pub(crate) fn mark_of(point: Point) -> Point
     match point {
         Point::Instruction(place) => Point::Tried(place),
         Point::Again => Point::TriedAgain,
-        Point::Alternatives(_) => unreachable!(),
-        Point::Shorter(_, _) => unreachable!(),
-        Point::Longer(_, _) => unreachable!(),
-        Point::Inside(_) => unreachable!(),
-        Point::Tried(_) => unreachable!(),
-        Point::TriedAgain => unreachable!(),
+        _ => unreachable!(),
     }
 }
 
@@ -84,12 +70,7 @@ pub(crate) fn tried_of(point: Point) -> Option<Point>
     match point {
         Point::Tried(place) => Some(Point::Instruction(place)),
         Point::TriedAgain => Some(Point::Again),
-        Point::Instruction(_) => None,
-        Point::Alternatives(_) => None,
-        Point::Shorter(_, _) => None,
-        Point::Longer(_, _) => None,
-        Point::Inside(_) => None,
-        Point::Again => None,
+        _ => None,
     }
 }
 

@@ -63,7 +63,7 @@ fn with_loop(words: &[u32], frame: Frame, position: usize, slot: usize) -> Optio
     let here = is_here(frame.last, position)?;
     let count = counted.min(frame.count as usize);
     let inner = slot * ((counted + 1) * 2);
-    let next = inner + (count * 2 + if here { 1 } else { 0 });
+    let next = inner + (count * 2 + usize::from(here));
     if next >= MOST_SLOTS {
         return None;
     }

@@ -1,16 +1,11 @@
-use Rattle.std.proofs.Common.{ℕ, ◌≤◌, List, reverse, arith, subst}
+use Rattle.std.proofs.Common.{arith}
 use Rattle.std.proofs.lemmas.Result.{IfOk-weaker}
-use Rattle.sre_board.specs.Choices.{Fits}
-use Rattle.sre_board.specs.declared.saved.Saved.{Saved}
 use Rattle.sre_board.proofs.Choosing.{fits-more, set_held}
 use Rattle.sre_board.proofs.board.Board.set.Goals as goal
 
 pub set_behind-requires : goal.set_behind-requires
 set_behind-requires g c =
-    let law = subst (λ (xs : List Saved). (n changes : ℕ) → Fits (reverse xs) n changes
-    → (c.needed-needed.result ≤ changes) × Fits (reverse xs) n c.needed-needed.result) c.deref.ensures.value
-    c.needed-needed.ensures in
-    (law _ _ c.self.invariant.1).0
+    ((rw c.deref.ensures.value at c.needs-chains.ensures.changes) _ _ c.self.invariant.1).0
 
 pub invariant_of-self-2 : goal.invariant_of-self-2
 invariant_of-self-2 g c = (
@@ -21,9 +16,7 @@ invariant_of-self-2 g c = (
 
 pub returns : goal.returns
 returns g c =
-    let law = subst (λ (xs : List Saved). (n changes : ℕ) → Fits (reverse xs) n changes
-    → (c.needed-needed.result ≤ changes) × Fits (reverse xs) n c.needed-needed.result) c.deref.ensures.value
-    c.needed-needed.ensures in
+    let law = rw c.deref.ensures.value at c.needs-chains.ensures.changes in
     IfOk-weaker _ _ _
     (λ x h. set_held _ c.self.inside.trail c.set_behind.new.self c.self.inside.chains c.self.inside.frame
     c.self.inside.choices.items c.args.n c.args.position _ c.self.view_is (law _ _ c.self.invariant.1).1 h)

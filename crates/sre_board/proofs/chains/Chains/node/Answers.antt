@@ -12,17 +12,8 @@ index-requires g c = omega (
   c.self.inside.nodes.ok.0,
 )
 
-pub returns-clause-chain : goal.returns-clause-chain
-returns-clause-chain g c =
-    (node_law c.self.inside.nodes.items _ c.args.id c.index.result.now c.self.view_is c.self.invariant c.requires
-    c.index.ensures).0
-
-pub returns-clause-parent : goal.returns-clause-parent
-returns-clause-parent g c =
-    (node_law c.self.inside.nodes.items _ c.args.id c.index.result.now c.self.view_is c.self.invariant c.requires
-    c.index.ensures).1
-
-pub returns-clause-there : goal.returns-clause-there
-returns-clause-there g c =
-    (node_law c.self.inside.nodes.items _ c.args.id c.index.result.now c.self.view_is c.self.invariant c.requires
-    c.index.ensures).2
+pub returns : goal.returns
+returns g c =
+    let law = node_law c.self.inside.nodes.items _ c.args.id c.index.result.now c.self.view_is c.self.invariant
+    c.requires c.index.ensures in
+    record { chain = law.0; parent = law.1; there = law.2 }

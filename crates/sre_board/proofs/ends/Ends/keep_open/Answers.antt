@@ -1,38 +1,33 @@
-use Rattle.std.proofs.Common.{◌≡◌, Some, slice_get, slice_index_or, [], ap, ◌∙◌, arith}
-use Rattle.std.proofs.lemmas.Option.{slice_get_within}
+use Rattle.std.proofs.Common.{◌≡◌, Some, slice_get, slice_index_or, [], ap, ◌∙◌, rules}
 use Rattle.sre_turns.specs.Board.{choice, Trying}
 use Rattle.sre_board.proofs.OpenSpots.{gone_else, gone_tried, more_tried, kept_tried, gone_to_end, gone_to_region}
 use Rattle.sre_board.proofs.OpenSpots.{passed_over}
 use Rattle.sre_board.proofs.ends.Ends.keep_open.Goals.{in-Some-tried_of+in_ok-keep_spot, in_default-tried_of}
 use Rattle.sre_board.proofs.ends.Ends.keep_open.Goals as goal
 
-pub returns-in_err-keep_spot-clause-more : goal.returns-in_err-keep_spot-clause-more
-returns-in_err-keep_spot-clause-more g c =
+pub returns-in_err-keep_spot : goal.returns-in_err-keep_spot
+returns-in_err-keep_spot g c =
+    let k = c.args.failures.now in
+    let ws = c.args.words.now in
     let cs = c.args.board.now.choices in
+    let gone = c.choice.invariant.gone in
     let s = c.in-Some.saved in
     let fs = slice_index_or c.in-Some.chains.now s.frame [] in
     let w = rw c.in-Some.is at c.saved.ensures.waits in
     let m = w.1.0 in
-    let tried = c.in-Some-tried_of.tried in
-    let e : slice_get cs c.choice.depth ≡ Some (Trying tried fs s.cursor m) =
+    let pt = c.in-Some-tried_of.tried in
+    let u = c.keep_spot.new.self in
+    let e : slice_get cs c.choice.depth ≡ Some (Trying pt fs s.cursor m) =
     w.1.1 ∙ ap (λ x. Some x) (c.in-Some-tried_of.ensures fs s.cursor m) in
-    more_tried c.args.failures.now c.args.words.now c.args.end c.choice.self cs c.choice.depth
-    c.choice.invariant.gone tried fs s.cursor m e c.args.self.now c.keep_spot.new.self
-    c.choice.invariant.more (c.keep_spot.ensures.more m)
-
-pub returns-in_err-keep_spot-clause-kept : goal.returns-in_err-keep_spot-clause-kept
-returns-in_err-keep_spot-clause-kept g c =
-    let cs = c.args.board.now.choices in
-    let s = c.in-Some.saved in
-    let fs = slice_index_or c.in-Some.chains.now s.frame [] in
-    let w = rw c.in-Some.is at c.saved.ensures.waits in
-    let m = w.1.0 in
-    let tried = c.in-Some-tried_of.tried in
-    let e : slice_get cs c.choice.depth ≡ Some (Trying tried fs s.cursor m) =
-    w.1.1 ∙ ap (λ x. Some x) (c.in-Some-tried_of.ensures fs s.cursor m) in
-    kept_tried c.args.failures.now c.args.words.now c.args.end c.choice.self cs c.choice.depth
-    c.choice.invariant.gone tried fs s.cursor m e c.args.self.now c.keep_spot.new.self
-    c.choice.invariant.kept (c.keep_spot.ensures.kept m)
+    record {
+      more =
+          more_tried k ws c.args.end c.choice.self cs c.choice.depth gone pt fs s.cursor m e c.args.self.now u
+          c.choice.invariant.more (c.keep_spot.ensures.more m);
+      kept =
+          kept_tried k ws c.args.end c.choice.self cs c.choice.depth gone pt fs s.cursor m e c.args.self.now u
+          c.choice.invariant.kept (c.keep_spot.ensures.kept m);
+      held = search rules;
+    }
 
 pub returns-in-Inside-clause-held : goal.returns-in-Inside-clause-held
 returns-in-Inside-clause-held g c =
@@ -43,12 +38,6 @@ returns-in-Inside-clause-held g c =
     gone_to_region c.args.failures.now c.args.words.now c.args.end c.choice.self cs c.choice.depth
     c.choice.invariant.gone c.in-Inside.field-0 fs s.cursor w.1.0
     (w.1.1 ∙ ap (λ pt. Some (choice pt fs s.cursor w.1.0)) c.in-Inside.is)
-
-pub choice-smaller : goal.choice-smaller
-choice-smaller g c =
-    let w = rw c.in-Some.is at c.saved.ensures.waits in
-    let within = slice_get_within c.args.board.now.choices c.choice.depth _ w.1.1 in
-    omega (arith, within)
 
 pub choice-preserved : goal.choice-preserved
 choice-preserved g c =

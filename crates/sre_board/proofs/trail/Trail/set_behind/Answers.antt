@@ -3,18 +3,14 @@ use Rattle.std.proofs.lemmas.Result.{IfOk-weaker}
 use Rattle.sre_board.proofs.Undo.{length-of, length-past, set_odd}
 use Rattle.sre_board.proofs.trail.Trail.set_behind.Goals as goal
 
-pub returns-then-needed-len-clause-set : goal.returns-then-needed-len-clause-set
-returns-then-needed-len-clause-set g c =
+pub returns-then-needed-len : goal.returns-then-needed-len
+returns-then-needed-len g c =
     let few = length-of _ c.self.inside.changes.items c.self.inside.marks c.self.view_is in
     let within : c.args.needed < length c.args.self.now.past =
     omega (arith, few, c.if-needed-len.true, c.len.ensures, c.self.inside.changes.ok.0) in
-    IfOk-weaker _ _ _
-    (λ x h. set_odd _ c.self.inside.changes.items c.self.inside.marks c.set.new.self c.args.n c.args.position
-    c.args.needed c.self.view_is (c.stands_at.ensures c.if-stands_at.true) within h) c.set.ensures
-
-pub returns-then-needed-len-clause-kept : goal.returns-then-needed-len-clause-kept
-returns-then-needed-len-clause-kept g c = omega (
-  arith,
-  length-of _ c.self.inside.changes.items c.self.inside.marks c.self.view_is,
-  length-past c.self.inside.changes.items c.set.new.self,
-)
+    record {
+      set = IfOk-weaker _ _ _
+          (λ x h. set_odd _ c.self.inside.changes.items c.self.inside.marks c.set.new.self c.args.n c.args.position
+          c.args.needed c.self.view_is (c.stands_at.ensures c.if-stands_at.true) within h) c.set.ensures;
+      kept = omega (arith, few, length-past c.self.inside.changes.items c.set.new.self);
+    }
