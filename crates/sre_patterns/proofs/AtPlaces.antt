@@ -1,10 +1,8 @@
 -- Where the matches of patterns begin: at a byte where a position is, unless they are empty.
-use Rattle.std.proofs.Common.{◌≡◌, ℕ, zero, suc, ◌+◌, ◌-◌, ◌/◌, ◌%◌, ◌<◌, ◌≤◌, Bool, true, false, List, []}
-use Rattle.std.proofs.Common.{length, Option, Some, None, true≢false, sym, ap, ◌∙◌, ◌⊎◌, ⊎_elim, inl, inr, arith}
-use Rattle.std.proofs.Common.{slice_index}
+use Rattle.std.proofs.Common.{◌≡◌, ℕ, zero, suc, ◌+◌, ◌-◌, ◌<◌, ◌≤◌, Bool, true, false, List, [], Option, Some, None}
+use Rattle.std.proofs.Common.{true≢false, sym, ap, ◌∙◌, ◌⊎◌, ⊎_elim, inl, inr, arith, slice_index}
 use Rattle.std.proofs.lemmas.Bool.{cases_lt}
-use Rattle.std.proofs.lemmas.Str.{length-encode, encode_ascii, len_utf8_bounds}
-use Rattle.std.specs.Char.{len_utf8}
+use Rattle.std.proofs.lemmas.Str.{len_utf8_bounds}
 use Rattle.regex_class.specs.Ranges.{in_ranges}
 use Rattle.regex_hir.specs.Re.{Re, empty, byte_in, char_in, look, cat, alt, plus}
 use Rattle.regex_hir.specs.Text as bytes
@@ -13,11 +11,10 @@ use Rattle.regex_hir.specs.Meaning.{optional, copies, up_to, at_least, repeat}
 use Rattle.regex_hir.specs.Matches.{Rounds, one_round, next_round, Matches}
 use Rattle.regex_hir.proofs.MatchesLemmas.{Matches-IsSpan}
 use Rattle.regex_hir.proofs.TextLemmas.{char_at_fits}
-use Rattle.regex_hir.proofs.Utf8Lemmas.{char_at_cases, encode_two, encode_three, encode_four, IsOneByteAt, IsTwoBytesAt}
-use Rattle.regex_hir.proofs.Utf8Lemmas.{IsThreeBytesAt, IsFourBytesAt}
 use Rattle.sre_model.specs.Subject.{Subject, char_at}
 use Rattle.sre_patterns.specs.Covers.{InBytes, InUtf8}
 use Rattle.sre_patterns.specs.Exact.{IsPlace, AtPlaces}
+use Rattle.sre_patterns.proofs.Edges.{IsLater, char-bytes}
 use Rattle.sre_patterns.proofs.OverBytes.{bytes-places}
 
 module _ (s : Subject) (hay : List ℕ) (off : ℕ → ℕ) where
@@ -86,56 +83,6 @@ module _ (s : Subject) (hay : List ℕ) (off : ℕ → ℕ) where
         | (inr past) ↦ inl (omega (arith, span, past))
       ]
 
--- a byte at which a character begins, and one inside a character
-abbrev IsFirst : ℕ → Type 0
-IsFirst b = (b < 128) ⊎ (192 ≤ b)
-
-abbrev IsLater : ℕ → Type 0
-IsLater b = (128 ≤ b) × (b < 192)
-
-first-byte : (hay : List ℕ) (i c : ℕ) → bytes.char_at hay i ≡ Some c → IsFirst (slice_index hay i)
-first-byte hay i c found =
-    ⊎_elim (λ one. inl (omega (arith, one.0, one.2))) (λ more. ⊎_elim (λ two. inr (omega (arith, two.3)))
-    (λ more. ⊎_elim (λ three. inr (omega (arith, three.3))) (λ four. inr (omega (arith, four.2))) more) more)
-    (char_at_cases hay i c found).1
-
-later-byte : (hay : List ℕ) (i c k : ℕ) → bytes.char_at hay i ≡ Some c → i < k → k < i + len_utf8 c
-    → IsLater (slice_index hay k)
-later-byte hay i c k found after before =
-    ⊎_elim one (λ more. ⊎_elim two (λ more. ⊎_elim three four more) more) (char_at_cases hay i c found).1
-  where
-    byte : (j b : ℕ) → k ≡ j → slice_index hay j ≡ 128 + b → b < 64 → IsLater (slice_index hay k)
-    byte j b at is small = omega (arith, ap (slice_index hay) at, is, small)
-
-    one : IsOneByteAt hay i c → IsLater (slice_index hay k)
-    one h =
-        let long : len_utf8 c ≡ 1 = sym (length-encode c) ∙ ap length (encode_ascii c h.0) in
-        absurd (omega (arith, long, after, before))
-
-    two : IsTwoBytesAt hay i c → IsLater (slice_index hay k)
-    two h =
-        let long : len_utf8 c ≡ 2 = sym (length-encode c) ∙ ap length (encode_two c h.0 h.1) in
-        byte (i + 1) (c % 64) (omega (arith, long, after, before)) h.4 (omega arith)
-
-    three : IsThreeBytesAt hay i c → IsLater (slice_index hay k)
-    three h =
-        let long : len_utf8 c ≡ 3 = sym (length-encode c) ∙ ap length (encode_three c h.0 h.1) in
-        elim (cases_lt k (i + 2)) [
-          | (inl near) ↦ byte (i + 1) ((c / 64) % 64) (omega (arith, near, after)) h.4 (omega arith)
-          | (inr far) ↦ byte (i + 2) (c % 64) (omega (arith, long, far, before)) h.5 (omega arith)
-        ]
-
-    four : IsFourBytesAt hay i c → IsLater (slice_index hay k)
-    four h =
-        let long : len_utf8 c ≡ 4 = sym (length-encode c) ∙ ap length (encode_four c h.0) in
-        elim (cases_lt k (i + 2)) [
-          | (inl near) ↦ byte (i + 1) ((c / 4096) % 64) (omega (arith, near, after)) h.3 (omega arith)
-          | (inr past) ↦ elim (cases_lt k (i + 3)) [
-            | (inl near) ↦ byte (i + 2) ((c / 64) % 64) (omega (arith, near, past)) h.4 (omega arith)
-            | (inr far) ↦ byte (i + 3) (c % 64) (omega (arith, long, far, before)) h.5 (omega arith)
-          ]
-        ]
-
 -- each byte is one of some character
 module _ (s : Subject) (hay : List ℕ) (off : ℕ → ℕ) (v : InUtf8 s hay off) where
   pub record Inside (i : ℕ) : Type 0 where
@@ -160,15 +107,19 @@ module _ (s : Subject) (hay : List ℕ) (off : ℕ → ℕ) (v : InUtf8 s hay of
       let here = inside s.end i (omega arith) (omega (arith, fits, len_utf8_bounds c, v.ends)) in
       let p = here.position in
       elim (cases_lt (off p) i) [
-        | (inl after) ↦ absurd (apart (first-byte hay i c found)
-            (later-byte hay (off p) (char_at s p) i (v.char p here.within) after
+        | (inl after) ↦ absurd (first-byte i c found
+            ((char-bytes hay (off p) (char_at s p) (v.char p here.within)).later i after
             (omega (arith, here.to, v.next p here.within))))
         | (inr at) ↦ (p, omega (arith, here.within), omega (arith, at, here.from))
       ]
     where
-      apart : IsFirst (slice_index hay i) → IsLater (slice_index hay i) → ⊥
-      apart (inl low) later = omega (arith, low, later)
-      apart (inr high) later = omega (arith, high, later)
+      first-byte : (i c : ℕ) → bytes.char_at hay i ≡ Some c → IsLater (slice_index hay i) → ⊥
+      first-byte i c found later =
+          let all = char-bytes hay i c found in
+          elim (cases_lt c 128) [
+            | (inl low) ↦ omega (arith, all.one low, later)
+            | (inr high) ↦ omega (arith, all.first high, later)
+          ]
 
   pub char-at : (ranges : List (ℕ × ℕ)) → AtPlaces s hay off (char_in ranges)
   char-at ranges i j m = inr (char-place i m.0 m.1)

@@ -1,34 +1,27 @@
 -- Alternatives: what is read so far, and what is left.
 use Rattle.std.proofs.Common.{◌≡◌, ◌≢◌, ℕ, ◌+◌, ◌-◌, ◌<◌, ◌≤◌, ◌⊎◌, List, [], ◌∷◌, ◌++◌, length, refl, sym, ap, ◌∙◌}
-use Rattle.std.proofs.Common.{subst, inl, inr, arith, ⊎_elim}
-use Rattle.std.proofs.lemmas.Bool.{cases_lt}
+use Rattle.std.proofs.Common.{subst, inl, inr, arith}
 use Rattle.regex_hir.specs.Re.{Re, byte_in, alt}
-use Rattle.sre_chars.specs.Tables.{Table}
-use Rattle.sre_chars.specs.declared.constants.SreOpcode.TheVariants as opcode
-use Rattle.sre_model.specs.Tree.{Tree, Trees, Only, Or}
-use Rattle.sre_model.specs.Roles.{ToBranch}
-use Rattle.sre_model.specs.Grammar.{Word, skip, Reads, ReadsBranch}
-use Rattle.sre_model.proofs.Words.{word_of, word_within, word_past, same_word}
+use Rattle.sre_model.specs.Tree.{Tree, Branch, Trees, Only, Or}
+use Rattle.sre_model.specs.Grammar.{Word, skip, Reads, ReadsItem, ReadsBranch}
+use Rattle.sre_model.proofs.Words.{word_of, word_within, same_word}
 use Rattle.sre_model.proofs.Places.{alternative_long}
-use Rattle.sre_model.proofs.Families.{role_here, is_branch}
+use Rattle.sre_model.specs.Ways.{branch_ways}
 use Rattle.sre_code.specs.Codes.{uni_of}
-use Rattle.sre_patterns.specs.Covers.{View}
 use Rattle.sre_patterns.specs.declared.task.Task.{Task}
 use Rattle.sre_patterns.specs.Patterns.{view_of, alt_onto, AtItem, AtItems, HasItems, HasBranch}
-use Rattle.sre_patterns.specs.Purposes.{Serves, ServesItem}
-use Rattle.sre_patterns.proofs.Items.{items-to}
+use Rattle.sre_patterns.specs.Purposes.{Serves, ServesItem, ServesBody}
+use Rattle.sre_patterns.proofs.Items.{items-to, word-needed, at-item}
 use Rattle.sre_patterns.proofs.Onto.{alt-last}
-use Rattle.sre_patterns.proofs.Serving.{ServesBranchFor, serves-branch, serves-last, serves-or}
+use Rattle.sre_patterns.proofs.Composed.{Composes}
+use Rattle.sre_patterns.proofs.Serving.{serves-parts}
 
 module _ (s : Task) (ws : List ℕ) where
-  abbrev V : View
-  V = view_of s.encoding
-
-  abbrev table : Table
-  table = uni_of s.code
-
   abbrev B : Re → Trees → Type 0
-  B = ServesBranchFor s.purpose V table
+  B re ts = ServesBody s.purpose (view_of s.encoding) (uni_of s.code) re (λ w. branch_ways w ts)
+
+  parts-of : Composes (ServesBody s.purpose (view_of s.encoding) (uni_of s.code))
+  parts-of = serves-parts (view_of s.encoding) (uni_of s.code) s.purpose
 
   -- what is left: some alternatives, or the zero behind the last one
   abbrev pub Rest : ℕ → ℕ → Type 0
@@ -38,25 +31,26 @@ module _ (s : Task) (ws : List ℕ) where
   EndsIn at j (inl left) b = B b left.0
   EndsIn at j (inr none) b = b ≡ byte_in []
 
-  pub record BranchSoFar (start at : ℕ) (parts : List Re) : Type 0 where
-    pub each : (j : ℕ) (ts : Trees) → ReadsBranch ws start j ts
-        → (r : Rest at j) × ((b : Re) → EndsIn at j r b → B (alt_onto parts b) ts)
+  pub record BranchSoFar (i at : ℕ) (parts : List Re) : Type 0 where
+    pub end : ℕ
+    pub trees : Trees
+    pub reads : ReadsItem ws i end (Branch trees)
+    pub left : Rest at end
+    pub holds : (b : Re) → EndsIn at end left b → B (alt_onto parts b) trees
 
-  pub branch-begun : (start : ℕ) → BranchSoFar start start []
-  branch-begun start = record { each = λ j ts r. (inl (ts, r), λ b k. k) }
+  pub branch-begun : (i : ℕ) → HasBranch ws i → BranchSoFar i (i + 1) []
+  branch-begun i h = record {
+    end = h.end;
+    trees = h.trees;
+    reads = h.reads;
+    left = inl (h.trees, h.reads.1);
+    holds = λ b k. k;
+  }
 
   -- the word at an alternative is there
-  pub length-there : (at j : ℕ) (ts : Trees) → ReadsBranch ws at j ts → at < length ws
-  length-there at j ts r =
-      ⊎_elim (λ there. there) (λ past. absurd (omega (arith, alternative_long ws at j ts r, word_past ws at past)))
-      (cases_lt at (length ws))
-
-  pub word-there : (i at : ℕ) (parts : List Re) → HasBranch ws i → BranchSoFar (i + 1) at parts → at < length ws
-  word-there i at parts h so = go (so.each h.end h.trees h.reads.1).0
-    where
-      go : Rest at h.end → at < length ws
-      go (inl left) = length-there at h.end left.0 left.1
-      go (inr none) = word_within ws at 0 none.0
+  pub word-there : (at j : ℕ) → Rest at j → at < length ws
+  word-there at j (inl left) = word-needed ws at 2 (omega (arith, alternative_long ws at j left.0 left.1))
+  word-there at j (inr none) = word_within ws at 0 none.0
 
   first-of : (at j : ℕ) (ts : Trees) → ReadsBranch ws at j ts → (t : Tree) × Reads ws (at + 1) (skip ws at - 2) t
   first-of at j (Only t) r = (t, r.0)
@@ -66,34 +60,28 @@ module _ (s : Task) (ws : List ℕ) where
   pub record AlternativeRead (at v : ℕ) : Type 0 where
     pub items : HasItems ws (at + 1) (at + v - 2)
     pub long : 3 ≤ v
-    pub there : at < length ws
 
-  pub alternative-read : (i at v : ℕ) (parts : List Re) → HasBranch ws i → BranchSoFar (i + 1) at parts → Word ws at v
-      → v ≢ 0 → AlternativeRead at v
-  alternative-read i at v parts h so w some = go (so.each h.end h.trees h.reads.1).0
-    where
-      to : skip ws at ≡ at + v
-      to = ap (λ n. at + n) (word_of ws at v w)
-
-      go : Rest at h.end → AlternativeRead at v
-      go (inl left) =
-          let first = first-of at h.end left.0 left.1 in
-          record {
-            items = items-to ws (at + 1) (skip ws at - 2) (at + v - 2) first.0 first.1 (ap (λ n. n - 2) to);
-            long = omega (arith, alternative_long ws at h.end left.0 left.1, to);
-            there = word_within ws at v w;
-          }
-      go (inr none) = absurd (some (same_word ws at v 0 w none.0))
+  pub alternative-read : (at j v : ℕ) → Rest at j → Word ws at v → v ≢ 0 → AlternativeRead at v
+  alternative-read at j v (inl left) w some =
+      let first = first-of at j left.0 left.1 in
+      let to : skip ws at ≡ at + v = ap (λ n. at + n) (word_of ws at v w) in
+      record {
+        items = items-to ws (at + 1) (skip ws at - 2) (at + v - 2) first.0 first.1 (ap (λ n. n - 2) to);
+        long = omega (arith, alternative_long ws at j left.0 left.1, to);
+      }
+  alternative-read at j v (inr none) w some = absurd (some (same_word ws at v 0 w none.0))
 
   -- one more alternative
-  pub alternative : (start at v e : ℕ) (parts after : List Re) (re : Re) → BranchSoFar start at parts → Word ws at v
+  pub alternative : (i at v e : ℕ) (parts after : List Re) (re : Re) → BranchSoFar i at parts → Word ws at v
       → v ≢ 0 → AtItems ws (at + 1) (at + v - 2) e (Serves s re) → after ≡ parts ++ re ∷ []
-      → BranchSoFar start (at + v) after
-  alternative start at v e parts after re so w some c same = record {
-    each = λ j ts r.
-        let left = so.each j ts r in
-        let next = step j left.0 in
-        (next.0, λ b k. subst (λ z. B z ts) (moved b) (left.1 (alt re b) (next.1 b k)));
+      → BranchSoFar i (at + v) after
+  alternative i at v e parts after re so w some c same = record {
+    end = so.end;
+    trees = so.trees;
+    reads = so.reads;
+    left = (step so.end so.left).0;
+    holds = λ b k.
+        subst (λ z. B z so.trees) (moved b) (so.holds (alt re b) ((step so.end so.left).1 b k));
   }
     where
       to : skip ws at ≡ at + v
@@ -109,25 +97,21 @@ module _ (s : Task) (ws : List ℕ) where
           → (n : Rest (at + v) j) × ((b : Re) → EndsIn (at + v) j n b → EndsIn at j r (alt re b))
       step j (inl (Only t, r)) = (
         inr (subst (λ n. Word ws n 0) to r.2, r.3 ∙ ap (λ n. n + 1) to),
-        λ b is. subst (λ z. B (alt re z) (Only t)) (sym is) (serves-last V table s.purpose re t (body t r.0)),
+        λ b is. subst (λ z. B (alt re z) (Only t)) (sym is) (parts-of.last re t (body t r.0)),
       )
       step j (inl (Or t us, r)) = (
         inl (us, subst (λ n. ReadsBranch ws n j us) to r.2),
-        λ b k. serves-or V table s.purpose re b t us (body t r.0) k,
+        λ b k. parts-of.either re b t us (body t r.0) k,
       )
       step j (inr none) = absurd (some (same_word ws at v 0 w none.0))
 
   -- behind the last one
-  pub branches : (i at : ℕ) (parts : List Re) (whole : Re) → HasBranch ws i → BranchSoFar (i + 1) at parts
-      → Word ws at 0 → whole ≡ alt_onto parts (byte_in []) → AtItem ws i (at + 1) (ServesItem s whole)
-  branches i at parts whole h so w is j x r =
-      let f = is_branch ws i j x (role_here ws i opcode.BRANCH ToBranch h.reads.0 refl) r in
-      let left = so.each j f.0 f.2.1 in
-      let k = go j left.0 in (
-        k.0,
-        subst (ServesItem s whole) (sym f.1) (serves-branch V table s.purpose whole f.0
-            (subst (λ z. B z f.0) (sym is) (left.1 (byte_in []) k.1))),
-      )
+  pub branches : (i at : ℕ) (parts : List Re) (whole : Re) → BranchSoFar i at parts → Word ws at 0
+      → whole ≡ alt_onto parts (byte_in []) → AtItem ws i (at + 1) (ServesItem s whole)
+  branches i at parts whole so w is =
+      let k = go so.end so.left in
+      at-item (ServesItem s whole) ws i (at + 1) so.end (Branch so.trees) k.0 so.reads
+      (subst (λ z. B z so.trees) (sym is) (so.holds (byte_in []) k.1))
     where
       go : (j : ℕ) (r : Rest at j) → (at + 1 ≡ j) × EndsIn at j r (byte_in [])
       go j (inl left) = absurd (omega (arith, alternative_long ws at j left.0 left.1, word_of ws at 0 w))

@@ -1,28 +1,20 @@
 -- Conditionals: with a second part, which a JUMP announces, or without.
 use Rattle.std.proofs.Common.{◌≡◌, ◌≢◌, ℕ, ◌+◌, ◌-◌, ◌<◌, ◌⊎◌, List, length, sym, ap, ◌∙◌, subst, inl, inr, arith}
-use Rattle.std.proofs.Common.{⊎_elim}
-use Rattle.std.proofs.lemmas.Bool.{cases_lt}
 use Rattle.regex_hir.specs.Re.{Re, empty, alt}
 use Rattle.sre_chars.specs.Tables.{Table}
 use Rattle.sre_model.specs.Tree.{Tree, Item, Exists, ExistsElse}
 use Rattle.sre_model.specs.Roles.{ToCheckGroup}
 use Rattle.sre_model.specs.Grammar.{word, skip, item_opcode, Reads, ReadsItem}
-use Rattle.sre_model.proofs.Words.{word_past}
 use Rattle.sre_model.proofs.Families.{role_here, is_exists}
 use Rattle.sre_model.proofs.Places.{reads_within}
 use Rattle.sre_code.specs.Codes.{uni_of}
 use Rattle.sre_patterns.specs.Covers.{View, Covers, IsWider}
-use Rattle.sre_patterns.proofs.Composed.{covers-exists, covers-either, item-wider}
+use Rattle.sre_patterns.proofs.Composed.{covers-exists, covers-either, covers-wider}
 use Rattle.sre_patterns.specs.declared.task.Task.{Task}
 use Rattle.sre_patterns.specs.Patterns.{view_of, AtItem, AtItems, HasItems, HasCondition}
 use Rattle.sre_patterns.specs.Purposes.{Serves, ServesItem, OnlyCovers}
-use Rattle.sre_patterns.proofs.Items.{items-to}
+use Rattle.sre_patterns.proofs.Items.{items-to, word-needed, at-item}
 use Rattle.sre_patterns.proofs.Serving.{covered, serves-covered}
-
--- a word that a sum needs is there
-word-needed : (ws : List ℕ) (q n : ℕ) → n < word ws q → q < length ws
-word-needed ws q n l =
-    ⊎_elim (λ there. there) (λ past. absurd (omega (arith, l, word_past ws q past))) (cases_lt q (length ws))
 
 module _ (ws : List ℕ) (i : ℕ) where
   -- where the second part begins, or what follows
@@ -34,15 +26,16 @@ module _ (ws : List ℕ) (i : ℕ) where
   OneOf j x = ((g : ℕ) × (a : Tree) × (x ≡ Exists g a) × ReadsItem ws i j (Exists g a))
       ⊎ ((g : ℕ) × (a : Tree) × (b : Tree) × (x ≡ ExistsElse g a b) × ReadsItem ws i j (ExistsElse g a b))
 
-  pub one-of : (h : HasCondition ws i) (j : ℕ) (x : Item) → ReadsItem ws i j x → OneOf j x
-  one-of h j x r = is_exists ws i j x (role_here ws i (item_opcode h.item) ToCheckGroup h.reads.0 h.is) r
+  pub one-of : (h : HasCondition ws i) → OneOf h.end h.item
+  one-of h =
+      is_exists ws i h.end h.item (role_here ws i (item_opcode h.item) ToCheckGroup h.reads.0 h.is) h.reads
 
   pub record ConditionRead : Type 0 where
     pub items : HasItems ws (i + 3) behind
     pub within : i + 2 < length ws
 
   pub condition-read : HasCondition ws i → ConditionRead
-  condition-read h = go (one-of h h.end h.item h.reads)
+  condition-read h = go (one-of h)
     where
       go : OneOf h.end h.item → ConditionRead
       go (inl f) =
@@ -74,7 +67,7 @@ module _ (s : Task) (ws : List ℕ) (i : ℕ) (h : HasCondition ws i) (only : On
       let o = r.1 in
       let same : at ≡ j = to ∙ sym o.1 in
       let k = c j a o.2 (omega (arith, same), inl (sym same)) in
-      (k.0 ∙ sym same, same, covered V table s.purpose re a only k.1)
+      (k.0 ∙ sym same, same, covered V table s.purpose re _ only k.1)
 
   -- the first part ends at the JUMP to the second one
   forked : (j g : ℕ) (a b : Tree) → ReadsItem ws i j (ExistsElse g a b)
@@ -86,22 +79,19 @@ module _ (s : Task) (ws : List ℕ) (i : ℕ) (h : HasCondition ws i) (only : On
         omega (arith, k.0, to, order),
         o.2.1 ∙ ap (λ n. skip ws (n + 1)) (sym k.0),
         subst (λ n. Reads ws n j b) (sym to) o.3,
-        covered V table s.purpose re a only k.1,
+        covered V table s.purpose re _ only k.1,
       )
 
   pub without : (whole : Re) → stop ≡ at → IsWider (alt re empty) whole → AtItem ws i at (ServesItem s whole)
-  without whole is wider j x r = go (one-of ws i h j x r)
+  without whole is wider = go (one-of ws i h)
     where
-      go : OneOf ws i j x → (at ≡ j) × ServesItem s whole x
+      go : OneOf ws i h.end h.item → AtItem ws i at (ServesItem s whole)
       go (inl f) =
-          let k = plain j f.0 f.1 f.3 in (
-            k.1,
-            subst (ServesItem s whole) (sym f.2)
-                (serves-covered V table s.purpose whole (Exists f.0 f.1) only
-                (item-wider V table (alt re empty) whole (Exists f.0 f.1) wider
-                (covers-exists V table re f.0 f.1 k.2))),
-          )
-      go (inr f) = absurd (omega (arith, (forked j f.0 f.1 f.2 f.4).0, is))
+          let k = plain h.end f.0 f.1 f.3 in
+          at-item (ServesItem s whole) ws i at h.end (Exists f.0 f.1) k.1 f.3
+          (serves-covered V table s.purpose whole _ only
+          (covers-wider V table (alt re empty) whole _ wider (covers-exists V table re f.0 f.1 k.2)))
+      go (inr f) = absurd (omega (arith, (forked h.end f.0 f.1 f.2 f.4).0, is))
 
   -- what stands behind a JUMP
   pub record ElseRead : Type 0 where
@@ -109,7 +99,7 @@ module _ (s : Task) (ws : List ℕ) (i : ℕ) (h : HasCondition ws i) (only : On
     pub within : stop + 1 < length ws
 
   pub else-read : stop ≢ at → ElseRead
-  else-read other = go (one-of ws i h h.end h.item h.reads)
+  else-read other = go (one-of ws i h)
     where
       go : OneOf ws i h.end h.item → ElseRead
       go (inl f) = absurd (other (plain h.end f.0 f.1 f.3).0)
@@ -124,17 +114,15 @@ module _ (s : Task) (ws : List ℕ) (i : ℕ) (h : HasCondition ws i) (only : On
   pub with-else : (other whole : Re) (v e : ℕ) → stop ≢ at → e ≡ skip ws (stop + 1)
       → AtItems ws at e v (Serves s other) → IsWider (alt re other) whole
       → AtItem ws i e (ServesItem s whole)
-  with-else other whole v e apart ends d wider j x r = go (one-of ws i h j x r)
+  with-else other whole v e apart ends d wider = go (one-of ws i h)
     where
-      go : OneOf ws i j x → (e ≡ j) × ServesItem s whole x
-      go (inl f) = absurd (apart (plain j f.0 f.1 f.3).0)
+      go : OneOf ws i h.end h.item → AtItem ws i e (ServesItem s whole)
+      go (inl f) = absurd (apart (plain h.end f.0 f.1 f.3).0)
       go (inr f) =
-          let k = forked j f.0 f.1 f.2 f.4 in
-          let same : e ≡ j = ends ∙ sym k.1 in
-          let l = d j f.2 k.2 (omega (arith, same), inl (sym same)) in (
-            same,
-            subst (ServesItem s whole) (sym f.3)
-                (serves-covered V table s.purpose whole (ExistsElse f.0 f.1 f.2) only
-                (item-wider V table (alt re other) whole (ExistsElse f.0 f.1 f.2) wider
-                (covers-either V table re other f.0 f.1 f.2 k.3 (covered V table s.purpose other f.2 only l.1)))),
-          )
+          let k = forked h.end f.0 f.1 f.2 f.4 in
+          let same : e ≡ h.end = ends ∙ sym k.1 in
+          let l = d h.end f.2 k.2 (omega (arith, same), inl (sym same)) in
+          at-item (ServesItem s whole) ws i e h.end (ExistsElse f.0 f.1 f.2) same f.4
+          (serves-covered V table s.purpose whole _ only
+          (covers-wider V table (alt re other) whole _ wider
+          (covers-either V table re other f.0 f.1 f.2 k.3 (covered V table s.purpose other _ only l.1))))

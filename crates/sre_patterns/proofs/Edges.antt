@@ -1,17 +1,18 @@
--- Positions between characters, as positions between bytes: where a position code holds an assertion does.
+-- Positions between characters, as positions between bytes: where a position code holds an assertion does. What is at
+-- both edges of a character.
 use Rattle.std.proofs.Common.{◌≡◌, ℕ, zero, suc, ◌+◌, ◌-◌, ◌<◌, ◌≤◌, Bool, true, false, cond, not, ◌&&◌, ◌||◌, ◌==◌}
 use Rattle.std.proofs.Common.{nat_eq, nat_lt, List, length, Option, None, Some, is_some, slice_get, refl, sym, ap, ap₂}
-use Rattle.std.proofs.Common.{◌∙◌, subst, arith}
-use Rattle.std.proofs.lemmas.Bool.{and_parts}
+use Rattle.std.proofs.Common.{◌∙◌, subst, inl, inr, arith, slice_index}
+use Rattle.std.proofs.lemmas.Bool.{and_parts, cases_lt}
 use Rattle.std.proofs.lemmas.Bool.Decides.{nat_tests}
-use Rattle.std.proofs.lemmas.Option.{slice_get_past}
+use Rattle.std.proofs.lemmas.Option.{slice_get_past, slice_get-get_or}
 use Rattle.ucd_perl.specs.Perl.{is_word_byte}
 use Rattle.regex_hir.specs.Text as bytes
 use Rattle.regex_hir.specs.Looks as looks
 use Rattle.regex_hir.specs.Re.{look}
 use Rattle.regex_hir.specs.declared.look.Look.{Look}
-use Rattle.regex_hir.specs.declared.look.Look.TheVariants.{Start, End, StartLf, EndLf, WordAscii, WordAsciiNegate}
-use Rattle.regex_hir.proofs.TextLemmas.{byte_before-zero, byte_before-add-one}
+use Rattle.regex_hir.specs.declared.look.Look.TheVariants.{EndLf, WordAsciiNegate}
+use Rattle.regex_hir.proofs.TextLemmas.{byte_before-zero, byte_before-add-one, char_at_fits}
 use Rattle.sre_chars.specs.Tables.{Table, is_ascii_alphanumeric, is_scalar, is_in_ranges}
 use Rattle.sre_chars.specs.Categories.{is_word, is_unicode_word, is_linebreak}
 use Rattle.sre_chars.specs.declared.constants.SreAtCode.{SreAtCode}
@@ -20,23 +21,14 @@ use Rattle.sre_chars.specs.declared.constants.SreAtCode.TheVariants.{BOUNDARY, N
 use Rattle.sre_chars.specs.declared.constants.SreAtCode.TheVariants.{LOC_BOUNDARY, LOC_NON_BOUNDARY, UNI_BOUNDARY}
 use Rattle.sre_chars.specs.declared.constants.SreAtCode.TheVariants.{UNI_NON_BOUNDARY}
 use Rattle.sre_model.specs.Tree.{At}
-use Rattle.sre_model.specs.Subject.{Subject, char_at, before, after, holds_at, is_boundary, is_on_nothing}
+use Rattle.sre_model.specs.Subject.{Subject, char_at, after, holds_at, is_boundary, is_on_nothing}
 use Rattle.sre_model.specs.Subject.{bars_non_boundary}
-use Rattle.sre_patterns.specs.Covers.{View, CoversItem, InBytes}
+use Rattle.sre_patterns.specs.Covers.{View, CoversItem, InBytes, InUtf8}
 use Rattle.sre_patterns.specs.Looks.{look_of, exact_look, in_ascii}
 use Rattle.sre_patterns.proofs.Composed.{covers-position}
-
-same_word : (c : ℕ) → is_word_byte c ≡ is_word c
-same_word c = grind (arith, nat_tests)
-
-past_word : (b c : ℕ) → 128 ≤ b → 128 ≤ c → is_word_byte b ≡ is_word c
-past_word b c l k = no_byte ∙ sym no_char
-  where
-    no_byte : is_word_byte b ≡ false
-    no_byte = grind (arith, nat_tests)
-
-    no_char : is_word c ≡ false
-    no_char = grind (arith, nat_tests)
+use Rattle.std.proofs.lemmas.Str.{len_utf8_bounds}
+use Rattle.std.specs.Char.{len_utf8}
+use Rattle.regex_hir.proofs.Utf8Lemmas.{char_at_cases}
 
 -- a byte at an edge of a character: an ASCII character itself, and no ASCII byte else
 pub record Alike (b c : ℕ) : Type 0 where
@@ -64,120 +56,71 @@ bytes-sided bound s hay off v =
       );
     }
 
+-- what stands on one side of a position: nothing, where a test of the position fails, or else a byte like a character
+data Beside (c : ℕ) : Option ℕ → Bool → Type 0 where
+  nothing : Beside c None false
+  something : (b : ℕ) → Alike b c → Beside c (Some b) true
+
+-- tests agree on an ASCII character itself, and on each other one and the bytes at its edges
+abbrev Agree : (ℕ → Bool) → (ℕ → Bool) → Type 0
+Agree T U = ((c : ℕ) → c < 128 → T c ≡ U c) × ((b c : ℕ) → 128 ≤ b → 128 ≤ c → T b ≡ U c)
+
+line : Agree (λ b. b == 10) is_linebreak
+line = ((λ c l. refl), (λ b c k l. grind (arith, nat_tests)))
+
+word : Agree is_word_byte is_word
+word = ((λ c l. grind (arith, nat_tests)), (λ b c k l. grind (arith, nat_tests)))
+
+tested : {c : ℕ} {o : Option ℕ} {x : Bool} (T U : ℕ → Bool) → Agree T U → Beside c o x
+    → bytes.is_some_and o T ≡ (x && U c)
+tested T U g nothing = refl
+tested {c = c} T U g (something b a) = elim (cases_lt c 128) [
+  | (inl low) ↦ ap T (a.ascii low) ∙ g.0 c low
+  | (inr high) ↦ g.1 b c (a.other high) high
+]
+
+edge : {c : ℕ} {o : Option ℕ} {x : Bool} → Beside c o x → not (is_some o) ≡ not x
+edge nothing = refl
+edge (something b a) = refl
+
 module _ (s : Subject) (hay : List ℕ) (off : ℕ → ℕ) (v : Sided s hay off) where
-  -- the tests agree on each character of the window and the bytes at its edges
-  abbrev Agree : (ℕ → Bool) → (ℕ → Bool) → Type 0
-  Agree T U = (q b : ℕ) → q < s.end → Alike b (char_at s q) → T b ≡ U (char_at s q)
-
-  before-same : (T U : ℕ → Bool) → Agree T U → (p : ℕ) → p ≤ s.end
-      → bytes.is_some_and (bytes.byte_before hay (off p)) T ≡ before s U p
-  before-same T U g zero l =
-      ap (λ o. bytes.is_some_and o T) (ap (bytes.byte_before hay) v.starts ∙ byte_before-zero hay)
-  before-same T U g (suc q) l =
+  before-beside : (p : ℕ) → p ≤ s.end → Beside (char_at s (p - 1)) (bytes.byte_before hay (off p)) (nat_lt 0 p)
+  before-beside zero l = rw (v.starts, byte_before-zero hay) nothing
+  before-beside (suc q) l =
       let x = v.last q (omega arith) in
-      let one : q + 1 ≡ suc q = omega arith in
-      let back : suc q - 1 ≡ q = omega arith in
-      let past : nat_lt 0 (suc q) ≡ true = grind (arith, nat_tests) in
-      ap (λ n. bytes.is_some_and (bytes.byte_before hay (off n)) T) (sym one)
-      ∙ ap (λ o. bytes.is_some_and o T) x.1
-      ∙ g q x.0 (omega arith) x.2
-      ∙ sym (ap₂ (λ y n. y && U (char_at s n)) past back)
+      let one : suc q ≡ q + 1 = omega arith in
+      let back : q + 1 - 1 ≡ q = omega arith in
+      let past : nat_lt 0 (q + 1) ≡ true = grind (arith, nat_tests) in
+      rw one (rw (x.1, past, back) (something x.0 x.2))
 
-  after-same : (T U : ℕ → Bool) → Agree T U → (p : ℕ) → p ≤ s.end
-      → bytes.is_some_and (slice_get hay (off p)) T ≡ after s U p
-  after-same T U g p l = by_test (nat_lt p s.end) refl
+  after-beside : (p : ℕ) → p ≤ s.end → Beside (char_at s p) (slice_get hay (off p)) (nat_lt p s.end)
+  after-beside p l = by_test (nat_lt p s.end) refl
     where
-      by_test : (y : Bool) → nat_lt p s.end ≡ y → bytes.is_some_and (slice_get hay (off p)) T ≡ (y && U (char_at s p))
-      by_test true e =
-          let inside : p < s.end = grind (arith, nat_tests) in
-          let x = v.first p inside in
-          ap (λ o. bytes.is_some_and o T) x.1 ∙ g p x.0 inside x.2
+      by_test : (y : Bool) → nat_lt p s.end ≡ y → Beside (char_at s p) (slice_get hay (off p)) y
+      by_test true e = let x = v.first p (grind (arith, nat_tests)) in rw x.1 (something x.0 x.2)
       by_test false e =
           let at : p ≡ s.end = grind (arith, nat_tests) in
-          ap (λ o. bytes.is_some_and o T) (slice_get_past hay (off p) (omega (arith, ap off at, v.ends)))
+          rw (slice_get_past hay (off p) (omega (arith, ap off at, v.ends))) nothing
 
-  starts-same : (p : ℕ) → p ≤ s.end → not (is_some (bytes.byte_before hay (off p))) ≡ nat_eq p 0
-  starts-same zero l = ap (λ o. not (is_some o)) (ap (bytes.byte_before hay) v.starts ∙ byte_before-zero hay)
-  starts-same (suc q) l =
-      let x = v.last q (omega arith) in
-      let one : q + 1 ≡ suc q = omega arith in
-      let past : nat_eq (suc q) 0 ≡ false = grind (arith, nat_tests) in
-      ap (λ n. not (is_some (bytes.byte_before hay (off n)))) (sym one) ∙ ap (λ o. not (is_some o)) x.1 ∙ sym past
+  -- the tests of both sides of a position
+  starts : (p : ℕ) → p ≤ s.end → not (is_some (bytes.byte_before hay (off p))) ≡ nat_eq p 0
+  starts p l = let same : not (nat_lt 0 p) ≡ nat_eq p 0 = grind (arith, nat_tests) in edge (before-beside p l) ∙ same
 
-  ends-same : (p : ℕ) → p ≤ s.end → not (is_some (slice_get hay (off p))) ≡ nat_eq p s.end
-  ends-same p l = by_test (nat_eq p s.end) refl
-    where
-      by_test : (y : Bool) → nat_eq p s.end ≡ y → not (is_some (slice_get hay (off p))) ≡ y
-      by_test true e =
-          let at : p ≡ s.end = grind (arith, nat_tests) in
-          ap (λ o. not (is_some o)) (slice_get_past hay (off p) (omega (arith, ap off at, v.ends)))
-      by_test false e =
-          let inside : p < s.end = grind (arith, nat_tests) in
-          ap (λ o. not (is_some o)) (v.first p inside).1
+  ends : (p : ℕ) → p ≤ s.end → not (is_some (slice_get hay (off p))) ≡ nat_eq p s.end
+  ends p l =
+      let same : not (nat_lt p s.end) ≡ nat_eq p s.end = grind (arith, nat_tests) in edge (after-beside p l) ∙ same
 
-  line-agrees : Agree (λ b. b == 10) is_linebreak
-  line-agrees q b l a = by_size (nat_lt (char_at s q) 128) refl
-    where
-      by_size : (y : Bool) → nat_lt (char_at s q) 128 ≡ y → (b == 10) ≡ (char_at s q == 10)
-      by_size true e = ap (λ n. n == 10) (a.ascii (grind (arith, nat_tests)))
-      by_size false e = let big : 128 ≤ b = a.other (grind (arith, nat_tests)) in grind (arith, nat_tests)
-
-  word-agrees : Agree is_word_byte is_word
-  word-agrees q b l a = by_size (nat_lt (char_at s q) 128) refl
-    where
-      by_size : (y : Bool) → nat_lt (char_at s q) 128 ≡ y → is_word_byte b ≡ is_word (char_at s q)
-      by_size true e =
-          let same : b ≡ char_at s q = a.ascii (grind (arith, nat_tests)) in
-          ap is_word_byte same ∙ same_word (char_at s q)
-      by_size false e =
-          let big : 128 ≤ b = a.other (grind (arith, nat_tests)) in
-          past_word b (char_at s q) big (grind (arith, nat_tests))
-
-  -- conditions that are assertions
-  start-holds : (p : ℕ) → p ≤ s.end → looks.holds Start hay (off p) ≡ nat_eq p 0
-  unfolding looks.holds looks.holds_between
-  start-holds p l = starts-same p l
-
-  end-holds : (p : ℕ) → p ≤ s.end → looks.holds End hay (off p) ≡ nat_eq p s.end
-  unfolding looks.holds looks.holds_between
-  end-holds p l = ends-same p l
-
-  start_line-holds : (p : ℕ) → p ≤ s.end
-      → looks.holds StartLf hay (off p) ≡ (nat_eq p 0 || before s is_linebreak p)
-  unfolding looks.holds looks.holds_between
-  start_line-holds p l = ap₂ (λ x y. x || y) (starts-same p l) (before-same (λ b. b == 10) is_linebreak line-agrees p l)
-
-  end_line-holds : (p : ℕ) → p ≤ s.end
-      → looks.holds EndLf hay (off p) ≡ (nat_eq p s.end || after s is_linebreak p)
-  unfolding looks.holds looks.holds_between
-  end_line-holds p l = ap₂ (λ x y. x || y) (ends-same p l) (after-same (λ b. b == 10) is_linebreak line-agrees p l)
-
-  word-holds : (word : ℕ → Bool) → Agree is_word_byte word → (p : ℕ) → p ≤ s.end
-      → looks.holds WordAscii hay (off p) ≡ is_boundary s word p
-  unfolding looks.holds looks.holds_between
-  word-holds word g p l =
-      ap₂ (λ x y. cond x (not y) y) (before-same is_word_byte word g p l) (after-same is_word_byte word g p l)
-
-  no_word-holds : (word : ℕ → Bool) → Agree is_word_byte word → (p : ℕ) → p ≤ s.end
-      → looks.holds WordAsciiNegate hay (off p) ≡ not (is_boundary s word p)
-  unfolding looks.holds looks.holds_between
-  no_word-holds word g p l =
-      ap₂ (λ x y. not (cond x (not y) y)) (before-same is_word_byte word g p l) (after-same is_word_byte word g p l)
+  boundary : (p : ℕ) → p ≤ s.end
+      → cond (bytes.is_some_and (bytes.byte_before hay (off p)) is_word_byte)
+      (not (bytes.is_some_and (slice_get hay (off p)) is_word_byte))
+      (bytes.is_some_and (slice_get hay (off p)) is_word_byte) ≡ is_boundary s is_word p
+  boundary p l =
+      ap₂ (λ x y. cond x (not y) y) (tested is_word_byte is_word word (before-beside p l))
+      (tested is_word_byte is_word word (after-beside p l))
 
   -- on nothing no boundary is anyway
-  boundary-holds : (p : ℕ) → p ≤ s.end → looks.holds WordAscii hay (off p) ≡ holds_at s BOUNDARY p
-  boundary-holds p l = word-holds is_word word-agrees p l ∙ by_place (is_on_nothing s p) refl
-    where
-      by_place : (y : Bool) → is_on_nothing s p ≡ y
-          → is_boundary s is_word p ≡ (not y && is_boundary s is_word p)
-      by_place false e = refl
-      by_place true e =
-          let both = and_parts (nat_eq p 0) (nat_eq s.end 0) e in
-          let front : nat_lt 0 p ≡ false = grind (arith, nat_tests, both) in
-          let back : nat_lt p s.end ≡ false = grind (arith, nat_tests, both) in
-          ap₂
-          (λ x y. cond (x && is_word (char_at s (p - 1))) (not (y && is_word (char_at s p)))
-          (y && is_word (char_at s p))) front back
+  some-boundary : (T : ℕ → Bool) (p : ℕ) → is_boundary s T p ≡ (not (is_on_nothing s p) && is_boundary s T p)
+  some-boundary T p = grind (arith, nat_tests)
 
   -- an assertion, if there is one, that holds just where a position does
   abbrev Agrees : SreAtCode → Option Look → Type 0
@@ -185,13 +128,16 @@ module _ (s : Subject) (hay : List ℕ) (off : ℕ → ℕ) (v : Sided s hay off
   Agrees a (Some l) = (p : ℕ) → p ≤ s.end → looks.holds l hay (off p) ≡ holds_at s a p
 
   agrees : (a : SreAtCode) → Agrees a (exact_look a)
-  agrees BEGINNING = start-holds
-  agrees BEGINNING_LINE = start_line-holds
-  agrees BEGINNING_STRING = start-holds
-  agrees BOUNDARY = boundary-holds
-  agrees END_LINE = end_line-holds
-  agrees END_STRING = end-holds
-  agrees LOC_BOUNDARY = boundary-holds
+  unfolding looks.holds looks.holds_between
+  agrees BEGINNING = starts
+  agrees BEGINNING_LINE =
+      λ p l. ap₂ (λ x y. x || y) (starts p l) (tested (λ b. b == 10) is_linebreak line (before-beside p l))
+  agrees BEGINNING_STRING = starts
+  agrees BOUNDARY = λ p l. boundary p l ∙ some-boundary is_word p
+  agrees END_LINE =
+      λ p l. ap₂ (λ x y. x || y) (ends p l) (tested (λ b. b == 10) is_linebreak line (after-beside p l))
+  agrees END_STRING = ends
+  agrees LOC_BOUNDARY = λ p l. boundary p l ∙ some-boundary is_word p
   agrees a = tt
 
   pub look-agrees : (a : SreAtCode) (l : Look) → exact_look a ≡ Some l → Agrees a (Some l)
@@ -203,16 +149,12 @@ module _ (s : Subject) (hay : List ℕ) (off : ℕ → ℕ) (v : Sided s hay off
   Implies a (Some l) = (p : ℕ) → p ≤ s.end → holds_at s a p ≡ true → looks.holds l hay (off p) ≡ true
 
   end : Implies END (Some EndLf)
-  end p l h = end_line-holds p l ∙ weaker (nat_eq p s.end) (nat_eq (p + 1) s.end) (after s is_linebreak p) h
-    where
-      weaker : (x y z : Bool) → (x || (y && z)) ≡ true → (x || z) ≡ true
-      weaker true y z e = refl
-      weaker false y z e = (and_parts y z e).1
+  end p l h = agrees END_LINE p l ∙ grind (arith, nat_tests)
 
   non_boundary : Implies NON_BOUNDARY (Some WordAsciiNegate)
+  unfolding looks.holds looks.holds_between
   non_boundary p l h =
-      no_word-holds is_word word-agrees p l
-      ∙ (and_parts (not (bars_non_boundary s p)) (not (is_boundary s is_word p)) h).1
+      ap not (boundary p l) ∙ (and_parts (not (bars_non_boundary s p)) (not (is_boundary s is_word p)) h).1
 
   implies : (a : SreAtCode) → Implies a (look_of a)
   implies END = end
@@ -248,22 +190,77 @@ module _ (s : Subject) (hay : List ℕ) (off : ℕ → ℕ) (v : InBytes 128 s h
       ap (λ y. char_at s p == 95 || cond y (is_ascii_alphanumeric (char_at s p))
       (is_scalar (char_at s p) && is_in_ranges s.table.alnum (char_at s p))) (sym small)
 
-  ascii-before : (p : ℕ) → p ≤ s.end → before s is_word p ≡ before s (is_unicode_word s.table) p
-  ascii-before zero l = refl
-  ascii-before (suc q) l = ap (λ y. nat_lt 0 (suc q) && y) (ascii-word (suc q - 1) (omega arith))
-
-  ascii-after : (p : ℕ) → after s is_word p ≡ after s (is_unicode_word s.table) p
-  ascii-after p = by_test (nat_lt p s.end) refl
-    where
-      by_test : (y : Bool) → nat_lt p s.end ≡ y
-          → (y && is_word (char_at s p)) ≡ (y && is_unicode_word s.table (char_at s p))
-      by_test true e = ascii-word p (grind (arith, nat_tests))
-      by_test false e = refl
+  same-boundary : (T U : ℕ → Bool) → ((p : ℕ) → p < s.end → T (char_at s p) ≡ U (char_at s p)) → (p : ℕ)
+      → p ≤ s.end → is_boundary s T p ≡ is_boundary s U p
+  same-boundary T U same p l =
+      let here : p < s.end → T (char_at s p) ≡ U (char_at s p) = same p in
+      let back : 0 < p → T (char_at s (p - 1)) ≡ U (char_at s (p - 1)) = λ k. same (p - 1) (omega arith) in
+      grind (arith, nat_tests)
 
   ascii-boundary : (p : ℕ) → p ≤ s.end → is_boundary s is_word p ≡ is_boundary s (is_unicode_word s.table) p
-  ascii-boundary p l = ap₂ (λ x y. cond x (not y) y) (ascii-before p l) (ascii-after p)
+  ascii-boundary = same-boundary is_word (is_unicode_word s.table) ascii-word
 
   pub ascii-alike : (a : SreAtCode) → HoldAlike s (in_ascii a) a
   ascii-alike UNI_BOUNDARY p l = ap (λ y. not (is_on_nothing s p) && y) (ascii-boundary p l)
   ascii-alike UNI_NON_BOUNDARY p l = ap (λ y. not (bars_non_boundary s p) && not y) (ascii-boundary p l)
   ascii-alike a p l = refl
+
+-- a byte inside a character
+abbrev pub IsLater : ℕ → Type 0
+IsLater b = (128 ≤ b) × (b < 192)
+
+-- a character that stands at i is its own byte, or else its first byte is none of those inside a character
+pub record CharBytes (hay : List ℕ) (i c : ℕ) : Type 0 where
+  pub one : c < 128 → (len_utf8 c ≡ 1) × (slice_index hay i ≡ c)
+  pub first : 128 ≤ c → 192 ≤ slice_index hay i
+  pub later : (k : ℕ) → i < k → k < i + len_utf8 c → IsLater (slice_index hay k)
+
+pub char-bytes : (hay : List ℕ) (i c : ℕ) → bytes.char_at hay i ≡ Some c → CharBytes hay i c
+char-bytes hay i c found =
+    let cases = (char_at_cases hay i c found).1 in
+    record {
+      one = λ l. grind (arith, nat_tests);
+      first = λ l. grind (arith, nat_tests);
+      later = λ k after before.
+          let second : k ≡ i + 1 → slice_index hay k ≡ slice_index hay (i + 1) = λ e. ap (slice_index hay) e in
+          let third : k ≡ i + 2 → slice_index hay k ≡ slice_index hay (i + 2) = λ e. ap (slice_index hay) e in
+          let fourth : k ≡ i + 3 → slice_index hay k ≡ slice_index hay (i + 3) = λ e. ap (slice_index hay) e in
+          grind (arith, nat_tests);
+    }
+
+pub utf8-sided : (s : Subject) (hay : List ℕ) (off : ℕ → ℕ) → InUtf8 s hay off → Sided s hay off
+utf8-sided s hay off v = record {
+  starts = v.starts;
+  ends = v.ends;
+  first = λ p inside. edge p inside (off p) (omega arith) (omega (arith, len_utf8_bounds (char_at s p)));
+  last = λ p inside.
+      let n = len_utf8 (char_at s p) in
+      let some : 1 ≤ n = omega (arith, len_utf8_bounds (char_at s p)) in
+      let back : off p + n ≡ off p + n - 1 + 1 = omega arith in
+      let x = edge p inside (off p + n - 1) (omega arith) (omega arith) in (
+        x.0,
+        ap (bytes.byte_before hay) (v.next p inside ∙ back) ∙ byte_before-add-one hay (off p + n - 1) ∙ x.1,
+        x.2,
+      );
+}
+  where
+    -- each byte of a character is like it
+    edge : (p : ℕ) → p < s.end → (k : ℕ) → off p ≤ k → k < off p + len_utf8 (char_at s p)
+        → (b : ℕ) × (slice_get hay k ≡ Some b) × Alike b (char_at s p)
+    edge p inside k from to =
+        let found = v.char p inside in
+        let all = char-bytes hay (off p) (char_at s p) found in (
+          slice_index hay k,
+          slice_get-get_or hay k 0 (omega (arith, to, char_at_fits hay (off p) (char_at s p) found)),
+          record {
+            ascii = λ l.
+                let at : k ≡ off p = omega (arith, from, to, all.one l) in
+                ap (slice_index hay) at ∙ (all.one l).1;
+            other = λ l. elim (cases_lt (off p) k) [
+              | (inl after) ↦ (all.later k after to).0
+              | (inr at) ↦
+                  let same : k ≡ off p = omega (arith, from, at) in
+                  omega (arith, all.first l, ap (slice_index hay) same)
+            ];
+          },
+        )

@@ -1,6 +1,6 @@
 -- A search for a pattern that tries a tree's match paths in order, each of which reads a byte, finds what the tree's
 -- semantics finds: over bytes, and over UTF-8, where its matches begin at characters.
-use Rattle.std.proofs.Common.{◌≡◌, ℕ, ◌≤◌, ◌<◌, Bool, true, false, not, ◌||◌, cond, nat_eq, List, [], ◌∷◌, length}
+use Rattle.std.proofs.Common.{◌≡◌, ℕ, ◌≤◌, ◌<◌, true, false, cond, List, [], ◌∷◌, length}
 use Rattle.std.proofs.Common.{Some, None, refl, sym, ap, ◌∙◌, ⊎_elim, inl, inr, arith}
 use Rattle.std.specs.List.{AllByRecursion}
 use Rattle.std.proofs.lemmas.Bool.{cases_lt}
@@ -20,11 +20,7 @@ use Rattle.sre_model.proofs.FoundLaws.{least-found, none-found}
 use Rattle.sre_patterns.specs.Covers.{View}
 use Rattle.sre_patterns.specs.Exact.{ExactTree, IsPlace, Rises}
 use Rattle.sre_patterns.proofs.InOrder.{first_end, first-way}
-use Rattle.sre_patterns.proofs.ExactLeads.{exact-moves}
-
-either-way : (b : Bool) → (not b || true) ≡ true
-either-way true = refl
-either-way false = refl
+use Rattle.sre_patterns.proofs.InOrder.{exact-moves}
 
 -- the match that is found goes from where a match of bytes starts to where that ends, as positions stand at bytes
 pub record FoundAt (a : Asked) (t : Tree) (off : ℕ → ℕ) (f : bytes.Match) : Type 0 where
@@ -42,11 +38,10 @@ module _ (V : View) (rises : Rises V) (a : Asked) (hay : List ℕ) (off : ℕ �
     (reads : IsMinLen re 1) (all : a.match_all ≡ false) where
   -- positions in order stand at bytes in order
   grows : (p q : ℕ) → p ≤ q → q ≤ a.end → off p ≤ off q
-  grows p q l h = elim (cases_lt p q) [
-    | (inl less) ↦ omega (arith, rises (subject_of a) hay off v p q less h)
-    | (inr more) ↦
-        let same : p ≡ q = omega (arith, l, more) in omega (arith, ap off same)
-  ]
+  grows p q l h =
+      let less : p < q → off p < off q = λ k. rises (subject_of a) hay off v p q k h in
+      let same : p ≡ q → off p ≡ off q = λ e. ap off e in
+      grind arith
 
   -- a match of the pattern from a position is the first way's end, and there is none where there is no way
   first-ends : (p : ℕ) → p ≤ a.end
@@ -55,9 +50,7 @@ module _ (V : View) (rises : Rises V) (a : Asked) (hay : List ℕ) (off : ℕ �
       first-way (subject_of a) hay off re (ways (subject_of a) t) (x.tries (subject_of a) hay off v refl) p no_marks l
 
   accepted : (p : ℕ) → a.start ≤ p → (w : Way) → p < w.stop → is_accepted a w ≡ true
-  accepted p from w on =
-      let apart : nat_eq w.stop a.start ≡ false = grind (arith, nat_tests) in
-      rw (all, apart) (either-way a.must_advance)
+  accepted p from w on = grind (arith, nat_tests)
 
   moving : (p : ℕ) → p ≤ a.end → AllByRecursion (λ w. p < w.stop) (ways (subject_of a) t p no_marks)
   moving p l =

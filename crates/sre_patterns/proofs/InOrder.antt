@@ -1,37 +1,27 @@
--- An exact pattern tries the match paths of its tree in their order, so its first match is their first.
-use Rattle.std.proofs.Common.{◌≡◌, ℕ, zero, suc, ◌+◌, ◌-◌, ◌<◌, ◌≤◌, Bool, true, false, cond, ◌&&◌, ◌||◌, not, nat_lt}
-use Rattle.std.proofs.Common.{nat_eq, List, [], ◌∷◌, ◌++◌, length, Option, Some, None, refl, sym, ap, ap₂, ◌∙◌, arith}
-use Rattle.std.proofs.Common.{slice_get, option_and_then}
-use Rattle.std.specs.Char.{len_utf8}
+-- An exact pattern tries the match paths of its tree in their order, so its first match is their first, and it has a
+-- match along each of them.
+use Rattle.std.proofs.Common.{◌≡◌, ℕ, zero, suc, ◌+◌, ◌-◌, ◌<◌, ◌≤◌, Bool, true, false, cond, ◌&&◌, ◌||◌, nat_lt}
+use Rattle.std.proofs.Common.{nat_eq, List, [], ◌∷◌, ◌++◌, Option, Some, None, refl, sym, ap, ap₂, ◌∙◌, arith, subst}
 use Rattle.std.specs.List.{flat_map, AllByRecursion}
 use Rattle.std.specs.Option.{option_or}
 use Rattle.std.proofs.lemmas.Bool.{cond-true}
 use Rattle.std.proofs.lemmas.Bool.Decides.{nat_tests}
-use Rattle.std.proofs.lemmas.Option.{slice_get_past}
-use Rattle.regex_class.specs.Ranges.{in_ranges}
-use Rattle.regex_hir.specs.Re.{Re, cat, plus, Trace, Rest, accept, prefer, more_rounds, attempt, byte_in}
-use Rattle.regex_hir.specs.Re.{char_in}
-use Rattle.regex_hir.specs.Text.{is_some_and}
-use Rattle.regex_hir.specs.Text as text
+use Rattle.regex_hir.specs.Re.{Re, cat, plus, Trace, Rest, accept, prefer, more_rounds, attempt}
 use Rattle.regex_hir.specs.Meaning.{optional, copies, up_to, at_least, repeat}
-use Rattle.regex_hir.proofs.OptionLemmas.{option_or-None}
-use Rattle.regex_hir.proofs.AttemptLemmas.{more_rounds_unfold}
-use Rattle.regex_hir.proofs.TextLemmas.{char_at_past}
+use Rattle.regex_hir.proofs.OptionLemmas.{option_or-None, option_or_assoc}
+use Rattle.regex_hir.proofs.AttemptLemmas.{more_rounds_unfold, attempt_sound, cond_some}
 use Rattle.sre_model.specs.Characters.{holds}
 use Rattle.sre_model.specs.Tree.{Order, Greedy, Lazy, One, Test}
 use Rattle.sre_model.specs.Marks.{Marks}
 use Rattle.sre_model.specs.Subject.{Subject, char_at}
 use Rattle.sre_model.specs.Ways.{Way, Body, here, unlimited, ordered, may_repeat, loop_ways, item_ways}
 use Rattle.sre_model.specs.Loops.{loop_from}
-use Rattle.sre_model.proofs.Each.{each-both}
+use Rattle.sre_model.proofs.Each.{each-both, each-weaken}
 use Rattle.sre_model.proofs.Bounds.{Between, Bounded}
 use Rattle.sre_model.proofs.LoopCases.{alone, loop-below-all, loop-beyond-all, loop-ways}
 use Rattle.sre_patterns.specs.Exact as exact
 use Rattle.sre_patterns.specs.Repeated.{is_greedy}
-
-or-assoc : {A : Type 0} (a b c : Option A) → option_or (option_or a b) c ≡ option_or a (option_or b c)
-or-assoc None b c = refl
-or-assoc (Some x) b c = refl
+use Rattle.regex_hir.specs.Matches.{Matches, IsMinLen}
 
 -- the last body began before here
 abbrev pub Passed : Option ℕ → ℕ → Type 0
@@ -42,14 +32,7 @@ Passed (Some q) p = q < p
 pub repeats : (high count : ℕ) (last : Option ℕ) (p : ℕ) → Passed last p
     → may_repeat high count last p ≡ (nat_eq high unlimited || nat_lt count high)
 repeats high count None p l = refl
-repeats high count (Some q) p l =
-    let other : nat_eq q p ≡ false = grind (arith, nat_tests) in
-    ap (λ y. (nat_eq high unlimited || nat_lt count high) && not y) other
-    ∙ and-true (nat_eq high unlimited || nat_lt count high)
-  where
-    and-true : (y : Bool) → (y && true) ≡ y
-    and-true true = refl
-    and-true false = refl
+repeats high count (Some q) p l = grind (arith, nat_tests)
 
 module _ (s : Subject) (hay : List ℕ) (off : ℕ → ℕ) where
   abbrev tried : Rest → List Way → Option Trace
@@ -63,7 +46,7 @@ module _ (s : Subject) (hay : List ℕ) (off : ℕ → ℕ) where
   tried-append k [] ys = refl
   tried-append k (x ∷ xs) ys =
       ap (option_or (k (off x.stop))) (tried-append k xs ys)
-      ∙ sym (or-assoc (k (off x.stop)) (tried k xs) (tried k ys))
+      ∙ sym (option_or_assoc (k (off x.stop)) (tried k xs) (tried k ys))
 
   -- and from the ways that each of some ways gives
   pub tried-flat : (P : Way → Type 0) (j k : Rest) (f : Way → List Way) (ws : List Way) → AllByRecursion P ws
@@ -222,56 +205,25 @@ module _ (s : Subject) (hay : List ℕ) (off : ℕ → ℕ) where
             ∙ ap (tried k) (sym (loop-below-all s o low high body b c None q n i (omega arith)))
             ∙ ap (λ z. tried k (loop z None q n)) (sym there)) p m h
 
-  -- a test that passes just where what is tried does
-  pub tried-cond : (k : Rest) (q j : ℕ) (m : Marks) (x y : Bool) → x ≡ y → off q ≡ j
-      → cond x (k j) None ≡ tried k (cond y (here q m) [])
-  tried-cond k q j m x y e n = ap (λ b. cond b (k j) None) e ∙ by_test y
-    where
-      by_test : (b : Bool) → cond b (k j) None ≡ tried k (cond b (here q m) [])
-      by_test true = sym (tried-here k q m ∙ ap k n)
-      by_test false = refl
+  -- and from there if a test passes
+  pub tried-cond : (k : Rest) (q : ℕ) (m : Marks) (y : Bool)
+      → cond y (k (off q)) None ≡ tried k (cond y (here q m) [])
+  tried-cond k q m true = sym (tried-here k q m)
+  tried-cond k q m false = refl
 
-  -- a class that has the bytes that pass, and no others
-  pub one-exact : (rs : List (ℕ × ℕ)) (t : Test)
-      → ((p : ℕ) → p < s.end → (is_some_and (slice_get hay (off p)) (in_ranges rs) ≡ holds s.table t (char_at s p)))
-      → ((p : ℕ) → p < s.end → off (p + 1) ≡ off p + 1) → off s.end ≡ length hay
-      → Exact (byte_in rs) (item_ways s (One t))
-  unfolding attempt
-  one-exact rs t same next last k p m h = by_place (nat_lt p s.end) refl
+  -- a pattern that goes on behind each character that passes, and at the window's end does not
+  pub one-exact : (re : Re) (t : Test)
+      → ((k : Rest) (p : ℕ) → p < s.end
+      → attempt hay re k (off p) ≡ cond (holds s.table t (char_at s p)) (k (off (p + 1))) None)
+      → ((k : Rest) → attempt hay re k (off s.end) ≡ None) → Exact re (item_ways s (One t))
+  one-exact re t there past k p m h = by_place (nat_lt p s.end) refl
     where
       by_place : (y : Bool) → nat_lt p s.end ≡ y
-          → cond (is_some_and (slice_get hay (off p)) (in_ranges rs)) (k (off p + 1)) None
-          ≡ tried k (cond (y && holds s.table t (char_at s p)) (here (p + 1) m) [])
-      by_place false e =
-          let at : p ≡ s.end = grind (arith, nat_tests) in
-          ap (λ z. cond (is_some_and z (in_ranges rs)) (k (off p + 1)) None)
-          (slice_get_past hay (off p) (omega (arith, ap off at, last)))
+          → attempt hay re k (off p) ≡ tried k (cond (y && holds s.table t (char_at s p)) (here (p + 1) m) [])
       by_place true e =
-          let inside : p < s.end = grind (arith, nat_tests) in
-          tried-cond k (p + 1) (off p + 1) m (is_some_and (slice_get hay (off p)) (in_ranges rs))
-          (holds s.table t (char_at s p)) (same p inside) (next p inside)
-
-  -- a class that has the characters that pass, and no others
-  pub char-exact : (rs : List (ℕ × ℕ)) (t : Test)
-      → ((p : ℕ) → p < s.end → text.char_at hay (off p) ≡ Some (char_at s p))
-      → ((p : ℕ) → p < s.end → in_ranges rs (char_at s p) ≡ holds s.table t (char_at s p))
-      → ((p : ℕ) → p < s.end → off (p + 1) ≡ off p + len_utf8 (char_at s p)) → off s.end ≡ length hay
-      → Exact (char_in rs) (item_ways s (One t))
-  unfolding attempt
-  char-exact rs t there same next last k p m h = by_place (nat_lt p s.end) refl
-    where
-      by_place : (y : Bool) → nat_lt p s.end ≡ y
-          → option_and_then (λ c. cond (in_ranges rs c) (k (off p + len_utf8 c)) None) (text.char_at hay (off p))
-          ≡ tried k (cond (y && holds s.table t (char_at s p)) (here (p + 1) m) [])
+          there k p (grind (arith, nat_tests)) ∙ tried-cond k (p + 1) m (holds s.table t (char_at s p))
       by_place false e =
-          let at : p ≡ s.end = grind (arith, nat_tests) in
-          ap (option_and_then (λ c. cond (in_ranges rs c) (k (off p + len_utf8 c)) None))
-          (char_at_past hay (off p) (omega (arith, ap off at, last)))
-      by_place true e =
-          let inside : p < s.end = grind (arith, nat_tests) in
-          ap (option_and_then (λ c. cond (in_ranges rs c) (k (off p + len_utf8 c)) None)) (there p inside)
-          ∙ tried-cond k (p + 1) (off p + len_utf8 (char_at s p)) m (in_ranges rs (char_at s p))
-          (holds s.table t (char_at s p)) (same p inside) (next p inside)
+          let at : p ≡ s.end = grind (arith, nat_tests) in ap (λ q. attempt hay re k (off q)) at ∙ past k
 
   -- the end of the first of some ways
   abbrev pub first_end : List Way → Option Trace
@@ -286,3 +238,57 @@ module _ (s : Subject) (hay : List ℕ) (off : ℕ → ℕ) where
       its : (ws : List Way) → tried accept ws ≡ first_end ws
       its [] = refl
       its (w ∷ ws) = refl
+
+-- what follows goes on at one place alone
+only_at : ℕ → Rest
+only_at j i = cond (nat_eq i j) (Some (record { end = j; writes = [] })) None
+
+module _ (s : Subject) (hay : List ℕ) (off : ℕ → ℕ) (re : Re) (body : Body) (x : exact.Exact s hay off re body) where
+  -- some trace comes of what is tried
+  abbrev Comes : ℕ → List Way → Type 0
+  Comes j ws = (t : Trace) × (exact.tried off (only_at j) ws ≡ Some t)
+
+  comes-here : (w : Way) (ws : List Way) → Comes (off w.stop) (w ∷ ws)
+  unfolding only_at
+  comes-here w ws =
+      let t : Trace = record { end = off w.stop; writes = [] } in
+      let same : nat_eq (off w.stop) (off w.stop) ≡ true = grind (arith, nat_tests) in
+      (t, ap (λ b. option_or (cond b (Some t) None) (exact.tried off (only_at (off w.stop)) ws)) same)
+
+  comes-later : (j : ℕ) (w : Way) (ws : List Way) → Comes j ws → Comes j (w ∷ ws)
+  comes-later j w ws c = by_first (only_at j (off w.stop))
+    where
+      by_first : (o : Option Trace) → (t : Trace) × (option_or o (exact.tried off (only_at j) ws) ≡ Some t)
+      by_first None = c
+      by_first (Some t) = (t, refl)
+
+  -- where the pattern goes on to a place, it has a match up to there
+  comes-from : (p : ℕ) (m : Marks) (j : ℕ) → p ≤ s.end → Comes j (body p m) → Matches hay re (off p) j
+  unfolding only_at
+  comes-from p m j h c =
+      let e : attempt hay re (only_at j) (off p) ≡ Some c.0 = x (only_at j) p m h ∙ c.1 in
+      let k = attempt_sound hay re (only_at j) (off p) c.0 e in
+      let there = cond_some (nat_eq k.at j) (Some (record { end = j; writes = [] })) k.rest k.gave in
+      let same : k.at ≡ j = grind (arith, nat_tests, there.0) in
+      subst (λ i. Matches hay re (off p) i) same k.leads
+
+  each : (p : ℕ) (ws : List Way) → ((j : ℕ) → Comes j ws → Matches hay re (off p) j)
+      → AllByRecursion (λ w. Matches hay re (off p) (off w.stop)) ws
+  each p [] f = tt
+  each p (w ∷ ws) f = (f (off w.stop) (comes-here w ws), each p ws (λ j c. f j (comes-later j w ws c)))
+
+  pub exact-leads : (p : ℕ) (m : Marks) → p ≤ s.end
+      → AllByRecursion (λ w. Matches hay re (off p) (off w.stop)) (body p m)
+  exact-leads p m h = each p (body p m) (λ j c. comes-from p m j h c)
+
+  -- where each match reads a byte, each way moves on
+  pub exact-moves : IsMinLen re 1 → Bounded s body → (p : ℕ) (m : Marks) → p ≤ s.end
+      → AllByRecursion (λ w. p < w.stop) (body p m)
+  unfolding IsMinLen
+  exact-moves least b p m h =
+      each-weaken (λ w. Between s p w × Matches hay re (off p) (off w.stop)) (λ w. p < w.stop)
+      (λ w f. moves w f.0 (least hay (off p) (off w.stop) f.1)) (body p m)
+      (each-both (Between s p) (λ w. Matches hay re (off p) (off w.stop)) (body p m) (b p m h) (exact-leads p m h))
+    where
+      moves : (w : Way) → Between s p w → off p + 1 ≤ off w.stop → p < w.stop
+      moves w b l = let same : p ≡ w.stop → off p ≡ off w.stop = λ e. ap off e in grind arith

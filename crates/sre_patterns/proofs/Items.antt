@@ -1,26 +1,31 @@
 -- What is read at an address, by its opcode: the item has a property if all items of this form have it.
 use Rattle.std.proofs.Common.{◌≡◌, ℕ, ◌+◌, ◌-◌, ◌<◌, ◌≤◌, ◌⊎◌, List, length, refl, sym, ap, ◌∙◌, subst, inl, inr}
-use Rattle.std.proofs.Common.{arith, Option, Some, None}
+use Rattle.std.proofs.Common.{arith, ⊎_elim, Option, Some, None}
+use Rattle.std.proofs.lemmas.Bool.{cases_lt}
 use Rattle.sre_chars.specs.declared.constants.SreOpcode.{SreOpcode}
 use Rattle.sre_chars.specs.declared.constants.SreOpcode.TheVariants as opcode
-use Rattle.sre_chars.specs.declared.constants.SreAtCode.{SreAtCode}
-use Rattle.sre_chars.specs.Numbers.{at_number}
-use Rattle.sre_model.specs.Tree.{Tree, Item, Fail, One, At, Mark, Loop, Run, PossessiveLoop, Atomic, Look}
+use Rattle.sre_model.specs.Tree.{Tree, Item, One, Mark, Loop, Run, PossessiveLoop, Atomic, Look}
 use Rattle.sre_model.specs.Tree.{Reference, Test, Order, RunKind, Sign, Fold, GreedyRun, LazyRun, PossessiveRun}
 use Rattle.sre_model.specs.Tree.{Positive, Negative}
-use Rattle.sre_model.specs.Roles.{role, ToFail, ToCheckPosition, ToMark, ToRun, ToRepeat, ToRepeatPossessively}
-use Rattle.sre_model.specs.Roles.{ToGroupAtomically, ToLook, ToRefer}
-use Rattle.sre_model.specs.Grammar.{Word, skip, Opcode, item_opcode, until_opcode, Reads, ReadsItem, run_opcode}
+use Rattle.sre_model.specs.Roles.{role, ToMark, ToRun, ToRepeat, ToRepeatPossessively}
+use Rattle.sre_model.specs.Roles.{ToLook, ToRefer}
+use Rattle.sre_model.specs.Grammar.{Word, word, skip, Opcode, item_opcode, until_opcode, Reads, ReadsItem}
 use Rattle.sre_model.specs.Standing.{HasTest, TestStands}
-use Rattle.sre_model.proofs.Families.{run_role, role_here, test_here, is_fail, is_one, is_at, is_mark, is_loop, is_run}
-use Rattle.sre_model.proofs.Families.{is_possessive, is_atomic, is_look, is_reference}
-use Rattle.sre_model.proofs.Words.{same_word, same_at, opcode_within, word_within}
+use Rattle.sre_model.proofs.Families.{role_here, test_here, is_one, is_mark, is_loop, is_run}
+use Rattle.sre_model.proofs.Families.{is_possessive, is_look, is_reference}
+use Rattle.sre_model.proofs.Words.{same_word, opcode_within, word_within, word_past}
 use Rattle.sre_model.proofs.Places.{reads_within}
+use Rattle.sre_model.proofs.Unique.{item_same}
 use Rattle.sre_patterns.specs.Patterns.{AtItem, HasItem, HasItems, HasRun, HasAtomic, HasLoop}
 
 -- items whose end is known
 pub items-to : (ws : List ℕ) (i j e : ℕ) (t : Tree) → Reads ws i j t → j ≡ e → HasItems ws i e
 items-to ws i j e t r same = record { stop = j; tree = t; reads = r; stops = (omega arith, inl same) }
+
+-- a word that a sum needs is there
+pub word-needed : (ws : List ℕ) (q n : ℕ) → n < word ws q → q < length ws
+word-needed ws q n l =
+    ⊎_elim (λ there. there) (λ past. absurd (omega (arith, l, word_past ws q past))) (cases_lt q (length ws))
 
 -- a loop, which is possessive where it has no order, and how its body ends
 abbrev pub loop_of : Option Order → ℕ → ℕ → Tree → Item
@@ -112,22 +117,16 @@ has-run ws i h o w k is =
     record { end = h.end; kind = k; is = is; low = f.0; high = f.1; test = f.2; reads = f.4 }
 
 module _ (P : Item → Type 0) (ws : List ℕ) (i : ℕ) where
-  pub fails : Opcode ws i opcode.FAILURE → P Fail → AtItem ws i (i + 1) P
-  fails o p j x r =
-      let f = is_fail ws i j x (role_here ws i opcode.FAILURE ToFail o refl) r in
-      (sym f.1.1, subst P (sym f.0) p)
+  -- one reading is enough, since there is no other
+  pub at-item : (e end : ℕ) (x : Item) → e ≡ end → ReadsItem ws i end x → P x → AtItem ws i e P
+  at-item e end x ends r p j y q =
+      let same = item_same x y ws i end j r q in
+      (ends ∙ same.1, subst P same.0 p)
 
   pub marks : Opcode ws i opcode.MARK → ((n : ℕ) → P (Mark n)) → AtItem ws i (i + 2) P
   marks o p j x r =
       let f = is_mark ws i j x (role_here ws i opcode.MARK ToMark o refl) r in
       (sym f.2.1.1, subst P (sym f.1) (p f.0))
-
-  pub positions : (a : SreAtCode) → Opcode ws i opcode.AT → Word ws (i + 1) (at_number a) → P (At a)
-      → AtItem ws i (i + 2) P
-  positions a o w p j x r =
-      let f = is_at ws i j x (role_here ws i opcode.AT ToCheckPosition o refl) r in
-      let same : a ≡ f.0 = same_at ws (i + 1) a f.0 w f.2.1.0 in
-      (sym f.2.1.1, subst P (ap (λ z. At z) same ∙ sym f.1) p)
 
   -- where a test stands no other item does
   pub one_item : (e : ℕ) → HasTest ws i → ((j : ℕ) (t : Test) → TestStands ws i j t → e ≡ j)
@@ -151,35 +150,31 @@ module _ (P : Item → Type 0) (ws : List ℕ) (i : ℕ) where
 
   pub atomics : (h : HasAtomic ws i) (e : ℕ) → e ≡ skip ws (i + 1)
       → ((body : Tree) → Reads ws (i + 2) (e - 1) body → P (Atomic body)) → AtItem ws i e P
-  atomics h e ends p j x r =
-      let f = is_atomic ws i j x (role_here ws i opcode.ATOMIC_GROUP ToGroupAtomically h.reads.0 refl) r in
-      let o = f.2.1 in
-      let same : e ≡ j = ends ∙ sym o.0 in
-      (same, subst P (sym f.1) (p f.0 (subst (λ n. Reads ws (i + 2) (n - 1) f.0) (sym same) o.1)))
+  atomics h e ends p =
+      let o = h.reads.1 in
+      let same : e ≡ h.end = ends ∙ sym o.0 in
+      at-item e h.end (Atomic h.body) same h.reads
+      (p h.body (subst (λ n. Reads ws (i + 2) (n - 1) h.body) (sym same) o.1))
 
   module _ (low high : ℕ) (wl : Word ws (i + 2) low) (wh : Word ws (i + 3) high) where
     pub runs : (o : SreOpcode) (h : HasRun ws i o) (e : ℕ) → e ≡ skip ws (i + 1)
         → (low ≤ high → (n : ℕ) (t : Test) → TestStands ws (i + 4) n t → P (Run h.kind low high t)) → AtItem ws i e P
-    runs o h e ends p j x r =
-        let k = h.kind in
-        let f = is_run ws i j x (role_here ws i (run_opcode k) (ToRun k) h.reads.0 (run_role k)) r in
-        let o = f.4.1 in
-        let el : f.0 ≡ low = same_word ws (i + 2) f.0 low o.1 wl in
-        let eh : f.1 ≡ high = same_word ws (i + 3) f.1 high o.2 wh in
-        let stands : TestStands ws (i + 4) (j - 1) f.2 = record { code = o.4; operands = o.5 } in
-        let same : Run k low high f.2 ≡ x =
-        ap (λ n. Run k n high f.2) (sym el) ∙ ap (λ n. Run k f.0 n f.2) (sym eh) ∙ sym f.3 in
-        (ends ∙ sym o.0, subst P same (p (omega (arith, o.3, el, eh)) (j - 1) f.2 stands))
+    runs o h e ends p =
+        let r = h.reads.1 in
+        let el : low ≡ h.low = same_word ws (i + 2) low h.low wl r.1 in
+        let eh : high ≡ h.high = same_word ws (i + 3) high h.high wh r.2 in
+        let stands : TestStands ws (i + 4) (h.end - 1) h.test = record { code = r.4; operands = r.5 } in
+        at-item e h.end (Run h.kind h.low h.high h.test) (ends ∙ sym r.0) h.reads
+        (rw (← el, ← eh) (p (omega (arith, r.3, el, eh)) (h.end - 1) h.test stands))
 
     pub loops : (h : HasLoop ws i) (until e : ℕ) → until ≡ skip ws (i + 1) → e ≡ until + 1
         → (low ≤ high → (k : Option Order) (body : Tree) → Reads ws (i + 4) until body → Opcode ws until (end_of k)
         → P (loop_of k low high body)) → AtItem ws i e P
-    loops h until e at ends p j x r =
-        let f = loop-at ws i h j x r in
-        let el : f.1 ≡ low = same_word ws (i + 2) f.1 low f.5 wl in
-        let eh : f.2 ≡ high = same_word ws (i + 3) f.2 high f.6 wh in
-        let same : loop_of f.0 low high f.3 ≡ x =
-        ap (λ n. loop_of f.0 n high f.3) (sym el) ∙ ap (λ n. loop_of f.0 f.1 n f.3) (sym eh) ∙ sym f.4 in
+    loops h until e at ends p =
+        let f = loop-at ws i h h.end h.item h.reads in
+        let el : low ≡ f.1 = same_word ws (i + 2) low f.1 wl f.5 in
+        let eh : high ≡ f.2 = same_word ws (i + 3) high f.2 wh f.6 in
         let body = subst (λ n. Reads ws (i + 4) n f.3) (sym at) f.8 in
         let closed = subst (λ n. Opcode ws n (end_of f.0)) (sym at) f.9 in
-        (ends ∙ ap (λ n. n + 1) at ∙ sym f.10, subst P same (p (omega (arith, f.7, el, eh)) f.0 f.3 body closed))
+        at-item e h.end h.item (ends ∙ ap (λ n. n + 1) at ∙ sym f.10) h.reads
+        (rw (f.4, ← el, ← eh) (p (omega (arith, f.7, el, eh)) f.0 f.3 body closed))

@@ -1,7 +1,9 @@
 -- Concatenation and alternation of patterns.
-use Rattle.std.proofs.Common.{◌≡◌, ℕ, List, [], ◌∷◌, ◌++◌, refl, sym, ap, subst, inl}
+use Rattle.std.proofs.Common.{◌≡◌, ℕ, List, [], ◌∷◌, ◌++◌, map, refl, sym, ap, ◌∙◌, subst}
+use Rattle.std.proofs.lemmas.List.{map-append}
 use Rattle.regex_hir.specs.Re.{Re, empty, cat, alt, byte_in, literal}
-use Rattle.regex_hir.specs.Meaning.{cat_all, alt_all}
+use Rattle.regex_hir.specs.Meaning.{cat_all, alt_all, meaning}
+use Rattle.regex_hir.specs.declared.hir.Hir.{Hir}
 use Rattle.regex_hir.specs.Matches.{Matches}
 use Rattle.sre_patterns.proofs.OverUtf8.{literals-joined}
 use Rattle.sre_patterns.specs.Covers.{IsWider}
@@ -36,20 +38,16 @@ pub alt-all : (all : List Re) → alt_onto all (byte_in []) ≡ alt_all all
 alt-all [] = refl
 alt-all (x ∷ xs) = ap (λ z. alt x z) (alt-all xs)
 
-pub alt-first : (a b : Re) → IsWider a (alt a b)
-alt-first a b hay i j m = inl m
-
 -- a literal behind a literal
-pub literals-join : (all : List Re) (before bytes : List ℕ) (b : Re)
-    → IsWider (cat_onto (all ++ literal before ∷ []) (cat (literal bytes) b))
-    (cat_onto (all ++ literal (before ++ bytes) ∷ []) b)
-literals-join all before bytes b hay i j m =
-    let apart = cat (literal before) (cat (literal bytes) b) in
-    let one = literal (before ++ bytes) in
-    wider-same (cat_onto all (cat one b)) (cat_onto (all ++ one ∷ []) b) (sym (cat-last all one b)) hay i j
-    (cat-wider all apart (cat one b) together hay i j
-    (wider-same (cat_onto (all ++ literal before ∷ []) (cat (literal bytes) b)) (cat_onto all apart)
-    (cat-last all (literal before) (cat (literal bytes) b)) hay i j m))
-  where
-    together : IsWider (cat (literal before) (cat (literal bytes) b)) (cat (literal (before ++ bytes)) b)
-    together hay i j m = (m.2.0, literals-joined before bytes hay i m.2.0 (m.0, m.1, m.2.1), m.2.2)
+pub literals-join : (before bytes : List ℕ) (b : Re)
+    → IsWider (cat (literal before) (cat (literal bytes) b)) (cat (literal (before ++ bytes)) b)
+literals-join before bytes b hay i j m =
+    (m.2.0, literals-joined before bytes hay i m.2.0 (m.0, m.1, m.2.1), m.2.2)
+
+-- what a sequence means that has one more pattern
+pub pushed : (before after : List Hir) (hir : Hir) → after ≡ before ++ hir ∷ [] → (b : Re)
+    → cat_onto (map meaning before) (cat (meaning hir) b) ≡ cat_onto (map meaning after) b
+pushed before after hir same b =
+    sym (ap (λ hirs. cat_onto (map meaning hirs) b) same
+    ∙ ap (λ all. cat_onto all b) (map-append meaning before (hir ∷ []))
+    ∙ cat-last (map meaning before) (meaning hir) b)

@@ -1,6 +1,6 @@
 -- Texts of bytes are seen as their bytes, and a class has each byte that passes.
 use Rattle.std.proofs.Common.{◌≡◌, ℕ, zero, suc, ◌+◌, ◌<◌, ◌≤◌, true, List}
-use Rattle.std.proofs.Common.{length, take, Some, refl, sym, ap, ◌∙◌, subst, arith}
+use Rattle.std.proofs.Common.{length, take, Some, refl, sym, ap, ◌∙◌, arith}
 use Rattle.std.proofs.lemmas.Option.{slice_get-get_or}
 use Rattle.std.proofs.lemmas.List.{get_or-take, length-take-le}
 use Rattle.regex_class.specs.Ranges.{in_ranges}
@@ -10,6 +10,7 @@ use Rattle.sre_model.specs.Tree.{Test}
 use Rattle.sre_model.specs.Characters.{holds}
 use Rattle.sre_model.specs.Subject.{Subject, char_at}
 use Rattle.sre_patterns.specs.Covers.{InBytes, CoversTest, place, read_bytes}
+use Rattle.sre_patterns.proofs.Composed.{covers-one}
 
 -- a text of bytes up to the window's end
 pub bytes-seen : (bound : ℕ) (s : Subject) → s.end ≤ length s.text → ((p : ℕ) → p < s.end → char_at s p < bound)
@@ -38,11 +39,10 @@ bytes-places bound s hay off v (suc p) inside =
 pub bytes-take : (bound : ℕ) (table : Table) (ranges : List (ℕ × ℕ)) (t : Test)
     → ((c : ℕ) → c < bound → holds table t c ≡ true → in_ranges ranges c ≡ true)
     → CoversTest (InBytes bound) table (byte_in ranges) t
-bytes-take bound table ranges t each = record {
-  takes = λ s hay off v same p inside h. (
-    char_at s p,
-    v.byte p inside,
-    each (char_at s p) (v.below p inside) (subst (λ x. holds x t (char_at s p) ≡ true) same h),
-    v.next p inside,
-  );
-}
+bytes-take bound table ranges t each =
+    covers-one (InBytes bound) table (byte_in ranges) t (λ s hay off v p inside h. (
+      char_at s p,
+      v.byte p inside,
+      each (char_at s p) (v.below p inside) h,
+      v.next p inside,
+    ))

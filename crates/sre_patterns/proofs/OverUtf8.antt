@@ -1,11 +1,12 @@
 -- Texts of UTF-8 are seen as their bytes, in which each character is whole.
-use Rattle.std.proofs.Common.{◌≡◌, ℕ, zero, suc, ◌+◌, ◌<◌, ◌≤◌, true, refl, ap, sym, ◌∙◌, subst, arith, List, [], ◌∷◌}
+use Rattle.std.proofs.Common.{◌≡◌, ℕ, zero, suc, ◌+◌, ◌<◌, ◌≤◌, true, refl, ap, sym, ◌∙◌, arith, List, [], ◌∷◌}
 use Rattle.std.proofs.Common.{◌++◌, length, take, drop, get_or, Some, length-append}
 use Rattle.std.proofs.Math.Seq.{take-suc, drop-cons}
 use Rattle.std.proofs.lemmas.Bool.{and_parts}
 use Rattle.std.proofs.lemmas.Bool.Decides.{nat_tests}
 use Rattle.std.proofs.lemmas.List.{get_or-take, length-take-le, take-take, append_assoc}
 use Rattle.std.proofs.lemmas.Str.{encodes-append, scalars-chars, chars_from_encodes, length-encode, IsUtf8-take}
+use Rattle.std.proofs.lemmas.Str.{len_utf8_bounds}
 use Rattle.std.specs.Str.{chars, IsUtf8}
 use Rattle.std.specs.Char.{IsScalar, len_utf8, encode_utf8}
 use lib.Utf8.{scalars, scalar, encodes, encode}
@@ -20,6 +21,7 @@ use Rattle.sre_model.specs.Tree.{Test, Plain, Literal}
 use Rattle.sre_model.specs.Characters.{holds}
 use Rattle.sre_model.specs.Subject.{Subject, char_at}
 use Rattle.sre_patterns.specs.Covers.{InUtf8, CoversTest, read_utf8}
+use Rattle.sre_patterns.proofs.Composed.{covers-one}
 
 scalar-at : (cs : List ℕ) (p : ℕ) → scalars cs ≡ true → p < length cs → scalar (get_or cs p 0) ≡ true
 scalar-at [] p s l = absurd (omega arith)
@@ -85,28 +87,31 @@ utf8-seen bs s u same fits =
 pub utf8-take : (table : Table) (ranges : List (ℕ × ℕ)) (t : Test)
     → ((c : ℕ) → IsScalar c → holds table t c ≡ true → in_ranges ranges c ≡ true)
     → CoversTest InUtf8 table (char_in ranges) t
-utf8-take table ranges t each = record {
-  takes = λ s hay off v same p inside h.
-      let found = v.char p inside in (
-        char_at s p,
-        found,
-        each (char_at s p) (char_at_parts hay (off p) (char_at s p) found).0
-            (subst (λ x. holds x t (char_at s p) ≡ true) same h),
-        v.next p inside,
-      );
-}
+utf8-take table ranges t each =
+    covers-one InUtf8 table (char_in ranges) t (λ s hay off v p inside h.
+    let found = v.char p inside in
+    let scalar = (char_at_parts hay (off p) (char_at s p) found).0 in
+    (char_at s p, found, each (char_at s p) scalar h, v.next p inside))
 
 -- a literal character, by its bytes
 pub utf8-literal : (table : Table) (v : ℕ) → CoversTest InUtf8 table (literal (encode_utf8 v)) (Literal Plain v)
-utf8-literal table v = record {
-  takes = λ s hay off w same p inside h.
-      let is : v ≡ char_at s p = grind (arith, nat_tests) in
-      let stands = (char_at_parts hay (off p) (char_at s p) (w.char p inside)).1 in (
-        has_bytes_at_from hay (off p) (encode_utf8 v) (drop (off p + len_utf8 (char_at s p)) hay)
-            (stands ∙ ap (λ c. encode_utf8 c ++ drop (off p + len_utf8 (char_at s p)) hay) (sym is)),
-        w.next p inside ∙ omega (arith, length-encode v, ap len_utf8 is),
-      );
-}
+utf8-literal table v =
+    covers-one InUtf8 table (literal (encode_utf8 v)) (Literal Plain v) (λ s hay off w p inside h.
+    let is : v ≡ char_at s p = grind (arith, nat_tests) in
+    let stands = (char_at_parts hay (off p) (char_at s p) (w.char p inside)).1 in (
+      has_bytes_at_from hay (off p) (encode_utf8 v) (drop (off p + len_utf8 (char_at s p)) hay)
+          (stands ∙ ap (λ c. encode_utf8 c ++ drop (off p + len_utf8 (char_at s p)) hay) (sym is)),
+      w.next p inside ∙ omega (arith, length-encode v, ap len_utf8 is),
+    ))
+
+-- positions are no further apart than their bytes
+pub utf8-apart : (s : Subject) (hay : List ℕ) (off : ℕ → ℕ) → InUtf8 s hay off → (n p : ℕ) → p + n ≤ s.end
+    → off p + n ≤ off (p + n)
+utf8-apart s hay off v zero p l = let same : p + zero ≡ p = omega arith in omega (arith, ap off same)
+utf8-apart s hay off v (suc n) p l =
+    let same : p + suc n ≡ p + 1 + n = omega arith in
+    let later = utf8-apart s hay off v n (p + 1) (omega arith) in
+    omega (arith, ap off same, later, v.next p (omega arith), len_utf8_bounds (char_at s p))
 
 -- literals, one after the other, are one
 pub literals-joined : (a b : List ℕ) (hay : List ℕ) (i j : ℕ) → Matches hay (cat (literal a) (literal b)) i j

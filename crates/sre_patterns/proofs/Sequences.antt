@@ -18,6 +18,43 @@ pub item-long : (ws : List ℕ) (place behind : ℕ) (P : Item → Type 0) → H
 item-long ws place behind P h c =
     omega (arith, (c h.end h.item h.reads).0, operands_past h.item ws place h.end h.reads.1)
 
+module _ (ws : List ℕ) (place end : ℕ) where
+  -- before the end nothing is left only at a JUMP
+  jump-there : (j : ℕ) → place ≡ j → Stops ws j end → place < end → Opcode ws place opcode.JUMP
+  jump-there j same s before = go s.1
+    where
+      go : (j ≡ end) ⊎ Opcode ws j opcode.JUMP → Opcode ws place opcode.JUMP
+      go (inl e) = absurd (omega arith)
+      go (inr o) = opcode_moved ws j place opcode.JUMP (sym same) o
+
+  -- where neither the end nor a JUMP is, an item is
+  pub record Next (j : ℕ) (u : Tree) : Type 0 where
+    pub item : Item
+    pub rest : Tree
+    pub is : u ≡ Then item rest
+    pub behind : ℕ
+    pub reads : ReadsItem ws place behind item
+    pub more : Reads ws behind j rest
+
+  pub next : (j : ℕ) (u : Tree) → Reads ws place j u → Stops ws j end → place < end
+      → (Opcode ws place opcode.JUMP → ⊥) → Next j u
+  next j Empty r s before none = absurd (none (jump-there j r s before))
+  next j (Then x rest) r s before none =
+      record { item = x; rest = rest; is = refl; behind = r.0; reads = r.1; more = r.2 }
+
+  -- what stands before the end, unless it is a JUMP, is an item
+  pub word-next : HasItems ws place end → place < end → place < length ws
+  word-next h before = go h.tree h.reads
+    where
+      go : (u : Tree) → Reads ws place h.stop u → place < length ws
+      go Empty r = opcode_within ws place opcode.JUMP (jump-there h.stop r h.stops before)
+      go (Then x rest) r = opcode_within ws place _ r.1.0
+
+  pub item-next : (v : ℕ) → HasItems ws place end → place < end → Word ws place v → (v ≡ 15 → ⊥) → HasItem ws place
+  item-next v h before w other =
+      let n = next h.stop h.tree h.reads h.stops before (no-jump ws place v w other) in
+      record { end = n.behind; item = n.item; reads = n.reads }
+
 -- a relation between patterns and trees, such as that one covers the other
 module _ (T : Re → Tree → Type 0) (ws : List ℕ) (start end : ℕ) where
   -- the items from start on are those of the patterns, and then those from place on
@@ -27,50 +64,8 @@ module _ (T : Re → Tree → Type 0) (ws : List ℕ) (start end : ℕ) where
     pub holds : (b : Re) → T b rest → T (cat_onto parts b) t
 
   pub record SoFar (place : ℕ) (parts : List Re) : Type 0 where
+    pub left : HasItems ws place end
     pub each : (j : ℕ) (t : Tree) → Reads ws start j t → Stops ws j end → Left place parts j t
-
-  -- where neither the end nor a JUMP is, an item is
-  pub record Next (place j : ℕ) (u : Tree) : Type 0 where
-    pub item : Item
-    pub rest : Tree
-    pub is : u ≡ Then item rest
-    pub behind : ℕ
-    pub reads : ReadsItem ws place behind item
-    pub more : Reads ws behind j rest
-
-  pub next : (place j : ℕ) (u : Tree) → Reads ws place j u → Stops ws j end → place < end
-      → (Opcode ws place opcode.JUMP → ⊥) → Next place j u
-  next place j Empty r s before none =
-      absurd (go s.1)
-    where
-      go : (j ≡ end) ⊎ Opcode ws j opcode.JUMP → ⊥
-      go (inl e) = omega arith
-      go (inr o) = none (opcode_moved ws j place opcode.JUMP (sym r) o)
-  next place j (Then x rest) r s before none =
-      record { item = x; rest = rest; is = refl; behind = r.0; reads = r.1; more = r.2 }
-
-  -- a word is there, too
-  pub inside : (place j : ℕ) (u : Tree) → Reads ws place j u → Stops ws j end → place < end → place < length ws
-  inside place j Empty r s before = go s.1
-    where
-      go : (j ≡ end) ⊎ Opcode ws j opcode.JUMP → place < length ws
-      go (inl e) = absurd (omega arith)
-      go (inr o) = opcode_within ws place opcode.JUMP (opcode_moved ws j place opcode.JUMP (sym r) o)
-  inside place j (Then x rest) r s before = opcode_within ws place _ r.1.0
-
-  -- what stands before the end, unless it is a JUMP, is an item
-  pub word-next : (place : ℕ) (parts : List Re) → HasItems ws start end → SoFar place parts → place < end
-      → place < length ws
-  word-next place parts h so before =
-      let left = so.each h.stop h.tree h.reads h.stops in
-      inside place h.stop left.rest left.reads h.stops before
-
-  pub item-next : (place v : ℕ) (parts : List Re) → HasItems ws start end → SoFar place parts → place < end
-      → Word ws place v → (v ≡ 15 → ⊥) → HasItem ws place
-  item-next place v parts h so before w other =
-      let left = so.each h.stop h.tree h.reads h.stops in
-      let n = next place h.stop left.rest left.reads h.stops before (no-jump ws place v w other) in
-      record { end = n.behind; item = n.item; reads = n.reads }
 
   -- one more item
   pub more : (I : Item → Type 0) (place behind : ℕ) (parts after : List Re) (re : Re)
@@ -79,17 +74,24 @@ module _ (T : Re → Tree → Type 0) (ws : List ℕ) (start end : ℕ) where
       → SoFar place parts → place < end → (Opcode ws place opcode.JUMP → ⊥) → AtItem ws place behind I
       → SoFar behind after
   more I place behind parts after re join onto so before none c = record {
+    left =
+        let h = so.left in
+        let n = next ws place end h.stop h.tree h.reads h.stops before none in
+        record { stop = h.stop; tree = n.rest; reads = moved h.stop h.tree n; stops = h.stops };
     each = λ j t r s.
         let left = so.each j t r s in
-        let n = next place j left.rest left.reads s before none in
-        let x = c n.behind n.item n.reads in
+        let n = next ws place end j left.rest left.reads s before none in
         record {
           rest = n.rest;
-          reads = subst (λ k. Reads ws k j n.rest) (sym x.0) n.more;
+          reads = moved j left.rest n;
           holds = λ b d.
-              onto b t (left.holds (cat re b) (subst (T (cat re b)) (sym n.is) (join b n.item n.rest x.1 d)));
+              onto b t (left.holds (cat re b)
+              (subst (T (cat re b)) (sym n.is) (join b n.item n.rest (c n.behind n.item n.reads).1 d)));
         };
   }
+    where
+      moved : (j : ℕ) (u : Tree) (n : Next ws place end j u) → Reads ws behind j n.rest
+      moved j u n = subst (λ k. Reads ws k j n.rest) (sym (c n.behind n.item n.reads).0) n.more
 
   -- at the end, or at a JUMP, nothing is left
   pub ended : (place : ℕ) (parts : List Re) (re : Re) → T empty Empty

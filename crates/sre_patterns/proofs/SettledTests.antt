@@ -1,5 +1,5 @@
 -- From which character on categories, sets and tests give one answer.
-use Rattle.std.proofs.Common.{◌≡◌, ℕ, ◌+◌, ◌<◌, ◌≤◌, max, Bool, false, not, ◌&&◌}
+use Rattle.std.proofs.Common.{◌≡◌, ℕ, ◌+◌, ◌<◌, ◌≤◌, Bool, false, not, ◌&&◌}
 use Rattle.std.proofs.Common.{cond, nat_eq, nat_lt, List, slice_range, refl, sym, ap, ap₂, ◌∙◌, arith}
 use Rattle.std.proofs.lemmas.Bool.Decides.{nat_tests}
 use Rattle.sre_chars.specs.Categories.{category}
@@ -12,8 +12,8 @@ use Rattle.sre_model.specs.Characters.{item_holds, bit_of, verdict}
 use Rattle.sre_model.specs.Grammar.{Word, word, Opcode}
 use Rattle.sre_model.specs.Standing.{HasSet, ItemSays}
 use Rattle.std.proofs.lemmas.Option.{slice_get-get_or}
-use Rattle.sre_model.proofs.Members.{range_room, single_says, range_says, category_says, charset_says, negated}
-use Rattle.sre_model.proofs.Members.{nothing_left}
+use Rattle.sre_model.proofs.Members.{single_room, charset_room, category_there, range_room, single_says, range_says}
+use Rattle.sre_model.proofs.Members.{category_says, charset_says, negated, nothing_left}
 use Rattle.sre_model.proofs.Unique.{set_same}
 use Rattle.sre_patterns.specs.Settling.{SettledFrom, SettledSet, SettlesBehind}
 
@@ -43,20 +43,20 @@ item-settles ws i next from h says settled later = record {
   };
 }
 
-pub single-settles : (ws : List ℕ) (i v from : ℕ) → Opcode ws i opcode.LITERAL → Word ws (i + 1) v → from ≡ v + 1
-    → SettlesBehind ws i (i + 2) from
-single-settles ws i v from w o e =
-    item-settles ws i (i + 2) from (λ table c. nat_eq c v) (λ table c. single_says ws table i c v w o)
-    (λ table. none-past from (λ c. nat_eq c v) (λ c l. grind (arith, nat_tests))) (omega arith)
+pub single-settles : (ws : List ℕ) (i v : ℕ) → Opcode ws i opcode.LITERAL → Word ws (i + 1) v
+    → SettlesBehind ws i (i + 2) (v + 1)
+single-settles ws i v w o =
+    item-settles ws i (i + 2) (v + 1) (λ table c. nat_eq c v) (λ table c. single_says ws table i c v w o)
+    (λ table. none-past (v + 1) (λ c. nat_eq c v) (λ c l. grind (arith, nat_tests))) (omega arith)
 
-pub range-settles : (ws : List ℕ) (i high from : ℕ) → Opcode ws i opcode.RANGE → Word ws (i + 2) high
-    → from ≡ high + 1 → HasSet ws i → SettlesBehind ws i (i + 3) from
-range-settles ws i high from w oh e h =
+pub range-settles : (ws : List ℕ) (i high : ℕ) → Opcode ws i opcode.RANGE → Word ws (i + 2) high → HasSet ws i
+    → SettlesBehind ws i (i + 3) (high + 1)
+range-settles ws i high w oh h =
     let low = word ws (i + 1) in
     let ol : Word ws (i + 1) low = slice_get-get_or ws (i + 1) 0 (omega (arith, range_room ws i w h)) in
-    item-settles ws i (i + 3) from (λ table c. is_between low high c)
+    item-settles ws i (i + 3) (high + 1) (λ table c. is_between low high c)
     (λ table c. range_says ws table i c low high (is_between low high c) w ol oh refl)
-    (λ table. none-past from (λ c. is_between low high c) (λ c l. grind (arith, nat_tests))) (omega arith)
+    (λ table. none-past (high + 1) (λ c. is_between low high c) (λ c l. grind (arith, nat_tests))) (omega arith)
 
 pub category-settles : (ws : List ℕ) (i from : ℕ) (k : SreCatCode) → Opcode ws i opcode.CATEGORY
     → Word ws (i + 1) (category_number k) → ((table : Table) → SettledFrom from (category table (category_number k)))
@@ -92,6 +92,19 @@ negate-settles ws i w = record {
   };
 }
 
+-- for items of a set
+pub ruleset item_laws = (
+  single_room,
+  range_room,
+  category_there,
+  charset_room,
+  single-settles,
+  range-settles,
+  category-settles,
+  charset-settles,
+  negate-settles,
+)
+
 -- at FAILURE nothing is left
 pub failure-settles : (ws : List ℕ) (i b : ℕ) → Opcode ws i opcode.FAILURE → SettledSet ws i b
 failure-settles ws i b w = record {
@@ -104,16 +117,6 @@ failure-settles ws i b w = record {
 pub record LeftSettled (ws : List ℕ) (start place from : ℕ) : Type 0 where
   pub there : HasSet ws place
   pub each : (b : ℕ) → from ≤ b → SettledSet ws place b → SettledSet ws start b
-
-pub settled-begun : (ws : List ℕ) (start : ℕ) → HasSet ws start → LeftSettled ws start start 0
-settled-begun ws start h = record { there = h; each = λ b l s. s }
-
-pub settled-next : (ws : List ℕ) (start place next from item after : ℕ) → LeftSettled ws start place from
-    → SettlesBehind ws place next item → after ≡ max from item → LeftSettled ws start next after
-settled-next ws start place next from item after left x e = record {
-  there = x.there left.there;
-  each = λ b l s. left.each b (omega (arith, l, e)) (x.each b (omega (arith, l, e)) s);
-}
 
 pub settled-ended : (ws : List ℕ) (start place from : ℕ) → LeftSettled ws start place from
     → Opcode ws place opcode.FAILURE → SettledSet ws start from

@@ -4,7 +4,7 @@ use Rattle.sre_chars.specs.declared.constants.SreAtCode.{SreAtCode}
 use Rattle.sre_model.specs.Subject.{Subject}
 use Rattle.sre_patterns.specs.Exact.{Rises}
 use Rattle.sre_patterns.proofs.Edges.{Sided, HoldAlike, bytes-sided, ascii-alike}
-use Rattle.sre_patterns.proofs.EdgesUtf8.{utf8-sided}
+use Rattle.sre_patterns.proofs.Edges.{utf8-sided}
 use Rattle.sre_patterns.proofs.ExactTrees.{bytes-rise, utf8-rise}
 use Rattle.sre_patterns.specs.declared.encoding.Encoding as encoding_type
 use Rattle.sre_patterns.specs.declared.encoding.Encoding.TheVariants as encoding

@@ -1,62 +1,47 @@
--- Classes of what a test takes.
-use Rattle.std.proofs.Common.{◌≡◌, ℕ, ◌+◌, ◌≤◌, Bool, true, false, ◌||◌, List, [], ◌∷◌, ◌++◌, refl, sym, ap, ◌∙◌}
-use Rattle.std.proofs.Common.{inl, inr, arith, drop, get_or, suc}
-use Rattle.std.proofs.lemmas.Bool.{cases_lt}
+-- Classes that have what a test takes, or just that.
+use Rattle.std.proofs.Common.{◌≡◌, ℕ, ◌+◌, ◌<◌, ◌≤◌, Bool, true, List, [], ◌∷◌, ◌++◌, sym, ap, ◌∙◌, arith, drop, get_or}
+use Rattle.std.proofs.Common.{suc, false, ◌&&◌, nat_lt, refl}
 use Rattle.std.proofs.lemmas.Bool.Decides.{nat_tests}
 use Rattle.std.specs.Char.{IsScalar}
 use Rattle.std.proofs.Math.Seq.{drop-cons}
 use Rattle.std.proofs.lemmas.Option.{get_or_from_slice_get, slice_get_within}
 use Rattle.regex_class.specs.Ranges.{in_range, in_ranges, HasExactly}
 use Rattle.regex_class.proofs.RangesLemmas.{in_ranges-push}
-use Rattle.regex_hir.specs.Re.{byte_in, char_in, literal}
+use Rattle.regex_hir.specs.Re.{literal, byte_in, char_in}
 use Rattle.regex_hir.proofs.TextLemmas.{has_bytes_at_from}
 use Rattle.sre_chars.specs.Tables.{Table}
 use Rattle.sre_chars.specs.declared.constants.SreOpcode.TheVariants as opcode
 use Rattle.sre_model.specs.Grammar.{Word, Opcode, test_opcode, TestOperands}
 use Rattle.sre_model.specs.Standing.{TestStands}
 use Rattle.sre_model.specs.Subject.{char_at}
-use Rattle.sre_model.specs.Tree.{Test, Literal, Plain}
-use Rattle.sre_model.specs.Characters.{holds}
+use Rattle.sre_model.specs.Tree.{Test, Literal, Plain, One}
 use Rattle.sre_model.proofs.Words.{same_word, same_opcode}
 use Rattle.sre_patterns.specs.Covers.{CoversTest, InBytes, InUtf8}
+use Rattle.sre_patterns.proofs.Composed.{covers-one}
+use Rattle.sre_patterns.specs.Patterns.{HasBelow, HasJust}
+use Rattle.sre_model.specs.Characters.{holds}
+use Rattle.sre_model.specs.Ways.{item_ways}
+use Rattle.sre_patterns.proofs.ExactTrees.{bytes-exact, chars-exact}
+use Rattle.sre_patterns.specs.declared.task.Purpose.{Purpose}
+use Rattle.sre_patterns.specs.declared.task.Purpose.TheVariants as purpose
+use Rattle.sre_patterns.specs.Purposes.{ServesBody, HasFor}
 use Rattle.sre_patterns.proofs.OverBytes.{bytes-take}
 use Rattle.sre_patterns.proofs.OverUtf8.{utf8-take}
-use Rattle.sre_patterns.specs.Patterns.{HasBelow}
 
 pub scalar-most : (c : ℕ) → IsScalar c → c ≤ 1114111
 scalar-most c s = grind (arith, nat_tests)
 
-pub range-has : (low high c : ℕ) → low ≤ c → c ≤ high → in_range (low, high) c ≡ true
-unfolding in_range
-range-has low high c l h = grind (arith, nat_tests)
-
 pub added : (xs : List (ℕ × ℕ)) (low high c : ℕ) → low ≤ c → c ≤ high → in_ranges (xs ++ (low, high) ∷ []) c ≡ true
-added xs low high c l h = in_ranges-push xs (low, high) c ∙ rw (range-has low high c l h) (or-true (in_ranges xs c))
-  where
-    or-true : (x : Bool) → (x || true) ≡ true
-    or-true true = refl
-    or-true false = refl
-
-pub bytes-class : (bound : ℕ) (table : Table) (t : Test) (xs ranges : List (ℕ × ℕ)) → bound ≤ 256
-    → HasBelow bound (holds table t) xs → HasExactly ranges (in_ranges xs)
-    → CoversTest (InBytes bound) table (byte_in ranges) t
-bytes-class bound table t xs ranges few h e =
-    bytes-take bound table ranges t (λ c l k. e c (omega arith) ∙ h c l k)
-
-pub utf8-class : (table : Table) (t : Test) (xs ranges : List (ℕ × ℕ)) → HasBelow 1114112 (holds table t) xs
-    → HasExactly ranges (in_ranges xs) → CoversTest InUtf8 table (char_in ranges) t
-utf8-class table t xs ranges h e =
-    utf8-take table ranges t (λ c s k.
-    let most : c ≤ 1114111 = scalar-most c s in
-    e c most ∙ h c (omega (arith, most)) k)
+unfolding in_range
+added xs low high c l h = in_ranges-push xs (low, high) c ∙ grind (arith, nat_tests)
 
 -- ranges with one more that has all characters from a number on
 pub below-on : (test : ℕ → Bool) (xs : List (ℕ × ℕ)) (from last : ℕ) → HasBelow from test xs
     → HasBelow (last + 1) test (xs ++ (from, last) ∷ [])
-below-on test xs from last h c l k = elim (cases_lt c from) [
-  | (inl below) ↦ in_ranges-push xs (from, last) c ∙ rw (h c below k) refl
-  | (inr at) ↦ added xs from last c at (omega (arith, l))
-]
+unfolding in_range
+below-on test xs from last h c l k =
+    let before : c < from → in_ranges xs c ≡ true = λ m. h c m k in
+    in_ranges-push xs (from, last) c ∙ grind (arith, nat_tests)
 
 -- the one test that LITERAL begins
 pub plain-literal : (ws : List ℕ) (i j v : ℕ) (t : Test) → Opcode ws i opcode.LITERAL → Word ws (i + 1) v
@@ -71,14 +56,74 @@ plain-literal ws i j v t o w s = go t (same_opcode ws i opcode.LITERAL (test_opc
 -- a byte stands where its character does
 pub bytes-literal : (bound : ℕ) (table : Table) (v : ℕ)
     → CoversTest (InBytes bound) table (literal (v ∷ [])) (Literal Plain v)
-bytes-literal bound table v = record {
-  takes = λ s hay off w same p inside h.
-      let is : v ≡ char_at s p = grind (arith, nat_tests) in
-      let found = w.byte p inside in
-      let first : get_or hay (off p) 0 ≡ v = get_or_from_slice_get hay (off p) (char_at s p) 0 found ∙ sym is in (
-        has_bytes_at_from hay (off p) (v ∷ []) (drop (suc (off p)) hay)
-            (drop-cons hay (off p) 0 (slice_get_within hay (off p) (char_at s p) found)
-            ∙ ap (λ b. b ∷ drop (suc (off p)) hay) first),
-        w.next p inside,
-      );
-}
+bytes-literal bound table v =
+    covers-one (InBytes bound) table (literal (v ∷ [])) (Literal Plain v) (λ s hay off w p inside h.
+    let is : v ≡ char_at s p = grind (arith, nat_tests) in
+    let found = w.byte p inside in
+    let first : get_or hay (off p) 0 ≡ v = get_or_from_slice_get hay (off p) (char_at s p) 0 found ∙ sym is in (
+      has_bytes_at_from hay (off p) (v ∷ []) (drop (suc (off p)) hay)
+          (drop-cons hay (off p) 0 (slice_get_within hay (off p) (char_at s p) found)
+          ∙ ap (λ b. b ∷ drop (suc (off p)) hay) first),
+      w.next p inside,
+    ))
+
+pub just-begun : (test : ℕ → Bool) → HasJust 0 test []
+unfolding in_ranges
+just-begun test c = let none : nat_lt c 0 ≡ false = grind (arith, nat_tests) in rw none refl
+
+-- a test with one answer from the bound on, up to a greater one
+module _ (test : ℕ → Bool) (xs : List (ℕ × ℕ)) (from count : ℕ) (h : HasJust from test xs) (up : from ≤ count) where
+  -- where it passes one more range has these numbers
+  pub just-on : (last : ℕ) → last + 1 ≡ count → ((c : ℕ) → from ≤ c → c < count → test c ≡ true)
+      → HasJust count test (xs ++ (from, last) ∷ [])
+  unfolding in_range
+  just-on last is passes c =
+      let before : in_ranges xs c ≡ (nat_lt c from && test c) = h c in
+      let here : from ≤ c → c < count → test c ≡ true = passes c in
+      in_ranges-push xs (from, last) c ∙ grind (arith, nat_tests)
+
+  pub just-off : ((c : ℕ) → from ≤ c → c < count → test c ≡ false) → HasJust count test xs
+  just-off fails c =
+      let before : in_ranges xs c ≡ (nat_lt c from && test c) = h c in
+      let here : from ≤ c → c < count → test c ≡ false = fails c in
+      grind (arith, nat_tests)
+
+-- a step over one number
+pub at-one : (test : ℕ → Bool) (i : ℕ) (b : Bool) → test i ≡ b → (c : ℕ) → i ≤ c → c < i + 1 → test c ≡ b
+at-one test i b t c l h = let same : c ≡ i = omega (arith, l, h) in ap test same ∙ t
+
+-- below the bound the ranges answer as the test does
+at-below : (bound : ℕ) (test : ℕ → Bool) (xs : List (ℕ × ℕ)) → HasJust bound test xs → (c : ℕ) → c < bound
+    → in_ranges xs c ≡ test c
+at-below bound test xs h c l = let a : nat_lt c bound ≡ true = grind (arith, nat_tests) in h c ∙ rw a refl
+
+pub just-below : (bound : ℕ) (test : ℕ → Bool) (xs : List (ℕ × ℕ)) → HasJust bound test xs → HasBelow bound test xs
+just-below bound test xs h c l t = at-below bound test xs h c l ∙ t
+
+-- a literal below the bound, and one that no character is
+pub just-no_literal : (bound v : ℕ) (table : Table) → bound ≤ v → HasJust bound (holds table (Literal Plain v)) []
+unfolding in_ranges
+just-no_literal bound v table l c = grind (arith, nat_tests)
+
+pub just-literal : (bound v : ℕ) (table : Table) → v < bound
+    → HasJust bound (holds table (Literal Plain v)) ((v, v) ∷ [])
+unfolding in_ranges in_range
+just-literal bound v table l c = grind (arith, nat_tests)
+
+-- the class of what the ranges have, for each purpose
+pub serves-bytes : (u : Purpose) (bound : ℕ) (table : Table) (t : Test) (xs ranges : List (ℕ × ℕ)) → bound ≤ 256
+    → HasJust bound (holds table t) xs → HasExactly ranges (in_ranges xs)
+    → ServesBody u (InBytes bound) table (byte_in ranges) (λ s. item_ways s (One t))
+serves-bytes purpose.InOrder bound table t xs ranges few h e =
+    bytes-exact bound table ranges t (λ c l. e c (omega arith) ∙ at-below bound (holds table t) xs h c l)
+serves-bytes u bound table t xs ranges few h e =
+    bytes-take bound table ranges t (λ c l k. e c (omega arith) ∙ at-below bound (holds table t) xs h c l ∙ k)
+
+pub serves-chars : (u : Purpose) (table : Table) (t : Test) (xs ranges : List (ℕ × ℕ))
+    → HasFor u 1114112 (holds table t) xs → HasExactly ranges (in_ranges xs)
+    → ServesBody u InUtf8 table (char_in ranges) (λ s. item_ways s (One t))
+serves-chars purpose.InOrder table t xs ranges h e =
+    chars-exact table ranges t
+    (λ c s. let most = scalar-most c s in e c most ∙ at-below 1114112 (holds table t) xs h c (omega arith))
+serves-chars u table t xs ranges h e =
+    utf8-take table ranges t (λ c s k. let most = scalar-most c s in e c most ∙ h c (omega arith) k)

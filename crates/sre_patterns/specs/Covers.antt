@@ -1,5 +1,5 @@
 -- When a pattern of bytes has a match wherever a tree has a match path.
-use Rattle.std.specs.Prelude.{ℕ, ◌≡◌, ◌+◌, ◌≤◌, ◌<◌, true, List, [], length, take, Some, slice_get}
+use Rattle.std.specs.Prelude.{ℕ, ◌≡◌, ◌+◌, ◌≤◌, ◌<◌, List, [], length, take, Some, slice_get}
 use Rattle.std.specs.List.{AllByRecursion}
 use Rattle.std.specs.Char.{len_utf8}
 use Rattle.regex_hir.specs.Re.{Re}
@@ -7,11 +7,10 @@ use Rattle.regex_hir.specs.Matches.{Matches}
 use Rattle.regex_hir.specs.Text as bytes
 use Rattle.sre_chars.specs.Tables.{Table}
 use Rattle.sre_chars.specs.Texts.{offset_of}
-use Rattle.sre_model.specs.Tree.{Tree, Item, Trees, Test}
+use Rattle.sre_model.specs.Tree.{Tree, Item, One, Test}
 use Rattle.sre_model.specs.Marks.{Marks}
-use Rattle.sre_model.specs.Characters.{holds}
 use Rattle.sre_model.specs.Subject.{Subject, char_at}
-use Rattle.sre_model.specs.Ways.{Body, ways, item_ways, branch_ways}
+use Rattle.sre_model.specs.Ways.{Body, ways, item_ways}
 
 -- the pattern leads from one position of the text to another, where `off` tells at which byte a position stands
 abbrev pub Leads : List ℕ → (ℕ → ℕ) → Re → ℕ → ℕ → Type 0
@@ -24,11 +23,6 @@ IsWider a b = (hay : List ℕ) (i j : ℕ) → Matches hay a i j → Matches hay
 -- from within the window each way of a body goes along a relation, and ends within the window
 abbrev pub Along : Subject → (ℕ → ℕ → Type 0) → Body → Type 0
 Along s R body = (p : ℕ) (m : Marks) → p ≤ s.end → AllByRecursion (λ w. R p w.stop × (w.stop ≤ s.end)) (body p m)
-
--- the pattern has a match over each character of the window that passes the test
-abbrev pub TakesAll : Subject → List ℕ → (ℕ → ℕ) → Re → Test → Type 0
-TakesAll s hay off re t =
-    (p : ℕ) → p < s.end → holds s.table t (char_at s p) ≡ true → Leads hay off re p (p + 1)
 
 -- How a text is seen as bytes: its subject, the bytes up to the window's end, and the byte at which a position stands.
 abbrev pub View : Type 1
@@ -49,21 +43,20 @@ pub record InUtf8 (s : Subject) (hay : List ℕ) (off : ℕ → ℕ) : Type 0 wh
   pub char : (p : ℕ) → p < s.end → bytes.char_at hay (off p) ≡ Some (char_at s p)
   pub next : (p : ℕ) → p < s.end → off (p + 1) ≡ off p + len_utf8 (char_at s p)
 
--- on each text that is seen so the pattern has a match wherever the tree has a way, from the same place to the same
-pub record Covers (V : View) (table : Table) (re : Re) (t : Tree) : Type 0 where
+-- on each text that is seen so the pattern has a match wherever a body has a way, from the same place to the same
+pub record CoversBody (V : View) (table : Table) (re : Re) (body : Subject → Body) : Type 0 where
   pub covers : (s : Subject) (hay : List ℕ) (off : ℕ → ℕ) → V s hay off → s.table ≡ table
-      → Along s (Leads hay off re) (ways s t)
+      → Along s (Leads hay off re) (body s)
 
-pub record CoversItem (V : View) (table : Table) (re : Re) (item : Item) : Type 0 where
-  pub covers : (s : Subject) (hay : List ℕ) (off : ℕ → ℕ) → V s hay off → s.table ≡ table
-      → Along s (Leads hay off re) (item_ways s item)
+-- wherever a tree, an item or a test has one
+abbrev pub Covers : View → Table → Re → Tree → Type 0
+Covers V table re t = CoversBody V table re (λ s. ways s t)
 
-pub record CoversBranch (V : View) (table : Table) (re : Re) (ts : Trees) : Type 0 where
-  pub covers : (s : Subject) (hay : List ℕ) (off : ℕ → ℕ) → V s hay off → s.table ≡ table
-      → Along s (Leads hay off re) (branch_ways s ts)
+abbrev pub CoversItem : View → Table → Re → Item → Type 0
+CoversItem V table re item = CoversBody V table re (λ s. item_ways s item)
 
-pub record CoversTest (V : View) (table : Table) (re : Re) (t : Test) : Type 0 where
-  pub takes : (s : Subject) (hay : List ℕ) (off : ℕ → ℕ) → V s hay off → s.table ≡ table → TakesAll s hay off re t
+abbrev pub CoversTest : View → Table → Re → Test → Type 0
+CoversTest V table re t = CoversItem V table re (One t)
 
 -- from a position without a match of the pattern a body has no way
 abbrev pub Fronts : Subject → List ℕ → (ℕ → ℕ) → Re → Body → Type 0

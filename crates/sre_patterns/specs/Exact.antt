@@ -4,10 +4,10 @@ use Rattle.std.specs.Option.{option_or}
 use Rattle.regex_hir.specs.Re.{Re, Rest, Trace, attempt}
 use Rattle.regex_hir.specs.Matches.{Matches}
 use Rattle.sre_chars.specs.Tables.{Table}
-use Rattle.sre_model.specs.Tree.{Tree, Item, One, Trees, Test}
+use Rattle.sre_model.specs.Tree.{Tree, Item, One, Test}
 use Rattle.sre_model.specs.Marks.{Marks}
 use Rattle.sre_model.specs.Subject.{Subject}
-use Rattle.sre_model.specs.Ways.{Way, Body, unlimited, ways, item_ways, branch_ways}
+use Rattle.sre_model.specs.Ways.{Way, Body, unlimited, ways, item_ways}
 use Rattle.sre_patterns.specs.Covers.{View}
 
 -- what follows, tried from the end of each of some ways in turn
@@ -28,26 +28,20 @@ IsPlace s off i = (p : ℕ) × (p ≤ s.end) × (off p ≡ i)
 abbrev pub AtPlaces : Subject → List ℕ → (ℕ → ℕ) → Re → Type 0
 AtPlaces s hay off re = (i j : ℕ) → Matches hay re i j → (j ≡ i) ⊎ IsPlace s off i
 
--- on each text that is seen so
-pub record ExactTree (V : View) (table : Table) (re : Re) (t : Tree) : Type 0 where
+-- on each text that is seen so, for a body, a tree, an item or a test
+pub record ExactBody (V : View) (table : Table) (re : Re) (body : Subject → Body) : Type 0 where
   pub tries : (s : Subject) (hay : List ℕ) (off : ℕ → ℕ) → V s hay off → s.table ≡ table
-      → Exact s hay off re (ways s t)
+      → Exact s hay off re (body s)
   pub begins : (s : Subject) (hay : List ℕ) (off : ℕ → ℕ) → V s hay off → AtPlaces s hay off re
 
-pub record ExactItem (V : View) (table : Table) (re : Re) (item : Item) : Type 0 where
-  pub tries : (s : Subject) (hay : List ℕ) (off : ℕ → ℕ) → V s hay off → s.table ≡ table
-      → Exact s hay off re (item_ways s item)
-  pub begins : (s : Subject) (hay : List ℕ) (off : ℕ → ℕ) → V s hay off → AtPlaces s hay off re
+abbrev pub ExactTree : View → Table → Re → Tree → Type 0
+ExactTree V table re t = ExactBody V table re (λ s. ways s t)
 
-pub record ExactBranch (V : View) (table : Table) (re : Re) (ts : Trees) : Type 0 where
-  pub tries : (s : Subject) (hay : List ℕ) (off : ℕ → ℕ) → V s hay off → s.table ≡ table
-      → Exact s hay off re (branch_ways s ts)
-  pub begins : (s : Subject) (hay : List ℕ) (off : ℕ → ℕ) → V s hay off → AtPlaces s hay off re
+abbrev pub ExactItem : View → Table → Re → Item → Type 0
+ExactItem V table re item = ExactBody V table re (λ s. item_ways s item)
 
-pub record ExactTest (V : View) (table : Table) (re : Re) (t : Test) : Type 0 where
-  pub tries : (s : Subject) (hay : List ℕ) (off : ℕ → ℕ) → V s hay off → s.table ≡ table
-      → Exact s hay off re (item_ways s (One t))
-  pub begins : (s : Subject) (hay : List ℕ) (off : ℕ → ℕ) → V s hay off → AtPlaces s hay off re
+abbrev pub ExactTest : View → Table → Re → Test → Type 0
+ExactTest V table re t = ExactItem V table re (One t)
 
 -- a later position stands at a later byte
 abbrev pub Rises : View → Type 0

@@ -20,8 +20,7 @@ look_of END_LINE = Some EndLf
 look_of END_STRING = Some End
 look_of LOC_BOUNDARY = Some WordAscii
 look_of LOC_NON_BOUNDARY = Some WordAsciiNegate
-look_of UNI_BOUNDARY = None
-look_of UNI_NON_BOUNDARY = None
+look_of a = None
 
 -- the assertion that holds just where a position's condition does; none where no assertion does, or a table decides
 abbrev pub exact_look : SreAtCode → Option Look
@@ -29,26 +28,13 @@ exact_look BEGINNING = Some Start
 exact_look BEGINNING_LINE = Some StartLf
 exact_look BEGINNING_STRING = Some Start
 exact_look BOUNDARY = Some WordAscii
-exact_look NON_BOUNDARY = None
-exact_look END = None
 exact_look END_LINE = Some EndLf
 exact_look END_STRING = Some End
 exact_look LOC_BOUNDARY = Some WordAscii
-exact_look LOC_NON_BOUNDARY = None
-exact_look UNI_BOUNDARY = None
-exact_look UNI_NON_BOUNDARY = None
+exact_look a = None
 
 -- the position that holds at the same places of a text of ASCII, where each table has the same words
 abbrev pub in_ascii : SreAtCode → SreAtCode
-in_ascii BEGINNING = BEGINNING
-in_ascii BEGINNING_LINE = BEGINNING_LINE
-in_ascii BEGINNING_STRING = BEGINNING_STRING
-in_ascii BOUNDARY = BOUNDARY
-in_ascii NON_BOUNDARY = NON_BOUNDARY
-in_ascii END = END
-in_ascii END_LINE = END_LINE
-in_ascii END_STRING = END_STRING
-in_ascii LOC_BOUNDARY = LOC_BOUNDARY
-in_ascii LOC_NON_BOUNDARY = LOC_NON_BOUNDARY
 in_ascii UNI_BOUNDARY = BOUNDARY
 in_ascii UNI_NON_BOUNDARY = NON_BOUNDARY
+in_ascii a = a

@@ -22,9 +22,8 @@ view_of encoding.Utf8 = InUtf8
 
 -- the position that holds at the same places of the texts that are seen so
 abbrev pub position_in : encoding_type.Encoding → SreAtCode → SreAtCode
-position_in encoding.Bytes a = a
 position_in encoding.Ascii a = in_ascii a
-position_in encoding.Utf8 a = a
+position_in e a = a
 
 -- patterns one after the other, and then another one
 abbrev pub cat_onto : List Re → Re → Re

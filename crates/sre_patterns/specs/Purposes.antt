@@ -6,12 +6,14 @@ use Rattle.sre_chars.specs.Tables.{Table}
 use Rattle.sre_chars.specs.declared.constants.SreAtCode.{SreAtCode}
 use Rattle.sre_chars.specs.declared.constants.SreOpcode.{SreOpcode}
 use Rattle.sre_chars.specs.declared.constants.SreOpcode.TheVariants as opcode
-use Rattle.sre_model.specs.Tree.{Tree, Item, Test, Order}
+use Rattle.sre_model.specs.Tree.{Tree, Item, One, Test, Order}
 use Rattle.sre_model.specs.Roles.{role, ToRun}
 use Rattle.sre_model.specs.Grammar.{Opcode, until_opcode}
+use Rattle.sre_model.specs.Subject.{Subject}
+use Rattle.sre_model.specs.Ways.{Body, ways, item_ways}
 use Rattle.sre_code.specs.Codes.{uni_of}
-use Rattle.sre_patterns.specs.Covers.{View, IsWider, Covers, CoversItem, CoversTest}
-use Rattle.sre_patterns.specs.Exact.{ExactTree, ExactItem, ExactTest}
+use Rattle.sre_patterns.specs.Covers.{View, IsWider, CoversBody}
+use Rattle.sre_patterns.specs.Exact.{ExactBody}
 use Rattle.sre_patterns.specs.Looks.{look_of, exact_look}
 use Rattle.sre_patterns.specs.Repeated.{is_greedy, kind_of}
 use Rattle.sre_patterns.specs.declared.task.Purpose.{Purpose}
@@ -19,28 +21,24 @@ use Rattle.sre_patterns.specs.declared.task.Purpose.TheVariants as purpose
 use Rattle.sre_patterns.specs.declared.task.Task.{Task}
 use Rattle.sre_patterns.specs.Patterns.{view_of, HasBelow, HasJust}
 
--- it tries the match paths in their order where that is the purpose, or else it covers them
+-- it tries the match paths of a body in their order where that is the purpose, or else it covers them
+abbrev pub ServesBody : Purpose → View → Table → Re → (Subject → Body) → Type 0
+ServesBody purpose.InOrder = ExactBody
+ServesBody u = CoversBody
+
+-- those of a tree
 abbrev pub ServesFor : Purpose → View → Table → Re → Tree → Type 0
-ServesFor purpose.InOrder = ExactTree
-ServesFor u = Covers
-
-abbrev pub ServesItemFor : Purpose → View → Table → Re → Item → Type 0
-ServesItemFor purpose.InOrder = ExactItem
-ServesItemFor u = CoversItem
-
-abbrev pub ServesTestFor : Purpose → View → Table → Re → Test → Type 0
-ServesTestFor purpose.InOrder = ExactTest
-ServesTestFor u = CoversTest
+ServesFor u V table re t = ServesBody u V table re (λ s. ways s t)
 
 -- it does what a task asks for
 abbrev pub Serves : Task → Re → Tree → Type 0
 Serves s = ServesFor s.purpose (view_of s.encoding) (uni_of s.code)
 
 abbrev pub ServesItem : Task → Re → Item → Type 0
-ServesItem s = ServesItemFor s.purpose (view_of s.encoding) (uni_of s.code)
+ServesItem s re x = ServesBody s.purpose (view_of s.encoding) (uni_of s.code) re (λ w. item_ways w x)
 
 abbrev pub ServesTest : Task → Re → Test → Type 0
-ServesTest s = ServesTestFor s.purpose (view_of s.encoding) (uni_of s.code)
+ServesTest s re t = ServesItem s re (One t)
 
 -- the ranges that a class needs: those of just the numbers that pass, or of more
 abbrev pub HasFor : Purpose → ℕ → (ℕ → Bool) → List (ℕ × ℕ) → Type 0

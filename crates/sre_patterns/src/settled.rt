@@ -49,6 +49,7 @@ fn settled_category(code: SreCatCode) -> Option<u32>
 }
 
 // From which character on an item of a set is constant.
+#[tactic(auto, using(crate::proofs::SettledTests::item_laws))]
 fn settled_item(words: &[u32], place: usize, opcode: SreOpcode) -> Option<SettledItem>
     requires opcode { Opcode words.now place opcode }
     requires stands { HasSet words.now place }
@@ -81,6 +82,7 @@ fn settled_item(words: &[u32], place: usize, opcode: SreOpcode) -> Option<Settle
 }
 
 // From which character on the set with items from `start` on is constant.
+#[tactic(auto, using(sre_model::proofs::Words::opcode_within))]
 fn settled_set(words: &[u32], start: usize) -> Option<u32>
     requires { HasSet words.now start }
     ensures { IfSome result (λ from. SettledSet words.now start from) }

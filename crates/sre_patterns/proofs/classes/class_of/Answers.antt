@@ -1,7 +1,7 @@
 use Rattle.std.proofs.Common.{arith}
 use Rattle.regex_hir.proofs.MeaningLemmas.{meaning-Bytes, meaning-Chars}
 use Rattle.sre_code.specs.Codes.{uni_of}
-use Rattle.sre_patterns.proofs.ExactTests.{serves-bytes, serves-chars}
+use Rattle.sre_patterns.proofs.Tests.{serves-bytes, serves-chars}
 use Rattle.sre_patterns.proofs.classes.class_of.Goals as goal
 
 pub returns-in_ok-new-in-Bytes : goal.returns-in_ok-new-in-Bytes

@@ -1,21 +1,19 @@
 use Rattle.std.proofs.Common.{◌∙◌, sym, refl, arith}
-use Rattle.sre_model.specs.Characters.{holds}
-use Rattle.sre_code.specs.Codes.{uni_of}
-use Rattle.sre_patterns.proofs.ExactTests.{just-on, just-off}
+use Rattle.sre_patterns.proofs.Tests.{just-on, just-off}
 use Rattle.sre_patterns.proofs.classes.taken_and_on.Goals.{then-is_taken+in_ok-push, else-is_taken}
 use Rattle.sre_patterns.proofs.classes.taken_and_on.Goals as goal
 
 pub returns : goal.returns
 returns c j t s =
-    let test = holds (uni_of c.args.task.now.code) t in
     let before = c.in_ok-ranges.ensures j t s in
+    let here = sym (c.is_taken.ensures j t s) in
     elim c.if-is_taken.branch [
       | then-is_taken+in_ok-push w ↦
           rw (w.ranges-is, w.in_ok-push.ensures.items)
-          (just-on test _ c.args.from 1114112 before (omega arith) 1114111 refl
-          (λ n l h. c.requires.settled j t s n l ∙ sym (c.is_taken.ensures j t s) ∙ w.if-is_taken.true))
+          (just-on _ _ c.args.from 1114112 before (omega arith) 1114111 refl
+          (λ n l h. c.requires.settled j t s n l ∙ here ∙ w.if-is_taken.true))
       | else-is_taken w ↦
           rw w.ranges-is
-          (just-off test _ c.args.from 1114112 before (omega arith)
-          (λ n l h. c.requires.settled j t s n l ∙ sym (c.is_taken.ensures j t s) ∙ w.if-is_taken.false))
+          (just-off _ _ c.args.from 1114112 before (omega arith)
+          (λ n l h. c.requires.settled j t s n l ∙ here ∙ w.if-is_taken.false))
     ]

@@ -37,4 +37,4 @@ decreases-branch-alternative l = length (items_of l.task.code) - l.at
 
 abbrev pub invariant-branch-alternative : goal.invariant-branch-alternative
 invariant-branch-alternative l =
-    BranchSoFar l.task (items_of l.task.code) (l.place + 1) l.at (map meaning l.all.items)
+    BranchSoFar l.task (items_of l.task.code) l.place l.at (map meaning l.all.items)
