@@ -15,9 +15,6 @@ use Rattle.sre_machine.specs.Memos.{Covers}
 pub record CoversTo (ws : List ℕ) (n end : ℕ) : Type 0 where
   pub covers : (g : ℕ) (x : Named ws g) → x.place + 1 < n → 2 * g + 1 < end
 
-pub covers_none : (ws : List ℕ) (n end : ℕ) → n ≤ 1 → CoversTo ws n end
-covers_none ws n end few = record { covers = λ g x l. absurd (omega (arith, few, l)) }
-
 -- one place more
 pub covers_next : (ws : List ℕ) (n end end' : ℕ) → 1 ≤ n → CoversTo ws n end → end ≤ end'
     → ((g : ℕ) (x : Named ws g) → x.place + 1 ≡ n → 2 * g + 1 < end') → CoversTo ws (n + 1) end'

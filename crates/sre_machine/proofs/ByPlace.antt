@@ -1,8 +1,7 @@
--- Lists by address: an entry stays where another one is set, and what an entry says of sets.
+-- Lists by address: what an entry says of sets.
 -- The list by which branches skip alternatives rests on this; nothing else here does.
-use Rattle.std.proofs.Common.{◌≡◌, ℕ, zero, suc, ◌+◌, ◌⊎◌, inl, inr, Bool, true, false, not, cond, ◌&&◌, ◌||◌}
-use Rattle.std.proofs.Common.{nat_lt, List, [], ◌∷◌, ◌++◌, Option, Some, None, slice_get, slice_set, refl, sym, ap}
-use Rattle.std.proofs.Common.{◌∙◌, subst, arith}
+use Rattle.std.proofs.Common.{◌≡◌, ℕ, ◌+◌, Bool, true, false, not, cond, ◌&&◌, ◌||◌, nat_lt, List, [], ◌∷◌, Some}
+use Rattle.std.proofs.Common.{refl, sym, ap, ◌∙◌, arith}
 use Rattle.std.proofs.lemmas.Bool.Decides.{nat_tests}
 use Rattle.sre_chars.specs.Tables.{Table}
 use Rattle.sre_chars.specs.declared.constants.SreOpcode.TheVariants as opcode
@@ -13,61 +12,6 @@ use Rattle.sre_model.proofs.Members.{negated, nothing_left}
 use Rattle.sre_code.specs.AsciiSet.{contains}
 use Rattle.sre_code.specs.declared.ascii_set.AsciiSet.{AsciiSet}
 use Rattle.sre_code.specs.AsciiSets.{HoldsFor, AreTold}
-use Rattle.sre_request.specs.Admitting.{IsAdmitted, AllAdmitted}
-use Rattle.sre_request.specs.declared.admitted.Admitted.{Admitted}
-use Rattle.sre_machine.specs.ByPlace.{AllTold}
-
--- an item of a list in which one is set, or with one more
-got_set : {X : Type 0} (xs : List X) (i j : ℕ) (v x : X) → slice_get (slice_set xs i v) j ≡ Some x
-    → ((j ≡ i) × (x ≡ v)) ⊎ (slice_get xs j ≡ Some x)
-got_set [] i j v x e = inr e
-got_set (y ∷ ys) zero zero v x e = inl (refl, cc)
-got_set (y ∷ ys) zero (suc j) v x e = inr e
-got_set (y ∷ ys) (suc i) zero v x e = inr e
-got_set (y ∷ ys) (suc i) (suc j) v x e = elim (got_set ys i j v x e) [
-  | (inl same) ↦ inl (ap (λ n. suc n) same.0, same.1)
-  | (inr was) ↦ inr was
-]
-
-pub got_more : {X : Type 0} (xs : List X) (j : ℕ) (v x : X)
-    → ((i : ℕ) (y : X) → slice_get xs i ≡ Some y → y ≡ v) → slice_get (xs ++ v ∷ []) j ≡ Some x → x ≡ v
-got_more [] zero v x h e = cc
-got_more [] (suc j) v x h e = absurd (cc)
-got_more (y ∷ ys) zero v x h e = h 0 x e
-got_more (y ∷ ys) (suc j) v x h e = got_more ys j v x (λ i z k. h (suc i) z k) e
-
--- a place more is told
-pub told_more : (ws : List ℕ) (list : List (Option AsciiSet)) (place : ℕ) (members : Option AsciiSet)
-    → AllTold ws list → AreTold ws place members → AllTold ws (slice_set list place members)
-told_more ws list place members told here = record {
-  each = λ i m e. elim (got_set list place i members m e) [
-    | (inl same) ↦
-        subst (λ n. AreTold ws n m) (sym same.0) (subst (λ o. AreTold ws place o) (sym same.1) here)
-    | (inr was) ↦ told.each i m was
-  ];
-}
-
-pub admitted_more : (ws : List ℕ) (list : List Admitted) (place : ℕ) (a : Admitted) → AllAdmitted ws list
-    → IsAdmitted ws place a → AllAdmitted ws (slice_set list place a)
-admitted_more ws list place a told here = record {
-  each = λ i b e. elim (got_set list place i a b e) [
-    | (inl same) ↦
-        subst (λ n. IsAdmitted ws n b) (sym same.0) (subst (λ o. IsAdmitted ws place o) (sym same.1) here)
-    | (inr was) ↦ told.each i b was
-  ];
-}
-
--- nothing is told yet
-pub told_nothing : (ws : List ℕ) (list : List (Option AsciiSet))
-    → ((i : ℕ) (m : Option AsciiSet) → slice_get list i ≡ Some m → m ≡ None) → AllTold ws list
-told_nothing ws list h = record { each = λ i m e. subst (λ o. AreTold ws i o) (sym (h i m e)) tt }
-
-pub admitted_anything : (ws : List ℕ) (list : List Admitted) (anything : Admitted)
-    → ((i : ℕ) → IsAdmitted ws i anything)
-    → ((i : ℕ) (a : Admitted) → slice_get list i ≡ Some a → a ≡ anything) → AllAdmitted ws list
-admitted_anything ws list anything any h = record {
-  each = λ i a e. subst (λ o. IsAdmitted ws i o) (sym (h i a e)) (any i);
-}
 
 -- a set at its end, behind NEGATE, and behind an item
 pub none_told : (ws : List ℕ) (i : ℕ) (members : AsciiSet) → Opcode ws i opcode.FAILURE

@@ -1,11 +1,10 @@
 -- The body of an atomic scope ends: what is tried inside is tried no more, and an end is memoized for the bit that was
 -- taken in.
-use Rattle.std.proofs.Common.{◌≡◌, ℕ, ◌+◌, ◌≤◌, ◌⊎◌, inl, inr, Bool, true, false, List, [], ◌∷◌, ◌++◌, drop}
+use Rattle.std.proofs.Common.{◌≡◌, ℕ, inl, inr, true, false, List, [], ◌∷◌, ◌++◌, drop}
 use Rattle.std.proofs.Common.{length, map, refl, sym, ap, ◌∙◌, subst, arith}
 use Rattle.std.specs.List.{AllByRecursion}
 use Rattle.sre_chars.specs.declared.string.StrDrive.{Ghosts}
 use Rattle.sre_chars.specs.declared.string.StringCursor.{StringCursor}
-use Rattle.sre_growth.specs.Refusal.{Refused}
 use Rattle.sre_model.specs.Regions.{has_forked_region}
 use Rattle.sre_model.specs.Ways.{Way}
 use Rattle.sre_turns.specs.Attempts.{Attempt}
@@ -18,7 +17,7 @@ use Rattle.sre_turns.specs.OpenMarks.{open_spots}
 use Rattle.sre_turns.specs.declared.Next.{Next}
 use Rattle.sre_turns.proofs.bound.FaringInRegions.{opened_first}
 use Rattle.sre_turns.proofs.memoization.Hopeless.{no_reference}
-use Rattle.sre_board.specs.Accounts.{Account, BitOf, IsEnded, StaysEnded}
+use Rattle.sre_board.specs.Accounts.{BitOf, IsEnded, StaysEnded}
 use Rattle.sre_board.proofs.AccountLaws.{account_ends, account_same_ends}
 use Rattle.sre_board.proofs.EndsTold.{bit_numbered}
 use Rattle.sre_request.specs.declared.request.Request.{Request}
@@ -26,7 +25,7 @@ use Rattle.sre_request.specs.Runs.{run_of}
 use Rattle.sre_machine.specs.Memos.{MemoValue}
 use Rattle.sre_machine.specs.Paying.{Holds, Holding, Pays, Remembering, rows_from}
 use Rattle.sre_machine.specs.Turns.{KeepsBodyEnd, Proceeds}
-use Rattle.sre_machine.proofs.Paying.{grants_nothing}
+use Rattle.sre_machine.proofs.Paying.{grants_nothing, pays_unless}
 
 -- what holds of all of two lists holds of those of the second
 all_behind : {A : Type 0} (P : A → Type 0) (xs ys : List A) → AllByRecursion P (xs ++ ys) → AllByRecursion P ys
@@ -57,29 +56,22 @@ module _ {M S : Type 0} {text : Ghosts S} (r : Request S text) (cursor : StringC
   still n c held = elim (keeps.kept n c held) [ inl same ↦ (c, same) | inr other ↦ (cursor, other.0) ]
 
   -- where no atomic scope ends nothing is granted
-  pub pays_kept_end : (l : Limit) → Pays M r m l m' l
-  pays_kept_end l = record { paid = λ pl opened at n h. go pl opened n h m'.stopped refl }
-    where
-      go : (pl : Remembering r) → m.is_open ≡ true → (n : ℕ) → Holding r pl m l n → (stopped : Bool)
-          → m'.stopped ≡ stopped → Refused M ⊎ ((n' : ℕ) × Holding r pl m' l n' × (m'.is_open ≡ true)
-          × (l.tolls + n ≤ l.tolls + n'))
-      go pl opened n h true e = inl (keeps.refused e)
-      go pl opened n h false e =
-          let same = keeps.same e in
-          inr (
-            n,
-            record {
-              account =
-                  account_same_ends (run_of r) pl.plain (rows_from r pl) m'.kept m.ends m'.ends l.trying n still
-                  (subst (λ k. Account (run_of r) pl.plain (rows_from r pl) k m.ends l.trying n)
-                  (sym (ap (λ (k : MemoValue). k.kept) same)) h.account);
-              first = ap (λ (k : MemoValue). k.first) same ∙ h.first;
-              ends = λ forked. ap (λ (k : MemoValue). k.keeps_ends) same ∙ h.ends forked;
-              forked = h.forked;
-            },
-            stays_open opened e,
-            omega arith,
-          )
+  pays_kept_end : (l : Limit) → Pays M r m l m' l
+  pays_kept_end l = pays_unless r m m' l l keeps.refused (λ e. record {
+    paid = λ pl opened at n h.
+        inr (
+          n,
+          subst (λ (k : MemoValue). Holds r pl k l.trying n) (sym (keeps.same e)) (record {
+            account =
+                account_same_ends (run_of r) pl.plain (rows_from r pl) m.kept m.ends m'.ends l.trying n still h.account;
+            first = h.first;
+            ends = h.ends;
+            forked = h.forked;
+          }),
+          stays_open opened e,
+          omega arith,
+        );
+  })
 
   -- where one ends, an end is kept for what was tried inside
   module _ (inside : is_inside b.choices ≡ true) (all : List Way) (l : Limit)
@@ -118,31 +110,23 @@ module _ {M S : Type 0} {text : Ghosts S} (r : Request S text) (cursor : StringC
         ))
 
     pays_ended : Pays M r m l m' (without_open b.choices l)
-    pays_ended = record { paid = λ pl opened at n h. go pl opened n h m'.stopped refl }
-      where
-        go : (pl : Remembering r) → m.is_open ≡ true → (n : ℕ) → Holding r pl m l n → (stopped : Bool)
-            → m'.stopped ≡ stopped
-            → Refused M ⊎ ((n' : ℕ) × Holding r pl m' (without_open b.choices l) n' × (m'.is_open ≡ true)
-            × (l.tolls + n ≤ l.tolls + n'))
-        go pl opened n h true e = inl (keeps.refused e)
-        go pl opened n h false e =
-            let same = keeps.same e in
-            let was = subst (λ xs. Holds r pl m xs n) (trying pl) h in
-            inr (
-              n,
-              record {
-                account =
-                    subst (λ k. Account (run_of r) pl.plain (rows_from r pl) k m'.ends left n)
-                    (sym (ap (λ (k : MemoValue). k.kept) same))
-                    (account_ends (run_of r) pl.plain (rows_from r pl) m.kept m.ends m'.ends (open_attempts b.choices)
-                    left n (ended pl n opened h e) still was.account);
-                first = ap (λ (k : MemoValue). k.first) same ∙ h.first;
-                ends = λ forked. ap (λ (k : MemoValue). k.keeps_ends) same ∙ h.ends forked;
-                forked = all_behind (Forked pl) (open_attempts b.choices) left was.forked;
-              },
-              stays_open opened e,
-              omega arith,
-            )
+    pays_ended = pays_unless r m m' l (without_open b.choices l) keeps.refused (λ e. record {
+      paid = λ pl opened at n h.
+          let was = subst (λ xs. Holds r pl m xs n) (trying pl) h in
+          inr (
+            n,
+            subst (λ (k : MemoValue). Holds r pl k left n) (sym (keeps.same e)) (record {
+              account =
+                  account_ends (run_of r) pl.plain (rows_from r pl) m.kept m.ends m'.ends (open_attempts b.choices) left
+                  n (ended pl n opened h e) still was.account;
+              first = h.first;
+              ends = h.ends;
+              forked = all_behind (Forked pl) (open_attempts b.choices) left was.forked;
+            }),
+            stays_open opened e,
+            omega arith,
+          );
+    })
 
     -- so the step that leaves it is paid
     pub ended_then : (n' : Next) (c : BoardValue) → Later (run_of r) all (without_open b.choices l) n' c

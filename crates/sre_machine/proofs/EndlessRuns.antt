@@ -1,5 +1,5 @@
 -- Repeats without a greatest count, while failures are memoized.
-use Rattle.std.proofs.Common.{◌≡◌, ◌⊎◌, inl, inr, ℕ, ◌+◌, ◌-◌, ◌<◌, ◌≤◌, true, false, List, ◌∷◌, Some, None}
+use Rattle.std.proofs.Common.{◌≡◌, ◌⊎◌, inl, inr, ℕ, ◌+◌, ◌-◌, ◌<◌, ◌≤◌, true, false, List, ◌∷◌, Option, Some, None}
 use Rattle.std.proofs.Common.{refl, sym, subst, arith}
 use Rattle.sre_chars.specs.declared.constants.SreOpcode.TheVariants as opcode
 use Rattle.sre_chars.specs.declared.string.StrDrive.{Ghosts}
@@ -14,7 +14,7 @@ use Rattle.sre_model.proofs.Longest.{run_inside, run_at_most}
 use Rattle.sre_model.proofs.Words.{word_there}
 use Rattle.sre_turns.specs.Board.{BoardValue, Else}
 use Rattle.sre_turns.specs.Limits.{Limit}
-use Rattle.sre_turns.specs.Machine.{Tries, GoesBoth, HasRun, Later, Refuses, spot}
+use Rattle.sre_turns.specs.Machine.{Runs, Tries, GoesBoth, HasRun, Later, Refuses, spot}
 use Rattle.sre_turns.specs.Moves.{spot_at}
 use Rattle.sre_turns.specs.RunEnds.{RunsOn}
 use Rattle.sre_turns.specs.declared.Next.TheVariants as next
@@ -45,8 +45,8 @@ endless_there r kind i n c w code x greatest same = record {
   test = run_there r kind i c w x;
 }
 
-module _ {S : Type 0} {text : Ghosts S} (r : Request S text) (place : ℕ) (on : RunsOn (run_of r).words place)
-    (o : RunOperands) (read : AreOperands r place o) (c : StringCursor) where
+module _ {S : Type 0} {text : Ghosts S} (r : Request S text) {place : ℕ} (on : RunsOn (run_of r).words place)
+    {o : RunOperands} (read : AreOperands r place o) (c : StringCursor) where
   abbrev ws : List ℕ
   ws = (run_of r).words
 
@@ -72,12 +72,16 @@ module _ {S : Type 0} {text : Ghosts S} (r : Request S text) (place : ℕ) (on :
   ]
 
   -- its first end is its only one
-  pub run_only : (b : BoardValue) (end : StringCursor) → EndsFirst r place o.least c.position end None
+  pub run_only : (b : BoardValue) {end : StringCursor} {later : Option StringCursor} → later ≡ None
+      → EndsFirst r place o.least c.position end later
       → (all : List Way) (limit : Limit) → Tries (run_of r) all limit (Instruction place) c b
       → Later (run_of r) all limit (next.At o.tail end) b
-  run_only b end e all limit g =
+  run_only b {end} {later} is first all limit g =
       subst (λ t. Later (run_of r) all limit (next.At t end) b) (sym read.operands.leads) (go on.code)
     where
+      e : EndsFirst r place o.least c.position end None
+      e = rw is at first
+
       go : Opcode ws place opcode.REPEAT_ONE
           ⊎ (Opcode ws place opcode.MIN_REPEAT_ONE ⊎ Opcode ws place opcode.POSSESSIVE_REPEAT_ONE)
           → Later (run_of r) all limit (next.At (place + 1 + v) end) b
@@ -94,12 +98,19 @@ module _ {S : Type 0} {text : Ghosts S} (r : Request S text) (place : ℕ) (on :
           (e.taken there.end there.test there.stands) (e.others there.end there.test there.stands) e.position e.stands
           all limit g
 
-  module _ (end later : StringCursor) (e : EndsFirst r place o.least c.position end (Some later)) where
+  module _ {end later : StringCursor} {other : Option StringCursor} (is : other ≡ Some later)
+      (first : EndsFirst r place o.least c.position end other) where
+    e : EndsFirst r place o.least c.position end (Some later)
+    e = rw is at first
+
     -- something may come of its tail
     pub tail_has : HasOtherEnds r place → At r place c → HasRun (run_of r) (Instruction o.tail) end
     tail_has several x =
         subst (λ t. HasRun (run_of r) (Instruction t) end) (sym read.operands.leads) (go several)
       where
+        own_at : List Way → ℕ → ℕ → Type 0
+        own_at os n p = Runs ws (run_of r).subject (spot_at (Instruction (place + 1 + v)) x.frames p x.marks) os n
+
         go : HasOtherEnds r place → HasRun (run_of r) (Instruction (place + 1 + v)) end
         go (inl w) =
             let y = run_next (run_of r) place o.least v x.frames x.marks w there wv read.operands.lowest on.greatest
@@ -110,7 +121,7 @@ module _ {S : Type 0} {text : Ghosts S} (r : Request S text) (place : ℕ) (on :
               outcomes = y.own;
               turns = y.own_turns;
               stands = e.stands;
-              runs = rw e.position y.own_runs;
+              runs = subst (own_at y.own y.own_turns) (sym e.position) y.own_runs;
             }
         go (inr w) =
             let y = lazy_next (run_of r) place o.least v x.frames x.marks w there wv read.operands.lowest on.greatest
@@ -121,7 +132,7 @@ module _ {S : Type 0} {text : Ghosts S} (r : Request S text) (place : ℕ) (on :
               outcomes = y.own;
               turns = y.own_turns;
               stands = e.stands;
-              runs = rw e.position y.own_runs;
+              runs = subst (own_at y.own y.own_turns) (sym e.position) y.own_runs;
             }
 
     -- a possessive one goes on to the run that begins later

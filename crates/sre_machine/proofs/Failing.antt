@@ -8,8 +8,8 @@ use Rattle.sre_model.specs.Runs.{Run}
 use Rattle.sre_model.specs.Marks.{Marks, no_marks}
 use Rattle.sre_model.specs.Ways.{Way}
 use Rattle.sre_turns.specs.Board.{BoardValue, Trying}
-use Rattle.sre_turns.specs.Machine.{IsAt, IsBack, Backs, Arrives, Goes}
-use Rattle.sre_turns.specs.Limits.{Limit, raised, without_tried}
+use Rattle.sre_turns.specs.Machine.{IsAt, Arrives, Goes}
+use Rattle.sre_turns.specs.Limits.{Limit, raised}
 use Rattle.sre_turns.specs.declared.Next.TheVariants as next
 use Rattle.sre_turns.specs.declared.Next.{Next}
 use Rattle.sre_turns.specs.declared.Point.TheVariants.{Instruction}
@@ -46,17 +46,7 @@ stays_tried r point cursor b c true marked left x =
 stays_tried r point cursor b c false marked left x =
     subst (λ d. IsAt r point cursor d) (sym (left refl)) x
 
--- an instruction is left at once
-pub left_at_once : {M S : Type 0} {text : Ghosts S} (r : Request S text) (point : Point) (cursor : StringCursor)
-    (b c : BoardValue) (m m' : MemoValue) → GivesUp M r point cursor b m c m'
-    → LeavesOrStays M r point cursor true b m c m'
-left_at_once r point cursor b c m m' left = record {
-  left = λ _. left;
-  stays = λ told. absurd (true≢false told);
-  goes = λ told. absurd (true≢false told);
-}
-
--- or is not
+-- an instruction is not left at once
 pub stays_on : {M S : Type 0} {text : Ghosts S} (r : Request S text) (point : Point) (cursor : StringCursor)
     (b c : BoardValue) (m m' : MemoValue) → StaysAt r point cursor b c → GoesOn M r point cursor b m c m'
     → LeavesOrStays M r point cursor false b m c m'
@@ -145,12 +135,6 @@ none_refers code told tells none has =
     let t = tree_of (items_of code) in
     let w = whole_of code in
     true≢false (sym (has t w) ∙ sym (tells t (whole_items code t w)) ∙ none)
-
--- the machine goes back still
-pub still_back : (r : Run) (b c : BoardValue)
-    → ((all : List Way) (limit : Limit) → Backs r all limit b → Backs r all (without_tried limit) c) → IsBack r b
-    → IsBack r c
-still_back r b c still x = record { all = x.all; limit = without_tried x.limit; backs = still x.all x.limit x.backs }
 
 -- so the words that are matched have none
 pub plain_words : {S : Type 0} {text : Ghosts S} (r : Request S text) (code : Code) (told : Bool)

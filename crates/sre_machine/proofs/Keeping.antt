@@ -14,7 +14,7 @@ use Rattle.sre_turns.specs.Fruit.{is_inside}
 use Rattle.sre_turns.specs.Moves.{spot_at}
 use Rattle.sre_turns.specs.Nested.{most_slots}
 use Rattle.sre_turns.specs.declared.Point.{Point}
-use Rattle.sre_board.specs.Accounts.{Account, BitsOf}
+use Rattle.sre_board.specs.Accounts.{BitsOf}
 use Rattle.sre_board.specs.Failures.{Kept, HasBit, KeepsSpot, Roomy, RowsStay}
 use Rattle.sre_board.proofs.AccountLaws.{account_closes, no_new_row}
 use Rattle.sre_board.proofs.RowsAdded.{rows_stay}
@@ -71,13 +71,12 @@ pays_kept r point cursor b b' m m' marked same keeps all limit x = record {
       let was = subst (λ xs. Holds r pl m xs n) trying h in
       inr (
         n,
-        record {
-          account = subst (λ es. Account (run_of r) pl.plain (rows_from r pl) m'.kept es (drop 1 limit.trying) n)
-              (sym (ap (λ (k : MemoValue). k.ends) same)) (keeps pl m.ends (drop 1 limit.trying) n was.account);
-          first = ap (λ (k : MemoValue). k.first) same ∙ h.first;
-          ends = λ forked. ap (λ (k : MemoValue). k.keeps_ends) same ∙ h.ends forked;
+        subst (λ (k : MemoValue). Holds r pl k (drop 1 limit.trying) n) (sym same) (record {
+          account = keeps pl m.ends (drop 1 limit.trying) n was.account;
+          first = h.first;
+          ends = h.ends;
           forked = was.forked.1;
-        },
+        }),
         ap (λ (k : MemoValue). k.is_open) same ∙ keeps_them,
         omega arith,
       );

@@ -8,7 +8,9 @@ pub mod KnownEnds
 pub mod EndlessRuns
 pub mod LaterRuns
 pub mod Taken
+pub mod LoopCounts
 pub mod Opening
+pub mod Tried
 pub mod Keeping
 pub mod MarksPassed
 pub mod Following

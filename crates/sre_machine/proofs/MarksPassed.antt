@@ -1,62 +1,102 @@
 -- The machine passes a marker of what was tried as it backtracks: it takes what is saved below, nothing is granted, and
 -- what was tried there has failed.
-use Rattle.std.proofs.Common.{◌≡◌, List, ◌∷◌, refl, ap, ◌∙◌}
+use Rattle.std.proofs.Common.{◌≡◌, ◌≤◌, Bool, true, List, ◌∷◌, ap, ◌∙◌}
 use Rattle.sre_chars.specs.declared.string.StrDrive.{Ghosts}
 use Rattle.sre_chars.specs.declared.string.StringCursor.{StringCursor}
 use Rattle.sre_model.specs.Marks.{Marks}
+use Rattle.sre_model.specs.Runs.{Run}
 use Rattle.sre_model.specs.Ways.{Way}
-use Rattle.sre_turns.specs.Board.{BoardValue, Trying}
+use Rattle.sre_turns.specs.Board.{BoardValue, Trying, choice}
 use Rattle.sre_turns.specs.Fruit.{is_inside}
-use Rattle.sre_turns.specs.Limits.{Limit, Grants, without_tried}
-use Rattle.sre_turns.specs.Machine.{IsBack, Backs, spot}
+use Rattle.sre_turns.specs.Limits.{Limit, attempt, earlier, without_tried}
+use Rattle.sre_turns.specs.Machine.{IsBack, Backs, Goes, Advances, Later, spot}
+use Rattle.sre_turns.specs.declared.Next.{Next}
 use Rattle.sre_turns.specs.declared.Point.{Point}
 use Rattle.sre_turns.specs.Hopeless.{Hopeless, MarksServe}
 use Rattle.sre_turns.proofs.memoization.Hopeless.{asked_by_stop}
 use Rattle.sre_turns.proofs.memoization.Trying.{tried_waits, tried_hopeless}
+use Rattle.sre_turns.proofs.semantics.GoingBack.{later_again}
 use Rattle.sre_request.specs.declared.request.Request.{Request}
 use Rattle.sre_request.specs.Requests.{asked_of}
 use Rattle.sre_request.specs.Runs.{run_of}
-use Rattle.sre_machine.specs.Memos.{MemoValue}
-use Rattle.sre_machine.specs.Paying.{Pays}
-use Rattle.sre_machine.proofs.Failing.{still_back}
-use Rattle.sre_machine.proofs.Paying.{pays_then, grants_then}
+use Rattle.sre_machine.specs.Memos.{MemoValue, Recalls}
+use Rattle.sre_machine.specs.Paying.{HoldsTried}
+use Rattle.sre_machine.specs.Turns.{GoesBack, Retreats}
+use Rattle.sre_machine.proofs.Keeping.{pays_kept}
+use Rattle.sre_machine.proofs.Paying.{pays_then}
 
-module _ {S : Type 0} {text : Ghosts S} (r : Request S text) (point : Point) (cursor : StringCursor)
-    (b b' : BoardValue) (marked : b.choices ≡ Trying point b'.frames cursor b'.marks ∷ b'.choices) where
-  waits : (all : List Way) (limit : Limit) → Backs (run_of r) all limit b
-      → Backs (run_of r) all (without_tried limit) b'
-  waits = tried_waits (run_of r) point cursor b b' marked
+-- the step at the newest choice that is saved
+pub choice_turned : {r : Run} {b b' : BoardValue} {pt : Point} {cursor : StringCursor} (n : Next) (c : BoardValue)
+    → ((all : List Way) (limit : Limit) → Backs r all limit b
+    → (1 ≤ limit.turns) × Goes r all (earlier limit) pt cursor b') → Advances r pt cursor b' n c
+    → (all : List Way) (limit : Limit) → Backs r all limit b → Later r all limit n c
+choice_turned {r} n c at turn all limit y =
+    let s = at all limit y in later_again r all limit n c s.0 (turn all (earlier limit) s.1)
 
-  pub passed_still : IsBack (run_of r) b → IsBack (run_of r) b'
-  passed_still = still_back (run_of r) b b' waits
+module _ {M Keeps S : Type 0} {text : Ghosts S} {r : Request S text} {first b : BoardValue} {m m' : MemoValue}
+    (x : GoesBack M Keeps r first m b m') where
+  -- the machine goes on from there
+  pub retreats : (n : Next) (c : BoardValue) {keeps : Bool} → (keeps ≡ true → Keeps)
+      → ((all : List Way) (limit : Limit) → Backs (run_of r) all limit b → Later (run_of r) all limit n c)
+      → Retreats M r keeps first m n c m'
+  retreats n c kept step all limit y =
+      let z = x.backs all limit y in (z.0, z.1, step all z.0 z.2, λ keeps. z.3 (kept keeps))
 
-  pub passed_failed : IsBack (run_of r) b → (m : Marks) → MarksServe (run_of r).words m (spot point cursor b')
-      → Hopeless (run_of r) (is_inside b'.choices) m (spot point cursor b')
-  passed_failed x m serves =
-      tried_hopeless (run_of r) (asked_by_stop (asked_of r)) point cursor b b' m serves marked x.all x.limit x.backs
+  -- a marker is passed
+  module _ (b' : BoardValue) (point : Point) {pt tried : Point} {cursor : StringCursor}
+      (saved : b.choices ≡ choice pt b'.frames cursor b'.marks ∷ b'.choices) (is : pt ≡ tried)
+      (tries : choice tried b'.frames cursor b'.marks ≡ Trying point b'.frames cursor b'.marks) where
+    marked : b.choices ≡ Trying point b'.frames cursor b'.marks ∷ b'.choices
+    marked =
+        saved ∙ ap (λ p. choice p b'.frames cursor b'.marks ∷ b'.choices) is ∙ ap (λ z. z ∷ b'.choices) tries
 
-  -- the machine goes back under a limit that grants no more, and where failures are kept all is paid
-  abbrev GoesBackSo : Type 0 → Type 0 → MemoValue → MemoValue → List Way → Limit → BoardValue → Type 0
-  GoesBackSo M Keeps first m all limit a =
-      (more : Limit) × Grants limit more × Backs (run_of r) all more a × (Keeps → Pays M r first limit m more)
+    waits : (all : List Way) (limit : Limit) → Backs (run_of r) all limit b
+        → Backs (run_of r) all (without_tried limit) b'
+    waits = tried_waits (run_of r) point cursor b b' marked
 
-  pub passed_back : {M : Type 0} (Keeps : Type 0) (first m m' : MemoValue)
-      → (Keeps → (all : List Way) (limit : Limit) → Backs (run_of r) all limit b
-      → Pays M r m limit m' (without_tried limit))
-      → (all : List Way) (limit : Limit) → GoesBackSo M Keeps first m all limit b
-      → GoesBackSo M Keeps first m' all limit b'
-  passed_back Keeps first m m' pays all limit y = (
-    without_tried y.0,
-    grants_then limit y.0 (without_tried y.0) y.1
-        (record { turns = refl; taken = refl; granted = refl; start = refl }),
-    waits all y.0 y.2,
-    λ keeps.
-        pays_then r first m m' limit y.0 (without_tried y.0) y.1.start (y.3 keeps) (pays keeps all y.0 y.2),
-  )
+    -- what was tried there has failed
+    pub passed_failed : (ms : Marks) → MarksServe (run_of r).words ms (spot point cursor b')
+        → Hopeless (run_of r) (is_inside b'.choices) ms (spot point cursor b')
+    passed_failed ms serves =
+        tried_hopeless (run_of r) (asked_by_stop (asked_of r)) point cursor b b' ms serves marked x.back.all
+        x.back.limit x.back.backs
 
--- one that differs in what is kept from one that differs so does, too
-pub only_kept : (first m m' : MemoValue) → m ≡ record first { kept = m.kept; marked = m.marked }
-    → m' ≡ record m { kept = m'.kept; marked = m'.marked }
-    → m' ≡ record first { kept = m'.kept; marked = m'.marked }
-only_kept first m m' same more =
-    more ∙ ap (λ (k : MemoValue). record k { kept = m'.kept; marked = m'.marked }) same
+    passed_still : IsBack (run_of r) b'
+    passed_still = record {
+      all = x.back.all;
+      limit = without_tried x.back.limit;
+      backs = waits x.back.all x.back.limit x.back.backs;
+    }
+
+    -- its failure is memoized
+    pub passed_kept : {m'' : MemoValue} → m'' ≡ record m' { kept = m''.kept; marked = m''.marked }
+        → HoldsTried r (attempt b'.choices (spot point cursor b')) m'.kept m''.kept → Recalls (run_of r) m''
+        → GoesBack M Keeps r first m b' m''
+    passed_kept {m''} same keeps recalls = record {
+      back = passed_still;
+      backs = λ all limit y.
+          let z = x.backs all limit y in (
+            without_tried z.0,
+            record { turns = z.1.turns; taken = z.1.taken; granted = z.1.granted; start = z.1.start },
+            waits all z.0 z.2,
+            λ kept. pays_then r m m' m'' limit z.0 (without_tried z.0) z.1.start (z.3 kept)
+                (pays_kept r point cursor b b' m' m'' marked same keeps all z.0 z.2),
+          );
+      remembers = recalls;
+      same = same ∙ ap (λ (k : MemoValue). record k { kept = m''.kept; marked = m''.marked }) x.same;
+    }
+
+    -- or it is not, where none are
+    pub passed_unkept : (Keeps → ⊥) → GoesBack M Keeps r first m b' m'
+    passed_unkept none = record {
+      back = passed_still;
+      backs = λ all limit y.
+          let z = x.backs all limit y in (
+            without_tried z.0,
+            record { turns = z.1.turns; taken = z.1.taken; granted = z.1.granted; start = z.1.start },
+            waits all z.0 z.2,
+            λ kept. absurd (none kept),
+          );
+      remembers = x.remembers;
+      same = x.same;
+    }

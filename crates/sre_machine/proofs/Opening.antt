@@ -38,7 +38,7 @@ use Rattle.sre_turns.proofs.semantics.StepsInPossessiveLoops.{again_place}
 use Rattle.sre_turns.specs.MovesAtReferences.{HasReference}
 use Rattle.sre_turns.proofs.memoization.Trying.{trying_goes, trying_tries}
 use Rattle.sre_model.proofs.Words.{opcode_within}
-use Rattle.sre_board.specs.Accounts.{Account, toll_at}
+use Rattle.sre_board.specs.Accounts.{toll_at}
 use Rattle.sre_board.specs.Ends.{HoldsEnd}
 use Rattle.sre_board.specs.Failures.{Entry, HasBit, IsOpen}
 use Rattle.sre_board.proofs.AccountLaws.{account_opens}
@@ -49,8 +49,8 @@ use Rattle.sre_request.specs.declared.request.Request.{Request}
 use Rattle.sre_request.specs.Requests.{start_of, end_of}
 use Rattle.sre_request.specs.Runs.{run_of}
 use Rattle.sre_machine.specs.Memos.{MemoValue, MakesRoom, RecallsOf}
-use Rattle.sre_machine.specs.Paying.{Pays, Remembering, Holding, rows_from}
-use Rattle.sre_machine.proofs.Paying.{pays_refused, pays_nothing, pays_left}
+use Rattle.sre_machine.specs.Paying.{Pays, Remembering, Holds, Holding, rows_from}
+use Rattle.sre_machine.proofs.Paying.{pays_refused, pays_unless, pays_nothing, pays_left}
 
 -- failures are memoized still, or an allocation failed
 pub open_or_refused : (M : Type 0) (m m' : MemoValue) → m.is_open ≡ true →
@@ -128,9 +128,9 @@ pub prepared_at : {M S : Type 0} {text : Ghosts S} (r : Request S text) (point :
 prepared_at r point b m m' ws end words stop makes same refused =
     record { makes = rw (words, stop) at makes; same = same; refused = refused }
 
-module _ {M S : Type 0} {text : Ghosts S} (r : Request S text) (point : Point) (cursor : StringCursor) (b : BoardValue)
-    (m m' : MemoValue) (p : PreparedAt M r point b m m') (forks : ForksThere r point) (all : List Way) (limit : Limit)
-    (x : Arrives (run_of r) all limit point cursor b) where
+-- an instruction, or a possessive loop, that was reached
+module _ {S : Type 0} {text : Ghosts S} (r : Request S text) (point : Point) (cursor : StringCursor) (b : BoardValue)
+    (all : List Way) (limit : Limit) (x : Arrives (run_of r) all limit point cursor b) where
   abbrev here : Spot
   here = spot point cursor b
 
@@ -138,112 +138,195 @@ module _ {M S : Type 0} {text : Ghosts S} (r : Request S text) (point : Point) (
   abbrev there : Attempt
   there = attempt b.choices here
 
-  faring : (pl : Remembering r)
-      → FaresAt (run_of r) pl.plain limit (price_of (run_of r).words (run_of r).subject.end here) here b.choices
-  faring pl = let code = run_code (run_of r) here x.runs in x.fares pl.plain code.0 code.1
+  abbrev code : (o : SreOpcode) × CodeAt (run_of r).words point o
+  code = run_code (run_of r) here x.runs
 
-  forked : StraightPoint (run_of r).words point → ⊥
-  forked = forks_here r point forks
+  abbrev own : ℕ
+  own = toll (run_of r).words (run_of r).subject.end code.0 point (repeats b.frames)
 
-  -- it is settled, in an atomic scope, too
-  settled : (pl : Remembering r) → SettledIn (run_of r) pl.plain (limit.start - backs pl.plain.tree) here
-  settled pl = here_settled (run_of r) pl.plain limit.start b.choices here (faring pl).here
-
-  settled_at : (pl : Remembering r) → limit.start ≡ start_of r → SettledIn (run_of r) pl.plain (rows_from r pl) here
-  settled_at pl at = subst (λ n. SettledIn (run_of r) pl.plain (n - backs pl.plain.tree) here) at (settled pl)
-
-  in_forked : (pl : Remembering r) → is_inside b.choices ≡ true → has_forked_region pl.plain.tree ≡ true
-  in_forked pl inside =
-      here_forked (run_of r) pl.plain limit.start b.choices here (faring pl).here forked inside
-
-  stands_in : (place : ℕ) × (place_of here ≡ Some place) × (place < length (run_of r).words)
-  stands_in = forking_place r point cursor b forks x.runs
-
-  -- room was made from there on
-  makes : (pl : Remembering r) (n : ℕ) → Holding r pl m limit n
-      → MakesRoom (run_of r).words (rows_from r pl) (end_of r) point (repeats b.frames) m m'
-  makes pl n h =
-      subst (λ first. MakesRoom (run_of r).words first (end_of r) point (repeats b.frames) m m') h.first p.makes
-
-  -- what was taken in is held still, unless an allocation failed
-  holds : (pl : Remembering r) → limit.start ≡ start_of r → (n : ℕ) → Holding r pl m limit n → m'.stopped ≡ false
-      → Holding r pl m' limit n
-  holds pl at n h going =
-      let same = p.same going in
-      record {
-        account =
-            subst (λ e. Account (run_of r) pl.plain (rows_from r pl) m'.kept e limit.trying n)
-            (sym (ap (λ (k : MemoValue). k.ends) same))
-            (account_prepared (run_of r) pl.plain (rows_from r pl) m.kept m'.kept m.ends here stands_in.0 limit.trying n
-            pl.room (settled_at pl at) stands_in.1 stands_in.2 (makes pl n h).rows p.makes.grows.stay p.makes.grows.bits
-            p.makes.laid (makes pl n h).roomy h.account);
-        first = ap (λ (k : MemoValue). k.first) same ∙ h.first;
-        ends = λ forked. ap (λ (k : MemoValue). k.keeps_ends) same ∙ h.ends forked;
-        forked = h.forked;
-      }
-
-  has_bit : (pl : Remembering r) → limit.start ≡ start_of r → (n : ℕ) → Holding r pl m limit n → m'.stopped ≡ false
-      → (inside : Bool) → HasBit m'.kept (run_of r).words inside here
-  has_bit pl at n h going side =
-      bit_prepared (run_of r) pl.plain (rows_from r pl) m.kept m'.kept m.ends here stands_in.0 limit.trying n pl.room
-      (settled_at pl at) stands_in.1 stands_in.2 (makes pl n h).rows p.makes.grows.stay p.makes.grows.bits p.makes.laid
-      (makes pl n h).roomy h.account side ((makes pl n h).there going stands_in.0 stands_in.1)
-
-  -- failures are memoized still
-  stays_open : m.is_open ≡ true → m'.stopped ≡ false → m'.is_open ≡ true
-  stays_open keeps e = ap (λ (k : MemoValue). k.is_open) (p.same e) ∙ keeps
-
-  -- nothing is granted
-  pub pays_prepared : Pays M r m limit m' limit
-  pays_prepared = record { paid = λ pl keeps at n h. go pl keeps at n h m'.stopped refl }
-    where
-      go : (pl : Remembering r) → m.is_open ≡ true → limit.start ≡ start_of r → (n : ℕ) → Holding r pl m limit n
-          → (stopped : Bool) → m'.stopped ≡ stopped → Refused M ⊎ ((n' : ℕ) × Holding r pl m' limit n'
-          × (m'.is_open ≡ true) × (limit.tolls + n ≤ limit.tolls + n'))
-      go pl keeps at n h true e = inl (p.refused e)
-      go pl keeps at n h false e = inr (n, holds pl at n h e, stays_open keeps e, omega arith)
-
-  others : (pl : Remembering r)
-      → AllByRecursion (λ (y : Attempt). Alike (run_of r).words y.spot here → ⊥) limit.trying
-  others pl =
-      subst (λ ys. AllByRecursion (λ (y : Attempt). Alike (run_of r).words y.spot here → ⊥) ys) (faring pl).fares.trying
-      (none_tried (run_of r)
-      (no_reference (run_of r).words pl.plain.tree pl.plain.whole pl.plain.no_reference) all limit point
-      cursor b x)
-
-  -- no end is kept for its bit: outside of atomic scopes none ever is, and inside it would have been told
-  module _ (recalls : RecallsOf r m) (untold : RefersToGroups r ⊎ NoEndTold r point cursor b m) where
-    untold_here : Remembering r → NoEndTold r point cursor b m
-    untold_here pl = elim untold [
-      | inl has ↦
-          absurd (no_reference (run_of r).words pl.plain.tree pl.plain.whole pl.plain.no_reference has)
-      | inr none ↦ none
-    ]
-
-    no_end : (pl : Remembering r) (n : ℕ) → Holding r pl m limit n → (inside : Bool) → is_inside b.choices ≡ inside
-        → (at bit : ℕ) → Entry m'.kept (run_of r).words inside here at bit → (c : StringCursor)
-        → HoldsEnd m.ends (at * 64 + bit) c → ⊥
-    no_end pl n h true told at bit entry c held =
-        untold_here pl told (h.ends (in_forked pl told)) c
-        (end_told_before (run_of r) m.kept m.ends recalls.ends m'.kept here at bit c p.makes.grows.stay
-        p.makes.rows.stay p.makes.laid entry held)
-    no_end pl n h false told at bit entry c held =
-        no_end_outside (run_of r) m'.kept m.ends
-        (right_stays (run_of r) m.kept m'.kept m.ends p.makes.grows.stay recalls.ends) here at bit c p.makes.laid entry
-        held
-
-    -- credits are granted, and the configuration's bit is taken in
-    pays_tried : (k : ℕ) → k + scan_at r point ≤ toll_at (run_of r) here
-        → IsOpen m'.kept (run_of r).words (is_inside b.choices) here
-        → Pays M r m limit m' (raised (scan_at r point) (with_tried there (raised k limit)))
-    pays_tried k few opened = record { paid = λ pl keeps at n h. go pl keeps at n h m'.stopped refl }
+  -- its mark was made, or none was
+  module _ (c : BoardValue) (made : Bool)
+      (marked : made ≡ true → c ≡ record b { choices = Trying point b.frames cursor b.marks ∷ b.choices })
+      (left : made ≡ false → c ≡ b) where
+    -- some credits are granted, which are paid in some way
+    granted : (Goes : Limit → BoardValue → Type 0) (Paid : Limit → Type 0) (k : ℕ) → Goes (raised k limit) b
+        → (c ≡ record b { choices = Trying point b.frames cursor b.marks ∷ b.choices } → Goes (raised k limit) b
+        → Goes (with_tried there (raised k limit)) c)
+        → (made ≡ true → Paid (with_tried there (raised k limit))) → (made ≡ false → Paid (raised k limit))
+        → (more : Limit) × Grants limit more × Goes more c × Paid more
+    granted Goes Paid k goes tries paid unpaid = go made refl
       where
-        go : (pl : Remembering r) → m.is_open ≡ true → limit.start ≡ start_of r → (n : ℕ) → Holding r pl m limit n
-            → (stopped : Bool) → m'.stopped ≡ stopped
-            → Refused M ⊎ ((n' : ℕ) × Holding r pl m' (with_tried there (raised k limit)) n' × (m'.is_open ≡ true)
-            × (limit.tolls + k + scan_at r point + n ≤ limit.tolls + n'))
-        go pl keeps at n h true e = inl (p.refused e)
-        go pl keeps at n h false e =
+        go : (told : Bool) → made ≡ told → (more : Limit) × Grants limit more × Goes more c × Paid more
+        go true e = (
+          with_tried there (raised k limit),
+          record { turns = refl; taken = refl; granted = refl; start = refl },
+          tries (marked e) goes,
+          paid e,
+        )
+        go false e = (
+          raised k limit,
+          record { turns = refl; taken = refl; granted = refl; start = refl },
+          subst (λ z. Goes (raised k limit) z) (sym (left e)) goes,
+          unpaid e,
+        )
+
+    -- so it is executed
+    goes_paid : (Paid : Limit → Type 0) → (made ≡ true → Paid (with_tried there (raised own limit)))
+        → (made ≡ false → Paid (raised own limit))
+        → (more : Limit) × Grants limit more × Goes (run_of r) all more point cursor c × Paid more
+    goes_paid Paid =
+        granted (λ l d. Goes (run_of r) all l point cursor d) Paid own (arrived_at code.0 code.1 x)
+        (λ e y. trying_goes (run_of r) point cursor b c e all (raised own limit) y)
+
+    -- so is a repeat that is split
+    tries_paid : (Paid : Limit → Type 0)
+        → (made ≡ true → Paid (with_tried there (raised (split_toll (run_of r).words point) limit)))
+        → (made ≡ false → Paid (raised (split_toll (run_of r).words point) limit))
+        → (more : Limit) × Grants limit more × Tries (run_of r) all more point cursor c × Paid more
+    tries_paid Paid =
+        granted (λ l d. Tries (run_of r) all l point cursor d) Paid (split_toll (run_of r).words point) (arrived_once x)
+        (λ e y. trying_tries (run_of r) point cursor b c e all (raised (split_toll (run_of r).words point) limit) y)
+
+    -- where words have a reference nothing is paid
+    module _ {M : Type 0} (m m' : MemoValue) (has : HasReference (run_of r).words) where
+      pub goes_marked : (more : Limit) × Grants limit more × Goes (run_of r) all more point cursor c
+          × ((RunsOnAt (run_of r).words point → ⊥) → Pays M r m limit m' (raised (scan_at r point) more))
+      goes_marked =
+          goes_paid (λ more. (RunsOnAt (run_of r).words point → ⊥) → Pays M r m limit m' (raised (scan_at r point)
+          more))
+          (λ _ _. pays_left r m m' limit _ (λ _. has)) (λ _ _. pays_left r m m' limit _ (λ _. has))
+
+      pub tries_marked : (more : Limit) × Grants limit more × Tries (run_of r) all more point cursor c
+          × Pays M r m limit m' (raised (scan_at r point) more)
+      tries_marked =
+          tries_paid (λ more. Pays M r m limit m' (raised (scan_at r point) more))
+          (λ _. pays_left r m m' limit _ (λ _. has)) (λ _. pays_left r m m' limit _ (λ _. has))
+
+  -- an instruction is executed, where it brings no credits
+  pub goes_freely : {M : Type 0} (m : MemoValue) → BringsNoTolls r point
+      → (more : Limit) × Grants limit more × Goes (run_of r) all more point cursor b
+      × ((RunsOnAt (run_of r).words point → ⊥) → Pays M r m limit m (raised (scan_at r point) more))
+  goes_freely m free =
+      let none : own ≡ 0 = no_toll (run_of r).words (run_of r).subject.end code.0 point (repeats b.frames)
+      (free code.0 code.1) in
+      let free_scan : scan_at r point ≡ 0 = no_scan (run_of r).words (run_of r).subject.end code.0 point code.1
+      (free code.0 code.1) in (
+        raised own limit,
+        record { turns = refl; taken = refl; granted = refl; start = refl },
+        arrived_at code.0 code.1 x,
+        λ counted.
+            pays_nothing r m m limit (raised (scan_at r point) (raised own limit)) refl (refl, refl, refl) (λ h. h) refl
+            (omega (arith, none, free_scan)),
+      )
+
+  -- and where failures are not memoized
+  pub goes_forgetting : {M : Type 0} (m m' : MemoValue) → (m.is_open ≡ true → HasReference (run_of r).words)
+      → (more : Limit) × Grants limit more × Goes (run_of r) all more point cursor b
+      × ((RunsOnAt (run_of r).words point → ⊥) → Pays M r m limit m' (raised (scan_at r point) more))
+  goes_forgetting m m' left = (
+    raised own limit,
+    record { turns = refl; taken = refl; granted = refl; start = refl },
+    arrived_at code.0 code.1 x,
+    λ counted. pays_left r m m' limit (raised (scan_at r point) (raised own limit)) left,
+  )
+
+  -- and where room was made for its failures
+  module _ {M : Type 0} (m m' : MemoValue) (p : PreparedAt M r point b m m') (forks : ForksThere r point) where
+    faring : (pl : Remembering r)
+        → FaresAt (run_of r) pl.plain limit (price_of (run_of r).words (run_of r).subject.end here) here b.choices
+    faring pl = let code = run_code (run_of r) here x.runs in x.fares pl.plain code.0 code.1
+
+    forked : StraightPoint (run_of r).words point → ⊥
+    forked = forks_here r point forks
+
+    -- it is settled, in an atomic scope, too
+    settled : (pl : Remembering r) → SettledIn (run_of r) pl.plain (limit.start - backs pl.plain.tree) here
+    settled pl = here_settled (run_of r) pl.plain limit.start b.choices here (faring pl).here
+
+    settled_at : (pl : Remembering r) → limit.start ≡ start_of r → SettledIn (run_of r) pl.plain (rows_from r pl) here
+    settled_at pl at = subst (λ n. SettledIn (run_of r) pl.plain (n - backs pl.plain.tree) here) at (settled pl)
+
+    in_forked : (pl : Remembering r) → is_inside b.choices ≡ true → has_forked_region pl.plain.tree ≡ true
+    in_forked pl inside =
+        here_forked (run_of r) pl.plain limit.start b.choices here (faring pl).here forked inside
+
+    stands_in : (place : ℕ) × (place_of here ≡ Some place) × (place < length (run_of r).words)
+    stands_in = forking_place r point cursor b forks x.runs
+
+    -- room was made from there on
+    makes : (pl : Remembering r) (n : ℕ) → Holding r pl m limit n
+        → MakesRoom (run_of r).words (rows_from r pl) (end_of r) point (repeats b.frames) m m'
+    makes pl n h =
+        subst (λ first. MakesRoom (run_of r).words first (end_of r) point (repeats b.frames) m m') h.first p.makes
+
+    -- what was taken in is held still, unless an allocation failed
+    holds : (pl : Remembering r) → limit.start ≡ start_of r → (n : ℕ) → Holding r pl m limit n → m'.stopped ≡ false
+        → Holding r pl m' limit n
+    holds pl at n h going = subst (λ (k : MemoValue). Holds r pl k limit.trying n) (sym (p.same going)) (record {
+      account =
+          account_prepared (run_of r) pl.plain (rows_from r pl) m.kept m'.kept m.ends here stands_in.0 limit.trying n
+          pl.room (settled_at pl at) stands_in.1 stands_in.2 (makes pl n h).rows p.makes.grows.stay p.makes.grows.bits
+          p.makes.laid (makes pl n h).roomy h.account;
+      first = h.first;
+      ends = h.ends;
+      forked = h.forked;
+    })
+
+    has_bit : (pl : Remembering r) → limit.start ≡ start_of r → (n : ℕ) → Holding r pl m limit n → m'.stopped ≡ false
+        → (inside : Bool) → HasBit m'.kept (run_of r).words inside here
+    has_bit pl at n h going side =
+        bit_prepared (run_of r) pl.plain (rows_from r pl) m.kept m'.kept m.ends here stands_in.0 limit.trying n pl.room
+        (settled_at pl at) stands_in.1 stands_in.2 (makes pl n h).rows p.makes.grows.stay p.makes.grows.bits
+        p.makes.laid
+        (makes pl n h).roomy h.account side ((makes pl n h).there going stands_in.0 stands_in.1)
+
+    -- failures are memoized still
+    stays_open : m.is_open ≡ true → m'.stopped ≡ false → m'.is_open ≡ true
+    stays_open keeps e = ap (λ (k : MemoValue). k.is_open) (p.same e) ∙ keeps
+
+    -- nothing is granted
+    pub pays_prepared : Pays M r m limit m' limit
+    pays_prepared = pays_unless r m m' limit limit p.refused (λ e. record {
+      paid = λ pl keeps at n h. inr (n, holds pl at n h e, stays_open keeps e, omega arith);
+    })
+
+    others : (pl : Remembering r)
+        → AllByRecursion (λ (y : Attempt). Alike (run_of r).words y.spot here → ⊥) limit.trying
+    others pl =
+        subst (λ ys. AllByRecursion (λ (y : Attempt). Alike (run_of r).words y.spot here → ⊥) ys) (faring
+        pl).fares.trying
+        (none_tried (run_of r)
+        (no_reference (run_of r).words pl.plain.tree pl.plain.whole pl.plain.no_reference) all limit point
+        cursor b x)
+
+    -- no end is kept for its bit: outside of atomic scopes none ever is, and inside it would have been told
+    module _ (recalls : RecallsOf r m) (untold : RefersToGroups r ⊎ NoEndTold r point cursor b m) where
+      untold_here : Remembering r → NoEndTold r point cursor b m
+      untold_here pl = elim untold [
+        | inl has ↦
+            absurd (no_reference (run_of r).words pl.plain.tree pl.plain.whole pl.plain.no_reference has)
+        | inr none ↦ none
+      ]
+
+      no_end : (pl : Remembering r) (n : ℕ) → Holding r pl m limit n → (inside : Bool) → is_inside b.choices ≡ inside
+          → (at bit : ℕ) → Entry m'.kept (run_of r).words inside here at bit → (c : StringCursor)
+          → HoldsEnd m.ends (at * 64 + bit) c → ⊥
+      no_end pl n h true told at bit entry c held =
+          untold_here pl told (h.ends (in_forked pl told)) c
+          (end_told_before (run_of r) m.kept m.ends recalls.ends m'.kept here at bit c p.makes.grows.stay
+          p.makes.rows.stay p.makes.laid entry held)
+      no_end pl n h false told at bit entry c held =
+          no_end_outside (run_of r) m'.kept m.ends
+          (right_stays (run_of r) m.kept m'.kept m.ends p.makes.grows.stay recalls.ends) here at bit c p.makes.laid
+          entry
+          held
+
+      -- credits are granted, and the configuration's bit is taken in
+      pays_tried : (k : ℕ) → k + scan_at r point ≤ toll_at (run_of r) here
+          → IsOpen m'.kept (run_of r).words (is_inside b.choices) here
+          → Pays M r m limit m' (raised (scan_at r point) (with_tried there (raised k limit)))
+      pays_tried k few opened = pays_unless r m m' limit _ p.refused (λ e. record {
+        paid = λ pl keeps at n h.
             let held = holds pl at n h e in
             let same : m'.ends ≡ m.ends = ap (λ (k : MemoValue). k.ends) (p.same e) in
             inr (
@@ -260,194 +343,59 @@ module _ {M S : Type 0} {text : Ghosts S} (r : Request S text) (point : Point) (
               },
               stays_open keeps e,
               omega (arith, few),
-            )
+            );
+      })
 
-  -- a configuration has a bit, so of one that has none no credits are left to be paid
-  pays_untried : (k : ℕ) → (HasBit m'.kept (run_of r).words (is_inside b.choices) here → ⊥)
-      → Pays M r m limit m' (raised (scan_at r point) (raised k limit))
-  pays_untried k none = record { paid = λ pl keeps at n h. go pl at n h m'.stopped refl }
-    where
-      go : (pl : Remembering r) → limit.start ≡ start_of r → (n : ℕ) → Holding r pl m limit n
-          → (stopped : Bool) → m'.stopped ≡ stopped
-          → Refused M ⊎ ((n' : ℕ) × Holding r pl m' (raised k limit) n' × (m'.is_open ≡ true)
-          × (limit.tolls + k + scan_at r point + n ≤ limit.tolls + n'))
-      go pl at n h true e = inl (p.refused e)
-      go pl at n h false e =
-          absurd (none (has_bit pl at n h e (is_inside b.choices)))
+    -- a configuration has a bit, so of one that has none no credits are left to be paid
+    pays_untried : (k : ℕ) → (HasBit m'.kept (run_of r).words (is_inside b.choices) here → ⊥)
+        → Pays M r m limit m' (raised (scan_at r point) (raised k limit))
+    pays_untried k none = pays_unless r m m' limit _ p.refused (λ e. record {
+      paid = λ pl keeps at n h. absurd (none (has_bit pl at n h e (is_inside b.choices)));
+    })
 
-  abbrev code : (o : SreOpcode) × CodeAt (run_of r).words point o
-  code = run_code (run_of r) here x.runs
-
-  abbrev own : ℕ
-  own = toll (run_of r).words (run_of r).subject.end code.0 point (repeats b.frames)
-
-  -- with the credits for a repeat that is split
-  abbrev split : Limit
-  split = raised (split_toll (run_of r).words point) limit
-
-  -- an instruction without a bit is executed, and no mark is made
-  module _ (none : HasBit m'.kept (run_of r).words (is_inside b.choices) here → ⊥) where
-    pub goes_untried : (more : Limit) × Grants limit more × Goes (run_of r) all more point cursor b
-        × ((RunsOnAt (run_of r).words point → ⊥) → Pays M r m limit m' (raised (scan_at r point) more))
-    goes_untried = (
-      raised own limit,
-      record { turns = refl; taken = refl; granted = refl; start = refl },
-      arrived_at code.0 code.1 x,
-      λ counted. pays_untried own none,
-    )
-
-    -- the same for a repeat that is split
-    pub tries_untried : (more : Limit) × Grants limit more × Tries (run_of r) all more point cursor b
-        × Pays M r m limit m' (raised (scan_at r point) more)
-    tries_untried = (
-      split,
-      record { turns = refl; taken = refl; granted = refl; start = refl },
-      arrived_once x,
-      pays_untried (split_toll (run_of r).words point) none,
-    )
-
-  module _ (recalls : RecallsOf r m) (untold : RefersToGroups r ⊎ NoEndTold r point cursor b m) (c : BoardValue)
-      (made : Bool)
-      (marked : made ≡ true → c ≡ record b { choices = Trying point b.frames cursor b.marks ∷ b.choices })
-      (left : made ≡ false → c ≡ b) (none : made ≡ false → Refused M)
-      (opened : IsOpen m'.kept (run_of r).words (is_inside b.choices) here) where
-    -- so many are few, but for a repeat without a greatest count
-    few_units : (RunsOnAt (run_of r).words point → ⊥) → own + scan_at r point ≤ toll_at (run_of r) here
-    few_units counted = few_tolls (run_of r) point cursor b code.0 code.1 counted x.runs
-
-    -- so the instruction is executed, where its mark was made; it was not where an allocation failed
-    pub goes_tried : (more : Limit) × Grants limit more × Goes (run_of r) all more point cursor c
-        × ((RunsOnAt (run_of r).words point → ⊥) → Pays M r m limit m' (raised (scan_at r point) more))
-    goes_tried = go made refl
-      where
-        go : (told : Bool) → made ≡ told → (more : Limit) × Grants limit more
-            × Goes (run_of r) all more point cursor c
-            × ((RunsOnAt (run_of r).words point → ⊥) → Pays M r m limit m' (raised (scan_at r point) more))
-        go true e = (
-          with_tried there (raised own limit),
-          record { turns = refl; taken = refl; granted = refl; start = refl },
-          trying_goes (run_of r) point cursor b c (marked e) all (raised own limit)
-              (arrived_at code.0 code.1 x),
-          λ counted. pays_tried recalls untold own (few_units counted) opened,
-        )
-        go false e = (
-          raised own limit,
-          record { turns = refl; taken = refl; granted = refl; start = refl },
-          subst (λ z. Goes (run_of r) all (raised own limit) point cursor z) (sym (left e))
-              (arrived_at code.0 code.1 x),
-          λ counted. pays_refused r m m' limit (raised (scan_at r point) (raised own limit)) (none e),
-        )
-
-    -- the same for a repeat that is split
-    pub tries_tried : (more : Limit) × Grants limit more × Tries (run_of r) all more point cursor c
-        × Pays M r m limit m' (raised (scan_at r point) more)
-    tries_tried = go made refl
-      where
-        go : (told : Bool) → made ≡ told → (more : Limit) × Grants limit more
-            × Tries (run_of r) all more point cursor c × Pays M r m limit m' (raised (scan_at r point) more)
-        go true e = (
-          with_tried there split,
-          record { turns = refl; taken = refl; granted = refl; start = refl },
-          trying_tries (run_of r) point cursor b c (marked e) all split (arrived_once x),
-          pays_tried recalls untold (split_toll (run_of r).words point) (few_split (run_of r) point cursor b) opened,
-        )
-        go false e = (
-          split,
-          record { turns = refl; taken = refl; granted = refl; start = refl },
-          subst (λ z. Tries (run_of r) all split point cursor z) (sym (left e)) (arrived_once x),
-          pays_refused r m m' limit (raised (scan_at r point) split) (none e),
-        )
-
-module _ {S : Type 0} {text : Ghosts S} (r : Request S text) (point : Point) (cursor : StringCursor) (b : BoardValue)
-    (m m' : MemoValue) (all : List Way) (limit : Limit)
-    (x : Arrives (run_of r) all limit point cursor b) where
-  -- an instruction is executed, where it brings no credits
-  pub goes_freely : {M : Type 0} → BringsNoTolls r point
-      → (more : Limit) × Grants limit more × Goes (run_of r) all more point cursor b
-      × ((RunsOnAt (run_of r).words point → ⊥) → Pays M r m limit m (raised (scan_at r point) more))
-  goes_freely free =
-      let code = run_code (run_of r) (spot point cursor b) x.runs in
-      let k : ℕ = toll (run_of r).words (run_of r).subject.end code.0 point (repeats b.frames) in
-      let none : k ≡ 0 = no_toll (run_of r).words (run_of r).subject.end code.0 point (repeats b.frames)
-      (free code.0 code.1) in
-      let free_scan : scan_at r point ≡ 0 = no_scan (run_of r).words (run_of r).subject.end code.0 point code.1
-      (free code.0 code.1) in (
-        raised k limit,
-        record { turns = refl; taken = refl; granted = refl; start = refl },
-        arrived_at code.0 code.1 x,
-        λ counted.
-            pays_nothing r m m limit (raised (scan_at r point) (raised k limit)) refl (refl, refl, refl) (λ h. h) refl
-            (omega (arith, none, free_scan)),
-      )
-
-  -- and where failures are not memoized
-  pub goes_forgetting : {M : Type 0} → (m.is_open ≡ true → HasReference (run_of r).words)
-      → (more : Limit) × Grants limit more × Goes (run_of r) all more point cursor b
-      × ((RunsOnAt (run_of r).words point → ⊥) → Pays M r m limit m' (raised (scan_at r point) more))
-  goes_forgetting left =
-      let code = run_code (run_of r) (spot point cursor b) x.runs in
-      let k : ℕ = toll (run_of r).words (run_of r).subject.end code.0 point (repeats b.frames) in (
-        raised k limit,
-        record { turns = refl; taken = refl; granted = refl; start = refl },
-        arrived_at code.0 code.1 x,
-        λ counted. pays_left r m m' limit (raised (scan_at r point) (raised k limit)) left,
-      )
-
--- where words have a reference nothing is paid: an instruction is executed, whether its mark was made or not
-module _ {S : Type 0} {text : Ghosts S} (r : Request S text) (point : Point) (cursor : StringCursor) (b : BoardValue)
-    (m m' : MemoValue) (has : HasReference (run_of r).words) (all : List Way) (limit : Limit)
-    (x : Arrives (run_of r) all limit point cursor b) (c : BoardValue) (made : Bool)
-    (marked : made ≡ true → c ≡ record b { choices = Trying point b.frames cursor b.marks ∷ b.choices })
-    (left : made ≡ false → c ≡ b) where
-  abbrev parted : Limit
-  parted = raised (split_toll (run_of r).words point) limit
-
-  pub goes_marked : {M : Type 0} → (more : Limit) × Grants limit more × Goes (run_of r) all more point cursor c
-      × ((RunsOnAt (run_of r).words point → ⊥) → Pays M r m limit m' (raised (scan_at r point) more))
-  goes_marked {M} = go made refl
-    where
-      go : (told : Bool) → made ≡ told → (more : Limit) × Grants limit more
-          × Goes (run_of r) all more point cursor c
+    -- an instruction without a bit is executed, and no mark is made
+    module _ (none : HasBit m'.kept (run_of r).words (is_inside b.choices) here → ⊥) where
+      pub goes_untried : (more : Limit) × Grants limit more × Goes (run_of r) all more point cursor b
           × ((RunsOnAt (run_of r).words point → ⊥) → Pays M r m limit m' (raised (scan_at r point) more))
-      go true e =
-          let code = run_code (run_of r) (spot point cursor b) x.runs in
-          let k : ℕ = toll (run_of r).words (run_of r).subject.end code.0 point (repeats b.frames) in (
-            with_tried (attempt b.choices (spot point cursor b)) (raised k limit),
-            record { turns = refl; taken = refl; granted = refl; start = refl },
-            trying_goes (run_of r) point cursor b c (marked e) all (raised k limit)
-                (arrived_at code.0 code.1 x),
-            λ counted.
-                pays_left r m m' limit
-                (raised (scan_at r point) (with_tried (attempt b.choices (spot point cursor b)) (raised k limit)))
-                (λ _. has),
-          )
-      go false e =
-          let code = run_code (run_of r) (spot point cursor b) x.runs in
-          let k : ℕ = toll (run_of r).words (run_of r).subject.end code.0 point (repeats b.frames) in (
-            raised k limit,
-            record { turns = refl; taken = refl; granted = refl; start = refl },
-            subst (λ z. Goes (run_of r) all (raised k limit) point cursor z) (sym (left e))
-                (arrived_at code.0 code.1 x),
-            λ counted. pays_left r m m' limit (raised (scan_at r point) (raised k limit)) (λ _. has),
-          )
+      goes_untried = (
+        raised own limit,
+        record { turns = refl; taken = refl; granted = refl; start = refl },
+        arrived_at code.0 code.1 x,
+        λ counted. pays_untried own none,
+      )
 
-  -- the same for a repeat that is split
-  pub tries_marked : {M : Type 0} → (more : Limit) × Grants limit more × Tries (run_of r) all more point cursor c
-      × Pays M r m limit m' (raised (scan_at r point) more)
-  tries_marked {M} = go made refl
-    where
-      go : (told : Bool) → made ≡ told → (more : Limit) × Grants limit more
-          × Tries (run_of r) all more point cursor c × Pays M r m limit m' (raised (scan_at r point) more)
-      go true e = (
-        with_tried (attempt b.choices (spot point cursor b)) parted,
+      -- the same for a repeat that is split
+      pub tries_untried : (more : Limit) × Grants limit more × Tries (run_of r) all more point cursor b
+          × Pays M r m limit m' (raised (scan_at r point) more)
+      tries_untried = (
+        raised (split_toll (run_of r).words point) limit,
         record { turns = refl; taken = refl; granted = refl; start = refl },
-        trying_tries (run_of r) point cursor b c (marked e) all parted (arrived_once x),
-        pays_left r m m' limit
-            (raised (scan_at r point) (with_tried (attempt b.choices (spot point cursor b)) parted)) (λ _. has),
+        arrived_once x,
+        pays_untried (split_toll (run_of r).words point) none,
       )
-      go false e = (
-        parted,
-        record { turns = refl; taken = refl; granted = refl; start = refl },
-        subst (λ z. Tries (run_of r) all parted point cursor z) (sym (left e)) (arrived_once x),
-        pays_left r m m' limit (raised (scan_at r point) parted) (λ _. has),
-      )
+
+    module _ (recalls : RecallsOf r m) (untold : RefersToGroups r ⊎ NoEndTold r point cursor b m) (c : BoardValue)
+        (made : Bool)
+        (marked : made ≡ true → c ≡ record b { choices = Trying point b.frames cursor b.marks ∷ b.choices })
+        (left : made ≡ false → c ≡ b) (none : made ≡ false → Refused M)
+        (opened : IsOpen m'.kept (run_of r).words (is_inside b.choices) here) where
+      -- so many are few, but for a repeat without a greatest count
+      few_units : (RunsOnAt (run_of r).words point → ⊥) → own + scan_at r point ≤ toll_at (run_of r) here
+      few_units counted = few_tolls (run_of r) point cursor b code.0 code.1 counted x.runs
+
+      -- so the instruction is executed, where its mark was made; it was not where an allocation failed
+      pub goes_tried : (more : Limit) × Grants limit more × Goes (run_of r) all more point cursor c
+          × ((RunsOnAt (run_of r).words point → ⊥) → Pays M r m limit m' (raised (scan_at r point) more))
+      goes_tried =
+          goes_paid c made marked left
+          (λ more. (RunsOnAt (run_of r).words point → ⊥) → Pays M r m limit m' (raised (scan_at r point) more))
+          (λ _ counted. pays_tried recalls untold own (few_units counted) opened)
+          (λ e counted. pays_refused r m m' limit _ (none e))
+
+      -- the same for a repeat that is split
+      pub tries_tried : (more : Limit) × Grants limit more × Tries (run_of r) all more point cursor c
+          × Pays M r m limit m' (raised (scan_at r point) more)
+      tries_tried =
+          tries_paid c made marked left (λ more. Pays M r m limit m' (raised (scan_at r point) more))
+          (λ _. pays_tried recalls untold (split_toll (run_of r).words point) (few_split (run_of r) point cursor b)
+          opened) (λ e. pays_refused r m m' limit _ (none e))

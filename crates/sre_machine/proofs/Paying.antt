@@ -1,34 +1,26 @@
 -- Credits that are paid one after the other.
-use Rattle.std.proofs.Common.{◌≡◌, ℕ, ◌≤◌, inl, inr, true, List, refl, sym, ◌∙◌, subst, arith}
-use Rattle.std.specs.List.{AllByRecursion}
+use Rattle.std.proofs.Common.{◌≡◌, ℕ, ◌≤◌, ◌⊎◌, inl, inr, Bool, true, false, List, refl, sym, ◌∙◌, arith}
 use Rattle.sre_chars.specs.declared.string.StrDrive.{Ghosts}
 use Rattle.sre_growth.specs.Refusal.{Refused}
-use Rattle.sre_model.specs.Regions.{has_forked_region}
 use Rattle.sre_turns.specs.Limits.{Limit, Grants, raised}
 use Rattle.sre_turns.specs.Attempts.{Attempt}
 use Rattle.sre_turns.specs.MovesAtReferences.{HasReference}
 use Rattle.sre_turns.proofs.memoization.Hopeless.{no_reference}
-use Rattle.sre_board.specs.Accounts.{Account}
 use Rattle.sre_request.specs.declared.request.Request.{Request}
 use Rattle.sre_request.specs.Runs.{run_of}
 use Rattle.sre_machine.specs.Memos.{MemoValue, EndsStay}
-use Rattle.sre_machine.specs.Paying.{Holds, Pays, Remembering, rows_from}
+use Rattle.sre_machine.specs.Paying.{Holds, Pays, Remembering}
+
+-- what comes of a fact, unless an allocation failed
+pub unless_refused : {R A B : Type 0} → R ⊎ A → (A → R ⊎ B) → R ⊎ B
+unless_refused (inl refused) f = inl refused
+unless_refused (inr a) f = f a
 
 module _ {S : Type 0} {text : Ghosts S} (r : Request S text) where
   -- what was taken in is held by the same memory still
   pub held : (pl : Remembering r) (m m' : MemoValue) (xs xs' : List Attempt) (n : ℕ) → m'.kept ≡ m.kept
       → EndsStay m m' → xs' ≡ xs → Holds r pl m xs n → Holds r pl m' xs' n
-  held pl m m' xs xs' n same ends trying h = record {
-    account =
-        subst (λ ys. Account (run_of r) pl.plain (rows_from r pl) m'.kept m'.ends ys n) (sym trying)
-        (subst (λ e. Account (run_of r) pl.plain (rows_from r pl) m'.kept e xs n) (sym ends.0)
-        (subst (λ k. Account (run_of r) pl.plain (rows_from r pl) k m.ends xs n) (sym same) h.account));
-    first = ends.2 ∙ h.first;
-    ends = λ forked. ends.1 ∙ h.ends forked;
-    forked =
-        subst (λ ys. AllByRecursion (λ (a : Attempt). a.inside ≡ true → has_forked_region pl.plain.tree ≡ true) ys)
-        (sym trying) h.forked;
-  }
+  held pl m m' xs xs' n same ends trying h = rw (same, ends.0, ends.1, ends.2, trying) h
 
   -- none is granted
   pub pays_nothing : {M : Type 0} (m m' : MemoValue) (l l' : Limit) → m'.kept ≡ m.kept → EndsStay m m'
@@ -46,46 +38,42 @@ module _ {S : Type 0} {text : Ghosts S} (r : Request S text) where
   pub pays_then : {M : Type 0} (m m' m'' : MemoValue) (l l' l'' : Limit) → l.start ≡ l'.start → Pays M r m l m' l'
       → Pays M r m' l' m'' l'' → Pays M r m l m'' l''
   pays_then m m' m'' l l' l'' start first second = record {
-    paid = λ pl keeps at n h. elim (first.paid pl keeps at n h) [
-      | inl refused ↦ inl refused
-      | inr x ↦ elim (second.paid pl x.2 (sym start ∙ at) x.0 x.1) [
-        | inl refused ↦ inl refused
-        | inr y ↦ inr (y.0, y.1, y.2, omega (arith, x.3, y.3))
-      ]
-    ];
+    paid = λ pl keeps at n h. unless_refused (first.paid pl keeps at n h) (λ x. unless_refused (second.paid pl x.2
+        (sym start ∙ at) x.0 x.1) (λ y. inr (y.0, y.1, y.2, omega (arith, x.3, y.3))));
   }
 
   -- the same, where the first of them raised what is paid
   pub pays_raised : {M : Type 0} (k : ℕ) (m m' m'' : MemoValue) (l l' l'' : Limit) → l.start ≡ l'.start
       → Pays M r m l m' (raised k l') → Pays M r m' l' m'' l'' → Pays M r m l m'' (raised k l'')
   pays_raised k m m' m'' l l' l'' start first second = record {
-    paid = λ pl keeps at n h. elim (first.paid pl keeps at n h) [
-      | inl refused ↦ inl refused
-      | inr x ↦ elim (second.paid pl x.2 (sym start ∙ at) x.0 x.1) [
-        | inl refused ↦ inl refused
-        | inr y ↦ inr (y.0, y.1, y.2, omega (arith, x.3, y.3))
-      ]
-    ];
+    paid = λ pl keeps at n h. unless_refused (first.paid pl keeps at n h) (λ x. unless_refused (second.paid pl x.2
+        (sym start ∙ at) x.0 x.1) (λ y. inr (y.0, y.1, y.2, omega (arith, x.3, y.3))));
   }
 
   -- what is paid pays for less
   pub pays_less : {M : Type 0} (m m' : MemoValue) (l l' l'' : Limit) → l''.trying ≡ l'.trying → l''.tolls ≤ l'.tolls
       → Pays M r m l m' l' → Pays M r m l m' l''
   pays_less m m' l l' l'' trying less paid = record {
-    paid = λ pl keeps at n h. elim (paid.paid pl keeps at n h) [
-      | inl refused ↦ inl refused
-      | inr x ↦ inr (
-        x.0,
-        held pl m' m' l'.trying l''.trying x.0 refl (refl, refl, refl) trying x.1,
-        x.2,
-        omega (arith, x.3, less),
-      )
-    ];
+    paid = λ pl keeps at n h. unless_refused (paid.paid pl keeps at n h) (λ x. inr (
+      x.0,
+      held pl m' m' l'.trying l''.trying x.0 refl (refl, refl, refl) trying x.1,
+      x.2,
+      omega (arith, x.3, less),
+    ));
   }
 
   -- where memory was refused nothing is owed, nor where failures are not kept
   pub pays_refused : {M : Type 0} (m m' : MemoValue) (l l' : Limit) → Refused M → Pays M r m l m' l'
   pays_refused m m' l l' refused = record { paid = λ pl keeps start n h. inl refused }
+
+  -- so it is where the memo stopped meanwhile
+  pub pays_unless : {M : Type 0} (m m' : MemoValue) (l l' : Limit) → (m'.stopped ≡ true → Refused M)
+      → (m'.stopped ≡ false → Pays M r m l m' l') → Pays M r m l m' l'
+  pays_unless {M} m m' l l' refused pays = go m'.stopped refl
+    where
+      go : (stopped : Bool) → m'.stopped ≡ stopped → Pays M r m l m' l'
+      go true e = pays_refused m m' l l' (refused e)
+      go false e = pays e
 
   -- where words have a reference nothing is promised
   pub pays_left : {M : Type 0} (m m' : MemoValue) (l l' : Limit) → (m.is_open ≡ true → HasReference (run_of r).words)
@@ -94,15 +82,6 @@ module _ {S : Type 0} {text : Ghosts S} (r : Request S text) where
     paid = λ pl keeps start n h.
         absurd (no_reference (run_of r).words pl.plain.tree pl.plain.whole pl.plain.no_reference (left keeps));
   }
-
-pub grants_then : (l l' l'' : Limit) → Grants l l' → Grants l' l'' → Grants l l''
-grants_then l l' l'' g h =
-    record {
-      turns = g.turns ∙ h.turns;
-      taken = g.taken ∙ h.taken;
-      granted = g.granted ∙ h.granted;
-      start = g.start ∙ h.start;
-    }
 
 pub grants_nothing : (l : Limit) → Grants l l
 grants_nothing l = record { turns = refl; taken = refl; granted = refl; start = refl }

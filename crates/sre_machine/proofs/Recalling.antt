@@ -1,5 +1,5 @@
 -- Memoized configurations are hopeless, and memoized ends are right.
-use Rattle.std.proofs.Common.{◌≡◌, ℕ, ◌+◌, ◌*◌, ◌<◌, ◌⊎◌, inl, inr, List, Bool, true, sym, ap, ◌∙◌, subst}
+use Rattle.std.proofs.Common.{◌≡◌, ℕ, ◌+◌, ◌*◌, ◌<◌, ◌⊎◌, inl, inr, List, Bool, true, refl, sym, ◌∙◌, subst}
 use Rattle.sre_model.specs.Marks.{no_marks}
 use Rattle.sre_model.specs.Runs.{Run}
 use Rattle.sre_turns.specs.AskedPlaces.{AreIdle}
@@ -74,61 +74,49 @@ recalls_still r m m' same ends marks end idle no_more recalls = record {
   markless = still_markless r m m' ends (bits_stay m.kept m'.kept same) recalls;
 }
 
+-- what is kept under marks stays, whatever is kept where no mark is set
+recalls_from : {r : Run} {k : Kept} {m : MarkedValue} {e : EndsTable} {h : Bool} (m' : MemoValue) → m'.marked ≡ m
+    → Remembers r no_marks m'.kept → EndsRight r m'.kept m'.ends → (m'.keeps_ends ≡ true → MarklessRegions r.words)
+    → Recalled r k m e h → Recalls r m'
+recalls_from {r} m' same plain ends markless recalls =
+    subst (λ x. Recalled r m'.kept x m'.ends m'.keeps_ends) (sym same) (record {
+      plain = plain;
+      marked = recalls.marked;
+      covers = recalls.covers;
+      idle = recalls.idle;
+      ends = ends;
+      markless = markless;
+    })
+
 -- no more is kept where no mark is set
 pub recalls_prepared : (r : Run) (m m' : MemoValue) → m'.marked ≡ m.marked → EndsStay m m' → Grows m.kept m'.kept
     → Recalls r m → Recalls r m'
-recalls_prepared r m m' same ends grows recalls = record {
-  plain = remembers_still r no_marks m.kept m'.kept grows.no_more recalls.plain;
-  marked = subst (λ (x : MarkedValue). Remembers r x.marks x.kept) (sym same) recalls.marked;
-  covers = subst (λ (x : MarkedValue). Covers r.words x.end) (sym same) recalls.covers;
-  idle = subst (λ (x : MarkedValue). AreIdle r.words x.idle) (sym same) recalls.idle;
-  ends = ends_kept r m m' ends grows.stay recalls;
-  markless = still_markless r m m' ends grows.stay recalls;
-}
+recalls_prepared r m m' same ends grows recalls =
+    recalls_from m' same (remembers_still r no_marks m.kept m'.kept grows.no_more recalls.plain)
+    (ends_kept r m m' ends grows.stay recalls) (still_markless r m m' ends grows.stay recalls) recalls
 
 -- one more is kept where no mark is set
 pub recalls_kept : (r : Run) (m m' : MemoValue) → m' ≡ record m { kept = m'.kept } → BitsStay m.kept m'.kept
     → Remembers r no_marks m'.kept → Recalls r m → Recalls r m'
 recalls_kept r m m' same stay plain recalls =
-    let marked : m'.marked ≡ m.marked = ap (λ (y : MemoValue). y.marked) same in
-    let ends : EndsStay m m' = (
-      ap (λ (y : MemoValue). y.ends) same,
-      ap (λ (y : MemoValue). y.keeps_ends) same,
-      ap (λ (y : MemoValue). y.first) same,
-    ) in
-    record {
-      plain = plain;
-      marked = subst (λ (x : MarkedValue). Remembers r x.marks x.kept) (sym marked) recalls.marked;
-      covers = subst (λ (x : MarkedValue). Covers r.words x.end) (sym marked) recalls.covers;
-      idle = subst (λ (x : MarkedValue). AreIdle r.words x.idle) (sym marked) recalls.idle;
-      ends = ends_kept r m m' ends stay recalls;
-      markless = still_markless r m m' ends stay recalls;
-    }
+    subst (λ (k : MemoValue). Recalls r k) (sym same) (recalls_from (record m { kept = m'.kept }) refl plain
+    (right_stays r m.kept m'.kept m.ends stay recalls.ends) recalls.markless recalls)
 
 -- other ends are kept, which are right
 pub recalls_ended : (r : Run) (m m' : MemoValue) → m'.kept ≡ m.kept → m'.marked ≡ m.marked
     → m'.keeps_ends ≡ m.keeps_ends → EndsRight r m.kept m'.ends → Recalls r m → Recalls r m'
-recalls_ended r m m' kept marked keeps ends recalls = record {
-  plain = subst (λ k. Remembers r no_marks k) (sym kept) recalls.plain;
-  marked = subst (λ (x : MarkedValue). Remembers r x.marks x.kept) (sym marked) recalls.marked;
-  covers = subst (λ (x : MarkedValue). Covers r.words x.end) (sym marked) recalls.covers;
-  idle = subst (λ (x : MarkedValue). AreIdle r.words x.idle) (sym marked) recalls.idle;
-  ends = subst (λ k. EndsRight r k m'.ends) (sym kept) ends;
-  markless = λ h. recalls.markless (sym keeps ∙ h);
-}
+recalls_ended r m m' kept marked keeps ends recalls =
+    recalls_from m' marked (subst (λ k. Remembers r no_marks k) (sym kept) recalls.plain)
+    (subst (λ k. EndsRight r k m'.ends) (sym kept) ends) (λ h. recalls.markless (sym keeps ∙ h)) recalls
 
 -- from now on failures are kept
 pub recalls_begun : (r : Run) (m' : MemoValue) (k : Kept) (m : MarkedValue) (e : EndsTable) (h : Bool) → m'.kept ≡ k
     → m'.marked ≡ m → m'.ends ≡ e → (m'.keeps_ends ≡ true → MarklessRegions r.words) → Recalled r k m e h
     → Recalls r m'
-recalls_begun r m' k m e h kept marked ends markless recalls = record {
-  plain = subst (λ l. Remembers r no_marks l) (sym kept) recalls.plain;
-  marked = subst (λ (x : MarkedValue). Remembers r x.marks x.kept) (sym marked) recalls.marked;
-  covers = subst (λ (x : MarkedValue). Covers r.words x.end) (sym marked) recalls.covers;
-  idle = subst (λ (x : MarkedValue). AreIdle r.words x.idle) (sym marked) recalls.idle;
-  ends = subst (λ l. EndsRight r l m'.ends) (sym kept) (subst (λ t. EndsRight r k t) (sym ends) recalls.ends);
-  markless = markless;
-}
+recalls_begun r m' k m e h kept marked ends markless recalls =
+    recalls_from m' marked (subst (λ l. Remembers r no_marks l) (sym kept) recalls.plain)
+    (subst (λ l. EndsRight r l m'.ends) (sym kept) (subst (λ t. EndsRight r k t) (sym ends) recalls.ends)) markless
+    recalls
 
 -- as it is while turns are waited
 pub recalls_waited : (r : Run) (m m' : MemoValue) → m' ≡ record m { waits = m'.waits } → Recalls r m → Recalls r m'

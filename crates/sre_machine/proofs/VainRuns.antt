@@ -1,6 +1,7 @@
 -- A literal that occurs nowhere in the rest of the range fails.
 use Rattle.std.proofs.Common.{◌≡◌, ◌≢◌, ◌⊎◌, inl, inr, ℕ, ◌+◌, ◌<◌, ◌≤◌, true, false, Bool, nat_eq, List, Option, Some}
 use Rattle.std.proofs.Common.{None, IfSome, refl, subst, arith}
+use Rattle.std.proofs.lemmas.Bool.{cases_lt}
 use Rattle.std.proofs.lemmas.Bool.Decides.{nat_tests}
 use Rattle.sre_chars.specs.Texts.{NoneIs, Sought}
 use Rattle.sre_chars.specs.declared.constants.SreOpcode.TheVariants as opcode
@@ -15,11 +16,8 @@ use Rattle.sre_turns.proofs.semantics.StepsAtItems.{literal_demands}
 -- a literal that no character is does not pass
 none_passes : (s : Subject) (v from q : ℕ) → NoneIs s.text v from s.end → from ≤ q
     → passes s (Literal Plain v) q ≡ false
-none_passes s v from q none l = by (inside_or_not q s.end)
+none_passes s v from q none l = by (cases_lt q s.end)
   where
-    inside_or_not : (a b : ℕ) → (a < b) ⊎ (b ≤ a)
-    inside_or_not a b = grind arith
-
     unlike : (a b : ℕ) → a ≢ b → false ≡ nat_eq b a
     unlike a b other = grind (arith, nat_tests)
 

@@ -2,14 +2,14 @@
 -- that the memo takes in, each of which pays for all ends of a repeat with a greatest count. And what steps cost before
 -- that: each is one of those for which the memo waits.
 -- Definitions for the machine's contracts; what sre_engine makes public does not rest on it.
-use Rattle.std.specs.Prelude.{ℕ, ◌+◌, ◌-◌, ◌*◌, ◌/◌, ◌≤◌, ◌≡◌, ◌⊎◌, ⊤, List, [], ◌∷◌, min, true, false}
+use Rattle.std.specs.Prelude.{ℕ, ◌+◌, ◌-◌, ◌*◌, ◌/◌, ◌≤◌, ◌≡◌, ◌⊎◌, ⊤, List, [], ◌∷◌, min, Bool, true, false}
 use Rattle.std.specs.Prelude.{Option}
 use Rattle.std.specs.List.{AllByRecursion}
 use Rattle.sre_chars.specs.declared.string.StrDrive.{Ghosts}
 use Rattle.sre_chars.specs.declared.string.StringCursor.{StringCursor}
 use Rattle.sre_growth.specs.Refusal.{Refused}
 use Rattle.sre_model.specs.Runs.{Run}
-use Rattle.sre_turns.specs.Limits.{Limit, raised}
+use Rattle.sre_turns.specs.Limits.{Limit}
 use Rattle.sre_model.specs.TreePrices.{most_steps}
 use Rattle.sre_turns.specs.Settled.{Counted}
 use Rattle.sre_model.specs.Ways.{Way}
@@ -48,12 +48,16 @@ rows_from r pl = first_kept r pl.plain.tree
 
 -- the memory has taken in so many bits, of which some are those of what is tried; where an atomic scope forks it keeps
 -- ends of bodies, and else nothing is tried inside an atomic scope
-pub record Holds {S : Type 0} {text : Ghosts S} (r : Request S text) (pl : Remembering r) (m : MemoValue)
-    (xs : List Attempt) (n : ℕ) : Type 0 where
-  pub account : Account (run_of r) pl.plain (rows_from r pl) m.kept m.ends xs n
-  pub first : m.first ≡ rows_from r pl
-  pub ends : has_forked_region pl.plain.tree ≡ true → m.keeps_ends ≡ true
+pub record HoldsIn {S : Type 0} {text : Ghosts S} (r : Request S text) (pl : Remembering r) (k : Kept) (es : EndsTable)
+    (from : ℕ) (keeps_ends : Bool) (xs : List Attempt) (n : ℕ) : Type 0 where
+  pub account : Account (run_of r) pl.plain (rows_from r pl) k es xs n
+  pub first : from ≡ rows_from r pl
+  pub ends : has_forked_region pl.plain.tree ≡ true → keeps_ends ≡ true
   pub forked : AllByRecursion (λ (a : Attempt). a.inside ≡ true → has_forked_region pl.plain.tree ≡ true) xs
+
+abbrev pub Holds : {S : Type 0} {text : Ghosts S} (r : Request S text) → Remembering r → MemoValue → List Attempt → ℕ
+    → Type 0
+Holds r pl m xs n = HoldsIn r pl m.kept m.ends m.first m.keeps_ends xs n
 
 -- the same of what is tried under a limit
 abbrev pub Holding : {S : Type 0} {text : Ghosts S} (r : Request S text) → Remembering r → MemoValue → Limit → ℕ
@@ -82,22 +86,6 @@ HoldsTried r x k k' =
     (pl : Remembering r) (es : EndsTable) (xs : List Attempt) (n : ℕ)
     → Account (run_of r) pl.plain (rows_from r pl) k es (x ∷ xs) n
     → Account (run_of r) pl.plain (rows_from r pl) k' es xs n
-
--- from where some steps began the machine has come here, by so many more of them, and all credits are paid, with what
--- their scans are charged
-pub record Follows (M : Type 0) {S : Type 0} {text : Ghosts S} (r : Request S text) (all : List Way) (first next : Next)
-    (b b' : BoardValue) (m m' : MemoValue) (before turned scans : ℕ) : Type 0 where
-  pub each : (limit : Limit) → Stands (run_of r) all limit first b
-      → (more : Limit) × Stands (run_of r) all more next b' × (limit.granted ≡ more.granted)
-      × (limit.start ≡ more.start) × (more.taken + before ≡ limit.taken + turned)
-      × Pays M r m limit m' (raised scans more)
-
--- while failures are memoized each step counts for so much, and scans are charged, of which the last is still pending;
--- if they are not memoized any more, an allocation failed
-pub record Counts (M : Type 0) {S : Type 0} {text : Ghosts S} (r : Request S text) (m m' : MemoValue)
-    (left left' turned scans pending : ℕ) : Type 0 where
-  pub spent : m.is_open ≡ true → Refused M ⊎ ((m'.is_open ≡ true)
-      × ((pl : Remembering r) → left + pending ≤ left' + turned * each_of r pl + scans))
 
 -- failures were not memoized, and each step that was taken was waited for
 pub record Waited (m m' : MemoValue) (left left' : ℕ) : Type 0 where

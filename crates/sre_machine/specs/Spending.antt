@@ -1,24 +1,27 @@
 -- What steps take off those that are left, and what a run of them costs.
 -- Definitions for the machine's contracts; what sre_engine makes public does not rest on it.
-use Rattle.std.specs.Prelude.{ℕ, ◌+◌, ◌*◌, ◌≡◌, ◌≤◌, Bool, true, false, Option, None, Some, List}
+use Rattle.std.specs.Prelude.{ℕ, ◌+◌, ◌-◌, ◌*◌, ◌≡◌, ◌≤◌, ◌⊎◌, Bool, true, false, Option, None, Some, List}
 use Rattle.std.specs.Prelude.{Result, Ok, Err, IfOk, IfErr}
 use Rattle.std.specs.declared.alloc.Allocator.{Ghosts as Memory}
 use Rattle.sre_chars.specs.declared.string.StrDrive.{Ghosts}
 use Rattle.sre_chars.specs.declared.string.StringCursor.{StringCursor}
+use Rattle.sre_growth.specs.Refusal.{Refused}
 use Rattle.sre_model.specs.Tree.{Tree}
 use Rattle.sre_model.specs.Ways.{Way}
 use Rattle.sre_model.specs.Grammar.{WholeItems}
 use Rattle.sre_model.specs.Prefixes.{behind_items}
 use Rattle.sre_model.specs.TurnBounds.{turns_of, most_each}
 use Rattle.sre_turns.specs.Board.{BoardValue}
-use Rattle.sre_turns.specs.Machine.{Decides, outcomes}
+use Rattle.sre_turns.specs.Limits.{Limit, raised}
+use Rattle.sre_turns.specs.Machine.{Decides, Stands, StandsWithin, outcomes}
 use Rattle.sre_turns.specs.declared.Next.{Next}
 use Rattle.sre_request.specs.declared.request.Request.{Request}
 use Rattle.sre_request.specs.Requests.{asked_of}
 use Rattle.sre_request.specs.Runs.{run_of}
 use Rattle.sre_machine.specs.Allowances.{is_limited, left_of}
-use Rattle.sre_machine.specs.Memos.{MemoValue}
+use Rattle.sre_machine.specs.Memos.{MemoValue, Recalls}
 use Rattle.sre_machine.specs.Paying.{Settles, RunStops, RunSettles, AnewStops, AnewSettles, IfDecided}
+use Rattle.sre_machine.specs.Paying.{Pays, Remembering, Waited, each_of}
 use Rattle.sre_machine.specs.declared.allowance.Allowance.{Allowance}
 use Rattle.sre_machine.specs.declared.turns.Decision.{Decision}
 use Rattle.sre_machine.specs.declared.turns.Decision.TheVariants.{Decided, Opened}
@@ -99,3 +102,24 @@ pub record AnewCosts {M S : Type 0} {memory : Memory M} {text : Ghosts S} (r : R
   pub stops : is_limited a ≡ true → AnewStops M r start (left_of a) (left_of a')
   pub settles : is_limited a ≡ true
       → IfOk told (λ found. found ≡ None → AnewSettles M r start m' (left_of a) (left_of a'))
+
+-- what holds in the loop with a memo, so many steps later: where the machine stands; all credits are paid, with what
+-- scans are charged; what was taken off the limit and the memo's wait. While failures are memoized each step counts for
+-- so much, beside scans, of which the last is still pending; if they are not memoized any more, an allocation failed
+pub record TurnsSoFar (M : Type 0) {S : Type 0} {text : Ghosts S} (r : Request S text) (all : List Way) (most : ℕ)
+    (first next : Next) (b b' : BoardValue) (m m' : MemoValue) (before turned : ℕ) (a a' : Allowance)
+    (waits : Bool) (pending : ℕ) : Type 0 where
+  pub stands : StandsWithin (run_of r) all (most - turned) next b'
+  pub scans : ℕ
+  pub each : (limit : Limit) → Stands (run_of r) all limit first b
+      → (more : Limit) × Stands (run_of r) all more next b' × (limit.granted ≡ more.granted)
+      × (limit.start ≡ more.start) × (more.taken + before ≡ limit.taken + turned)
+      × Pays M r m limit m' (raised scans more)
+  pub within : turned ≤ most
+  pub limited : is_limited a' ≡ is_limited a
+  pub fewer : left_of a' ≤ left_of a
+  pub spent : left_of a ≤ left_of a' + turned * most_each (asked_of r)
+  pub counts : m.is_open ≡ true → Refused M ⊎ ((m'.is_open ≡ true)
+      × ((pl : Remembering r) → left_of a + pending ≤ left_of a' + turned * each_of r pl + scans))
+  pub waited : waits ≡ true → Waited m m' (left_of a) (left_of a')
+  pub remembers : Recalls (run_of r) m'

@@ -1,13 +1,13 @@
 -- Where the machine is, and what an instruction's step preserves.
 -- Definitions for the machine's contracts; what sre_engine makes public does not rest on it.
-use Rattle.std.specs.Prelude.{⊤, ℕ, ◌≡◌, ◌≢◌, Bool, true, false, List, [], Option}
+use Rattle.std.specs.Prelude.{⊤, ℕ, ◌≡◌, ◌≢◌, Bool, true, false, List, [], ◌∷◌, Option}
 use Rattle.sre_chars.specs.declared.constants.SreOpcode.{SreOpcode}
 use Rattle.sre_chars.specs.declared.string.StrDrive.{Ghosts}
 use Rattle.sre_chars.specs.declared.string.StringCursor.{StringCursor}
 use Rattle.sre_model.specs.Marks.{Marks, no_marks}
 use Rattle.sre_growth.specs.Refusal.{Refused}
 use Rattle.sre_model.specs.Runs.{Run}
-use Rattle.sre_turns.specs.Board.{BoardValue}
+use Rattle.sre_turns.specs.Board.{BoardValue, Trying}
 use Rattle.sre_turns.specs.Asked as marks
 use Rattle.sre_turns.specs.Asked.{MarksAlike}
 use Rattle.sre_turns.specs.Fruit.{is_inside}
@@ -18,7 +18,8 @@ use Rattle.sre_turns.specs.MovesAtReferences.{HasReference}
 use Rattle.sre_turns.specs.Settled.{Counted}
 use Rattle.sre_turns.specs.Straight.{ForksAt}
 use Rattle.sre_model.specs.Ways.{Way}
-use Rattle.sre_turns.specs.Machine.{HasRun, IsAt, StandsWithin, Goes, Tries, Arrives, Backs, Advances, Later}
+use Rattle.sre_turns.specs.Machine.{HasRun, IsAt, IsBack, StandsWithin, Goes, Tries, Arrives, Backs, Advances}
+use Rattle.sre_turns.specs.Machine.{Later}
 use Rattle.sre_turns.specs.BodyEnds.{EndsAt}
 use Rattle.sre_turns.specs.Machine.{Ends, spot}
 use Rattle.sre_turns.specs.Machine.{Refuses, DemandsAny, Continues, SkipsBoth, IsRead}
@@ -30,8 +31,10 @@ use Rattle.sre_turns.specs.declared.Next.{Next}
 use Rattle.sre_turns.specs.declared.Point.{Point}
 use Rattle.sre_turns.specs.declared.Point.TheVariants.{Instruction, Again}
 use Rattle.sre_board.specs.Ends.{TellsEnd, KeepsOpenEnds, HoldsOpenEnds}
+use Rattle.sre_board.specs.declared.failures.Known.{Known}
+use Rattle.sre_board.specs.declared.failures.Known.TheVariants.{Failed, Open, NoBit}
 use Rattle.sre_request.specs.declared.request.Request.{Request}
-use Rattle.sre_machine.specs.Memos.{MemoValue}
+use Rattle.sre_machine.specs.Memos.{MemoValue, Recalls}
 use Rattle.sre_machine.specs.Paying.{Pays, Within}
 use Rattle.sre_machine.specs.declared.trying.Keeping.{Keeping}
 use Rattle.sre_machine.specs.declared.trying.Keeping.TheVariants.{Nothing, Unmarked, Idle, Marked}
@@ -135,6 +138,16 @@ Finishes M r keeps b m m' =
     → (all ≡ []) × ((more : Limit) × Grants limit more × (keeps ≡ true → Pays M r m limit m' more)
     × (Counted (run_of r) → (more.trying ≡ []) × Within (run_of r) more))
 
+-- as the machine backtracks, it has passed markers of what was tried: it takes what is saved below, nothing is granted,
+-- and where failures are kept all is paid
+pub record GoesBack (M Keeps : Type 0) {S : Type 0} {text : Ghosts S} (r : Request S text) (b : BoardValue)
+    (m : MemoValue) (b' : BoardValue) (m' : MemoValue) : Type 0 where
+  pub back : IsBack (run_of r) b'
+  pub backs : (all : List Way) (limit : Limit) → Backs (run_of r) all limit b
+      → (more : Limit) × Grants limit more × Backs (run_of r) all more b' × (Keeps → Pays M r m limit m' more)
+  pub remembers : Recalls (run_of r) m'
+  pub same : m' ≡ record m { kept = m'.kept; marked = m'.marked }
+
 -- the point is left at once
 abbrev pub GivesUp : Type 0 → {S : Type 0} {text : Ghosts S} → Request S text → Point → StringCursor → BoardValue
     → MemoValue
@@ -191,6 +204,20 @@ pub record LeavesOrStays (M : Type 0) {S : Type 0} {text : Ghosts S} (r : Reques
   pub left : leaves ≡ true → GivesUp M r point cursor b m c m'
   pub stays : leaves ≡ false → StaysAt r point cursor b c
   pub goes : leaves ≡ false → GoesOn M r point cursor b m c m'
+
+-- whether a point is left, and whether its marker was pushed, by what is known of it
+abbrev pub SaysTried : Type 0 → Known → Bool → Bool → Type 0
+SaysTried M Failed told made = (told ≡ true) × (made ≡ false)
+SaysTried M Open told made = (told ≡ false) × (made ≡ false → Refused M)
+SaysTried M NoBit told made = (told ≡ false) × (made ≡ false)
+
+-- a point that is known to fail is left, and else its marker was pushed if it has a bit, unless an allocation failed
+pub record TriesKnown (M : Type 0) (known : Known) (point : Point) (cursor : StringCursor) (told : Bool)
+    (b c : BoardValue) : Type 0 where
+  pub made : Bool
+  pub marked : made ≡ true → c ≡ record b { choices = Trying point b.frames cursor b.marks ∷ b.choices }
+  pub left : made ≡ false → c ≡ b
+  pub says : SaysTried M known told made
 
 -- under what marks failures are memoized for a point: where they are not, but the memo is open, the words refer to
 -- groups

@@ -79,6 +79,7 @@ pub(super) fn repeat<S: StrDrive, A: Allocator, const STRIDES: bool>(
 }
 
 // A further body of a greedy loop whose frame is off the stack, if one may be tried, or the loop's end.
+#[tactic(auto, using(sre_turns::proofs::semantics::StepsInLoops::until_operands))]
 #[inline(always)]
 fn body_or_end<S: StrDrive, A: Allocator>(
     req: &Request<'_, S>,

@@ -10,7 +10,9 @@ ghost use Rattle.sre_turns.specs.declared.Point.TheVariants.{Instruction, Longer
 ghost use Rattle.sre_turns.specs.declared.Point.{Point};
 ghost use Rattle.sre_turns.specs.Machine.{IsBack, Chooses};
 ghost use Rattle.sre_model.specs.Roles.{begins_test};
-ghost use Rattle.sre_request.specs.Runs.{run_of, OpcodeAt, Standing};
+ghost use Rattle.sre_model.specs.Tree.{Test};
+ghost use Rattle.sre_request.specs.Runs.{run_of, OpcodeAt, TestAt, Standing};
+ghost use Rattle.sre_request.specs.Reads.{TestStandsAt, test_takes};
 ghost use Rattle.sre_machine.specs.Memos.{RecallsOf};
 ghost use Rattle.sre_machine.specs.Turns.{At, AtPoint, AtOnBoard, Turn, TurnAt, DemandedAt, RefusesAt};
 ghost use Rattle.sre_machine.specs.Turns.{Retreats, Finishes};
@@ -56,9 +58,29 @@ pub(super) fn opcode<S: StrDrive>(
     }
 }
 
-/// A test of one character, which passes if it takes the next one.
+// Whether the test at an address takes a character. The test is out of line if it is rare.
 #[inline(always)]
-fn test<S: StrDrive>(
+fn takes_either<S: StrDrive, const SELDOM: bool>(
+    req: &Request<'_, S>,
+    place: usize,
+    opcode: SreOpcode,
+    character: u32,
+) -> bool
+    requires code { OpcodeAt req.now place opcode }
+    requires stands { TestAt req.now place }
+    ensures { (j : ℕ) (t : Test) → TestStandsAt req.now place j t
+        → result ≡ test_takes req.now t character }
+{
+    if SELDOM {
+        takes_seldom(req, place, opcode, character)
+    } else {
+        takes(req, place, opcode, character)
+    }
+}
+
+/// A test of one character, which passes if it takes the next one. Rare tests share one read of the character.
+#[inline(always)]
+fn test<S: StrDrive, const SELDOM: bool>(
     req: &Request<'_, S>,
     opcode: SreOpcode,
     place: usize,
@@ -73,35 +95,10 @@ fn test<S: StrDrive>(
         return Next::Back;
     }
     let (character, after) = read(req, cursor);
-    if takes(req, place, opcode, character) {
+    if takes_either::<S, SELDOM>(req, place, opcode, character) {
         Next::At(test_end(req, place, opcode), after)
     } else {
         Next::Back
-    }
-}
-
-/// A rare test: all of these share one read of the character.
-#[inline(always)]
-fn seldom_test<S: StrDrive>(
-    req: &Request<'_, S>,
-    opcode: SreOpcode,
-    place: usize,
-    cursor: StringCursor,
-) -> Next
-    requires opcode { OpcodeAt req.now place opcode }
-    requires tests { begins_test opcode ≡ true }
-    requires stands { At req.now place cursor }
-    ensures { (b : BoardValue) → Turn req.now place cursor b result b }
-{
-    if cursor.position() >= req.end() {
-        Next::Back
-    } else {
-        let (character, after) = read(req, cursor);
-        if takes_seldom(req, place, opcode, character) {
-            Next::At(test_end(req, place, opcode), after)
-        } else {
-            Next::Back
-        }
     }
 }
 
@@ -377,8 +374,8 @@ pub(super) fn instruction<S: StrDrive, A: Allocator, const STRIDES: bool, const 
                 SreOpcode::ASSERT => assert(req, board, place, cursor),
                 SreOpcode::ASSERT_NOT => assert_not(req, board, place, cursor),
                 SreOpcode::GROUPREF_EXISTS => Ok(condition(req, board, place, cursor)),
-                $(SreOpcode::$test => Ok(test(req, SreOpcode::$test, place, cursor)),)*
-                $(SreOpcode::$seldom)|* => Ok(seldom_test(req, code, place, cursor)),
+                $(SreOpcode::$test => Ok(test::<S, false>(req, SreOpcode::$test, place, cursor)),)*
+                $(SreOpcode::$seldom)|* => Ok(test::<S, true>(req, code, place, cursor)),
                 $(SreOpcode::$reference => {
                     Ok(reference(req, board, SreOpcode::$reference, place, cursor))
                 })*

@@ -24,6 +24,7 @@ pub(super) struct RunOperands {
 }
 
 /// The operands of the repeat at an address.
+#[tactic(auto, using(sre_turns::proofs::semantics::StepsInRuns::operands_within))]
 #[inline(always)]
 pub(super) fn run_operands<S: StrDrive>(req: &Request<'_, S>, place: usize) -> RunOperands
     requires { TestAt req.now (place + 4) }

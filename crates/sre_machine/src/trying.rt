@@ -15,7 +15,7 @@ ghost use Rattle.sre_machine.specs.EndlessRuns.{IsEndlessRun};
 ghost use Rattle.sre_machine.specs.Turns.{At, AtPoint, AtOnBoard, Fails, Takes, TriesOn, IsKeeping, LeavesOrStays};
 ghost use Rattle.sre_machine.specs.Turns.{RefersToGroups, UnaskedMarks, AlikeMarks, ForksThere};
 ghost use Rattle.sre_machine.specs.Turns.{ServesThere, IdleThere};
-ghost use Rattle.sre_machine.specs.Turns.{BringsNoTolls, NoEndTold, RunsOnAt, RunsAtOnce};
+ghost use Rattle.sre_machine.specs.Turns.{BringsNoTolls, NoEndTold, RunsOnAt, RunsAtOnce, TriesKnown};
 ghost use Rattle.sre_turns.specs.Limits.{attempt};
 ghost use Rattle.sre_growth.specs.Refusal.{Refused};
 
@@ -122,13 +122,7 @@ fn is_idle<S: StrDrive, A: Allocator>(
 {
     match point {
         Point::Instruction(place) => memo.is_idle(board, place),
-        Point::Again => false,
-        Point::Alternatives(_) => false,
-        Point::Shorter(_, _) => false,
-        Point::Longer(_, _) => false,
-        Point::Inside(_) => false,
-        Point::Tried(_) => false,
-        Point::TriedAgain => false,
+        _ => false,
     }
 }
 
@@ -240,8 +234,30 @@ pub(super) fn keep<S: StrDrive, A: Allocator>(
     }
 }
 
-// Whether a point is known to fail. If not, its marker is pushed, so that its failure will be memoized. A configuration
-// without a bit gets no marker, since markers of nested loops would take the square of their depth.
+// Whether a point is left, by what is known of it. If not, its marker is pushed, so that its failure is memoized. A
+// configuration without a bit gets no marker, since markers of nested loops would take the square of their depth.
+#[inline(always)]
+fn is_left<A: Allocator>(
+    board: &mut Board<A>,
+    known: Known,
+    point: Point,
+    cursor: StringCursor,
+) -> bool
+    requires { MayBeTried point }
+    ensures { TriesKnown A known point cursor result board.old board.new }
+{
+    match known {
+        Known::Failed => true,
+        Known::Open => {
+            let _made = board.begin_trying(point, cursor);
+            false
+        }
+        Known::NoBit => false,
+    }
+}
+
+// Whether a point is known to fail. If not, its marker is pushed.
+#[tactic(auto, using(crate::proofs::Opening::open_or_refused))]
 #[inline(never)]
 fn has_failed<S: StrDrive, A: Allocator>(
     req: &Request<'_, S>,
@@ -263,14 +279,8 @@ fn has_failed<S: StrDrive, A: Allocator>(
 {
     let words = req.pattern_codes().items();
     memo.prepare(words, board, point, req.end());
-    match memo.known(words, board, point, cursor.position()) {
-        Known::Failed => true,
-        Known::Open => {
-            let _made = board.begin_trying(point, cursor);
-            false
-        }
-        Known::NoBit => false,
-    }
+    let known = memo.known(words, board, point, cursor.position());
+    is_left(board, known, point, cursor)
 }
 
 // Whether a point is known to fail under live captures, which are the memo's. If not, its marker is pushed.
@@ -293,14 +303,8 @@ fn has_failed_marked<S: StrDrive, A: Allocator>(
 {
     let words = req.pattern_codes().items();
     memo.prepare_marked(words, board, point, req.end());
-    match memo.known_marked(words, board, point, cursor.position()) {
-        Known::Failed => true,
-        Known::Open => {
-            let _made = board.begin_trying(point, cursor);
-            false
-        }
-        Known::NoBit => false,
-    }
+    let known = memo.known_marked(words, board, point, cursor.position());
+    is_left(board, known, point, cursor)
 }
 
 // Notes other live captures than the memo's, at a point whose failure might be memoized.

@@ -203,6 +203,7 @@ fn waits_on<A: Allocator>(memo: &mut Memo<A>, waits: bool, turns: u64) -> bool
 
 // The loop with a memo: steps until the run is decided. Some steps may already be taken. If the memo is open at first,
 // failures are memoized. If it is closed, a loop with a limit ends when the memo is to open.
+#[tactic(auto, using(crate::proofs::Following::turns_stop, sre_model::proofs::TurnBounds::last_spent))]
 #[inline(never)]
 fn remembering_turns<L: Ledger, K: Plan, S: StrDrive, A: Allocator, const LIMITED: bool>(
     req: &Request<'_, S>,

@@ -1,12 +1,7 @@
 use Rattle.std.proofs.Common.{◌+◌, ap, refl}
 use Rattle.sre_model.specs.Grammar.{word}
-use Rattle.sre_machine.proofs.AskedHere.{had_at, group_asked}
+use Rattle.sre_machine.proofs.AskedHere.{had_at}
 use Rattle.sre_machine.proofs.asked_places.condition.Goals as goal
-
-pub returns-clause-group : goal.returns-clause-group
-returns-clause-group c =
-    group_asked c.args.words.now c.args.place c.word_or_zero.result c.of_group-own.result c.union.result
-    c.word_or_zero.ensures c.of_group-own.ensures c.union.ensures.one
 
 pub returns-clause-absent : goal.returns-clause-absent
 returns-clause-absent c =

@@ -1,11 +1,7 @@
-use Rattle.std.proofs.Common.{arith}
 use Rattle.sre_request.specs.Runs.{run_of}
 use Rattle.sre_turns.proofs.semantics.StepsInBranches.{branch_run, branch_step}
 use Rattle.sre_turns.proofs.semantics.GoingBack.{later_again}
 use Rattle.sre_machine.proofs.branches.branch.Goals as goal
-
-pub overflow_add-place : goal.overflow_add-place
-overflow_add-place g c = omega (arith, c.requires.room)
 
 pub alternatives-requires : goal.alternatives-requires
 alternatives-requires g c = branch_run (run_of c.args.req.now) _ c.args.cursor c.requires.opcode c.requires.stands

@@ -3,6 +3,7 @@ use Rattle.sre_model.specs.Tree.{Greedy}
 use Rattle.sre_turns.specs.Machine.{with_loop}
 use Rattle.sre_request.specs.Requests.{asked_of}
 use Rattle.sre_request.specs.Runs.{run_of}
+use Rattle.sre_machine.proofs.LoopCounts.{in_progress, may_go_on}
 use Rattle.sre_turns.proofs.memoization.Hopeless.{asked_by_stop}
 use Rattle.sre_turns.proofs.semantics.StepsInLoops.{until_below, until_done, entered_on, until_operands}
 use Rattle.sre_turns.proofs.memoization.WaitingTwice.{later_dropped}
@@ -11,65 +12,41 @@ use Rattle.sre_machine.proofs.loops.further.Goals as goal
 
 pub returns-then-frame-least : goal.returns-then-frame-least
 returns-then-frame-least g c =
-    until_below (run_of c.args.req.now) Greedy c.args.place c.operand-least.result c.operand-greatest.result
-    c.args.cursor (with_loop c.args.frame c.args.board.now) c.enter.new.self c.args.frame (record {
-      code = c.requires.opcode;
-      inside = refl;
-      lowest = c.operand-least.ensures.word;
-      highest = c.operand-greatest.ensures.word;
-    })
-    c.if-frame-least.true
-    (entered_on c.args.board.now c.enter.new.self _ _ c.in_ok-enter.ensures c.next_frame.ensures)
+    until_below (run_of c.args.req.now) Greedy _ _ _ _ (with_loop c.args.frame c.args.board.now) c.enter.new.self
+    c.args.frame (in_progress c.requires.opcode refl c.operand-least.ensures.word c.operand-greatest.ensures.word)
+    c.if-frame-least.true (entered_on c.args.board.now c.enter.new.self _ _ c.in_ok-enter.ensures c.next_frame.ensures)
 
 pub returns-then-not-may_repeat : goal.returns-then-not-may_repeat
 returns-then-not-may_repeat g c = λ all limit st.
     later_dropped (run_of c.args.req.now) (asked_by_stop (asked_of c.args.req.now)) _ c.args.cursor
     c.refers-refers.result (plain_words c.args.req.now c.pattern_codes.result c.refers-refers.result
-    c.pattern_codes.ensures c.refers-refers.ensures)
-    c.args.board.now c.drop_same.new.self c.drop_same.ensures all limit
-    (until_done (run_of c.args.req.now) Greedy c.args.place c.operand-least.result c.operand-greatest.result
-    c.args.cursor (with_loop c.args.frame c.args.board.now) c.args.board.now c.args.frame (record {
-      code = c.requires.opcode;
-      inside = refl;
-      lowest = c.operand-least.ensures.word;
-      highest = c.operand-greatest.ensures.word;
-    })
+    c.pattern_codes.ensures c.refers-refers.ensures) c.args.board.now c.drop_same.new.self c.drop_same.ensures all limit
+    (until_done (run_of c.args.req.now) Greedy _ _ _ _ (with_loop c.args.frame c.args.board.now) c.args.board.now
+    c.args.frame (in_progress c.requires.opcode refl c.operand-least.ensures.word c.operand-greatest.ensures.word)
     (omega arith) (sym c.if-not-may_repeat.ensures) refl all limit st)
+
+pub strided-requires-clause-more : goal.strided-requires-clause-more
+strided-requires-clause-more g c =
+    may_go_on c.operand-least.ensures.word c.operand-greatest.ensures.word (omega arith) (omega arith) (sym
+    c.if-not-may_repeat.ensures)
+
+pub body_or_end-requires-clause-more : goal.body_or_end-requires-clause-more
+body_or_end-requires-clause-more g c =
+    may_go_on c.operand-least.ensures.word c.operand-greatest.ensures.word (omega arith) (omega arith) (sym
+    c.if-not-may_repeat.ensures)
 
 pub operand-least-requires : goal.operand-least-requires
 operand-least-requires g c =
     omega (
       arith,
-      until_operands (run_of c.args.req.now) Greedy c.args.place c.args.cursor (with_loop c.args.frame c.args.board.now)
-          c.args.frame c.requires.opcode c.requires.stands refl,
+      until_operands (run_of c.args.req.now) Greedy _ _ _ c.args.frame c.requires.opcode
+          c.requires.stands refl,
     )
 
 pub operand-greatest-requires : goal.operand-greatest-requires
 operand-greatest-requires g c =
     omega (
       arith,
-      until_operands (run_of c.args.req.now) Greedy c.args.place c.args.cursor (with_loop c.args.frame c.args.board.now)
-          c.args.frame c.requires.opcode c.requires.stands refl,
+      until_operands (run_of c.args.req.now) Greedy _ _ _ c.args.frame c.requires.opcode
+          c.requires.stands refl,
     )
-
-pub strided-requires-clause-more : goal.strided-requires-clause-more
-strided-requires-clause-more g c = record {
-  low = c.operand-least.result;
-  high = c.operand-greatest.result;
-  lowest = c.operand-least.ensures.word;
-  highest = c.operand-greatest.ensures.word;
-  small = omega arith;
-  enough = omega arith;
-  more = sym c.if-not-may_repeat.ensures;
-}
-
-pub body_or_end-requires-clause-more : goal.body_or_end-requires-clause-more
-body_or_end-requires-clause-more g c = record {
-  low = c.operand-least.result;
-  high = c.operand-greatest.result;
-  lowest = c.operand-least.ensures.word;
-  highest = c.operand-greatest.ensures.word;
-  small = omega arith;
-  enough = omega arith;
-  more = sym c.if-not-may_repeat.ensures;
-}

@@ -2,9 +2,6 @@ use Rattle.sre_request.specs.Runs.{run_of}
 use Rattle.sre_turns.proofs.semantics.Strides.{strides_at, strides_goes}
 use Rattle.sre_machine.proofs.loops.strided.Goals as goal
 
-pub stride_on-end-requires-clause-ends : goal.stride_on-end-requires-clause-ends
-stride_on-end-requires-clause-ends g c = record { board = c.args.board.now; at = c.requires.stands }
-
 pub body_or_end-requires-clause-stands : goal.body_or_end-requires-clause-stands
 body_or_end-requires-clause-stands g c =
     rw c.stride_on-end.ensures.board (strides_at (run_of c.args.req.now) c.args.place c.args.cursor

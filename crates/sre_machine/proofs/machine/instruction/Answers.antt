@@ -15,7 +15,7 @@ pub returns-in-ANY_ALL : goal.returns-in-ANY_ALL
 returns-in-ANY_ALL g c = c.test-in-ANY_ALL.ensures _
 
 pub returns-in-CATEGORY : goal.returns-in-CATEGORY
-returns-in-CATEGORY g c = c.seldom_test.ensures _
+returns-in-CATEGORY g c = c.test-in-CATEGORY.ensures _
 
 pub returns-in-IN : goal.returns-in-IN
 returns-in-IN g c = c.test-in-IN.ensures _

@@ -1,35 +1,13 @@
 use Rattle.std.proofs.lemmas.Bool.{true≢false}
-use Rattle.std.proofs.Common.{◌∷◌, sym, refl, ap, ◌∙◌}
-use Rattle.sre_turns.specs.Board.{choice}
-use Rattle.sre_turns.specs.declared.Point.TheVariants.{Instruction, Alternatives, Shorter, Longer, Again}
+use Rattle.std.proofs.Common.{sym, refl}
+use Rattle.sre_turns.specs.declared.Next.TheVariants as next
+use Rattle.sre_turns.specs.declared.Point.TheVariants.{Instruction, Again}
 use Rattle.sre_request.specs.Runs.{run_of}
-use Rattle.sre_turns.specs.Limits.{earlier}
 use Rattle.sre_turns.proofs.bound.Faring.{alternatives_free, shorter_free, longer_free}
 use Rattle.sre_turns.proofs.semantics.GoingBack.{back_none, back_arrives, back_at, back_run, back_region}
-use Rattle.sre_turns.proofs.semantics.GoingBack.{later_again}
 use Rattle.sre_turns.proofs.bound.Faring.{nothing_waits}
-use Rattle.sre_machine.proofs.Keeping.{pays_kept}
-use Rattle.sre_machine.proofs.MarksPassed.{passed_still, passed_failed, passed_back, only_kept}
+use Rattle.sre_machine.proofs.MarksPassed.{choice_turned, retreats, passed_failed, passed_kept, passed_unkept}
 use Rattle.sre_machine.proofs.machine.newest_choice.Goals as goal
-
--- the machine is at the point that it goes back to
-pub alternatives-requires : goal.alternatives-requires
-alternatives-requires g c =
-    back_run (run_of c.args.req.now) c.choice.board c.back.new.self c.in-Some.choice.0
-    (Alternatives c.in-Alternatives.place) c.in-Some.choice.1 c.in-Some.ensures c.in-Alternatives.is refl
-    c.choice.invariant.back
-
-pub shorter_saved-requires : goal.shorter_saved-requires
-shorter_saved-requires g c =
-    back_run (run_of c.args.req.now) c.choice.board c.back.new.self c.in-Some.choice.0
-    (Shorter c.in-Shorter.tail c.in-Shorter.count) c.in-Some.choice.1 c.in-Some.ensures c.in-Shorter.is refl
-    c.choice.invariant.back
-
-pub longer_saved-requires : goal.longer_saved-requires
-longer_saved-requires g c =
-    back_run (run_of c.args.req.now) c.choice.board c.back.new.self c.in-Some.choice.0
-    (Longer c.in-Longer.place c.in-Longer.count) c.in-Some.choice.1 c.in-Some.ensures c.in-Longer.is refl
-    c.choice.invariant.back
 
 pub returns-in_default-clause-next : goal.returns-in_default-clause-next
 returns-in_default-clause-next g c = λ all limit x.
@@ -46,157 +24,84 @@ returns-in_default-clause-next g c = λ all limit x.
     )
 
 pub returns-in-Instruction-clause-next : goal.returns-in-Instruction-clause-next
-returns-in-Instruction-clause-next g c = λ all limit x.
-    let y = c.choice.invariant.backs all limit x in (
-      y.0,
-      y.1,
-      back_arrives (run_of c.args.req.now) c.choice.board c.back.new.self c.in-Some.choice.0
-          (Instruction c.in-Instruction.place) c.in-Some.choice.1 c.in-Some.ensures c.in-Instruction.is refl all y.0
-          y.2,
-      λ keeps. y.3 (λ none. true≢false (sym (rw none at keeps))),
-    )
+returns-in-Instruction-clause-next g c =
+    retreats c.choice.invariant (next.At c.in-Instruction.place c.in-Some.choice.1) c.back.new.self
+    (λ keeps none. true≢false (sym (rw none at keeps)))
+    (back_arrives (run_of c.args.req.now) c.choice.board c.back.new.self _ (Instruction c.in-Instruction.place) _
+    c.in-Some.ensures c.in-Instruction.is refl)
 
 pub returns-in-Alternatives-clause-next : goal.returns-in-Alternatives-clause-next
-returns-in-Alternatives-clause-next g c = λ all limit x.
-    let y = c.choice.invariant.backs all limit x in
-    let s = back_at (run_of c.args.req.now) c.choice.board c.back.new.self c.in-Some.choice.0
-    (Alternatives c.in-Alternatives.place) c.in-Some.choice.1 c.in-Some.ensures c.in-Alternatives.is refl
-    alternatives_free all y.0 y.2 in (
-      y.0,
-      y.1,
-      later_again (run_of c.args.req.now) all y.0 _ _ s.0 (c.in_ok-alternatives-in-Alternatives.ensures all
-          (earlier y.0) s.1),
-      λ keeps. y.3 (λ none. true≢false (sym (rw none at keeps))),
-    )
+returns-in-Alternatives-clause-next g c =
+    retreats c.choice.invariant _ _ (λ keeps none. true≢false (sym (rw none at keeps)))
+    (choice_turned _ _ (back_at (run_of c.args.req.now) c.choice.board c.back.new.self _ _ _
+    c.in-Some.ensures c.in-Alternatives.is refl alternatives_free) c.in_ok-alternatives-in-Alternatives.ensures)
 
 pub returns-in-Shorter-clause-next : goal.returns-in-Shorter-clause-next
-returns-in-Shorter-clause-next g c = λ all limit x.
-    let y = c.choice.invariant.backs all limit x in
-    let s = back_at (run_of c.args.req.now) c.choice.board c.back.new.self c.in-Some.choice.0
-    (Shorter c.in-Shorter.tail c.in-Shorter.count) c.in-Some.choice.1 c.in-Some.ensures c.in-Shorter.is refl
-    shorter_free all y.0 y.2 in (
-      y.0,
-      y.1,
-      later_again (run_of c.args.req.now) all y.0 _ _ s.0 (c.in_ok-shorter_saved-in-Shorter.ensures all
-          (earlier y.0) s.1),
-      λ keeps. y.3 (λ none. true≢false (sym (rw none at keeps))),
-    )
+returns-in-Shorter-clause-next g c =
+    retreats c.choice.invariant _ _ (λ keeps none. true≢false (sym (rw none at keeps)))
+    (choice_turned _ _ (back_at (run_of c.args.req.now) c.choice.board c.back.new.self _ _ _
+    c.in-Some.ensures c.in-Shorter.is refl shorter_free) c.in_ok-shorter_saved-in-Shorter.ensures)
 
 pub returns-in-Longer-clause-next : goal.returns-in-Longer-clause-next
-returns-in-Longer-clause-next g c = λ all limit x.
-    let y = c.choice.invariant.backs all limit x in
-    let s = back_at (run_of c.args.req.now) c.choice.board c.back.new.self c.in-Some.choice.0
-    (Longer c.in-Longer.place c.in-Longer.count) c.in-Some.choice.1 c.in-Some.ensures c.in-Longer.is refl longer_free
-    all y.0 y.2 in (
-      y.0,
-      y.1,
-      later_again (run_of c.args.req.now) all y.0 _ _ s.0 (c.in_ok-longer_saved-in-Longer.ensures all
-          (earlier y.0) s.1),
-      λ keeps. y.3 (λ none. true≢false (sym (rw none at keeps))),
-    )
+returns-in-Longer-clause-next g c =
+    retreats c.choice.invariant _ _ (λ keeps none. true≢false (sym (rw none at keeps)))
+    (choice_turned _ _ (back_at (run_of c.args.req.now) c.choice.board c.back.new.self _ _ _
+    c.in-Some.ensures c.in-Longer.is refl longer_free) c.in_ok-longer_saved-in-Longer.ensures)
 
 pub returns-in-Inside-clause-next : goal.returns-in-Inside-clause-next
-returns-in-Inside-clause-next g c = λ all limit x.
-    let y = c.choice.invariant.backs all limit x in
-    let left = c.without_outcome.ensures in (
-      y.0,
-      y.1,
-      back_region (run_of c.args.req.now) c.choice.board c.back.new.self c.without_outcome.new.board
-          c.in-Some.choice.0 c.in-Inside.region c.in-Some.choice.1 c.without_outcome.result c.in-Some.ensures
-          c.in-Inside.is left.next left.board all y.0 y.2,
-      λ keeps. y.3 (λ none. true≢false (sym (rw none at keeps))),
-    )
+returns-in-Inside-clause-next g c =
+    retreats c.choice.invariant _ _ (λ keeps none. true≢false (sym (rw none at keeps)))
+    (back_region (run_of c.args.req.now) c.choice.board c.back.new.self _ _ c.in-Inside.region _ _ c.in-Some.ensures
+    c.in-Inside.is c.without_outcome.ensures.next c.without_outcome.ensures.board)
 
 pub returns-in-Again-clause-next : goal.returns-in-Again-clause-next
-returns-in-Again-clause-next g c = λ all limit x.
-    let y = c.choice.invariant.backs all limit x in (
-      y.0,
-      y.1,
-      back_arrives (run_of c.args.req.now) c.choice.board c.back.new.self c.in-Some.choice.0 Again c.in-Some.choice.1
-          c.in-Some.ensures c.in-Again.is refl all y.0 y.2,
-      λ keeps. y.3 (λ none. true≢false (sym (rw none at keeps))),
-    )
+returns-in-Again-clause-next g c =
+    retreats c.choice.invariant (next.Again c.in-Some.choice.1) c.back.new.self
+    (λ keeps none. true≢false (sym (rw none at keeps)))
+    (back_arrives (run_of c.args.req.now) c.choice.board c.back.new.self _ Again _ c.in-Some.ensures c.in-Again.is
+    refl)
 
 -- a mark is passed over
 pub keep-requires-clause-failed : goal.keep-requires-clause-failed
 keep-requires-clause-failed g c =
-    let b = c.back.new.self in
-    passed_failed c.args.req.now (Instruction c.in-Tried.place) c.in-Some.choice.1 c.choice.board b
-    (c.in-Some.ensures ∙ ap (λ pt. choice pt b.frames c.in-Some.choice.1 b.marks ∷ b.choices) c.in-Tried.is)
-    c.choice.invariant.back
+    passed_failed c.choice.invariant c.back.new.self (Instruction c.in-Tried.place) c.in-Some.ensures c.in-Tried.is refl
 
 pub choice-preserved-then-this-ne0 : goal.choice-preserved-then-this-ne0
 choice-preserved-then-this-ne0 g c =
-    let r = c.args.req.now in
-    let b = c.back.new.self in
-    let cursor = c.in-Some.choice.1 in
-    let point = Instruction c.in-Tried.place in
-    let marked = c.in-Some.ensures ∙ ap (λ pt. choice pt b.frames cursor b.marks ∷ b.choices) c.in-Tried.is in
-    record {
-      back = passed_still r point cursor c.choice.board b marked c.choice.invariant.back;
-      backs = λ all limit x.
-          passed_back r point cursor c.choice.board b marked _ c.args.memo.now c.choice.memo c.keep.new.memo
-          (λ _. pays_kept r point cursor c.choice.board b c.choice.memo c.keep.new.memo marked c.keep.ensures.same
-          c.keep.ensures.account)
-          all limit (c.choice.invariant.backs all limit x);
-      remembers = c.keep.ensures.remembers;
-      same = only_kept c.args.memo.now c.choice.memo c.keep.new.memo c.choice.invariant.same c.keep.ensures.same;
-    }
+    passed_kept c.choice.invariant c.back.new.self (Instruction c.in-Tried.place) c.in-Some.ensures c.in-Tried.is refl
+    c.keep.ensures.same c.keep.ensures.account c.keep.ensures.remembers
 
 pub choice-preserved-else-this-ne0 : goal.choice-preserved-else-this-ne0
 choice-preserved-else-this-ne0 g c =
-    let r = c.args.req.now in
-    let b = c.back.new.self in
-    let cursor = c.in-Some.choice.1 in
-    let point = Instruction c.in-Tried.place in
-    let marked = c.in-Some.ensures ∙ ap (λ pt. choice pt b.frames cursor b.marks ∷ b.choices) c.in-Tried.is in
-    record {
-      back = passed_still r point cursor c.choice.board b marked c.choice.invariant.back;
-      backs = λ all limit x.
-          passed_back r point cursor c.choice.board b marked _ c.args.memo.now c.choice.memo c.choice.memo
-          (λ keeps. absurd (keeps c.if-this-ne0.false)) all limit (c.choice.invariant.backs all limit x);
-      remembers = c.choice.invariant.remembers;
-      same = c.choice.invariant.same;
-    }
+    passed_unkept c.choice.invariant c.back.new.self (Instruction c.in-Tried.place) c.in-Some.ensures c.in-Tried.is refl
+    (λ keeps. keeps c.if-this-ne0.false)
 
 pub keep-requires-then-this-ne0-2-clause-failed : goal.keep-requires-then-this-ne0-2-clause-failed
 keep-requires-then-this-ne0-2-clause-failed g c =
-    let b = c.back.new.self in
-    passed_failed c.args.req.now Again c.in-Some.choice.1 c.choice.board b
-    (c.in-Some.ensures ∙ ap (λ pt. choice pt b.frames c.in-Some.choice.1 b.marks ∷ b.choices) c.in-TriedAgain.is)
-    c.choice.invariant.back
+    passed_failed c.choice.invariant c.back.new.self Again c.in-Some.ensures c.in-TriedAgain.is refl
 
 pub choice-preserved-then-this-ne0-2 : goal.choice-preserved-then-this-ne0-2
 choice-preserved-then-this-ne0-2 g c =
-    let kept = c.keep-then-this-ne0-2 in
-    let r = c.args.req.now in
-    let b = c.back.new.self in
-    let cursor = c.in-Some.choice.1 in
-    let point = Again in
-    let marked = c.in-Some.ensures ∙ ap (λ pt. choice pt b.frames cursor b.marks ∷ b.choices) c.in-TriedAgain.is in
-    record {
-      back = passed_still r point cursor c.choice.board b marked c.choice.invariant.back;
-      backs = λ all limit x.
-          passed_back r point cursor c.choice.board b marked _ c.args.memo.now c.choice.memo kept.new.memo
-          (λ _. pays_kept r point cursor c.choice.board b c.choice.memo kept.new.memo marked kept.ensures.same
-          kept.ensures.account)
-          all limit (c.choice.invariant.backs all limit x);
-      remembers = kept.ensures.remembers;
-      same = only_kept c.args.memo.now c.choice.memo kept.new.memo c.choice.invariant.same kept.ensures.same;
-    }
+    passed_kept c.choice.invariant c.back.new.self Again c.in-Some.ensures c.in-TriedAgain.is refl
+    c.keep-then-this-ne0-2.ensures.same c.keep-then-this-ne0-2.ensures.account c.keep-then-this-ne0-2.ensures.remembers
 
 pub choice-preserved : goal.choice-preserved
 choice-preserved g c =
-    let r = c.args.req.now in
-    let b = c.back.new.self in
-    let cursor = c.in-Some.choice.1 in
-    let point = Again in
-    let marked = c.in-Some.ensures ∙ ap (λ pt. choice pt b.frames cursor b.marks ∷ b.choices) c.in-TriedAgain.is in
-    record {
-      back = passed_still r point cursor c.choice.board b marked c.choice.invariant.back;
-      backs = λ all limit x.
-          passed_back r point cursor c.choice.board b marked _ c.args.memo.now c.choice.memo c.choice.memo
-          (λ keeps. absurd (keeps c.if-this-ne0-2.false)) all limit (c.choice.invariant.backs all limit x);
-      remembers = c.choice.invariant.remembers;
-      same = c.choice.invariant.same;
-    }
+    passed_unkept c.choice.invariant c.back.new.self Again c.in-Some.ensures c.in-TriedAgain.is refl
+    (λ keeps. keeps c.if-this-ne0-2.false)
+
+-- the machine is at the point that it goes back to
+pub alternatives-requires : goal.alternatives-requires
+alternatives-requires g c =
+    back_run (run_of c.args.req.now) c.choice.board c.back.new.self _ _ _ c.in-Some.ensures c.in-Alternatives.is refl
+    c.choice.invariant.back
+
+pub shorter_saved-requires : goal.shorter_saved-requires
+shorter_saved-requires g c =
+    back_run (run_of c.args.req.now) c.choice.board c.back.new.self _ _ _ c.in-Some.ensures c.in-Shorter.is refl
+    c.choice.invariant.back
+
+pub longer_saved-requires : goal.longer_saved-requires
+longer_saved-requires g c =
+    back_run (run_of c.args.req.now) c.choice.board c.back.new.self _ _ _ c.in-Some.ensures c.in-Longer.is refl
+    c.choice.invariant.back

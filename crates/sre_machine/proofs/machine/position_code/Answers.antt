@@ -1,16 +1,11 @@
 use Rattle.std.proofs.Common.{◌+◌, sym, ◌∙◌, subst}
 use Rattle.sre_model.specs.Grammar.{Word}
 use Rattle.sre_request.specs.Runs.{run_of}
-use Rattle.sre_turns.proofs.semantics.StepsAtItems.{at_step, at_refused, at_operand, at_known}
+use Rattle.sre_turns.proofs.semantics.StepsAtItems.{at_step, at_refused, at_operand}
 use Rattle.sre_machine.proofs.machine.position_code.Goals as goal
 
 pub operand-requires : goal.operand-requires
 operand-requires g c = at_operand (run_of c.args.req.now) _ _ c.requires.opcode c.requires.stands
-
-pub unreachable-requires : goal.unreachable-requires
-unreachable-requires g c =
-    at_known (run_of c.args.req.now) _ c.operand.result c.args.cursor c.requires.opcode c.requires.stands
-    c.operand.ensures.word c.in-Err.ensures.1
 
 pub returns-then-holds_at : goal.returns-then-holds_at
 returns-then-holds_at g c = λ b.

@@ -1,82 +1,42 @@
 use Rattle.std.proofs.Common.{sym, ap, ◌∙◌, Some, arith}
 use Rattle.sre_turns.specs.MovesInLoops.{next_frame}
 use Rattle.sre_request.specs.Runs.{run_of}
-use Rattle.sre_turns.proofs.semantics.StepsInPossessiveLoops.{InPossessiveLoop, again_done, again_owed, again_further}
+use Rattle.sre_machine.proofs.LoopCounts.{in_possessive}
+use Rattle.sre_turns.proofs.semantics.StepsInPossessiveLoops.{again_done, again_owed, again_further}
 use Rattle.sre_turns.proofs.semantics.StepsInPossessiveLoops.{begun_board}
 use Rattle.sre_turns.proofs.semantics.StepsInPossessiveLoops.{again_operands}
 use Rattle.sre_machine.proofs.possessive_loops.again.Goals as goal
 
 pub returns-then-frame-least : goal.returns-then-frame-least
 returns-then-frame-least g c =
-    let r = run_of c.args.req.now in
-    let f = c.top-frame.result in
-    let loop : InPossessiveLoop r c.operand-skip.result c.operand-least.result c.operand-greatest.result
-    c.args.board.now f =
-    record {
-      inside = c.top-frame.ensures;
-      leads = c.operand-skip.ensures.word;
-      lowest = c.operand-least.ensures.word;
-      highest = c.operand-greatest.ensures.word;
-    } in
-    again_owed r c.operand-skip.result c.operand-least.result c.operand-greatest.result c.args.cursor c.args.board.now
-    c.begin_region.new.self f loop c.if-frame-least.true
-    (begun_board c.args.board.now c.leave.new.self c.enter.new.self c.begin_region.new.self _ f c.next_frame.result
-    f.last c.args.cursor c.leave.ensures c.in_ok-enter.ensures c.in_ok-begin_region.ensures c.next_frame.ensures)
+    again_owed (run_of c.args.req.now) _ _ _ _ _ c.begin_region.new.self _ (in_possessive c.top-frame.ensures
+    c.operand-skip.ensures.word c.operand-least.ensures.word c.operand-greatest.ensures.word) c.if-frame-least.true
+    (begun_board c.args.board.now c.leave.new.self c.enter.new.self c.begin_region.new.self _ c.top-frame.result _ _ _
+    c.leave.ensures c.in_ok-enter.ensures c.in_ok-begin_region.ensures c.next_frame.ensures)
 
 pub returns-then-not-may_repeat : goal.returns-then-not-may_repeat
 returns-then-not-may_repeat g c =
-    let r = run_of c.args.req.now in
-    let f = c.top-frame.result in
-    let loop : InPossessiveLoop r c.operand-skip.result c.operand-least.result c.operand-greatest.result
-    c.args.board.now f =
-    record {
-      inside = c.top-frame.ensures;
-      leads = c.operand-skip.ensures.word;
-      lowest = c.operand-least.ensures.word;
-      highest = c.operand-greatest.ensures.word;
-    } in
-    again_done r c.operand-skip.result c.operand-least.result c.operand-greatest.result c.args.cursor c.args.board.now
-    c.leave.new.self f loop (omega arith) (sym c.if-not-may_repeat.ensures) c.leave.ensures
+    again_done (run_of c.args.req.now) _ _ _ _ _ c.leave.new.self _ (in_possessive c.top-frame.ensures
+    c.operand-skip.ensures.word c.operand-least.ensures.word c.operand-greatest.ensures.word) (omega arith) (sym
+    c.if-not-may_repeat.ensures) c.leave.ensures
 
 pub returns : goal.returns
 returns g c =
-    let r = run_of c.args.req.now in
-    let f = c.top-frame.result in
-    let loop : InPossessiveLoop r c.operand-skip.result c.operand-least.result c.operand-greatest.result
-    c.args.board.now f =
-    record {
-      inside = c.top-frame.ensures;
-      leads = c.operand-skip.ensures.word;
-      lowest = c.operand-least.ensures.word;
-      highest = c.operand-greatest.ensures.word;
-    } in
-    again_further r c.operand-skip.result c.operand-least.result c.operand-greatest.result c.args.cursor
-    c.args.board.now c.begin_region-2.new.self f loop (omega arith) (sym c.if-not-may_repeat.ensures)
-    (begun_board c.args.board.now c.leave.new.self c.enter-2.new.self c.begin_region-2.new.self _ f
-    c.next_frame-2.result (Some c.args.cursor.position) c.args.cursor c.leave.ensures c.in_ok-enter-2.ensures
-    c.in_ok-begin_region-2.ensures
-    (c.next_frame-2.ensures ∙ ap (λ p. next_frame f (Some p)) c.position.ensures))
+    again_further (run_of c.args.req.now) _ _ _ _ _ c.begin_region-2.new.self _ (in_possessive c.top-frame.ensures
+    c.operand-skip.ensures.word c.operand-least.ensures.word c.operand-greatest.ensures.word) (omega arith) (sym
+    c.if-not-may_repeat.ensures) (begun_board c.args.board.now c.leave.new.self c.enter-2.new.self
+    c.begin_region-2.new.self _ c.top-frame.result _ _ _ c.leave.ensures c.in_ok-enter-2.ensures
+    c.in_ok-begin_region-2.ensures (c.next_frame-2.ensures ∙ ap (λ p. next_frame c.top-frame.result (Some p))
+    c.position.ensures))
 
 pub operand-least-requires : goal.operand-least-requires
 operand-least-requires g c =
-    omega (
-      arith,
-      again_operands (run_of c.args.req.now) c.args.cursor c.args.board.now c.top-frame.result c.requires
-          c.top-frame.ensures,
-    )
+    omega (arith, again_operands (run_of c.args.req.now) _ _ _ c.requires c.top-frame.ensures)
 
 pub operand-greatest-requires : goal.operand-greatest-requires
 operand-greatest-requires g c =
-    omega (
-      arith,
-      again_operands (run_of c.args.req.now) c.args.cursor c.args.board.now c.top-frame.result c.requires
-          c.top-frame.ensures,
-    )
+    omega (arith, again_operands (run_of c.args.req.now) _ _ _ c.requires c.top-frame.ensures)
 
 pub operand-skip-requires : goal.operand-skip-requires
 operand-skip-requires g c =
-    omega (
-      arith,
-      again_operands (run_of c.args.req.now) c.args.cursor c.args.board.now c.top-frame.result c.requires
-          c.top-frame.ensures,
-    )
+    omega (arith, again_operands (run_of c.args.req.now) _ _ _ c.requires c.top-frame.ensures)

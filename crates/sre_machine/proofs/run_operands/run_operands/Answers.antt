@@ -1,17 +1,7 @@
-use Rattle.std.proofs.Common.{◌+◌, ap, sym, arith}
+use Rattle.std.proofs.Common.{◌+◌, ap, sym}
 use Rattle.sre_model.proofs.Words.{word_of}
 use Rattle.sre_request.specs.Runs.{run_of}
-use Rattle.sre_turns.proofs.semantics.StepsInRuns.{operands_within}
 use Rattle.sre_machine.proofs.run_operands.run_operands.Goals as goal
-
-pub operand-skip-requires : goal.operand-skip-requires
-operand-skip-requires g c = omega (arith, operands_within (run_of c.args.req.now).words c.args.place c.requires)
-
-pub operand-requires : goal.operand-requires
-operand-requires g c = omega (arith, operands_within (run_of c.args.req.now).words c.args.place c.requires)
-
-pub operand-requires-2 : goal.operand-requires-2
-operand-requires-2 g c = omega (arith, operands_within (run_of c.args.req.now).words c.args.place c.requires)
 
 pub returns : goal.returns
 returns g c = record {

@@ -7,14 +7,14 @@ pub returns-in-Nothing-clause-leaves : goal.returns-in-Nothing-clause-leaves
 returns-in-Nothing-clause-leaves g c =
     stays_on c.args.req.now c.args.point c.args.cursor c.args.board.now c.args.board.now c.args.memo.now
     c.meet_marks.new.memo (λ x. x) (λ all limit x.
-    goes_forgetting c.args.req.now c.args.point c.args.cursor c.args.board.now c.args.memo.now c.meet_marks.new.memo
-    all limit x (c.requires.keeping.left c.in-Nothing.is))
+    goes_forgetting c.args.req.now c.args.point c.args.cursor c.args.board.now all limit x c.args.memo.now
+    c.meet_marks.new.memo (c.requires.keeping.left c.in-Nothing.is))
 
 pub returns-then-not-may_branch_at-clause-leaves : goal.returns-then-not-may_branch_at-clause-leaves
 returns-then-not-may_branch_at-clause-leaves g c =
     stays_on c.args.req.now c.args.point c.args.cursor c.args.board.now c.args.board.now c.args.memo.now
     c.args.memo.now (λ x. x) (λ all limit x.
-    goes_freely c.args.req.now c.args.point c.args.cursor c.args.board.now c.args.memo.now c.args.memo.now all limit x
+    goes_freely c.args.req.now c.args.point c.args.cursor c.args.board.now all limit x c.args.memo.now
     (c.may_branch_at.ensures.free c.if-not-may_branch_at.true))
 
 pub returns-then-not-may_branch_at-clause-tries : goal.returns-then-not-may_branch_at-clause-tries

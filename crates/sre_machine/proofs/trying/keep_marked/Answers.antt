@@ -1,11 +1,10 @@
 use Rattle.std.proofs.Common.{inl, ap, sym, subst, ◌∙◌}
 use Rattle.sre_code.specs.Codes.{items_of}
-use Rattle.sre_model.specs.Marks.{Marks, no_marks}
+use Rattle.sre_model.specs.Marks.{Marks}
 use Rattle.sre_board.specs.Failures.{Remembers}
 use Rattle.sre_turns.specs.AskedPlaces.{AreIdle}
 use Rattle.sre_request.specs.Runs.{run_of}
-use Rattle.sre_machine.specs.Memos.{MemoValue, Covers, EndsStay}
-use Rattle.sre_machine.proofs.Recalling.{bits_stay, ends_kept, still_markless}
+use Rattle.sre_machine.specs.Memos.{MemoValue, Covers, Recalls}
 use Rattle.sre_machine.proofs.Failing.{fails_kept}
 use Rattle.sre_machine.proofs.trying.keep_marked.Goals as goal
 
@@ -14,23 +13,17 @@ returns-then-is_marked_so-clause-remembers g c =
     let r = run_of c.args.req.now in
     let m = c.args.memo.now in
     let m' = c.keep_marked.new.self in
-    let kept = ap (λ (x : MemoValue). x.kept) c.keep_marked.ensures.same in
-    let ends : EndsStay m m' = (
-      ap (λ (x : MemoValue). x.ends) c.keep_marked.ensures.same,
-      ap (λ (x : MemoValue). x.keeps_ends) c.keep_marked.ensures.same,
-      ap (λ (x : MemoValue). x.first) c.keep_marked.ensures.same,
-    ) in
-    record {
-      plain = subst (λ k. Remembers r no_marks k) (sym kept) c.requires.remembers.plain;
+    let was = c.requires.remembers in
+    subst (λ (k : MemoValue). Recalls r k) (sym c.keep_marked.ensures.same) (record {
+      plain = was.plain;
       marked = subst (λ (x : Marks). Remembers r x m'.marked.kept) (sym c.keep_marked.ensures.marks)
           (fails_kept c.args.req.now m.marked.marks m.marked.kept m'.marked.kept c.items-words.result.now c.args.point
           c.position.result c.args.cursor.position c.args.board.now
           (c.items-words.ensures.same ∙ ap items_of c.pattern_codes.ensures) c.position.ensures
           c.keep_marked.ensures.more
-          (c.requires.failed m.marked.marks (inl (c.is_marked_so.ensures c.if-is_marked_so.true)))
-          c.requires.remembers.marked);
-      covers = subst (λ end. Covers r.words end) (sym c.keep_marked.ensures.end) c.requires.remembers.covers;
-      idle = subst (λ list. AreIdle r.words list) (sym c.keep_marked.ensures.idle) c.requires.remembers.idle;
-      ends = ends_kept r m m' ends (bits_stay m.kept m'.kept kept) c.requires.remembers;
-      markless = still_markless r m m' ends (bits_stay m.kept m'.kept kept) c.requires.remembers;
-    }
+          (c.requires.failed m.marked.marks (inl (c.is_marked_so.ensures c.if-is_marked_so.true))) was.marked);
+      covers = subst (λ end. Covers r.words end) (sym c.keep_marked.ensures.end) was.covers;
+      idle = subst (λ list. AreIdle r.words list) (sym c.keep_marked.ensures.idle) was.idle;
+      ends = was.ends;
+      markless = was.markless;
+    })

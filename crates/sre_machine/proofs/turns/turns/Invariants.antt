@@ -1,4 +1,4 @@
-use Rattle.std.proofs.Common.{◌-◌, ◌≤◌}
+use Rattle.std.proofs.Common.{◌+◌, ◌-◌, ◌≤◌}
 use Rattle.sre_turns.specs.Machine.{StandsWithin}
 use Rattle.sre_machine.specs.Memos.{Recalls}
 use Rattle.sre_request.specs.Runs.{run_of}
@@ -12,4 +12,4 @@ invariant-turn g l = record {
 }
 
 abbrev pub decreases-turn : goal.decreases-turn
-decreases-turn g l = g.K.Plan.limit - l.turned
+decreases-turn g l = g.K.Plan.limit + 1 - l.turned

@@ -1,0 +1,38 @@
+-- The innermost loop, as the operands of its REPEAT are read.
+use Rattle.std.proofs.Common.{◌≡◌, ℕ, ◌+◌, ◌≤◌, true, List, ◌∷◌, drop}
+use Rattle.sre_model.specs.Grammar.{Word, Opcode, until_opcode}
+use Rattle.sre_model.specs.Runs.{Run}
+use Rattle.sre_model.specs.Tree.{Order}
+use Rattle.sre_model.specs.Ways.{may_repeat, unlimited}
+use Rattle.sre_turns.specs.Board.{BoardValue}
+use Rattle.sre_turns.specs.Strides.{MayRepeat}
+use Rattle.sre_turns.specs.declared.Frame.{Frame}
+use Rattle.sre_turns.proofs.semantics.StepsInLoops.{InLoop}
+use Rattle.sre_turns.proofs.semantics.StepsInPossessiveLoops.{InPossessiveLoop}
+
+-- a greedy or a lazy loop
+pub in_progress : {r : Run} {o : Order} {u low high : ℕ} {b : BoardValue} {f : Frame}
+    → Opcode r.words u (until_opcode o) → b.frames ≡ f ∷ drop 1 b.frames → Word r.words (f.repeat + 2) low
+    → Word r.words (f.repeat + 3) high → InLoop r o u low high b f
+in_progress code inside lowest highest =
+    record { code = code; inside = inside; lowest = lowest; highest = highest }
+
+-- a possessive one
+pub in_possessive : {r : Run} {v low high : ℕ} {b : BoardValue} {f : Frame} → b.frames ≡ f ∷ drop 1 b.frames
+    → Word r.words (f.repeat + 1) v → Word r.words (f.repeat + 2) low → Word r.words (f.repeat + 3) high
+    → InPossessiveLoop r v low high b f
+in_possessive inside leads lowest highest =
+    record { inside = inside; leads = leads; lowest = lowest; highest = highest }
+
+-- a further body may be tried
+pub may_go_on : {ws : List ℕ} {f : Frame} {p low high : ℕ} → Word ws (f.repeat + 2) low → Word ws (f.repeat + 3) high
+    → low ≤ unlimited → low ≤ f.count → may_repeat high f.count f.last p ≡ true → MayRepeat ws f p
+may_go_on lowest highest small enough more = record {
+  low = _;
+  high = _;
+  lowest = lowest;
+  highest = highest;
+  small = small;
+  enough = enough;
+  more = more;
+}
