@@ -199,12 +199,12 @@ pub fn memory_in(alloc: Global, kept: &mut Kept) -> Option<Box<Memory>>
     }
 }
 
-// Whether the machine alone is to search a range: a short one, without a limit.
+// Whether the machine alone is to search a range, without a limit.
 #[inline(always)]
 fn is_alone<S: StrDrive>(kept: &mut Kept, request: &Request<'_, S>, steps: u64) -> bool
     ensures suits { (ws : List ℕ) (uni : Table) → Suits ws uni kept.old → Suits ws uni kept.new }
 {
-    range(request) <= FEW_CHARACTERS && steps == NO_LIMIT && kept.is_alone()
+    steps == NO_LIMIT && kept.is_alone(request)
 }
 
 // The prefilter that skips nothing, and counts the runs that failed.
@@ -232,8 +232,40 @@ impl<S: StrDrive> Starts<S> for Failures {
     }
 }
 
-// Writes the matches with the memory of earlier calls: by the machine alone, or with the DFAs that are kept. Within a
-// limit the machine finds each match, with a prefilter.
+// Writes the matches with the DFAs that are kept and the memory of earlier calls. Within a limit the machine finds each
+// match, with a prefilter. It is out of line, since it has large values, and few short ranges need it.
+#[inline(never)]
+fn write_by_dfas<S: Haystack>(
+    alloc: Global,
+    kept: &mut Kept,
+    memory: &mut Memory,
+    request: &mut Request<'_, S>,
+    width: usize,
+    rows: &mut [usize],
+    walked: &mut SreWalked,
+) -> Status
+    requires suits { Suits (words_of (code_of request.old)) (uni_of (code_of request.old)) kept.old }
+    requires sets { SetsOf (items_of (code_of request.old)) memory.old.sets }
+    requires none { walked.old.count ≡ 0 }
+    ensures rows { Writes result request.old walked.old.steps width walked.new rows.new }
+    ensures steps { walked.new.steps ≤ walked.old.steps }
+    ensures unlimited { walked.old.steps ≡ no_limit → walked.new.steps ≡ walked.old.steps }
+    ensures suits { Suits (words_of (code_of request.old)) (uni_of (code_of request.old)) kept.new }
+    ensures sets { SetsOf (items_of (code_of request.old)) memory.new.sets }
+{
+    let encoding = request.string().encoding(request.end());
+    if walked.steps < NO_LIMIT {
+        // captures of a span, and what DFAs leave open, cost steps that nothing counts
+        kept.begin(alloc, encoding);
+        return write_rows(request, memory, kept, width, rows, walked);
+    }
+    let mut finder = kept.take(alloc, request.pattern_codes(), encoding);
+    let status = write_spans(&mut finder, request, memory, width, rows, walked);
+    *kept = finder.into_kept();
+    status
+}
+
+// Writes the matches with the memory of earlier calls: by the machine alone, or with the DFAs that are kept.
 fn write_in<S: Haystack>(
     alloc: Global,
     kept: &mut Kept,
@@ -252,21 +284,12 @@ fn write_in<S: Haystack>(
     ensures suits { Suits (words_of (code_of request.old)) (uni_of (code_of request.old)) kept.new }
     ensures sets { SetsOf (items_of (code_of request.old)) memory.new.sets }
 {
-    if is_alone(kept, request, walked.steps) {
-        let characters = range(request);
-        let mut failures = Failures { runs: 0 };
-        let status = write_rows(request, memory, &mut failures, width, rows, walked);
-        kept.note_alone(failures.runs.saturating_add(1), characters);
-        return status;
+    if !is_alone(kept, request, walked.steps) {
+        return write_by_dfas(alloc, kept, memory, request, width, rows, walked);
     }
-    let encoding = request.string().encoding(request.end());
-    if walked.steps < NO_LIMIT {
-        // captures of a span, and what DFAs leave open, cost steps that nothing counts
-        kept.begin(alloc, encoding);
-        return write_rows(request, memory, kept, width, rows, walked);
-    }
-    let mut finder = kept.take(alloc, request.pattern_codes(), encoding);
-    let status = write_spans(&mut finder, request, memory, width, rows, walked);
-    *kept = finder.into_kept();
+    let characters = range(request);
+    let mut failures = Failures { runs: 0 };
+    let status = write_rows(request, memory, &mut failures, width, rows, walked);
+    kept.note_alone(failures.runs.saturating_add(1), characters);
     status
 }

@@ -7,13 +7,15 @@ ghost use Rattle.sre_code.specs.Codes.{words_of, uni_of};
 ghost use Rattle.sre_engine.specs.FirstSets.{SetsOf, no_sets};
 ghost use Rattle.sre_finder.specs.Kepts.{Suits, encoding_beside};
 
-use crate::pace::{Alone, Debt, Reads};
+use crate::pace::{Alone, Debt, FEW_CHARACTERS, Reads};
 use crate::prefilter::Prefilter;
 use crate::span_finder::SpanFinder;
 use sre_automata::Seeker;
+use sre_chars::string::StrDrive;
 use sre_code::Code;
 use sre_engine::engine::{FirstSets, State};
 use sre_patterns::Encoding;
+use sre_request::Request;
 use std::alloc::Global;
 use std::mem::replace;
 
@@ -121,13 +123,17 @@ impl Kept {
         self.memory = Some(memory);
     }
 
-    /// Whether the machine alone is to find the next match, if the range is so short that it cannot lose much: before
-    /// the DFAs are built, if there are none, and while it has found the last matches at their first starts.
+    /// Whether the machine alone is to search a range, which then is so short that it cannot lose much: for a literal,
+    /// before the DFAs are built, if there are none, and while it has found the last matches at their first starts.
     #[inline(always)]
-    pub fn is_alone(&mut self) -> bool
+    pub fn is_alone<S: StrDrive>(&mut self, req: &Request<'_, S>) -> bool
         ensures suits { (ws : List ℕ) (uni : Table) → Suits ws uni self.old → Suits ws uni self.new }
     {
-        self.spans.debt.is_due() || self.has_no_dfas() || self.spans.alone.is_alone()
+        if req.end().saturating_sub(req.start()) > FEW_CHARACTERS {
+            return false;
+        }
+        let is_literal = req.pattern_codes().hints().literal;
+        is_literal || self.spans.debt.is_due() || self.has_no_dfas() || self.spans.alone.is_alone()
     }
 
     // Whether it was tried to build DFAs, and there are none.

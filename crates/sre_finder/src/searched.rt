@@ -20,7 +20,6 @@ ghost use Rattle.sre_finder.specs.Spans.{StepsFrom, ShowsStep, FindsNone};
 
 use crate::haystack::Haystack;
 use crate::kept::Kept;
-use crate::pace::FEW_CHARACTERS;
 use crate::span_finder::SpanFinder;
 use crate::span_iter::bars;
 use sre_chars::string::{StrDrive, StringCursor};
@@ -224,7 +223,7 @@ impl Kept {
     {
         let (start, end) = (req.start(), req.end());
         let characters = end.saturating_sub(start);
-        if self.is_alone_in(characters) {
+        if self.is_alone(&req) {
             let found = state.search_by(req, &mut Nobody);
             self.note_alone(state.started(), characters);
             return found;
@@ -238,14 +237,6 @@ impl Kept {
         self.spans
             .note_search(state.started(), reached.saturating_sub(start));
         found
-    }
-
-    // Whether the machine alone is to search a range of so many characters.
-    #[inline(always)]
-    fn is_alone_in(&mut self, characters: usize) -> bool
-        ensures suits { (ws : List ℕ) (uni : Table) → Suits ws uni self.old → Suits ws uni self.new }
-    {
-        characters <= FEW_CHARACTERS && self.is_alone()
     }
 
     /// Searches the range within a budget of steps, as `State::search_within` does. It skips starts that the prefilter

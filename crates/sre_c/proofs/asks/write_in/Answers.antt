@@ -1,26 +1,14 @@
-use Rattle.std.proofs.Common.{sym, subst}
 use Rattle.sre_engine.specs.Codes.{words_of, uni_of}
-use Rattle.sre_engine.specs.Requests.{string_of, code_of}
-use Rattle.sre_finder.specs.Finders.{EndStands}
-use Rattle.sre_finder.specs.Kepts.{Suits}
+use Rattle.sre_engine.specs.Requests.{code_of}
 use Rattle.sre_c.proofs.asks.write_in.Goals as goal
 
-pub returns-then-is_alone-clause-suits : goal.returns-then-is_alone-clause-suits
-returns-then-is_alone-clause-suits g c =
+pub returns-clause-suits : goal.returns-clause-suits
+returns-clause-suits g c =
     let code = code_of c.args.request.now in
     c.note_alone.ensures.suits (words_of code) (uni_of code)
     (c.is_alone.ensures.suits (words_of code) (uni_of code) c.requires.suits)
 
-pub write_rows-requires-clause-suits : goal.write_rows-requires-clause-suits
-write_rows-requires-clause-suits g c =
-    let code = code_of c.args.request.now in (
-      c.begin.ensures.suits (words_of code) (uni_of code)
-          (c.is_alone.ensures.suits (words_of code) (uni_of code) c.requires.suits),
-      subst (EndStands (g.S.StrDrive.stands (string_of c.args.request.now))) (sym c.begin.ensures.end) tt,
-    )
-
-pub take-finder-requires : goal.take-finder-requires
-take-finder-requires g c =
+pub write_by_dfas-requires-clause-suits : goal.write_by_dfas-requires-clause-suits
+write_by_dfas-requires-clause-suits g c =
     let code = code_of c.args.request.now in
-    subst (λ d. Suits (words_of d) (uni_of d) c.is_alone.new.kept) (sym c.pattern_codes.ensures)
-    (c.is_alone.ensures.suits (words_of code) (uni_of code) c.requires.suits)
+    c.is_alone.ensures.suits (words_of code) (uni_of code) c.requires.suits

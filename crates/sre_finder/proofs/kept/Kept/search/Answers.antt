@@ -5,11 +5,11 @@ use Rattle.sre_finder.specs.Finders.{EndStands}
 use Rattle.sre_finder.proofs.Covered.{suits_same}
 use Rattle.sre_finder.proofs.kept.Kept.search.Goals as goal
 
-pub returns-then-is_alone_in-clause-suits : goal.returns-then-is_alone_in-clause-suits
-returns-then-is_alone_in-clause-suits g c =
+pub returns-then-is_alone-clause-suits : goal.returns-then-is_alone-clause-suits
+returns-then-is_alone-clause-suits g c =
     let code = code_of c.args.req in
     c.note_alone.ensures.suits (words_of code) (uni_of code)
-    (c.is_alone_in.ensures.suits (words_of code) (uni_of code) c.requires)
+    (c.is_alone.ensures.suits (words_of code) (uni_of code) c.requires)
 
 pub search_by-found-requires-2 : goal.search_by-found-requires-2
 search_by-found-requires-2 g c =
@@ -17,7 +17,7 @@ search_by-found-requires-2 g c =
     record {
       suits = (
         c.begin.ensures.suits (words_of code) (uni_of code)
-            (c.is_alone_in.ensures.suits (words_of code) (uni_of code) c.requires),
+            (c.is_alone.ensures.suits (words_of code) (uni_of code) c.requires),
         subst (EndStands (g.S.StrDrive.stands (string_of c.args.req))) (sym c.begin.ensures.end) tt,
       );
     }
