@@ -43,7 +43,7 @@ def words_of(name, otherwise=""):
 
 
 COMPILER = words_of("CC", "cc")
-FLAGS = ["-std=c11", "-O2", "-fPIC", "-fvisibility=hidden", "-Wall", "-Wextra"]
+FLAGS = ["-std=c11", "-O3", "-fPIC", "-fno-plt", "-fvisibility=hidden", "-Wall", "-Wextra"]
 # What Python's own tables of methods do by design.
 FLAGS += ["-Wno-unused-parameter", "-Wno-missing-field-initializers", "-Wno-cast-function-type"]
 # Some compilers define the level themselves.
@@ -203,14 +203,21 @@ def lack_of_extension(facts):
     return None if os.path.isfile(header) else f"there is no {header}"
 
 
+def across_files():
+    """The flag by which the compiler optimises across files, if its linker has the plugin for that."""
+    words = [*COMPILER, "-flto", "-shared", "-fPIC", "-x", "c", os.devnull, "-o", os.devnull]
+    return [] if subprocess.run(words, capture_output=True).returncode else ["-flto"]
+
+
 def build_extension(facts, library, into):
     sources = sorted(f"{HERE}/native/{it}" for it in os.listdir(f"{HERE}/native") if it.endswith(".c"))
     made = f"{into}/_native{facts['suffix']}"
     # asserts name files, wherever these are
     named = [f"-ffile-prefix-map={it}=." for it in (HERE, facts["include"])]
     run(
-        *COMPILER, *named, *FLAGS, f"-I{library}", f"-I{facts['include']}", *sources, f"{library}/libsre_c.a",
-        "-o", made, *LINKED, WRAPPED, f"-Wl,--version-script={HERE}/native/exports.map", "-Wl,--gc-sections",
+        *COMPILER, *named, *across_files(), *FLAGS, f"-I{library}", f"-I{facts['include']}", *sources,
+        f"{library}/libsre_c.a", "-o", made, *LINKED, WRAPPED, f"-Wl,--version-script={HERE}/native/exports.map",
+        "-Wl,--gc-sections",
     )
 
 

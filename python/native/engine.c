@@ -140,12 +140,10 @@ bool engine_may_gain(const Pattern *pattern, const Text *text, const sre_asked *
 
 uint64_t engine_first_steps(const Text *text) { return FEW_STEPS + (uint64_t)text->length / CHARACTERS_A_STEP; }
 
-/* Whether what is kept serves a call: by DFAs, or by the machine's memory. With a back-reference it saves little, and
- * an iteration over a literal needs none. DFAs that were built for a code are used in short ranges, too. */
-static bool serves(const Pattern *pattern, const sre_asked *asked, bool iterates) {
-  if (!asked->search || may_have_dfas(pattern, asked))
-    return true;
-  return !pattern->code.hints.refers && !(iterates && pattern->code.hints.literal);
+/* Whether what is kept serves a call: by DFAs, or by the machine's memory. With a back-reference it saves little. DFAs
+ * that were built for a code are used in short ranges, too. */
+static bool serves(const Pattern *pattern, const sre_asked *asked) {
+  return !asked->search || !pattern->code.hints.refers || may_have_dfas(pattern, asked);
 }
 
 /* What keeps the DFAs and the machine's memory for bytes or UTF-8, if it serves; null if a call of another thread has
@@ -187,7 +185,7 @@ static uint32_t answer(const Pattern *pattern, sre_pattern *kept, const Text *te
 static uint32_t answer_kept(Pattern *pattern, const Text *text, bool is_utf8, bool others_run, const sre_asked *asked,
                             sre_found *found, size_t *marks) {
   EngineCall call;
-  sre_pattern *kept = take(pattern, text, is_utf8, serves(pattern, asked, false));
+  sre_pattern *kept = take(pattern, text, is_utf8, serves(pattern, asked));
   engine_call_begin(&call, text, others_run);
   uint32_t status = answer(pattern, kept, text, is_utf8, asked, found, marks);
   bool is_stopped = engine_call_end(&call);
@@ -304,7 +302,7 @@ uint32_t engine_walk(Pattern *pattern, const Text *text, const sre_asked *given,
   }
   EngineCall call;
   size_t width = WALK_WIDTH(pattern);
-  sre_pattern *kept = take(pattern, text, text->utf8, serves(pattern, asked, true));
+  sre_pattern *kept = take(pattern, text, text->utf8, serves(pattern, asked));
   engine_call_begin(&call, text, may_others_run(text));
   uint32_t status = walk(&pattern->code, kept, text, asked, width, rows, width * room, walked);
   bool is_stopped = engine_call_end(&call);

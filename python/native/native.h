@@ -197,6 +197,7 @@ typedef struct {
   size_t room;      /* rows that a batch may have */
   size_t count, at; /* rows of this batch, and the next of them */
   uint32_t status;  /* of this batch */
+  bool has_failed;  /* with an exception */
   const size_t *batch; /* its rows, in `rows` or `first` */
   size_t *rows;
   size_t first[48]; /* so a short iteration allocates nothing */

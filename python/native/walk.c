@@ -42,11 +42,15 @@ void walk_begin(Walk *walk, Pattern *pattern, Text *text, const sre_asked *asked
   walk->count = walk->at = 0;
   walk->status = asked->start > asked->end ? SRE_NO : SRE_NO_ROOM;
   walk->rows = NULL;
+  walk->has_failed = false;
   if (most == 0 && walk->status == SRE_NO_ROOM && engine_may_gain(pattern, text, asked))
     read_as_utf8(walk);
 }
 
-void walk_end(Walk *walk) { PyMem_Free(walk->rows); }
+void walk_end(Walk *walk) {
+  if (walk->rows)
+    PyMem_Free(walk->rows);
+}
 
 /* The array for a batch's rows, or null with an exception if the allocation failed. */
 static size_t *place_of_rows(Walk *walk) {
@@ -101,20 +105,26 @@ static void grow(Walk *walk) {
     walk->room = Py_MIN(walk->room * GROWTH, most_room(walk));
 }
 
+/* Handles signals, and reads the next batch, with more rows than the one before. False with an exception. */
+static bool next_batch(Walk *walk) {
+  if (walk->count) {
+    grow(walk);
+    if (PyErr_CheckSignals() < 0)
+      return false;
+  }
+  return read_batch(walk);
+}
+
 const size_t *walk_next(Walk *walk) {
-  if (walk->at == walk->count && walk->status == SRE_NO_ROOM) {
-    if (walk->count) {
-      grow(walk);
-      if (PyErr_CheckSignals() < 0)
-        return NULL;
-    }
-    if (!read_batch(walk))
-      return NULL;
+  if (walk->at == walk->count && walk->status == SRE_NO_ROOM && !next_batch(walk)) {
+    walk->has_failed = true;
+    return NULL;
   }
-  if (walk->at < walk->count) {
+  if (walk->at < walk->count)
     return walk->batch + walk->width * walk->at++;
-  }
-  if (walk->status != SRE_NO)
+  if (walk->status != SRE_NO) {
     engine_fail_in(walk->status, walk->pattern, walk->asked.start, walk->max_steps);
+    walk->has_failed = true;
+  }
   return NULL;
 }

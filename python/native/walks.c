@@ -22,7 +22,7 @@ static bool begin(Call *call, Pattern *self, PyObject *string, Py_ssize_t pos, P
 static PyObject *end(Call *call, PyObject *made, bool is_well) {
   walk_end(&call->walk);
   text_close(&call->text);
-  if (is_well && !PyErr_Occurred())
+  if (is_well && !call->walk.has_failed)
     return made;
   Py_XDECREF(made);
   return NULL;
@@ -97,7 +97,7 @@ PyObject *pattern_split(Pattern *self, PyObject *const *args, Py_ssize_t count, 
     is_well = split_at(pieces, &call.text, last, row, self->groups);
     last = (Py_ssize_t)row[1];
   }
-  is_well = is_well && !PyErr_Occurred() && append(pieces, text_slice(&call.text, last, call.text.length));
+  is_well = is_well && !call.walk.has_failed && append(pieces, text_slice(&call.text, last, call.text.length));
   return end(&call, pieces, is_well);
 }
 
@@ -147,7 +147,7 @@ static bool replace(Call *call, PyObject *pieces, PyObject *replacement, Py_ssiz
       is_well = calls ? call_append(pieces, replacement, &call->walk, row)
                       : parts_append(pieces, replacement, text, row);
   }
-  if (!is_well || PyErr_Occurred())
+  if (!is_well || call->walk.has_failed)
     return false;
   return last == text->length || append(pieces, text_slice(text, last, text->length));
 }
