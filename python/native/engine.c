@@ -13,9 +13,6 @@
 /* The most characters that a search passes here, where no match begins. The engine passes more of them faster. */
 #define FEW_CHARACTERS 64
 
-/* In a range of at most so many characters the library searches by the machine if there are no DFAs. */
-#define SHORT_RANGE 128
-
 /* ---- tables ---- */
 
 /* Fills in and checks the table of this Python's Unicode data, and returns the lists that it points to. */
@@ -121,36 +118,23 @@ static bool may_others_run(const Text *text) {
   return text->is_fixed && text->length >= LONG_TEXT && !is_alone();
 }
 
-static bool is_short(const sre_asked *asked) { return asked->end - asked->start <= SHORT_RANGE; }
-
-/* Whether DFAs may serve a call: a search. With a confirmed prefix the engine builds none, nor where a match begins at
- * the start of the text alone. At starts of lines they gain little, and with a back-reference in a short range. */
-static bool may_have_dfas(const Pattern *pattern, const sre_asked *asked) {
-  bool gains_little = pattern->at_line_start || (pattern->code.hints.refers && is_short(asked));
-  return asked->search && !pattern->code.hints.has_prefix && !gains_little;
-}
-
-/* With back-references DFAs gain little in a long text. */
+/* Whether a long text is read as UTF-8 for DFAs. With a confirmed prefix the engine builds none, nor where a match
+ * begins at the start of the text alone. At starts of lines they gain little, and with back-references. */
 bool engine_may_gain(const Pattern *pattern, const Text *text, const sre_asked *asked) {
+  const sre_hints *hints = &pattern->code.hints;
   size_t range = asked->end - asked->start;
   if (text->size == 1 || range < LONG_TEXT || range < (size_t)text->length / LEAST_PART)
     return false;
-  return may_have_dfas(pattern, asked) && !pattern->code.hints.refers;
+  return asked->search && !pattern->at_line_start && !hints->has_prefix && !hints->refers;
 }
 
 uint64_t engine_first_steps(const Text *text) { return FEW_STEPS + (uint64_t)text->length / CHARACTERS_A_STEP; }
 
-/* Whether what is kept serves a call: by DFAs, or by the machine's memory. With a back-reference it saves little. DFAs
- * that were built for a code are used in short ranges, too. */
-static bool serves(const Pattern *pattern, const sre_asked *asked) {
-  return !asked->search || !pattern->code.hints.refers || may_have_dfas(pattern, asked);
-}
-
-/* What keeps the DFAs and the machine's memory for bytes or UTF-8, if it serves; null if a call of another thread has
- * it. Each encoding has its own, since one for both drops the DFAs at each change, which made short texts among long
- * ones up to 12 times as slow. */
-static sre_pattern *take(Pattern *pattern, const Text *text, bool is_utf8, bool is_wanted) {
-  if (!is_wanted || pattern->is_taken || (text->size > 1 && !is_utf8))
+/* What keeps the DFAs and the machine's memory for bytes or UTF-8; null if a call of another thread has it. Each
+ * encoding has its own, since one for both drops the DFAs at each change, which made short texts among long ones up to
+ * 12 times as slow. */
+static sre_pattern *take(Pattern *pattern, const Text *text, bool is_utf8) {
+  if (pattern->is_taken || (text->size > 1 && !is_utf8))
     return NULL;
   pattern->is_taken = true;
   return is_utf8 ? &pattern->of_utf8 : &pattern->of_bytes;
@@ -185,7 +169,7 @@ static uint32_t answer(const Pattern *pattern, sre_pattern *kept, const Text *te
 static uint32_t answer_kept(Pattern *pattern, const Text *text, bool is_utf8, bool others_run, const sre_asked *asked,
                             sre_found *found, size_t *marks) {
   EngineCall call;
-  sre_pattern *kept = take(pattern, text, is_utf8, serves(pattern, asked));
+  sre_pattern *kept = take(pattern, text, is_utf8);
   engine_call_begin(&call, text, others_run);
   uint32_t status = answer(pattern, kept, text, is_utf8, asked, found, marks);
   bool is_stopped = engine_call_end(&call);
@@ -302,7 +286,7 @@ uint32_t engine_walk(Pattern *pattern, const Text *text, const sre_asked *given,
   }
   EngineCall call;
   size_t width = WALK_WIDTH(pattern);
-  sre_pattern *kept = take(pattern, text, text->utf8, serves(pattern, asked));
+  sre_pattern *kept = take(pattern, text, text->utf8);
   engine_call_begin(&call, text, may_others_run(text));
   uint32_t status = walk(&pattern->code, kept, text, asked, width, rows, width * room, walked);
   bool is_stopped = engine_call_end(&call);

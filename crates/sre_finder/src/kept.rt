@@ -123,8 +123,9 @@ impl Kept {
         self.memory = Some(memory);
     }
 
-    /// Whether the machine alone is to search a range, which then is so short that it cannot lose much: for a literal,
-    /// before the DFAs are built, if there are none, and while it has found the last matches at their first starts.
+    /// Whether the machine alone is to search a range, which then is so short that it cannot lose much: for a literal or
+    /// a code with back-references, before the DFAs are built, if there are none, and while it has found the last
+    /// matches at their first starts.
     #[inline(always)]
     pub fn is_alone<S: StrDrive>(&mut self, req: &Request<'_, S>) -> bool
         ensures suits { (ws : List ℕ) (uni : Table) → Suits ws uni self.old → Suits ws uni self.new }
@@ -132,8 +133,11 @@ impl Kept {
         if req.end().saturating_sub(req.start()) > FEW_CHARACTERS {
             return false;
         }
-        let is_literal = req.pattern_codes().hints().literal;
-        is_literal || self.spans.debt.is_due() || self.has_no_dfas() || self.spans.alone.is_alone()
+        let code = req.pattern_codes();
+        if code.refers() || code.hints().literal {
+            return true;
+        }
+        self.spans.debt.is_due() || self.has_no_dfas() || self.spans.alone.is_alone()
     }
 
     // Whether it was tried to build DFAs, and there are none.

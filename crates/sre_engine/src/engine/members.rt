@@ -70,6 +70,7 @@ fn next_taken<S: StrDrive>(
 /// The first cursor, from a given one on, whose character is a member of the confirmed first set, if there is one. The
 /// set's ASCII characters are told once the first character of a call is no member, since most steps of an iteration
 /// end there; later calls of the search then have them.
+#[inline(always)]
 pub(crate) fn next_member<S: StrDrive>(
     req: &Request<'_, S>,
     told: &mut Option<AsciiSet>,
