@@ -123,8 +123,8 @@ impl Kept {
         self.memory = Some(memory);
     }
 
-    /// Whether the machine alone is to search a range, which then is so short that it cannot lose much: for a literal or
-    /// a code with back-references, before the DFAs are built, if there are none, and while it has found the last
+    /// Whether the machine alone is to search a range, which then is so short that it cannot lose much: for a literal
+    /// or a code with back-references, before the DFAs are built, if there are none, and while it has found the last
     /// matches at their first starts.
     #[inline(always)]
     pub fn is_alone<S: StrDrive>(&mut self, req: &Request<'_, S>) -> bool
