@@ -1,13 +1,13 @@
 //! Greedy single-character repeats: the longest count first, then the shorter ones.
 
-ghost use Rattle.std.specs.Prelude.{◌≡◌, ◌⊎◌, MatchOption, true, IfOk};
+ghost use Rattle.std.specs.Prelude.{◌≡◌, ◌≢◌, ◌⊎◌, MatchOption, true, IfOk};
 ghost use Rattle.sre_turns.specs.Board.{BoardValue};
 ghost use Rattle.sre_turns.specs.Machine.{Excludes};
 ghost use Rattle.sre_turns.specs.declared.Point.TheVariants.{Instruction, Shorter};
 ghost use Rattle.sre_request.specs.Runs.{run_of, OpcodeAt, TestAt};
 ghost use Rattle.sre_machine.specs.Turns.{At, Turn, AtPoint, DemandedAt, SkipsBothAt, TurnAt};
 
-use crate::machine::{choose, first_literal, lacks};
+use crate::machine::{choose, first_literal, is_elsewhere, lacks, opcode};
 use crate::run_operands::run_operands;
 use crate::vain_runs::is_in_vain;
 use sre_board::Board;
@@ -26,6 +26,36 @@ use std::alloc::Allocator;
 pub(super) struct ShorterRun {
     pub(super) left: usize,
     pub(super) end: StringCursor,
+}
+
+// The first of the shorter counts of a repeat after which the tail may match, if there is one. No character is known
+// that must follow, but the tail may be a position code, as in `.*$`.
+#[inline(always)]
+fn first_in_place<S: StrDrive>(
+    req: &Request<'_, S>,
+    tail: usize,
+    count: usize,
+    start: StringCursor,
+) -> Option<ShorterRun>
+    requires more { count ≢ 0 }
+    requires stands { AtPoint req.now (Shorter tail count) start }
+    ensures { MatchOption result
+        ((b : BoardValue) → TurnAt req.now (Shorter tail count) start b Next.Back b)
+        (λ x. SkipsBothAt req.now (Shorter tail count) start (Instruction tail) (Shorter tail x.left) x.end) }
+{
+    let mut left = count - 1;
+    let mut cursor = back_one(req, start);
+    if opcode(req, tail, cursor) != SreOpcode::AT {
+        return Some(ShorterRun { left, end: cursor });
+    }
+    'count: while is_elsewhere(req, tail, cursor) {
+        if left == 0 {
+            return None;
+        }
+        left -= 1;
+        cursor = back_one(req, cursor);
+    }
+    Some(ShorterRun { left, end: cursor })
 }
 
 // The first of the shorter counts of a repeat after which the tail may match, if there is one.
@@ -47,10 +77,7 @@ fn first_shorter<S: StrDrive>(
         return None;
     }
     let Some(value) = wanted else {
-        return Some(ShorterRun {
-            left: count - 1,
-            end: back_one(req, start),
-        });
+        return first_in_place(req, tail, count, start);
     };
     let mut cursor = start;
     let mut left = count;

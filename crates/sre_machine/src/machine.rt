@@ -208,7 +208,11 @@ pub(super) fn refuses<S: StrDrive>(req: &Request<'_, S>, place: usize, cursor: S
 
 // Whether the position code of an AT does not hold.
 #[inline(never)]
-fn is_elsewhere<S: StrDrive>(req: &Request<'_, S>, place: usize, cursor: StringCursor) -> bool
+pub(super) fn is_elsewhere<S: StrDrive>(
+    req: &Request<'_, S>,
+    place: usize,
+    cursor: StringCursor,
+) -> bool
     requires opcode { OpcodeAt req.now place SreOpcode.AT }
     requires stands { At req.now place cursor }
     ensures { result ≡ true → RefusesAt req.now place cursor.position }

@@ -13,15 +13,6 @@ pub returns-then-count-eq0 : goal.returns-then-count-eq0
 returns-then-count-eq0 g c = λ b all limit x.
     shorter_none (run_of c.args.req.now) c.args.tail _ _ b c.if-count-eq0.true all limit x
 
-pub back_one-requires-clause-past : goal.back_one-requires-clause-past
-back_one-requires-clause-past g c =
-    shorter_past (run_of c.args.req.now) c.args.tail _ _ (positive _ c.if-count-eq0.false) c.requires.stands
-
-pub returns-in_default : goal.returns-in_default
-returns-in_default g c =
-    shorter_skips (run_of c.args.req.now) _ c.args.start c.args.tail _ c.args.start c.back_one.result
-    c.if-count-eq0.false c.back_one.ensures.position c.back_one.ensures.stands c.requires.stands (λ b all limit x. x)
-
 pub returns-then-left-eq0 : goal.returns-then-left-eq0
 returns-then-left-eq0 g c = λ b all limit x.
     shorter_none (run_of c.args.req.now) c.args.tail _ _ b c.if-left-eq0.true all limit
