@@ -14,14 +14,13 @@ typedef struct {
 /* The index of the start of a group in a row; its end is next. */
 #define GROUP(group) ((group) ? 1 + 2 * (group) : 0)
 
-/* The span of a group of a row, -1 and -1 if it took no part. */
-static Window span_of(const size_t *row, Py_ssize_t group) {
+Window row_span(const size_t *row, Py_ssize_t group) {
   Window span = {(Py_ssize_t)row[GROUP(group)], (Py_ssize_t)row[GROUP(group) + 1]};
   return span.pos < 0 || span.endpos < span.pos ? (Window){-1, -1} : span;
 }
 
 PyObject *row_group(const Text *text, const size_t *row, Py_ssize_t group, PyObject *otherwise) {
-  Window span = span_of(row, group);
+  Window span = row_span(row, group);
   return span.pos < 0 ? Py_NewRef(otherwise) : text_slice(text, span.pos, span.endpos);
 }
 
@@ -48,7 +47,7 @@ bool parts_append(PyObject *list, PyObject *parts, const Text *text, const size_
         return false;
       continue;
     }
-    Window span = span_of(row, PyLong_AsSsize_t(part));
+    Window span = row_span(row, PyLong_AsSsize_t(part));
     if (span.pos >= 0 && !append(list, text_slice(text, span.pos, span.endpos)))
       return false;
   }
@@ -131,7 +130,7 @@ static PyObject *slice_now(const Match *self, Window span) {
 }
 
 static PyObject *group_at(const Match *self, Py_ssize_t group, PyObject *otherwise) {
-  Window span = span_of((const size_t *)self->row, group);
+  Window span = row_span((const size_t *)self->row, group);
   return span.pos < 0 ? Py_NewRef(otherwise) : slice_now(self, span);
 }
 
@@ -210,7 +209,7 @@ static bool span_asked(const Match *self, const char *function, PyObject *const 
   Py_ssize_t number = count ? number_of(self, args[0]) : 0;
   if (number < 0)
     return false;
-  *span = span_of((const size_t *)self->row, number);
+  *span = row_span((const size_t *)self->row, number);
   return true;
 }
 
@@ -280,7 +279,7 @@ static PyObject *get_lastgroup(Match *self, void *unused) {
 static PyObject *get_regs(Match *self, void *unused) {
   PyObject *all = PyTuple_New(self->pattern->groups + 1);
   for (Py_ssize_t at = 0; all && at <= self->pattern->groups; at++) {
-    PyObject *one = pair_of(span_of((const size_t *)self->row, at));
+    PyObject *one = pair_of(row_span((const size_t *)self->row, at));
     if (!one)
       Py_CLEAR(all);
     else

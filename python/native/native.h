@@ -82,6 +82,7 @@ typedef struct {
   Py_ssize_t length; /* in characters */
   int size;          /* of a character, in bytes: 1, 2 or 4 */
   bool is_bytes;
+  bool is_ascii; /* a str that has only ASCII characters */
   bool is_fixed; /* a str or bytes, which nothing can change */
   const char *utf8; /* the same in UTF-8 once text_utf8 found it, else null */
   Py_ssize_t utf8_length; /* in bytes */
@@ -208,8 +209,11 @@ typedef struct {
 void walk_begin(Walk *walk, Pattern *pattern, Text *text, const sre_asked *asked, Py_ssize_t most);
 void walk_end(Walk *walk);
 
-/* The row of the next match; null at the end, or with an exception. */
-const size_t *walk_next(Walk *walk);
+/* The row of the next match; null at the end, or with an exception. The first is for the end of a batch. */
+const size_t *walk_further(Walk *walk);
+static inline const size_t *walk_next(Walk *walk) {
+  return walk->at < walk->count ? walk->batch + walk->width * walk->at++ : walk_further(walk);
+}
 
 /* ---- matches (match.c) ---- */
 
@@ -220,6 +224,9 @@ typedef struct {
 
 /* A new match from a row, also from that of an iteration. */
 PyObject *match_new(const Pattern *pattern, PyObject *string, Window window, const size_t *row);
+
+/* The span of a group of a row, -1 and -1 if it took no part. */
+Window row_span(const size_t *row, Py_ssize_t group);
 
 /* The text of a group of a row; `otherwise` if it took no part. */
 PyObject *row_group(const Text *text, const size_t *row, Py_ssize_t group, PyObject *otherwise);
@@ -232,6 +239,28 @@ bool parts_append(PyObject *list, PyObject *parts, const Text *text, const size_
 
 /* The concatenation of pieces: a str, or bytes. */
 PyObject *pieces_joined(PyObject *pieces, bool is_bytes);
+
+/* ---- the text that sub makes (output.c) ---- */
+
+/* A text that grows. Its characters are as wide as those of the text that is searched. */
+typedef struct {
+  char *data; /* in `first`, or allocated */
+  size_t used, room; /* in bytes */
+  char first[256]; /* so a short text allocates nothing */
+} Output;
+
+/* Whether the parts of a template can be written: each literal is of the text's type, and has no wider characters. */
+bool output_serves(const Text *text, PyObject *parts);
+
+void output_begin(Output *output);
+void output_end(Output *output);
+
+/* Write characters of the text, and the parts of a template with the groups of a row. False with MemoryError. */
+bool output_slice(Output *output, const Text *text, Py_ssize_t start, Py_ssize_t end);
+bool output_parts(Output *output, const Text *text, PyObject *parts, const size_t *row);
+
+/* What was written, as a str or bytes. */
+PyObject *output_made(const Output *output, const Text *text);
 
 /* ---- calls of a pattern that iterate (walks.c), and its iterators (scanner.c) ---- */
 

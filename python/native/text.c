@@ -16,6 +16,7 @@ static bool open_str(Text *text, const Pattern *pattern) {
   text->length = PyUnicode_GET_LENGTH(text->string);
   text->size = PyUnicode_KIND(text->string);
   text->is_bytes = false;
+  text->is_ascii = PyUnicode_IS_ASCII(text->string);
   text->is_fixed = true;
   return true;
 }
@@ -40,6 +41,7 @@ bool text_open(Text *text, const Pattern *pattern, PyObject *string) {
     return open_str(text, pattern);
   text->size = 1;
   text->is_bytes = text->is_fixed = true;
+  text->is_ascii = false;
   if (PyBytes_CheckExact(string)) {
     text->data = PyBytes_AS_STRING(string);
     text->length = PyBytes_GET_SIZE(string);
@@ -68,7 +70,19 @@ bool text_utf8(Text *text) {
   return text->utf8;
 }
 
+/* Characters of an ASCII str, without the tests of PyUnicode_Substring. */
+static PyObject *ascii_slice(const char *data, Py_ssize_t length) {
+  if (length == 1)
+    return PyUnicode_FromOrdinal(*data);
+  PyObject *made = PyUnicode_New(length, 127);
+  if (made)
+    memcpy(PyUnicode_1BYTE_DATA(made), data, (size_t)length);
+  return made;
+}
+
 PyObject *text_slice(const Text *text, Py_ssize_t start, Py_ssize_t end) {
+  if (text->is_ascii && end - start < text->length)
+    return ascii_slice((const char *)text->data + start, end - start);
   if (!text->is_bytes)
     return PyUnicode_Substring(text->string, start, end);
   if (start == 0 && end == text->length && PyBytes_CheckExact(text->string))

@@ -115,8 +115,8 @@ static bool next_batch(Walk *walk) {
   return read_batch(walk);
 }
 
-const size_t *walk_next(Walk *walk) {
-  if (walk->at == walk->count && walk->status == SRE_NO_ROOM && !next_batch(walk)) {
+const size_t *walk_further(Walk *walk) {
+  if (walk->status == SRE_NO_ROOM && !next_batch(walk)) {
     walk->has_failed = true;
     return NULL;
   }

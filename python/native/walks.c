@@ -133,13 +133,21 @@ static bool call_append(PyObject *pieces, PyObject *function, const Walk *walk, 
   return true;
 }
 
-/* Appends the pieces and replacements of a text in order, and counts the replaced matches. */
-static bool replace(Call *call, PyObject *pieces, PyObject *replacement, Py_ssize_t most, Py_ssize_t *made) {
+/* The next match of at most so many, which is counted. */
+static const size_t *next_of(Walk *walk, Py_ssize_t most, Py_ssize_t *made) {
+  const size_t *row = !most || *made < most ? walk_next(walk) : NULL;
+  *made += row != NULL;
+  return row;
+}
+
+/* The new text, by what a function returns for each match or by a template, as pieces that are joined. */
+static PyObject *joined_pieces(Call *call, PyObject *replacement, Py_ssize_t most, Py_ssize_t *made) {
   const Text *text = &call->text;
   const size_t *row;
   Py_ssize_t last = 0;
-  bool calls = PyCallable_Check(replacement), is_well = true;
-  for (; is_well && (!most || *made < most) && (row = walk_next(&call->walk)); ++*made) {
+  PyObject *pieces = PyList_New(0), *joined = NULL;
+  bool calls = PyCallable_Check(replacement), is_well = pieces;
+  while (is_well && (row = next_of(&call->walk, most, made))) {
     if (last < (Py_ssize_t)row[0])
       is_well = append(pieces, text_slice(text, last, (Py_ssize_t)row[0]));
     last = (Py_ssize_t)row[1];
@@ -147,15 +155,36 @@ static bool replace(Call *call, PyObject *pieces, PyObject *replacement, Py_ssiz
       is_well = calls ? call_append(pieces, replacement, &call->walk, row)
                       : parts_append(pieces, replacement, text, row);
   }
-  if (!is_well || call->walk.has_failed)
-    return false;
-  return last == text->length || append(pieces, text_slice(text, last, text->length));
+  if (is_well && !call->walk.has_failed &&
+      (last == text->length || append(pieces, text_slice(text, last, text->length))))
+    joined = pieces_joined(pieces, text->is_bytes);
+  Py_XDECREF(pieces);
+  return joined;
+}
+
+/* The same by a template that can be written. */
+static PyObject *written(Call *call, PyObject *replacement, Py_ssize_t most, Py_ssize_t *made) {
+  const Text *text = &call->text;
+  const size_t *row;
+  Py_ssize_t last = 0;
+  Output output;
+  PyObject *joined = NULL;
+  bool is_well = true;
+  output_begin(&output);
+  while (is_well && (row = next_of(&call->walk, most, made))) {
+    is_well = output_slice(&output, text, last, (Py_ssize_t)row[0]) && output_parts(&output, text, replacement, row);
+    last = (Py_ssize_t)row[1];
+  }
+  if (is_well && !call->walk.has_failed && output_slice(&output, text, last, text->length))
+    joined = *made ? output_made(&output, text) : text_slice(text, 0, text->length);
+  output_end(&output);
+  return joined;
 }
 
 /* The new text, and how many matches were replaced. */
 static PyObject *substituted(Pattern *self, const Signature *signature, PyObject *const *args, Py_ssize_t count,
                              PyObject *names, Py_ssize_t *made) {
-  PyObject *given[5] = {NULL};
+  PyObject *given[5] = {NULL}, *joined = NULL;
   Call call;
   Py_ssize_t most;
   *made = 0;
@@ -164,14 +193,10 @@ static PyObject *substituted(Pattern *self, const Signature *signature, PyObject
   PyObject *replacement = replacement_of(self, given[0]);
   if (!replacement)
     return NULL;
-  PyObject *joined = NULL;
   if (begin(&call, self, given[1], 0, PY_SSIZE_T_MAX, given[3], most)) {
-    PyObject *pieces = PyList_New(0);
-    bool is_well = pieces && replace(&call, pieces, replacement, most, made);
-    if (is_well)
-      joined = pieces_joined(pieces, call.text.is_bytes);
-    Py_XDECREF(pieces);
-    joined = end(&call, joined, is_well);
+    bool writes = !PyCallable_Check(replacement) && output_serves(&call.text, replacement);
+    joined = (writes ? written : joined_pieces)(&call, replacement, most, made);
+    joined = end(&call, joined, joined);
   }
   Py_DECREF(replacement);
   return joined;
