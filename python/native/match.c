@@ -66,9 +66,20 @@ PyObject *pieces_joined(PyObject *pieces, bool is_bytes) {
 
 /* ---- the object ---- */
 
-PyObject *match_new(const Pattern *pattern, PyObject *string, Window window, const size_t *row) {
-  size_t width = ROW_WIDTH(pattern);
-  Match *self = PyObject_GC_NewVar(Match, pattern->state->match, (Py_ssize_t)width);
+/* The memory of a new match: that of the last one that was freed, if there is one. */
+static Match *room_of(Pattern *pattern) {
+  PyTypeObject *type = pattern->state->match;
+  Py_ssize_t width = (Py_ssize_t)ROW_WIDTH(pattern);
+  Match *self = (Match *)pattern->spare;
+  if (!self)
+    return PyObject_GC_NewVar(Match, type, width);
+  pattern->spare = NULL;
+  PyObject_InitVar((PyVarObject *)self, type, width);
+  return self;
+}
+
+PyObject *match_new(Pattern *pattern, PyObject *string, Window window, const size_t *row) {
+  Match *self = room_of(pattern);
   if (!self)
     return NULL;
   self->pattern = (Pattern *)Py_NewRef((PyObject *)pattern);
@@ -90,11 +101,15 @@ static int traverse(Match *self, visitproc visit, void *arg) {
 
 static void dealloc(Match *self) {
   PyTypeObject *type = Py_TYPE(self);
+  Pattern *pattern = self->pattern;
   PyObject_GC_UnTrack(self);
-  Py_DECREF(self->pattern);
   Py_DECREF(self->string);
-  PyObject_GC_Del(self);
+  if (pattern->spare)
+    PyObject_GC_Del(self);
+  else
+    pattern->spare = (PyObject *)self;
   Py_DECREF(type);
+  Py_DECREF(pattern);
 }
 
 /* ---- groups ---- */

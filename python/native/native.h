@@ -54,6 +54,7 @@ typedef struct {
   sre_code code;
   sre_pattern of_bytes, of_utf8; /* the code again, with the DFAs that calls over bytes or over UTF-8 have built */
   bool is_taken; /* by a call that uses these DFAs, while another thread may run */
+  PyObject *spare; /* the memory of a match that was freed, for the next one */
   bool at_line_start; /* whether each match begins at the start of the text or after a newline */
   bool knows_begins;  /* whether `begins` says with which characters below 256 one may begin */
   bool begins[256];
@@ -223,7 +224,7 @@ typedef struct {
 } Window;
 
 /* A new match from a row, also from that of an iteration. */
-PyObject *match_new(const Pattern *pattern, PyObject *string, Window window, const size_t *row);
+PyObject *match_new(Pattern *pattern, PyObject *string, Window window, const size_t *row);
 
 /* The span of a group of a row, -1 and -1 if it took no part. */
 Window row_span(const size_t *row, Py_ssize_t group);

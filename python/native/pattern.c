@@ -55,6 +55,7 @@ static Pattern *pattern_new(State *state) {
   self->weak_references = NULL;
   self->of_bytes = self->of_utf8 = (sre_pattern){.is_kept = false};
   self->is_taken = false;
+  self->spare = NULL;
   return self;
 }
 
@@ -105,6 +106,8 @@ static void dealloc(Pattern *self) {
     PyObject_ClearWeakRefs((PyObject *)self);
   sre_pattern_free(&self->of_bytes);
   sre_pattern_free(&self->of_utf8);
+  if (self->spare) /* its type is the module's still */
+    PyObject_GC_Del(self->spare);
   Py_XDECREF(self->pattern);
   Py_XDECREF(self->words);
   Py_XDECREF(self->groupindex);

@@ -16,11 +16,11 @@ typedef struct {
 
 /* Begins a call. There is at most one at a time. */
 static bool call_begin(Reader *self) {
-  if (self->is_running)
+  if (self->is_running) {
     PyErr_SetString(PyExc_ValueError, "regular expression scanner already executing");
-  else
-    self->is_running = true;
-  return !PyErr_Occurred();
+    return false;
+  }
+  return self->is_running = true;
 }
 
 static PyObject *call_end(Reader *self, PyObject *match) {
