@@ -55,7 +55,7 @@ bool parts_append(PyObject *list, PyObject *parts, const Text *text, const size_
 }
 
 PyObject *pieces_joined(PyObject *pieces, bool is_bytes) {
-  PyObject *empty = is_bytes ? PyBytes_FromStringAndSize(NULL, 0) : PyUnicode_New(0, 0);
+  PyObject *empty = empty_of(is_bytes);
   if (!empty)
     return NULL;
   PyObject *joined =

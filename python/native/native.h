@@ -97,6 +97,11 @@ void text_close(Text *text);
 /* Whether a str past Latin-1 has UTF-8, which CPython stores with it. A lone surrogate has none. */
 bool text_utf8(Text *text);
 
+/* An empty str or bytes. */
+static inline PyObject *empty_of(bool is_bytes) {
+  return is_bytes ? PyBytes_FromStringAndSize(NULL, 0) : PyUnicode_New(0, 0);
+}
+
 /* The characters from start to end as a new str or bytes. */
 PyObject *text_slice(const Text *text, Py_ssize_t start, Py_ssize_t end);
 

@@ -62,7 +62,7 @@ PyObject *pattern_findall(Pattern *self, PyObject *const *args, Py_ssize_t count
       !begin(&call, self, given[0], pos, endpos, given[3], 0))
     return NULL;
   /* only a group may take no part */
-  PyObject *all = PyList_New(0), *empty = self->groups ? text_slice(&call.text, 0, 0) : NULL;
+  PyObject *all = PyList_New(0), *empty = self->groups ? empty_of(call.text.is_bytes) : NULL;
   const size_t *row;
   bool is_well = all && (empty || !self->groups);
   while (is_well && (row = walk_next(&call.walk)))
