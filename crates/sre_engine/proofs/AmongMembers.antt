@@ -1,19 +1,11 @@
 -- Where the members of a confirmed FIRST set are, and what a search along them comes to.
-use Rattle.std.proofs.Common.{◌≡◌, ◌&&◌, ℕ, List, true, false, Option, Some, None, refl, sym}
-use Rattle.std.proofs.Common.{ap, subst, arith, inl, inr, nat_lt}
+use Rattle.std.proofs.Common.{◌≡◌, ◌&&◌, ℕ, List, true, false, Option, Some, None, refl, sym, ap, subst, arith, inl}
+use Rattle.std.proofs.Common.{inr, nat_lt}
 use Rattle.std.proofs.lemmas.Bool.{cases_lt}
 use Rattle.std.proofs.lemmas.Bool.Decides.{nat_tests}
-use Rattle.sre_chars.specs.declared.string.StringCursor.{StringCursor}
-use Rattle.sre_model.specs.Tree.{Tree, SetItem}
-use Rattle.sre_model.specs.Marks.{no_marks}
-use Rattle.sre_model.specs.Characters.{is_member}
-use Rattle.sre_model.specs.Subject.{char_at}
-use Rattle.sre_model.specs.Grammar.{Whole, IsCode}
+use Rattle.sre_engine.specs.Terms.{StringCursor, Tree, SetItem, no_marks, is_member, char_at, Whole, IsCode, HasSet}
+use Rattle.sre_engine.specs.Terms.{Asked, subject_of, at_start, words_of, uni_of, hints_of, Code}
 use Rattle.sre_model.specs.Claims.{HasFirstSet}
-use Rattle.sre_model.specs.Standing.{HasSet}
-use Rattle.sre_model.specs.Found.{Asked, subject_of, at_start}
-use Rattle.sre_code.specs.Codes.{words_of, uni_of, hints_of}
-use Rattle.sre_code.specs.declared.code.Code.{Code}
 use Rattle.sre_code.proofs.Checked.{code_tree, code_confirmed}
 use Rattle.sre_engine.specs.Members.{IsFirstSet, is_among, NextMember}
 use Rattle.sre_engine.specs.Starts.{NoneBetween, NoneUntil}

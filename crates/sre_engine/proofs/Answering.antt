@@ -1,14 +1,8 @@
 -- The first accepted outcome of a run is the match.
 
-use Rattle.std.proofs.Common.{[], ◌≡◌, ◌≤◌, ℕ, arith, Option, Some, None}
-use Rattle.std.proofs.Common.{sym, ap, ◌∙◌, subst}
-use Rattle.sre_chars.specs.declared.string.StringCursor.{StringCursor}
-use Rattle.sre_model.specs.Tree.{Tree}
-use Rattle.sre_model.specs.Marks.{Marks, no_marks}
-use Rattle.sre_model.specs.Ways.{ways}
-use Rattle.sre_model.specs.Found.{Asked, Match, subject_of, is_accepted, at_start, found}
-use Rattle.sre_turns.specs.Machine.{Decides, outcomes}
-use Rattle.sre_model.specs.Runs.{Run}
+use Rattle.std.proofs.Common.{[], ◌≡◌, ◌≤◌, ℕ, arith, Option, Some, None, sym, ap, ◌∙◌, subst}
+use Rattle.sre_engine.specs.Terms.{StringCursor, Tree, Marks, no_marks, ways, Asked, Match, subject_of, is_accepted}
+use Rattle.sre_engine.specs.Terms.{at_start, found, Decides, outcomes, Run}
 use Rattle.sre_engine.specs.Starts.{NoneBetween}
 use Rattle.sre_model.proofs.FoundLaws.{match_of_first, first_accepted-filter, at_start-is, least-found}
 

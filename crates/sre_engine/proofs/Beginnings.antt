@@ -1,12 +1,8 @@
 -- Where a match may begin, by what its first code words want.
 use Rattle.std.proofs.Common.{ℕ, ◌≡◌, ◌-◌, Bool, true, false, inl, inr, List, Option, Some, None, IfSome, IsSomeAnd}
 use Rattle.std.proofs.Common.{sym, ◌∙◌, subst, arith}
-use Rattle.sre_chars.specs.declared.constants.SreAtCode.TheVariants.{BEGINNING_LINE}
-use Rattle.sre_code.specs.declared.ascii_set.AsciiSet.{AsciiSet}
-use Rattle.sre_model.specs.Grammar.{WholeItems, behind_block}
-use Rattle.sre_model.specs.Subject.{Subject, holds_at}
-use Rattle.sre_model.specs.Tree.{Test}
-use Rattle.sre_request.specs.AsciiSets.{TakesAscii}
+use Rattle.sre_engine.specs.Terms.{BEGINNING_LINE, AsciiSet, WholeItems, behind_block, Subject, holds_at, Test}
+use Rattle.sre_engine.specs.Terms.{TakesAscii}
 use Rattle.sre_engine.specs.Beginnings.{BeginsIn, BeginsAtLines, KnowsTest, KnowsLines, has_ascii, IsAsciiOf}
 use Rattle.sre_engine.specs.Beginnings.{is_line_start}
 use Rattle.sre_engine.specs.Leading.{Wants, WantsFirst}

@@ -1,19 +1,9 @@
 -- How a start becomes a candidate, and what is skipped after one that failed.
 use Rattle.std.proofs.Common.{◌≡◌, ◌≤◌, ◌<◌, ◌+◌, ℕ, Bool, true, List, length, Some, None, refl, subst, arith, inl, inr}
 use Rattle.std.proofs.lemmas.Bool.{cases_lt}
-use Rattle.sre_chars.specs.declared.string.StrDrive.{Ghosts}
-use Rattle.sre_chars.specs.declared.string.StringCursor.{StringCursor}
-use Rattle.sre_model.specs.Tree.{Tree}
-use Rattle.sre_model.specs.Marks.{no_marks}
-use Rattle.sre_model.specs.Grammar.{Whole, WholeItems}
-use Rattle.sre_model.specs.Anchors.{is_anchored}
-use Rattle.sre_model.specs.Found.{Asked, subject_of, at_start}
-use Rattle.sre_code.specs.Codes.{words_of}
-use Rattle.sre_code.specs.declared.code.Code.{Code}
+use Rattle.sre_engine.specs.Terms.{Ghosts, StringCursor, Tree, no_marks, Whole, WholeItems, is_anchored, Asked}
+use Rattle.sre_engine.specs.Terms.{subject_of, at_start, words_of, Code, Request, end_of, code_of, asked_of, run_of}
 use Rattle.sre_code.proofs.Checked.{items_whole}
-use Rattle.sre_request.specs.declared.request.Request.{Request}
-use Rattle.sre_request.specs.Requests.{end_of, code_of, asked_of}
-use Rattle.sre_request.specs.Runs.{run_of}
 use Rattle.sre_engine.specs.Candidates.{MayBegin, IsCandidate, IsBare, Failed, bare_candidate}
 use Rattle.sre_engine.specs.Prefixed.{IsPrefix}
 use Rattle.sre_engine.specs.Scans.{NoPlace, NoMatch}

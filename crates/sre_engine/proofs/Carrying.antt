@@ -2,14 +2,7 @@
 -- other.
 use Rattle.std.proofs.Common.{ℕ, Bool, List, Result, Ok, Bor}
 use Rattle.std.specs.declared.alloc.Allocator.{Ghosts as Memory}
-use Rattle.sre_chars.specs.declared.string.StrDrive.{Ghosts}
-use Rattle.sre_code.specs.Codes.{items_of}
-use Rattle.sre_request.specs.Admitting.{AllAdmitted}
-use Rattle.sre_request.specs.Requests.{carrying}
-use Rattle.sre_request.specs.declared.admitted.Admitted.{Admitted}
-use Rattle.sre_request.specs.declared.request.Request.{Request}
-use Rattle.sre_machine.specs.declared.allowance.Allowance.{Allowance}
-use Rattle.sre_machine.specs.declared.turns.Halt.{Halt}
+use Rattle.sre_engine.specs.Terms.{Ghosts, items_of, AllAdmitted, carrying, Admitted, Request, Allowance, Halt}
 use Rattle.sre_engine.specs.Answers.{Shown}
 use Rattle.sre_engine.specs.Costs.{SearchCosts, Charged}
 use Rattle.sre_engine.specs.Searches.{Answered, AnsweredAtOnce}

@@ -1,20 +1,16 @@
 -- What a confirmed claim implies for the tree.
 use Rattle.std.proofs.Common.{◌≡◌, ◌≤◌, ◌<◌, ◌+◌, ◌-◌, ◌*◌, ◌/◌, ◌%◌, ◌&&◌, ℕ, zero, suc, List, [], ◌∷◌, Bool, true}
-use Rattle.std.proofs.Common.{false}
-use Rattle.std.proofs.Common.{cond}
-use Rattle.std.proofs.Common.{length, take, drop, slice_range, nat_eq, nat_lt, nat_le, Option, Some, None, is_some}
-use Rattle.std.proofs.Common.{refl}
-use Rattle.std.proofs.Common.{sym, ap, ◌∙◌, subst, arith, length-drop}
+use Rattle.std.proofs.Common.{false, cond, length, take, drop, slice_range, nat_eq, nat_lt, nat_le, Option, Some, None}
+use Rattle.std.proofs.Common.{is_some, refl, sym, ap, ◌∙◌, subst, arith, length-drop}
 use Rattle.std.proofs.lemmas.Bool.{and_parts, leb-true}
 use Rattle.std.proofs.lemmas.Bool.Decides.{nat_tests}
 use Rattle.sre_chars.specs.declared.constants.SreOpcode.TheVariants as opcode
-use Rattle.sre_model.specs.Tree.{Tree, Empty, Then, One, Mark, Literal, Plain}
-use Rattle.sre_model.specs.Width.{width}
-use Rattle.sre_model.specs.Grammar.{word, skip, has_block, behind_block, Whole}
+use Rattle.sre_engine.specs.Terms.{Tree, Empty, Then, One, Mark, Literal, Plain, width, word, skip, behind_block, Whole}
+use Rattle.sre_engine.specs.Terms.{spells, behind_items, is_empty, prefix_of, overlaps_of}
+use Rattle.sre_model.specs.Grammar.{has_block}
 use Rattle.sre_model.specs.Claims.{has_flag, has_prefix, prefix_length, prefix_skip, prefix_words, overlap_words}
 use Rattle.sre_model.specs.Claims.{are_overlaps, behind_adjacent, behind_spread, then_spread, behind_literals}
 use Rattle.sre_model.specs.Claims.{behind_prefix, confirmed_width, confirmed_prefix, is_literal, is_at_end}
-use Rattle.sre_model.specs.Prefixes.{spells, behind_items, is_empty, prefix_of, overlaps_of}
 use Rattle.sre_model.proofs.Words.{opcode_within}
 
 -- Lists of words and trees

@@ -1,18 +1,12 @@
 -- How the costs of a search's runs add up.
-use Rattle.std.proofs.Common.{◌≡◌, ℕ, ◌+◌, ◌*◌, ◌≤◌, inl, inr, false, [], refl, arith}
-use Rattle.std.proofs.Common.{Result, Ok, Err, IfErr, IsErrAnd, sym, subst}
-use Rattle.std.proofs.Common.{add-mul, one-mul}
+use Rattle.std.proofs.Common.{◌≡◌, ℕ, ◌+◌, ◌*◌, ◌≤◌, inl, inr, false, [], refl, arith, Result, Ok, Err, IfErr, IsErrAnd}
+use Rattle.std.proofs.Common.{sym, subst, add-mul, one-mul}
 use Rattle.std.proofs.Math.Nat.{mul-le-mul_right}
-use Rattle.sre_chars.specs.declared.string.StrDrive.{Ghosts}
-use Rattle.sre_chars.specs.declared.string.StringCursor.{StringCursor}
-use Rattle.sre_request.specs.declared.request.Request.{Request}
-use Rattle.sre_request.specs.Requests.{start_of}
-use Rattle.sre_request.specs.Runs.{run_of}
+use Rattle.sre_engine.specs.Terms.{Ghosts, StringCursor, Request, start_of, run_of, most_steps, MemoValue, Remembering}
+use Rattle.sre_engine.specs.Terms.{rows_from, each_of}
 use Rattle.sre_board.proofs.AccountLaws.{account_few}
 use Rattle.sre_engine.specs.Costs.{search_cost, most_tolls, most_waits, CostsUpTo, SearchCosts}
-use Rattle.sre_model.specs.TreePrices.{most_steps}
-use Rattle.sre_machine.specs.Memos.{MemoValue}
-use Rattle.sre_machine.specs.Paying.{Remembering, rows_from, each_of, run_cost, RunStops, RunSettles}
+use Rattle.sre_machine.specs.Paying.{run_cost, RunStops, RunSettles}
 
 -- what j runs cost, and what k more of them cost
 sum_of : (j k a s t m : ℕ) → ((j + k) * a + (s + t)) * m ≡ (j * a + s) * m + (k * a + t) * m

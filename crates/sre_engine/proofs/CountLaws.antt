@@ -2,11 +2,7 @@
 use Rattle.std.proofs.Common.{◌≡◌, ◌≤◌, ◌<◌, ◌+◌, ◌-◌, ◌&&◌, ◌||◌, ℕ, zero, suc, List, Bool, true, false, not, cond}
 use Rattle.std.proofs.Common.{Some, refl, sym, ◌∙◌, subst, arith}
 use Rattle.std.proofs.lemmas.Bool.{leb-true}
-use Rattle.sre_model.specs.Tree.{SetItem}
-use Rattle.sre_model.specs.Found.{Asked, subject_of}
-use Rattle.sre_model.specs.Prefixes.{stands_at, how_many, prefix_of}
-use Rattle.sre_code.specs.Codes.{words_of, hints_of}
-use Rattle.sre_code.specs.declared.code.Code.{Code}
+use Rattle.sre_engine.specs.Terms.{SetItem, Asked, subject_of, stands_at, how_many, prefix_of, words_of, hints_of, Code}
 use Rattle.sre_engine.specs.Answers.{Shown}
 use Rattle.sre_engine.specs.Counts.{CountsUpTo, width_fits, prefix_stands}
 use Rattle.sre_engine.specs.Members.{IsFirstSet, is_among}

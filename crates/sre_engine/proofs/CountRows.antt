@@ -1,10 +1,8 @@
 -- Worked rows of what the counts of a search are bounded by, by computation.
 use Rattle.std.specs.Prelude.{refl, ◌≡◌, List, ℕ, Some, None, true, false, [], ◌∷◌, codes}
 use Rattle.sre_model.specs.Tree.{Single}
-use Rattle.sre_model.specs.Found.{Asked, subject_of}
-use Rattle.sre_model.specs.Prefixes.{stands_at, how_many, prefix_of}
+use Rattle.sre_engine.specs.Terms.{Asked, subject_of, stands_at, how_many, prefix_of, Hints}
 use Rattle.sre_model.specs.Shown.{window, whole}
-use Rattle.sre_code.specs.declared.code.Hints.{Hints}
 use Rattle.sre_engine.specs.Counts.{width_fits, may_start}
 use Rattle.sre_engine.specs.Members.{IsFirstSet, is_among}
 

@@ -1,28 +1,18 @@
 -- A search that memoizes each failure takes at most its step bound, unless an allocation failed. So it exceeds no
 -- sufficient step limit.
-use Rattle.std.proofs.Common.{◌≡◌, ℕ, ◌+◌, ◌-◌, ◌*◌, ◌≤◌, ◌⊎◌, inl, inr, Bool, true, length, Option, None}
-use Rattle.std.proofs.Common.{Result, Ok, Err, IfOk, ap, ◌∙◌, subst, arith}
+use Rattle.std.proofs.Common.{◌≡◌, ℕ, ◌+◌, ◌-◌, ◌*◌, ◌≤◌, ◌⊎◌, inl, inr, Bool, true, length, Option, None, Result, Ok}
+use Rattle.std.proofs.Common.{Err, IfOk, ap, ◌∙◌, subst, arith}
 use Rattle.std.proofs.Math.Nat.{mul-le-mul_right}
 use Rattle.std.specs.declared.alloc.Allocator.{Ghosts as Memory}
-use Rattle.sre_chars.specs.declared.string.StrDrive.{Ghosts}
-use Rattle.sre_growth.specs.Refusal.{Refused}
-use Rattle.sre_model.specs.Tree.{Tree}
-use Rattle.sre_model.specs.Grammar.{Whole}
-use Rattle.sre_model.specs.Found.{Asked}
-use Rattle.sre_model.specs.Remembered.{IsRemembered, kept_positions, sides, step_bound}
-use Rattle.sre_model.specs.TreePrices.{most_steps, cost_of}
-use Rattle.sre_request.specs.declared.request.Request.{Request}
-use Rattle.sre_request.specs.Requests.{start_of, end_of, asked_of, code_of}
-use Rattle.sre_code.specs.Codes.{words_of, items_of}
-use Rattle.sre_code.specs.declared.code.Code.{Code}
+use Rattle.sre_engine.specs.Terms.{Ghosts, Refused, Tree, Whole, Asked, IsRemembered, step_bound, most_steps, Request}
+use Rattle.sre_engine.specs.Terms.{start_of, end_of, asked_of, code_of, words_of, items_of, Code, is_limited, left_of}
+use Rattle.sre_engine.specs.Terms.{Allowance, Halt, Remembering, each_of}
+use Rattle.sre_model.specs.Remembered.{kept_positions, sides}
+use Rattle.sre_model.specs.TreePrices.{cost_of}
 use Rattle.sre_code.proofs.Checked.{items_whole}
 use Rattle.sre_engine.specs.Counts.{AreEnough, KeepsToSteps}
 use Rattle.sre_engine.specs.Costs.{Charged, SearchCosts, search_cost, most_tolls, most_waits}
-use Rattle.sre_machine.specs.Allowances.{is_limited, left_of}
-use Rattle.sre_machine.specs.declared.allowance.Allowance.{Allowance}
-use Rattle.sre_machine.specs.declared.turns.Halt.{Halt}
 use Rattle.sre_machine.specs.declared.turns.Halt.TheVariants as halt
-use Rattle.sre_machine.specs.Paying.{Remembering, each_of}
 
 -- runs from as many starts as there are, from where a memo begins, cost no more
 few : {S : Type 0} {text : Ghosts S} (r : Request S text) (pl : Remembering r) (runs : ℕ)

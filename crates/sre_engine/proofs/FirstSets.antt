@@ -1,19 +1,14 @@
 -- The ASCII characters with which a tree may begin.
-use Rattle.std.proofs.Common.{◌≢◌, ◌≡◌, ◌+◌, ◌-◌, ◌≤◌, ◌<◌, ℕ, Bool, true, false, ◌&&◌, ◌||◌, nat_lt, nat_le}
-use Rattle.std.proofs.Common.{List, length, refl, ap, ◌∙◌, subst, arith}
+use Rattle.std.proofs.Common.{◌≢◌, ◌≡◌, ◌+◌, ◌-◌, ◌≤◌, ◌<◌, ℕ, Bool, true, false, ◌&&◌, ◌||◌, nat_lt, nat_le, List}
+use Rattle.std.proofs.Common.{length, refl, ap, ◌∙◌, subst, arith}
 use Rattle.std.proofs.lemmas.Bool.Decides.{nat_tests}
 use Rattle.sre_chars.specs.declared.constants.SreOpcode.TheVariants as opcode
-use Rattle.sre_code.specs.declared.ascii_set.AsciiSet.{AsciiSet}
-use Rattle.sre_code.specs.AsciiSet.{contains}
-use Rattle.sre_model.specs.Tree.{Tree, Trees, Only, Or, Test}
-use Rattle.sre_model.specs.Characters.{holds}
-use Rattle.sre_model.specs.Subject.{Subject, char_at, passes}
-use Rattle.sre_model.specs.Grammar.{Word, word, skip, ReadsBranch}
-use Rattle.sre_model.specs.FirstCharacters.{NoWay, NoneOf, NotPassed, TreeStands, HasTree, HasAlternatives, Leads}
+use Rattle.sre_engine.specs.Terms.{AsciiSet, contains, Tree, Trees, Only, Or, Test, holds, Subject, char_at, passes}
+use Rattle.sre_engine.specs.Terms.{Word, word, skip, ReadsBranch, NoWay, NoneOf, NotPassed, TreeStands, HasTree}
+use Rattle.sre_engine.specs.Terms.{HasAlternatives, Leads, TakesAscii}
 use Rattle.sre_model.proofs.Words.{same_word, word_of, word_within, opcode_within}
 use Rattle.sre_model.proofs.Places.{alternative_long}
 use Rattle.sre_model.proofs.FirstCharacters.{stands_up_to, only_none, or_none}
-use Rattle.sre_request.specs.AsciiSets.{TakesAscii}
 use Rattle.sre_engine.specs.Starts.{NotAmong}
 
 -- a test that takes the ASCII characters of a set alone does not pass where none of them is, and none past ASCII

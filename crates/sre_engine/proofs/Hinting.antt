@@ -1,14 +1,9 @@
 -- What the confirmed search hints of a code imply for its tree.
-use Rattle.std.proofs.Common.{◌≡◌, ◌≤◌, ◌<◌, ◌+◌, ◌-◌, ◌^◌, ℕ, List, Bool, length, Option, Some, None}
-use Rattle.std.proofs.Common.{sym, ap, ◌∙◌, arith, inl, inr, SomeIff, slice_range, length-take, length-drop}
+use Rattle.std.proofs.Common.{◌≡◌, ◌≤◌, ◌<◌, ◌+◌, ◌-◌, ◌^◌, ℕ, List, Bool, length, Option, Some, None, sym, ap, ◌∙◌}
+use Rattle.std.proofs.Common.{arith, inl, inr, SomeIff, slice_range, length-take, length-drop}
 use Rattle.std.proofs.lemmas.Bool.{cases_lt}
-use Rattle.sre_model.specs.Tree.{Tree}
-use Rattle.sre_model.specs.Width.{width}
-use Rattle.sre_model.specs.Grammar.{Whole, IsCode}
-use Rattle.sre_model.specs.Found.{Asked, found}
-use Rattle.sre_model.specs.Prefixes.{prefix_of, overlaps_of}
-use Rattle.sre_code.specs.Codes.{words_of, hints_of}
-use Rattle.sre_code.specs.declared.code.Code.{Code}
+use Rattle.sre_engine.specs.Terms.{Tree, width, Whole, IsCode, Asked, found, prefix_of, overlaps_of, words_of, hints_of}
+use Rattle.sre_engine.specs.Terms.{Code}
 use Rattle.sre_code.proofs.Checked.{code_tree, code_confirmed}
 use Rattle.sre_code.proofs.Borders.{overlaps_right}
 use Rattle.sre_engine.specs.Prefixed.{IsPrefix, FitsAt, IsLast}

@@ -2,14 +2,8 @@
 use Rattle.std.proofs.Common.{◌≡◌, ◌≤◌, ◌<◌, ◌+◌, ℕ, Bool, true, false, nat_lt, List, Option, Some, None, MatchOption}
 use Rattle.std.proofs.Common.{refl, sym, ap, ◌∙◌, subst, arith}
 use Rattle.std.proofs.lemmas.Bool.Decides.{nat_tests}
-use Rattle.sre_chars.specs.declared.string.StringCursor.{StringCursor}
-use Rattle.sre_model.specs.Tree.{Tree, Test}
-use Rattle.sre_model.specs.Subject.{char_at}
-use Rattle.sre_model.specs.Characters.{holds}
-use Rattle.sre_model.specs.Ways.{unlimited, longest_run}
-use Rattle.sre_model.specs.Found.{Asked, subject_of, at_start, found}
-use Rattle.sre_model.specs.Standing.{TestStands}
-use Rattle.sre_model.specs.LeadingRuns.{RunLeads, FrontStands, RunStands}
+use Rattle.sre_engine.specs.Terms.{StringCursor, Tree, Test, char_at, holds, unlimited, longest_run, Asked, subject_of}
+use Rattle.sre_engine.specs.Terms.{at_start, found, TestStands, RunLeads, FrontStands, RunStands}
 use Rattle.sre_engine.specs.Starts.{NoneBetween, NoneUntil}
 use Rattle.sre_model.proofs.Passing.{read_passes}
 use Rattle.sre_model.proofs.LeadingRuns.{none_in_run}

@@ -1,9 +1,6 @@
 -- What a search says within a budget of steps, by what it says of its answer.
 use Rattle.std.proofs.Common.{◌≡◌, ◌≢◌, Bool, true, false, Some, None, Ok, Err, refl}
-use Rattle.sre_chars.specs.declared.string.StrDrive.{Ghosts}
-use Rattle.sre_model.specs.Marks.{no_marks}
-use Rattle.sre_request.specs.declared.request.Request.{Request}
-use Rattle.sre_request.specs.Requests.{code_of}
+use Rattle.sre_engine.specs.Terms.{Ghosts, no_marks, Request, code_of}
 use Rattle.sre_engine.specs.Answers.{Shown, MayTakeMemory}
 use Rattle.sre_engine.specs.Counts.{BeginsAgain}
 use Rattle.sre_engine.specs.Searches.{Answered, RunsOnceAnchored}

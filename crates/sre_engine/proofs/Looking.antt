@@ -3,24 +3,12 @@ use Rattle.std.proofs.Common.{◌≡◌, ◌≤◌, ◌<◌, ◌+◌, ◌-◌, �
 use Rattle.std.proofs.Common.{IsErrAnd, refl, sym, ◌∙◌, subst, arith}
 use Rattle.std.proofs.Math.Nat.{mul-le-mul_right}
 use Rattle.std.specs.declared.alloc.Allocator.{Ghosts as Memory}
-use Rattle.sre_chars.specs.declared.string.StrDrive.{Ghosts}
-use Rattle.sre_chars.specs.declared.string.StringCursor.{StringCursor}
-use Rattle.sre_model.specs.Tree.{Tree}
-use Rattle.sre_model.specs.Marks.{no_marks}
-use Rattle.sre_model.specs.Grammar.{Whole}
-use Rattle.sre_model.specs.Found.{found}
-use Rattle.sre_turns.specs.Board.{bare}
-use Rattle.sre_turns.specs.Machine.{Decides, outcomes}
-use Rattle.sre_code.specs.Codes.{words_of, hints_of}
+use Rattle.sre_engine.specs.Terms.{Ghosts, StringCursor, Tree, no_marks, Whole, found, bare, Decides, outcomes}
+use Rattle.sre_engine.specs.Terms.{words_of, hints_of, Request, start_of, end_of, code_of, asked_of, stands_in, run_of}
+use Rattle.sre_engine.specs.Terms.{is_limited, left_of, Halted, Allowance, Halt}
 use Rattle.sre_code.proofs.Checked.{code_tree, items_whole}
-use Rattle.sre_request.specs.declared.request.Request.{Request}
-use Rattle.sre_request.specs.Requests.{start_of, end_of, code_of, asked_of, stands_in}
-use Rattle.sre_request.specs.Runs.{run_of}
-use Rattle.sre_machine.specs.Allowances.{is_limited, left_of, Halted}
 use Rattle.sre_machine.specs.Memos.{Recalls, Begins}
 use Rattle.sre_machine.specs.Runners.{RunnerValue, IsReady, Began, AttemptDecides, AttemptCosts}
-use Rattle.sre_machine.specs.declared.allowance.Allowance.{Allowance}
-use Rattle.sre_machine.specs.declared.turns.Halt.{Halt}
 use Rattle.sre_engine.specs.Answers.{Shown}
 use Rattle.sre_engine.specs.Counts.{SpentUpTo}
 use Rattle.sre_engine.specs.Candidates.{IsCandidate, ComparesFew, Failed}

@@ -1,12 +1,8 @@
 -- At how many starts a search ran: no more than there are at which a run may begin.
-use Rattle.std.proofs.Common.{◌≡◌, ◌≤◌, ◌+◌, ◌-◌, ◌*◌, ◌&&◌, ◌||◌, ℕ, List, [], Bool, true, false, not, length}
-use Rattle.std.proofs.Common.{Option, Some, None, Result, Ok, Err, OnErr, refl, sym, ap, ◌∙◌, subst, arith}
+use Rattle.std.proofs.Common.{◌≡◌, ◌≤◌, ◌+◌, ◌-◌, ◌*◌, ◌&&◌, ◌||◌, ℕ, List, [], Bool, true, false, not, length, Option}
+use Rattle.std.proofs.Common.{Some, None, Result, Ok, Err, OnErr, refl, sym, ap, ◌∙◌, subst, arith}
 use Rattle.std.proofs.lemmas.Bool.Decides.{nat_tests}
-use Rattle.sre_model.specs.Tree.{SetItem}
-use Rattle.sre_model.specs.Found.{Asked, subject_of}
-use Rattle.sre_model.specs.Prefixes.{stands_at, how_many}
-use Rattle.sre_code.specs.Codes.{words_of, hints_of}
-use Rattle.sre_code.specs.declared.code.Code.{Code}
+use Rattle.sre_engine.specs.Terms.{SetItem, Asked, subject_of, stands_at, how_many, words_of, hints_of, Code}
 use Rattle.sre_code.proofs.Checked.{code_tree, code_confirmed}
 use Rattle.sre_engine.specs.Answers.{Shown}
 use Rattle.sre_engine.specs.Counts.{CountsUpTo, width_fits, prefix_stands, may_start}

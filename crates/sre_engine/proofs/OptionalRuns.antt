@@ -1,22 +1,17 @@
 -- Repeats that need no character, where a tree begins with them: it may begin with what follows them, too.
-use Rattle.std.proofs.Common.{◌≡◌, ℕ, ◌+◌, ◌-◌, true, false, List, [], refl, sym, ap, ◌∙◌, subst, arith}
-use Rattle.std.proofs.Common.{true≢false, ◌⊎◌, inl, inr, ◌||◌}
+use Rattle.std.proofs.Common.{◌≡◌, ℕ, ◌+◌, ◌-◌, true, false, List, [], refl, sym, ap, ◌∙◌, subst, arith, true≢false}
+use Rattle.std.proofs.Common.{◌⊎◌, inl, inr, ◌||◌}
 use Rattle.sre_chars.specs.declared.constants.SreOpcode.TheVariants as opcode
-use Rattle.sre_chars.specs.declared.constants.SreOpcode.{SreOpcode}
-use Rattle.sre_model.specs.Tree.{Tree, Empty, Then, Run, Test, RunKind, GreedyRun, LazyRun, PossessiveRun}
-use Rattle.sre_model.specs.Marks.{Marks}
-use Rattle.sre_model.specs.Subject.{Subject, passes}
-use Rattle.sre_model.specs.Grammar.{Word, Opcode, skip, Reads}
-use Rattle.sre_model.specs.Roles.{ToRun, role}
-use Rattle.sre_model.specs.Ways.{ways, most_from, longest_run}
-use Rattle.sre_model.specs.FirstCharacters.{NoWay, is_end, TreeStands, Leads}
+use Rattle.sre_engine.specs.Terms.{SreOpcode, Tree, Empty, Then, Test, RunKind, GreedyRun, LazyRun, PossessiveRun}
+use Rattle.sre_engine.specs.Terms.{Marks, Subject, passes, Word, Opcode, skip, Reads, ToRun, role, ways, longest_run}
+use Rattle.sre_engine.specs.Terms.{NoWay, TreeStands, Leads, contains, AsciiSet, TakesAscii}
+use Rattle.sre_model.specs.Tree.{Run}
+use Rattle.sre_model.specs.Ways.{most_from}
+use Rattle.sre_model.specs.FirstCharacters.{is_end}
 use Rattle.sre_model.proofs.Words.{same_word, same_opcode}
 use Rattle.sre_model.proofs.Longest.{run_has}
 use Rattle.sre_model.proofs.Families.{HasRole, is_run, role_here}
 use Rattle.sre_model.proofs.FirstCharacters.{stands_up_to}
-use Rattle.sre_code.specs.AsciiSet.{contains}
-use Rattle.sre_code.specs.declared.ascii_set.AsciiSet.{AsciiSet}
-use Rattle.sre_request.specs.AsciiSets.{TakesAscii}
 use Rattle.sre_engine.specs.Starts.{PassesRun, NotAmong}
 use Rattle.sre_engine.proofs.FirstSets.{union_lacks, taken_bars}
 

@@ -1,17 +1,12 @@
 -- Each match path of a tree begins with its prefix.
-use Rattle.std.proofs.Common.{◌≡◌, ◌≤◌, ◌<◌, ◌+◌, ◌-◌, ◌*◌, ◌&&◌, ℕ, zero, suc, List, [], ◌∷◌, Bool, true, false}
-use Rattle.std.proofs.Common.{cond, length, slice_index, nat_lt, nat_eq, refl, sym, ap, ◌∙◌, subst, arith}
+use Rattle.std.proofs.Common.{◌≡◌, ◌≤◌, ◌<◌, ◌+◌, ◌-◌, ◌*◌, ◌&&◌, ℕ, zero, suc, List, [], ◌∷◌, Bool, true, false, cond}
+use Rattle.std.proofs.Common.{length, slice_index, nat_lt, nat_eq, refl, sym, ap, ◌∙◌, subst, arith}
 use Rattle.std.specs.List.{flat_map}
 use Rattle.std.proofs.lemmas.List.{append-nil}
 use Rattle.std.proofs.lemmas.Bool.{and_parts}
 use Rattle.std.proofs.lemmas.Bool.Decides.{nat_tests}
-use Rattle.sre_model.specs.Tree.{Tree, Then, One, Mark, Literal, Plain}
-use Rattle.sre_model.specs.Marks.{Marks, set_mark}
-use Rattle.sre_model.specs.Subject.{Subject, char_at, passes}
-use Rattle.sre_model.specs.Ways.{Way, here, ways}
-use Rattle.sre_model.specs.Grammar.{Reads}
-use Rattle.sre_model.specs.FirstCharacters.{NoWay}
-use Rattle.sre_model.specs.Prefixes.{spells, behind_items, stands_at, how_many}
+use Rattle.sre_engine.specs.Terms.{Tree, Then, One, Mark, Literal, Plain, Marks, set_mark, Subject, char_at, passes}
+use Rattle.sre_engine.specs.Terms.{Way, here, ways, Reads, NoWay, spells, behind_items, stands_at, how_many}
 use Rattle.sre_model.proofs.Each.{each-cond}
 use Rattle.sre_model.proofs.WideWays.{Far, EachFar, on-far, shorter, ways-far}
 use Rattle.sre_engine.specs.Scans.{Fits, Stands}

@@ -1,26 +1,15 @@
 -- What a search along the positions of a prefix comes to.
-use Rattle.std.proofs.Common.{◌≡◌, ◌≤◌, ◌<◌, ◌+◌, ◌||◌, ◌&&◌, ℕ, zero, suc, List, [], ◌∷◌, Bool, true, false}
-use Rattle.std.proofs.Common.{not}
-use Rattle.std.proofs.Common.{cond}
+use Rattle.std.proofs.Common.{◌≡◌, ◌≤◌, ◌<◌, ◌+◌, ◌||◌, ◌&&◌, ℕ, zero, suc, List, [], ◌∷◌, Bool, true, false, not, cond}
 use Rattle.std.proofs.Common.{length, nat_eq, Option, Some, None, refl, sym, ap, ◌∙◌, subst, arith, inl, inr}
 use Rattle.std.specs.List.{filter}
 use Rattle.std.proofs.lemmas.Bool.{cases_lt}
 use Rattle.std.proofs.lemmas.Bool.Decides.{nat_tests}
-use Rattle.sre_chars.specs.declared.string.StringCursor.{StringCursor}
-use Rattle.sre_model.specs.Tree.{Tree, Empty, Then, At}
-use Rattle.sre_model.specs.Anchors.{is_anchored}
-use Rattle.sre_model.specs.Marks.{Marks, no_marks}
-use Rattle.sre_model.specs.Ways.{Way, here, ways}
-use Rattle.sre_model.specs.Width.{width}
-use Rattle.sre_model.specs.Grammar.{Whole}
-use Rattle.sre_model.specs.Found.{Asked, Match, subject_of, is_accepted, first_accepted, at_start, found}
-use Rattle.sre_turns.specs.Machine.{Decides, outcomes}
-use Rattle.sre_model.specs.Runs.{Run}
-use Rattle.sre_model.specs.Prefixes.{spells, behind_items, is_empty, stands_at, how_many}
+use Rattle.sre_engine.specs.Terms.{StringCursor, Tree, Empty, Then, At, is_anchored, Marks, no_marks, Way, here, ways}
+use Rattle.sre_engine.specs.Terms.{width, Whole, Asked, Match, subject_of, is_accepted, at_start, found, Decides}
+use Rattle.sre_engine.specs.Terms.{outcomes, Run, spells, behind_items, is_empty, stands_at, how_many, words_of, Code}
+use Rattle.sre_model.specs.Found.{first_accepted}
 use Rattle.sre_model.proofs.FoundLaws.{none-found}
 use Rattle.sre_model.proofs.WideWays.{EachFar, narrow_none}
-use Rattle.sre_code.specs.Codes.{words_of}
-use Rattle.sre_code.specs.declared.code.Code.{Code}
 use Rattle.sre_engine.specs.Prefixed.{IsPrefix}
 use Rattle.sre_engine.specs.Scans.{Stands, NoPlace}
 use Rattle.sre_engine.specs.Starts.{NoneBetween}

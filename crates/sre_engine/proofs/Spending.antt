@@ -1,13 +1,8 @@
 -- How the steps of a search's runs add up.
 use Rattle.std.proofs.Common.{◌≡◌, ℕ, ◌+◌, ◌-◌, ◌*◌, ◌≤◌, ◌<◌, ◌≢◌, arith, add-mul}
 use Rattle.std.proofs.Math.Nat.{mul-le-mul, mul-le-mul_right}
-use Rattle.sre_model.specs.Tree.{Tree}
-use Rattle.sre_model.specs.Grammar.{Whole}
-use Rattle.sre_model.specs.Found.{Asked, subject_of}
-use Rattle.sre_model.specs.Prefixes.{behind_items}
-use Rattle.sre_model.specs.TurnBounds.{turns_of, most_each, RunsWithin}
-use Rattle.sre_code.specs.Codes.{words_of}
-use Rattle.sre_code.specs.declared.code.Code.{Code}
+use Rattle.sre_engine.specs.Terms.{Tree, Whole, Asked, subject_of, behind_items, RunsWithin, words_of, Code}
+use Rattle.sre_model.specs.TurnBounds.{turns_of, most_each}
 use Rattle.sre_engine.specs.Counts.{SpentUpTo}
 
 -- a run, and those that begin again where it began

@@ -3,17 +3,8 @@ use Rattle.std.proofs.Common.{◌≡◌, ◌≢◌, ◌≤◌, ◌<◌, ◌-◌,
 use Rattle.std.proofs.Common.{Option, refl, Some, None}
 use Rattle.std.proofs.lemmas.Bool.{cases_lt}
 use Rattle.std.proofs.lemmas.Bool.Decides.{nat_tests}
-use Rattle.sre_chars.specs.Texts.{Sought}
-use Rattle.sre_chars.specs.declared.constants.SreAtCode.TheVariants.{BEGINNING_LINE}
-use Rattle.sre_chars.specs.declared.constants.SreAtCode.{SreAtCode}
-use Rattle.sre_chars.specs.declared.string.StringCursor.{StringCursor}
-use Rattle.sre_model.specs.Tree.{Tree}
-use Rattle.sre_model.specs.Grammar.{WholeItems}
-use Rattle.sre_model.specs.Marks.{no_marks}
-use Rattle.sre_model.specs.Found.{Asked, subject_of, at_start}
-use Rattle.sre_model.specs.Subject.{Subject, char_at, holds_at}
-use Rattle.sre_model.specs.Runs.{Run}
-use Rattle.sre_model.specs.FirstCharacters.{NoWay, TreeStands, Leads}
+use Rattle.sre_engine.specs.Terms.{Sought, BEGINNING_LINE, SreAtCode, StringCursor, Tree, WholeItems, no_marks, Asked}
+use Rattle.sre_engine.specs.Terms.{subject_of, at_start, Subject, char_at, holds_at, Run, NoWay, TreeStands, Leads}
 use Rattle.sre_model.proofs.FirstCharacters.{whole_stands}
 use Rattle.sre_engine.specs.declared.engine.first_characters.First.{First}
 use Rattle.sre_engine.specs.Starts.{IsElsewhere, IsLacking, Barred, Bars, AllBarred, BarredUpTo, HeldFrom, HeldNowhere}

@@ -1,10 +1,8 @@
 -- One scan with overlap words.
-use Rattle.std.proofs.Common.{ℕ, ◌+◌, ◌-◌, ◌*◌, ◌≡◌, ◌≢◌, ◌<◌, ◌≤◌, ◌⊎◌, List, length, slice_index, ⊎_elim}
-use Rattle.std.proofs.Common.{Bool, true, false, sym, ◌∙◌, ap, subst, arith}
+use Rattle.std.proofs.Common.{ℕ, ◌+◌, ◌-◌, ◌*◌, ◌≡◌, ◌≢◌, ◌<◌, ◌≤◌, ◌⊎◌, List, length, slice_index, ⊎_elim, Bool, true}
+use Rattle.std.proofs.Common.{false, sym, ◌∙◌, ap, subst, arith}
 use Rattle.sre_code.specs.Borders.{Right}
-use Rattle.sre_chars.specs.Texts.{Sought}
-use Rattle.sre_chars.specs.declared.string.StringCursor.{StringCursor}
-use Rattle.sre_model.specs.Runs.{Run}
+use Rattle.sre_engine.specs.Terms.{Sought, StringCursor, Run}
 use Rattle.sre_engine.specs.Scans.{Border, Longest, Overlapping, Fits, Stands, NoPlace, Front, Here, FirstSame}
 
 -- a scan inside one character: i matched words end at q, and none of the places passed since b counts

@@ -1,10 +1,7 @@
 -- Where a scan for a prefix continues, by what is known of starts without a match.
-use Rattle.std.proofs.Common.{◌≡◌, ◌≤◌, ◌<◌, ℕ, List, length, Bool, refl, sym, subst, arith}
-use Rattle.std.proofs.Common.{inl, inr, ⊎_elim}
+use Rattle.std.proofs.Common.{◌≡◌, ◌≤◌, ◌<◌, ℕ, List, length, Bool, refl, sym, subst, arith, inl, inr, ⊎_elim}
 use Rattle.std.proofs.lemmas.Bool.{cases_lt}
-use Rattle.sre_model.specs.Tree.{Tree}
-use Rattle.sre_model.specs.Found.{Asked}
-use Rattle.sre_code.specs.declared.code.Code.{Code}
+use Rattle.sre_engine.specs.Terms.{Tree, Asked, Code}
 use Rattle.sre_engine.specs.Prefixed.{IsPrefix}
 use Rattle.sre_engine.specs.Scans.{NoPlace, Here, MovesOn, NoMatch}
 use Rattle.sre_engine.specs.Starts.{NoneBetween}

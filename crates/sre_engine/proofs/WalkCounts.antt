@@ -1,16 +1,9 @@
 -- What the steps of an iteration count together.
-use Rattle.std.proofs.Common.{◌≡◌, ◌≤◌, ◌+◌, ◌-◌, ℕ, zero, suc, List, Bool, true, false, cond, nat_eq}
-use Rattle.std.proofs.Common.{[], ◌∷◌, ◌++◌, map}
+use Rattle.std.proofs.Common.{◌≡◌, ◌≤◌, ◌+◌, ◌-◌, ℕ, zero, suc, List, Bool, true, false, cond, nat_eq, [], ◌∷◌, ◌++◌}
+use Rattle.std.proofs.Common.{map, Option, Some, None, refl, sym, ap, ◌∙◌, subst, arith}
 use mathlib.Core.List.{append_assoc, map-append}
-use Rattle.std.proofs.Common.{Option, Some, None, refl, sym, ap, ◌∙◌, subst, arith}
-use Rattle.sre_model.specs.Tree.{SetItem}
-use Rattle.sre_model.specs.Found.{Asked, asked_after}
-use Rattle.sre_model.specs.Prefixes.{how_many}
-use Rattle.sre_code.specs.Codes.{words_of, hints_of}
-use Rattle.sre_code.specs.declared.code.Code.{Code}
-use Rattle.sre_chars.specs.declared.string.StrDrive.{Ghosts}
-use Rattle.sre_request.specs.declared.request.Request.{Request}
-use Rattle.sre_request.specs.Requests.{start_of, end_of, code_of, must_advance_of, asked_of}
+use Rattle.sre_engine.specs.Terms.{SetItem, Asked, asked_after, how_many, words_of, hints_of, Code, Ghosts, Request}
+use Rattle.sre_engine.specs.Terms.{start_of, end_of, code_of, must_advance_of, asked_of}
 use Rattle.sre_engine.specs.Answers.{Shown, match_shown}
 use Rattle.sre_engine.specs.Counts.{CountsUpTo, StepsCount, width_fits, prefix_stands}
 use Rattle.sre_engine.specs.Searches.{CountsInside}

@@ -1,13 +1,8 @@
 -- A step of an iteration gives its first match, and leaves the iteration from that match's end on.
-use Rattle.std.proofs.Common.{◌≡◌, ◌<◌, ◌∷◌, List, Bool, true, false, Some, sym, ap, ◌∙◌}
-use Rattle.std.proofs.Common.{subst}
-use Rattle.sre_chars.specs.declared.string.StrDrive.{Ghosts}
-use Rattle.sre_model.specs.Tree.{Tree}
-use Rattle.sre_model.specs.Found.{Asked, Match, found, asked_after, walk}
-use Rattle.sre_model.specs.WalkBounds.{most_matches}
+use Rattle.std.proofs.Common.{◌≡◌, ◌<◌, ◌∷◌, List, Bool, true, false, Some, sym, ap, ◌∙◌, subst}
+use Rattle.sre_engine.specs.Terms.{Ghosts, Tree, Asked, Match, found, asked_after, walk, most_matches, Request}
+use Rattle.sre_engine.specs.Terms.{string_of, start_of, stands_in}
 use Rattle.sre_model.proofs.WalkLaws.{walk-end, walk-next, most_matches-falls}
-use Rattle.sre_request.specs.declared.request.Request.{Request}
-use Rattle.sre_request.specs.Requests.{string_of, start_of, stands_in}
 use Rattle.sre_engine.specs.Answers.{Shown, match_shown, answer_of}
 use Rattle.sre_engine.specs.Walks.{StepsTo, GoesOn}
 

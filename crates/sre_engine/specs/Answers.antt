@@ -1,11 +1,7 @@
 -- What a state shows, and the answer of a search.
 -- Of the specification: what sre_engine makes public rests on it.
 use Rattle.std.specs.Prelude.{ℕ, ◌≡◌, ◌≤◌, Bool, true, false, Option, Some, None}
-use Rattle.sre_chars.specs.declared.string.StringCursor.{StringCursor}
-use Rattle.sre_model.specs.Marks.{Marks}
-use Rattle.sre_model.specs.Found.{Match}
-use Rattle.sre_code.specs.Codes.{hints_of}
-use Rattle.sre_code.specs.declared.code.Code.{Code}
+use Rattle.sre_engine.specs.Terms.{StringCursor, Marks, Match, hints_of, Code}
 
 -- what a state shows: of the last match its marks, its start and its end, and of the last search how many comparisons
 -- with words of a prefix it made, at how many starts it began a run of the machine, and how many runs it began again

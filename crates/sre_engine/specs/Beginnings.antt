@@ -1,19 +1,13 @@
 -- Where a match may begin.
 -- Of the public contracts: what callers know of a code's first characters rests on it.
-use Rattle.std.specs.Prelude.{ℕ, ◌≡◌, ◌<◌, ◌||◌, nat_le, nat_lt, cond, Bool, true, false, List, []}
-use Rattle.std.specs.Prelude.{Option, Some, None, IsSomeAnd}
+use Rattle.std.specs.Prelude.{ℕ, ◌≡◌, ◌<◌, ◌||◌, nat_le, nat_lt, cond, Bool, true, false, List, [], Option, Some, None}
+use Rattle.std.specs.Prelude.{IsSomeAnd}
 use Rattle.sre_chars.specs.Tables.{Table}
-use Rattle.sre_chars.specs.declared.constants.SreAtCode.{SreAtCode}
-use Rattle.sre_chars.specs.declared.constants.SreAtCode.TheVariants.{BEGINNING, BEGINNING_LINE, BEGINNING_STRING}
-use Rattle.sre_code.specs.AsciiSet.{contains}
-use Rattle.sre_code.specs.declared.ascii_set.AsciiSet.{AsciiSet}
-use Rattle.sre_model.specs.Characters.{holds}
-use Rattle.sre_model.specs.Grammar.{Whole}
-use Rattle.sre_model.specs.Marks.{Marks}
-use Rattle.sre_model.specs.Subject.{Subject, after, holds_at}
-use Rattle.sre_model.specs.Tree.{Tree, Then, One, At, Mark, Run, Test, Any, InCategory, Literal, NotLiteral}
-use Rattle.sre_model.specs.Tree.{Plain, Locale}
-use Rattle.sre_model.specs.Ways.{ways}
+use Rattle.sre_engine.specs.Terms.{SreAtCode, BEGINNING_LINE, contains, AsciiSet, holds, Whole, Marks, Subject, after}
+use Rattle.sre_engine.specs.Terms.{holds_at, Tree, Then, One, At, Mark, Test, Any, InCategory, Literal, NotLiteral}
+use Rattle.sre_engine.specs.Terms.{Plain, ways}
+use Rattle.sre_chars.specs.declared.constants.SreAtCode.TheVariants.{BEGINNING, BEGINNING_STRING}
+use Rattle.sre_model.specs.Tree.{Run, Locale}
 
 -- each match path of a code begins with a character of a set, or with one past ASCII
 pub record BeginsIn (ws : List ℕ) (set : AsciiSet) : Type 0 where

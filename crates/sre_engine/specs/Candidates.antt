@@ -1,20 +1,11 @@
 -- The starts that a search tries, one after the other.
 -- Definitions for the search's contracts; what sre_engine makes public does not rest on it.
-use Rattle.std.specs.Prelude.{ℕ, ◌+◌, ◌-◌, ◌*◌, ◌^◌, ◌≡◌, ◌<◌, ◌≤◌, true, false, List, Option, Some, None}
-use Rattle.std.specs.Prelude.{length, IfSome}
-use Rattle.sre_chars.specs.declared.string.StringCursor.{StringCursor}
-use Rattle.sre_model.specs.Tree.{Tree, SetItem}
-use Rattle.sre_model.specs.Marks.{Marks}
-use Rattle.sre_model.specs.Grammar.{Whole, WholeItems}
-use Rattle.sre_model.specs.Found.{Asked, Match, at_start}
-use Rattle.sre_model.specs.LeadingRuns.{RunStands}
-use Rattle.sre_model.specs.Anchors.{is_anchored}
-use Rattle.sre_model.specs.Prefixes.{behind_items, ReadsBehind}
-use Rattle.sre_model.specs.Runs.{Run}
-use Rattle.sre_turns.specs.Machine.{Decides, outcomes}
-use Rattle.sre_code.specs.AsciiSets.{AreTold}
-use Rattle.sre_code.specs.Codes.{words_of, hints_of}
-use Rattle.sre_code.specs.declared.code.Code.{Code}
+use Rattle.std.specs.Prelude.{ℕ, ◌+◌, ◌-◌, ◌*◌, ◌^◌, ◌≡◌, ◌<◌, ◌≤◌, true, false, List, Option, Some, None, length}
+use Rattle.std.specs.Prelude.{IfSome}
+use Rattle.sre_engine.specs.Terms.{StringCursor, Tree, SetItem, Marks, Whole, WholeItems, Asked, Match, at_start}
+use Rattle.sre_engine.specs.Terms.{RunStands, is_anchored, behind_items, Run, Decides, outcomes, AreTold, words_of}
+use Rattle.sre_engine.specs.Terms.{hints_of, Code}
+use Rattle.sre_model.specs.Prefixes.{ReadsBehind}
 use Rattle.sre_engine.specs.Counts.{width_fits, may_start}
 use Rattle.sre_engine.specs.Members.{IsFirstSet}
 use Rattle.sre_engine.specs.Prefixed.{IsPrefix}

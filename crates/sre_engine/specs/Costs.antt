@@ -2,18 +2,10 @@
 -- Definitions for the contracts inside this crate; what it makes public does not rest on it.
 use Rattle.std.specs.Prelude.{ℕ, ◌+◌, ◌*◌, ◌≤◌, ◌≡◌, ◌⊎◌, Bool, true, false, Result, IfErr}
 use Rattle.std.specs.declared.alloc.Allocator.{Ghosts as Memory}
-use Rattle.sre_chars.specs.declared.string.StrDrive.{Ghosts}
-use Rattle.sre_growth.specs.Refusal.{Refused}
+use Rattle.sre_engine.specs.Terms.{Ghosts, Refused, Request, code_of, asked_of, run_of, most_steps, is_limited, left_of}
+use Rattle.sre_engine.specs.Terms.{Halted, Allowance, Halt, MemoValue, Remembering, rows_from, each_of}
 use Rattle.sre_board.specs.Accounts.{most_paid}
-use Rattle.sre_request.specs.declared.request.Request.{Request}
-use Rattle.sre_request.specs.Requests.{code_of, asked_of}
-use Rattle.sre_request.specs.Runs.{run_of}
-use Rattle.sre_model.specs.TreePrices.{most_steps}
-use Rattle.sre_machine.specs.Allowances.{is_limited, left_of, Halted}
-use Rattle.sre_machine.specs.declared.allowance.Allowance.{Allowance}
-use Rattle.sre_machine.specs.declared.turns.Halt.{Halt}
-use Rattle.sre_machine.specs.Memos.{MemoValue}
-use Rattle.sre_machine.specs.Paying.{Remembering, HoldsBits, rows_from, each_of, window_of}
+use Rattle.sre_machine.specs.Paying.{HoldsBits, window_of}
 use Rattle.sre_engine.specs.Counts.{SpentUpTo}
 
 -- what so many runs count for at most, by the credits that are granted to them

@@ -1,18 +1,9 @@
 -- What a search counts at most.
 -- Public clauses rest on it.
-use Rattle.std.specs.Prelude.{ℕ, ◌+◌, ◌-◌, ◌*◌, ◌≡◌, ◌<◌, ◌≤◌, ◌⊎◌, ◌&&◌, ◌||◌, nat_le, Bool, true, false, not}
-use Rattle.std.specs.Prelude.{List, length, Option, Some, None, Result, IfOk}
-use Rattle.sre_growth.specs.Refusal.{Refused}
-use Rattle.sre_model.specs.Tree.{Tree, SetItem}
-use Rattle.sre_model.specs.Grammar.{Whole}
-use Rattle.sre_model.specs.TurnBounds.{RunsWithin}
-use Rattle.sre_model.specs.Found.{Asked, subject_of}
-use Rattle.sre_model.specs.Prefixes.{stands_at, how_many}
-use Rattle.sre_model.specs.Remembered.{IsRemembered, step_bound}
-use Rattle.sre_code.specs.Codes.{words_of, items_of, hints_of}
-use Rattle.sre_model.specs.Prefixes.{prefix_of}
-use Rattle.sre_code.specs.declared.code.Code.{Code}
-use Rattle.sre_code.specs.declared.code.Hints.{Hints}
+use Rattle.std.specs.Prelude.{ℕ, ◌+◌, ◌-◌, ◌*◌, ◌≡◌, ◌<◌, ◌≤◌, ◌⊎◌, ◌&&◌, ◌||◌, nat_le, Bool, true, false, not, List}
+use Rattle.std.specs.Prelude.{length, Option, Some, None, Result, IfOk}
+use Rattle.sre_engine.specs.Terms.{Refused, Tree, SetItem, Whole, RunsWithin, Asked, subject_of, stands_at, how_many}
+use Rattle.sre_engine.specs.Terms.{IsRemembered, step_bound, words_of, items_of, hints_of, prefix_of, Code, Hints}
 use Rattle.sre_engine.specs.Answers.{Shown}
 use Rattle.sre_engine.specs.Members.{IsFirstSet, is_among}
 

@@ -1,11 +1,7 @@
 -- FIRST sets of a code: of its addresses, and of what comes first in each match.
 -- The clauses of `FirstSets` and of the searches that use it rest on it.
 use Rattle.std.specs.Prelude.{ℕ, List, [], Option, None, IfSome}
-use Rattle.sre_model.specs.Tree.{Tree}
-use Rattle.sre_model.specs.Grammar.{WholeItems}
-use Rattle.sre_model.specs.LeadingRuns.{RunStands}
-use Rattle.sre_request.specs.Admitting.{AllAdmitted}
-use Rattle.sre_request.specs.declared.admitted.Admitted.{Admitted}
+use Rattle.sre_engine.specs.Terms.{Tree, WholeItems, RunStands, AllAdmitted, Admitted}
 use Rattle.sre_engine.specs.Starts.{Bars, TestsThere}
 use Rattle.sre_engine.specs.declared.engine.opening.Opening.{Opening}
 

@@ -1,18 +1,9 @@
 -- What an iterator over matches shows, and what its next item is.
 -- Of the specification: what sre_engine makes public rests on it.
-use Rattle.std.specs.Prelude.{◌≡◌, ◌≤◌, ℕ, ◌+◌, Bool, true, false, cond, List, [], ◌∷◌, Option, Some, None, Result}
-use Rattle.std.specs.Prelude.{Ok, Err}
-use Rattle.sre_chars.specs.declared.string.StrDrive.{Ghosts}
-use Rattle.sre_model.specs.Tree.{Tree}
-use Rattle.sre_model.specs.Grammar.{Whole}
-use Rattle.sre_model.specs.Anchors.{is_anchored}
-use Rattle.sre_model.specs.Marks.{no_marks}
-use Rattle.sre_model.specs.Found.{Match, walk}
-use Rattle.sre_model.specs.WalkBounds.{most_matches}
-use Rattle.sre_code.specs.Codes.{words_of}
-use Rattle.sre_request.specs.declared.request.Request.{Request}
-use Rattle.sre_request.specs.Requests.{end_of, code_of, asked_of}
-use Rattle.sre_growth.specs.Refusal.{Refused}
+use Rattle.std.specs.Prelude.{◌≡◌, ◌≤◌, ℕ, ◌+◌, Bool, true, false, cond, List, [], ◌∷◌, Option, Some, None, Result, Ok}
+use Rattle.std.specs.Prelude.{Err}
+use Rattle.sre_engine.specs.Terms.{Ghosts, Tree, Whole, is_anchored, no_marks, Match, walk, most_matches, words_of}
+use Rattle.sre_engine.specs.Terms.{Request, end_of, code_of, asked_of, Refused}
 use Rattle.sre_engine.specs.declared.engine.state.SreError.{SreError}
 use Rattle.sre_engine.specs.declared.engine.search_iter.SearchIter.{SearchIter}
 use Rattle.sre_engine.specs.Answers.{Shown, match_shown, MayTakeMemory}

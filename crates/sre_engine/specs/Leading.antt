@@ -1,13 +1,8 @@
 -- What a code's first words lead to: its first test, and its first position code.
 -- Definitions for the search's contracts; what is public does not rest on it.
 use Rattle.std.specs.Prelude.{ℕ, ◌≡◌, ◌⊎◌, Bool, true, false, List, Option, Some, None}
-use Rattle.sre_chars.specs.declared.constants.SreAtCode.{SreAtCode}
-use Rattle.sre_chars.specs.declared.constants.SreOpcode.{SreOpcode}
-use Rattle.sre_model.specs.Tree.{Tree, Test}
-use Rattle.sre_model.specs.Grammar.{Opcode, WholeItems}
-use Rattle.sre_model.specs.Roles.{Role, ToMark, ToCheckPosition, role}
-use Rattle.sre_model.specs.Standing.{TestStands}
-use Rattle.sre_model.specs.FirstCharacters.{TreeStands}
+use Rattle.sre_engine.specs.Terms.{SreAtCode, SreOpcode, Tree, Test, Opcode, WholeItems, Role, ToMark, ToCheckPosition}
+use Rattle.sre_engine.specs.Terms.{role, TestStands, TreeStands}
 use Rattle.sre_engine.specs.Beginnings.{first_test, first_code}
 use Rattle.sre_engine.specs.declared.engine.first_characters.First.{First}
 use Rattle.sre_engine.specs.declared.engine.first_characters.Wanted.{Wanted}

@@ -31,6 +31,7 @@ pub use Rattle.sre_code.specs.StepBounds
 pub use Rattle.sre_code.specs.MostSlots
 pub use Rattle.sre_request.specs.Requests
 pub use Rattle.sre_code.specs.declared.code.Hints
+pub mod Terms
 pub mod Answers
 pub mod Beginnings
 pub mod Walks

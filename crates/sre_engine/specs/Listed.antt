@@ -1,6 +1,6 @@
 -- A match in a list.
 -- Of the specification: what sre_engine makes public rests on it.
-use Rattle.sre_model.specs.Found.{Match}
+use Rattle.sre_engine.specs.Terms.{Match}
 use Rattle.sre_engine.specs.declared.engine.whole_walk.Found.{Found}
 
 -- a match as the model has it

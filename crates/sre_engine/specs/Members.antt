@@ -2,12 +2,8 @@
 -- Public clauses rest on it.
 use Rattle.std.specs.Prelude.{ℕ, ◌-◌, ◌≡◌, ◌<◌, ◌≤◌, Bool, true, false, List, Option, Some, None}
 use Rattle.sre_chars.specs.declared.constants.SreOpcode.TheVariants as opcode
-use Rattle.sre_chars.specs.declared.string.StringCursor.{StringCursor}
-use Rattle.sre_model.specs.Tree.{SetItem}
-use Rattle.sre_model.specs.Characters.{is_member}
-use Rattle.sre_model.specs.Subject.{after}
-use Rattle.sre_model.specs.Grammar.{Opcode, skip, ReadsSet}
-use Rattle.sre_model.specs.Found.{Asked, subject_of}
+use Rattle.sre_engine.specs.Terms.{StringCursor, SetItem, is_member, after, Opcode, skip, Asked, subject_of}
+use Rattle.sre_model.specs.Grammar.{ReadsSet}
 
 -- the words from word 5 up to the block's end are a set's
 abbrev pub IsFirstSet : List ℕ → List SetItem → Type 0

@@ -3,9 +3,7 @@
 use Rattle.std.proofs.Common.{ℕ, ◌-◌, ◌+◌, ◌≡◌, ap, List, Option, Some, None, IfSome}
 use Rattle.std.proofs.Props.{props}
 use mathlib.Core.HLevel.{is_prop→PathP}
-use Rattle.sre_model.specs.Tree.{Tree, Test, In}
-use Rattle.sre_model.specs.Standing.{TestStands, HasTest}
-use Rattle.sre_model.specs.LeadingRuns.{FrontStands, RunLeads, RunStands}
+use Rattle.sre_engine.specs.Terms.{Tree, Test, In, TestStands, HasTest, FrontStands, RunLeads, RunStands}
 use Rattle.sre_model.specs.Grammar.{TestOperands}
 use Rattle.sre_model.proofs.Props.{set_prop}
 use Rattle.sre_model.proofs.Unique.{test_same}

@@ -1,13 +1,8 @@
 -- What a search takes from confirmed search hints.
 -- Definitions for the search's contracts; what sre_engine makes public does not rest on it.
 use Rattle.std.specs.Prelude.{ℕ, ◌+◌, ◌*◌, ◌^◌, ◌≡◌, ◌<◌, ◌≤◌, Bool, true, List, length, Option, Some, None}
-use Rattle.sre_model.specs.Tree.{Tree}
-use Rattle.sre_model.specs.Grammar.{Whole}
-use Rattle.sre_model.specs.Found.{Asked, at_start}
-use Rattle.sre_model.specs.Prefixes.{spells, behind_items, is_empty}
-use Rattle.sre_code.specs.Codes.{words_of, hints_of}
-use Rattle.sre_model.specs.Prefixes.{prefix_of}
-use Rattle.sre_code.specs.declared.code.Code.{Code}
+use Rattle.sre_engine.specs.Terms.{Tree, Whole, Asked, at_start, spells, behind_items, is_empty, words_of, hints_of}
+use Rattle.sre_engine.specs.Terms.{prefix_of, Code}
 
 -- the words of the confirmed prefix, and how many of them are literals one directly after the other
 pub record IsPrefix (code : Code) (words : List ℕ) (literals : ℕ) (whole : Bool) : Type 0 where

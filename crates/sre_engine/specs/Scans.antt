@@ -1,19 +1,8 @@
 -- A scan for the positions where the words of a prefix occur.
 -- Definitions for the search's contracts; what sre_engine makes public does not rest on it.
-use Rattle.std.specs.Prelude.{ℕ, ◌+◌, ◌-◌, ◌*◌, ◌≡◌, ◌≢◌, ◌<◌, ◌≤◌, ◌⊎◌, Bool, true, false, List, length}
-use Rattle.std.specs.Prelude.{slice_index}
-use Rattle.sre_chars.specs.declared.string.StrDrive.{Ghosts}
-use Rattle.sre_chars.specs.declared.string.StringCursor.{StringCursor}
-use Rattle.sre_model.specs.Tree.{Tree}
-use Rattle.sre_model.specs.Grammar.{Whole}
-use Rattle.sre_model.specs.Found.{Asked}
-use Rattle.sre_model.specs.Subject.{char_at}
-use Rattle.sre_model.specs.Runs.{Run}
-use Rattle.sre_code.specs.Codes.{words_of}
-use Rattle.sre_code.specs.declared.code.Code.{Code}
-use Rattle.sre_request.specs.declared.request.Request.{Request}
-use Rattle.sre_request.specs.Requests.{start_of, end_of}
-use Rattle.sre_request.specs.Runs.{run_of}
+use Rattle.std.specs.Prelude.{ℕ, ◌+◌, ◌-◌, ◌*◌, ◌≡◌, ◌≢◌, ◌<◌, ◌≤◌, ◌⊎◌, Bool, true, false, List, length, slice_index}
+use Rattle.sre_engine.specs.Terms.{Ghosts, StringCursor, Tree, Whole, Asked, char_at, Run, words_of, Code, Request}
+use Rattle.sre_engine.specs.Terms.{start_of, end_of, run_of}
 use Rattle.sre_engine.specs.Starts.{NoneBetween}
 
 -- the first k of the first n words are their last k, and k is below n

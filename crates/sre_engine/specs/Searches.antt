@@ -1,16 +1,8 @@
 -- What a search says of its answer, and a step of an iteration of its match and of the next request.
 -- Public clauses rest on it.
 use Rattle.std.specs.Prelude.{◌+◌, ◌≡◌, ◌<◌, ◌≤◌, Bool, true, false, Option, None, Some, Result, Ok, Err, IfOk, OnErr}
-use Rattle.sre_chars.specs.declared.string.StrDrive.{Ghosts}
-use Rattle.sre_model.specs.Tree.{Tree}
-use Rattle.sre_model.specs.Grammar.{Whole}
-use Rattle.sre_model.specs.Marks.{no_marks}
-use Rattle.sre_model.specs.Found.{found, walk}
-use Rattle.sre_model.specs.WalkBounds.{most_matches}
-use Rattle.sre_model.specs.Anchors.{is_anchored}
-use Rattle.sre_code.specs.Codes.{words_of}
-use Rattle.sre_request.specs.declared.request.Request.{Request}
-use Rattle.sre_request.specs.Requests.{start_of, end_of, code_of, asked_of, stands_in}
+use Rattle.sre_engine.specs.Terms.{Ghosts, Tree, Whole, no_marks, found, walk, most_matches, is_anchored, words_of}
+use Rattle.sre_engine.specs.Terms.{Request, start_of, end_of, code_of, asked_of, stands_in}
 use Rattle.sre_engine.specs.Answers.{Shown, Spans, answer_of}
 use Rattle.sre_engine.specs.Counts.{CountsUpTo}
 use Rattle.sre_engine.specs.Walks.{StepsTo, GoesOn}

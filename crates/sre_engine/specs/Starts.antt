@@ -1,19 +1,9 @@
 -- Starts without a match: ruled out by what has to come first, or skipped after a start that has none.
 -- Definitions for the search's contracts. What is public rests on `NoneUntil` and `StartFrom`, by `Starts::beyond`.
-use Rattle.std.specs.Prelude.{ℕ, ◌≡◌, ◌<◌, ◌≤◌, ◌+◌, ◌-◌, ◌⊎◌, ◌||◌, cond, nat_le, Bool, true, false}
-use Rattle.std.specs.Prelude.{List, Option, Some, None}
-use Rattle.sre_chars.specs.declared.constants.SreAtCode.{SreAtCode}
-use Rattle.sre_code.specs.declared.ascii_set.AsciiSet.{AsciiSet}
-use Rattle.sre_code.specs.AsciiSet.{contains}
-use Rattle.sre_chars.specs.declared.string.StringCursor.{StringCursor}
-use Rattle.sre_model.specs.Tree.{Tree}
-use Rattle.sre_model.specs.Grammar.{WholeItems}
-use Rattle.sre_model.specs.Found.{Asked, at_start}
-use Rattle.sre_model.specs.Subject.{Subject, after, holds_at}
-use Rattle.sre_model.specs.Runs.{Run}
-use Rattle.sre_model.specs.Standing.{HasTest}
-use Rattle.sre_model.specs.FirstCharacters.{NoWay, NotPassed, TreeStands}
-use Rattle.sre_request.specs.AsciiSets.{TakesAscii}
+use Rattle.std.specs.Prelude.{ℕ, ◌≡◌, ◌<◌, ◌≤◌, ◌+◌, ◌-◌, ◌⊎◌, ◌||◌, cond, nat_le, Bool, true, false, List, Option}
+use Rattle.std.specs.Prelude.{Some, None}
+use Rattle.sre_engine.specs.Terms.{SreAtCode, AsciiSet, contains, StringCursor, Tree, WholeItems, Asked, at_start}
+use Rattle.sre_engine.specs.Terms.{Subject, after, holds_at, Run, HasTest, NoWay, NotPassed, TreeStands, TakesAscii}
 use Rattle.sre_engine.specs.declared.engine.first_characters.First.{First}
 use Rattle.sre_engine.specs.declared.engine.first_characters.Wanted.{Wanted}
 use Rattle.sre_engine.specs.declared.engine.first_characters.Wanted.TheVariants.{Anything, Test, Set, Characters}

@@ -1,10 +1,8 @@
 -- A step of an iteration.
 -- Of the specification: what sre_engine makes public rests on it.
 use Rattle.std.specs.Prelude.{◌≡◌, ◌≤◌, Bool, cond, List, [], ◌∷◌}
-use Rattle.sre_chars.specs.declared.string.StrDrive.{Ghosts}
-use Rattle.sre_model.specs.Found.{Match, asked_after}
-use Rattle.sre_request.specs.declared.request.Request.{Request}
-use Rattle.sre_request.specs.Requests.{string_of, start_of, end_of, code_of, asked_of, stands_in}
+use Rattle.sre_engine.specs.Terms.{Ghosts, Match, asked_after, Request, string_of, start_of, end_of, code_of, asked_of}
+use Rattle.sre_engine.specs.Terms.{stands_in}
 use Rattle.sre_engine.specs.Answers.{Shown, Spans, match_shown}
 
 -- the matches left are the one that the state then shows and those left after it, where there is one, and none else

@@ -1,14 +1,8 @@
 -- What a search within a budget of steps says of its answer.
 -- Public clauses rest on it.
 use Rattle.std.specs.Prelude.{◌≡◌, ◌≢◌, ◌≤◌, Bool, true, Option, None, Some, Result, IfOk, IfSome, OnErr}
-use Rattle.sre_chars.specs.declared.string.StrDrive.{Ghosts}
-use Rattle.sre_model.specs.Tree.{Tree}
-use Rattle.sre_model.specs.Grammar.{Whole}
-use Rattle.sre_model.specs.Marks.{no_marks}
-use Rattle.sre_model.specs.Found.{found}
-use Rattle.sre_code.specs.Codes.{words_of}
-use Rattle.sre_request.specs.declared.request.Request.{Request}
-use Rattle.sre_request.specs.Requests.{start_of, end_of, code_of, asked_of, stands_in}
+use Rattle.sre_engine.specs.Terms.{Ghosts, Tree, Whole, no_marks, found, words_of, Request, start_of, end_of, code_of}
+use Rattle.sre_engine.specs.Terms.{asked_of, stands_in}
 use Rattle.sre_engine.specs.Answers.{Shown, Spans, answer_of, MayTakeMemory}
 use Rattle.sre_engine.specs.Counts.{BeginsAgain}
 use Rattle.sre_engine.specs.Searches.{has_found, CountsAll}

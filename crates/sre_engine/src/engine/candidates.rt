@@ -5,11 +5,8 @@
 //! and the start of the range alone.
 
 ghost use Rattle.std.specs.Prelude.{◌≡◌, ◌≤◌, ◌<◌, ◌+◌, ℕ, IfSome, None, Bool, true, false};
-ghost use Rattle.sre_model.specs.Runs.{Run};
-ghost use Rattle.sre_model.specs.Found.{Asked};
-ghost use Rattle.sre_code.specs.declared.code.Code.{Code};
-ghost use Rattle.sre_request.specs.Requests.{string_of, start_of, end_of, code_of, asked_of};
-ghost use Rattle.sre_request.specs.Runs.{run_of, Standing};
+ghost use Rattle.sre_engine.specs.Terms.{Run, Asked, Code, string_of, start_of, end_of, code_of, asked_of, run_of};
+ghost use Rattle.sre_engine.specs.Terms.{Standing};
 ghost use Rattle.sre_engine.specs.declared.engine.candidates.Candidate.{Candidate};
 ghost use Rattle.sre_engine.specs.Scans.{NoMatch};
 ghost use Rattle.sre_engine.specs.Candidates.{bare_candidate, IsCandidate, ComparesFew, Failed};

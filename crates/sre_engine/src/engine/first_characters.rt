@@ -1,21 +1,14 @@
 //! What must come first in each match, read from the first code words.
 
-ghost use Rattle.std.specs.Prelude.{◌≡◌, ◌⊎◌, ◌+◌, ◌-◌, ◌^◌, ◌<◌, ◌≤◌, ℕ, length, true, false, IfSome};
-ghost use Rattle.std.specs.Prelude.{None, Some, IsSomeAnd};
-ghost use Rattle.sre_chars.specs.Numbers.{at_number};
-ghost use Rattle.sre_model.specs.Tree.{Tree, Trees, Test};
-ghost use Rattle.sre_model.specs.Subject.{Subject, holds_at};
-ghost use Rattle.sre_model.specs.Grammar.{Word, AreItems, ReadsBranch};
-ghost use Rattle.sre_model.specs.Standing.{HasTest};
-ghost use Rattle.sre_model.specs.FirstCharacters.{NoWay, NoneOf, NotPassed, Leads};
-ghost use Rattle.sre_model.specs.FirstCharacters.{TreeStands, HasTree, HasAlternatives};
-ghost use Rattle.sre_model.specs.Roles.{begins_test};
-ghost use Rattle.sre_request.specs.AsciiSets.{TakesAscii};
-ghost use Rattle.sre_code.specs.Codes.{words_of};
-ghost use Rattle.sre_engine.specs.Beginnings.{BeginsIn, BeginsAtLines, KnowsTest, KnowsLines};
-ghost use Rattle.sre_engine.specs.Beginnings.{first_test, has_ascii, IsAsciiOf, is_line_start};
+ghost use Rattle.std.specs.Prelude.{◌≡◌, ◌⊎◌, ◌+◌, ◌-◌, ◌^◌, ◌<◌, ◌≤◌, ℕ, length, true, false, IfSome, None, Some};
+ghost use Rattle.std.specs.Prelude.{IsSomeAnd};
+ghost use Rattle.sre_engine.specs.Terms.{at_number, Tree, Trees, Test, Subject, holds_at, Word, ReadsBranch, HasTest};
+ghost use Rattle.sre_engine.specs.Terms.{NoWay, NoneOf, NotPassed, Leads, TreeStands, HasTree, HasAlternatives};
+ghost use Rattle.sre_engine.specs.Terms.{begins_test, TakesAscii, words_of, BEGINNING_LINE};
+ghost use Rattle.sre_model.specs.Grammar.{AreItems};
+ghost use Rattle.sre_engine.specs.Beginnings.{BeginsIn, BeginsAtLines, KnowsTest, KnowsLines, first_test, has_ascii};
+ghost use Rattle.sre_engine.specs.Beginnings.{IsAsciiOf, is_line_start};
 ghost use Rattle.sre_engine.specs.Leading.{IsPast, LeadsToTest, LeadsToCode, IsTestAt, Wants, WantsFirst};
-ghost use Rattle.sre_chars.specs.declared.constants.SreAtCode.TheVariants.{BEGINNING_LINE};
 ghost use Rattle.sre_engine.specs.Starts.{IsElsewhere, NotAmong, IsLacking, Bars, TestsThere, PassesRun};
 
 use sre_chars::constants::{SreAtCode, SreOpcode};

@@ -6,8 +6,7 @@
 //! may be those of many texts.
 
 ghost use Rattle.std.specs.Prelude.{◌≡◌, ℕ, ◌<◌, List, length};
-ghost use Rattle.sre_code.specs.Codes.{items_of};
-ghost use Rattle.sre_request.specs.Requests.{code_of};
+ghost use Rattle.sre_engine.specs.Terms.{items_of, code_of};
 ghost use Rattle.sre_engine.specs.FirstSets.{SetsOf, no_sets};
 
 use crate::engine::opening::Opening;

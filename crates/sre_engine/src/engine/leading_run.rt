@@ -4,12 +4,8 @@
 //! tried. A search that continues after the repeat passes each character once.
 
 ghost use Rattle.std.specs.Prelude.{◌≡◌, ◌+◌, ◌^◌, ◌<◌, ◌≤◌, length, true, IfSome, MatchOption, None};
-ghost use Rattle.sre_model.specs.Tree.{Tree};
-ghost use Rattle.sre_model.specs.Grammar.{WholeItems};
-ghost use Rattle.sre_model.specs.Found.{at_start};
-ghost use Rattle.sre_model.specs.LeadingRuns.{RunStands};
-ghost use Rattle.sre_request.specs.Requests.{end_of, asked_of};
-ghost use Rattle.sre_request.specs.Runs.{run_of, OpcodeAt, Standing};
+ghost use Rattle.sre_engine.specs.Terms.{Tree, WholeItems, at_start, RunStands, end_of, asked_of, run_of, Standing};
+ghost use Rattle.sre_request.specs.Runs.{OpcodeAt};
 ghost use Rattle.sre_engine.specs.Starts.{NoneUntil, PassesTo};
 
 use crate::engine::first_characters::is_test;

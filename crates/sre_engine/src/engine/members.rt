@@ -1,12 +1,8 @@
 //! Members of a confirmed first set: a match begins only at one of them.
 
 ghost use Rattle.std.specs.Prelude.{◌≡◌, ◌≤◌, List, true, IfSome};
-ghost use Rattle.sre_model.specs.Tree.{SetItem};
-ghost use Rattle.sre_model.specs.Characters.{is_member};
-ghost use Rattle.sre_code.specs.AsciiSets.{AreTold};
-ghost use Rattle.sre_code.specs.Codes.{words_of, uni_of, hints_of};
-ghost use Rattle.sre_request.specs.Requests.{end_of, code_of, asked_of};
-ghost use Rattle.sre_request.specs.Runs.{Standing};
+ghost use Rattle.sre_engine.specs.Terms.{SetItem, is_member, AreTold, words_of, uni_of, hints_of, end_of, code_of};
+ghost use Rattle.sre_engine.specs.Terms.{asked_of, Standing};
 ghost use Rattle.sre_engine.specs.Members.{IsFirstSet, NextMember};
 
 use sre_chars::string::{StrDrive, StringCursor};

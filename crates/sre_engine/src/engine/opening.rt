@@ -1,6 +1,6 @@
 //! How a code begins, read once for many searches.
 
-ghost use Rattle.sre_request.specs.Runs.{run_of};
+ghost use Rattle.sre_engine.specs.Terms.{run_of};
 ghost use Rattle.sre_engine.specs.FirstSets.{Opens};
 
 use crate::engine::first_characters::First;

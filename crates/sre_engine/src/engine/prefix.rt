@@ -6,11 +6,10 @@
 //! first words that is probably the rarest. The scan then goes back to the start of that occurrence, and reads only the
 //! characters between twice.
 
-ghost use Rattle.std.specs.Prelude.{◌≡◌, ◌↔◌, ◌+◌, ◌-◌, ◌*◌, ◌^◌, ◌<◌, ◌≤◌, length, true, false, IsTrue};
-ghost use Rattle.std.specs.Prelude.{None, IfSome, not, ◌||◌, nat_eq};
-ghost use Rattle.sre_code.specs.Codes.{hints_of};
-ghost use Rattle.sre_request.specs.Requests.{end_of, code_of, match_all_of};
-ghost use Rattle.sre_request.specs.Runs.{run_of, Standing};
+ghost use Rattle.std.specs.Prelude.{◌≡◌, ◌↔◌, ◌+◌, ◌-◌, ◌*◌, ◌^◌, ◌<◌, ◌≤◌, length, true, false, IsTrue, None, IfSome};
+ghost use Rattle.std.specs.Prelude.{not, ◌||◌, nat_eq};
+ghost use Rattle.sre_engine.specs.Terms.{hints_of, end_of, code_of, run_of, Standing};
+ghost use Rattle.sre_request.specs.Requests.{match_all_of};
 ghost use Rattle.sre_engine.specs.Prefixed.{IsPrefix};
 ghost use Rattle.sre_engine.specs.Scans.{Overlapping, FirstSame, ScanIsAt, ScanGoesTo, NoPlaceBetween};
 

@@ -1,9 +1,7 @@
 //! [`SearchIter`]: the iteration over all matches.
 
 ghost use Rattle.std.specs.Prelude.{◌≡◌, ◌<◌, true, false, IfSome, IfOk, None, Some};
-ghost use Rattle.sre_model.specs.Marks.{no_marks};
-ghost use Rattle.sre_code.specs.Codes.{items_of};
-ghost use Rattle.sre_request.specs.Requests.{string_of, start_of, code_of, asked_of, stands_in};
+ghost use Rattle.sre_engine.specs.Terms.{no_marks, items_of, string_of, start_of, code_of, asked_of, stands_in};
 ghost use Rattle.sre_engine.specs.FirstSets.{SetsOf};
 ghost use Rattle.sre_engine.specs.OneSetsOf.{one_sets_of};
 

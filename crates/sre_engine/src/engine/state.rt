@@ -1,19 +1,13 @@
 //! [`State`]: runs a match or a search, and shows the match.
 
-ghost use Rattle.std.specs.Prelude.{◌≡◌, ◌+◌, ◌-◌, ◌*◌, ◌<◌, ◌≤◌, length, IfOk, OnErr, true, false, Some};
-ghost use Rattle.std.specs.Prelude.{None, IfSome, ◌≢◌};
-ghost use Rattle.sre_model.specs.Tree.{Tree};
-ghost use Rattle.sre_model.specs.Grammar.{Whole};
-ghost use Rattle.sre_model.specs.Marks.{no_marks};
-ghost use Rattle.sre_model.specs.Found.{matched, found};
-ghost use Rattle.sre_model.specs.Anchors.{is_anchored};
-ghost use Rattle.sre_code.specs.Codes.{words_of};
-ghost use Rattle.sre_request.specs.Requests.{string_of, start_of, end_of, code_of, asked_of, stands_in};
+ghost use Rattle.std.specs.Prelude.{◌≡◌, ◌+◌, ◌-◌, ◌*◌, ◌<◌, ◌≤◌, length, IfOk, OnErr, true, false, Some, None, IfSome};
+ghost use Rattle.std.specs.Prelude.{◌≢◌};
+ghost use Rattle.sre_engine.specs.Terms.{Tree, Whole, no_marks, matched, found, is_anchored, words_of, string_of};
+ghost use Rattle.sre_engine.specs.Terms.{start_of, end_of, code_of, asked_of, stands_in, Refused};
 ghost use Rattle.sre_engine.specs.Answers.{answer_of, Spans, MayTakeMemory};
 ghost use Rattle.sre_engine.specs.Counts.{CountsUpTo, BeginsAgain, KeepsToSteps, runs_of};
 ghost use Rattle.sre_engine.specs.Searches.{Answered, CountsAll, has_found, RunsOnceAnchored};
 ghost use Rattle.sre_engine.specs.Within.{AnsweredWithin};
-ghost use Rattle.sre_growth.specs.Refusal.{Refused};
 
 use crate::engine::first_sets::FirstSets;
 use crate::engine::told::{Nobody, Starts};

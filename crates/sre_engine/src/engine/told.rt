@@ -1,13 +1,8 @@
 //! Prefilters: they exclude starts without a match, which a search then skips without a run.
 
 ghost use Rattle.std.specs.Prelude.{◌≡◌, ◌≤◌, ◌+◌, ◌-◌, length, IfSome, None, true, false, ⊤};
-ghost use Rattle.sre_model.specs.Tree.{Tree};
-ghost use Rattle.sre_model.specs.Grammar.{Whole};
-ghost use Rattle.sre_code.specs.AsciiSets.{AreTold};
-ghost use Rattle.sre_code.specs.Codes.{words_of, hints_of};
-ghost use Rattle.sre_code.specs.declared.code.Code.{Code};
-ghost use Rattle.sre_request.specs.Requests.{string_of, end_of, code_of, asked_of};
-ghost use Rattle.sre_request.specs.Runs.{run_of, Standing};
+ghost use Rattle.sre_engine.specs.Terms.{Tree, Whole, AreTold, words_of, hints_of, Code, string_of, end_of, code_of};
+ghost use Rattle.sre_engine.specs.Terms.{asked_of, run_of, Standing};
 ghost use Rattle.sre_engine.specs.Members.{IsMemberFrom};
 ghost use Rattle.sre_engine.specs.Prefixed.{IsPrefix};
 ghost use Rattle.sre_engine.specs.Scans.{ScanIsAt, MovesOn, NoMatch};

@@ -1,15 +1,13 @@
 //! One step of an iteration: the next match, and the request after it.
 
 ghost use Rattle.std.specs.Prelude.{◌≡◌, ◌≤◌, OnErr};
-ghost use Rattle.sre_code.specs.Codes.{items_of};
-ghost use Rattle.sre_request.specs.Requests.{string_of, start_of, code_of, asked_of, stands_in};
-ghost use Rattle.sre_machine.specs.Allowances.{is_limited};
+ghost use Rattle.sre_engine.specs.Terms.{items_of, string_of, start_of, code_of, asked_of, stands_in, is_limited};
+ghost use Rattle.sre_engine.specs.Terms.{Refused};
 ghost use Rattle.sre_engine.specs.Answers.{MayTakeMemory};
 ghost use Rattle.sre_engine.specs.Costs.{Charged};
 ghost use Rattle.sre_engine.specs.Counts.{BeginsAgain, KeepsToSteps, runs_of};
 ghost use Rattle.sre_engine.specs.FirstSets.{SetsOf};
 ghost use Rattle.sre_engine.specs.Searches.{Answered, Stepped, RunsOnceAnchored, given_up};
-ghost use Rattle.sre_growth.specs.Refusal.{Refused};
 
 use crate::engine::first_sets::FirstSets;
 use crate::engine::state::{SreError, State};

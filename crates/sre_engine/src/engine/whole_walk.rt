@@ -2,19 +2,13 @@
 
 ghost use Rattle.std.specs.Prelude.{◌≡◌, ◌<◌, ◌≤◌, ◌+◌, ◌-◌, ◌++◌, map, IfOk, OnErr};
 ghost use Rattle.std.specs.Vec.{vec_len};
-ghost use Rattle.sre_model.specs.Tree.{Tree};
-ghost use Rattle.sre_model.specs.Grammar.{Whole};
-ghost use Rattle.sre_model.specs.Marks.{no_marks};
-ghost use Rattle.sre_model.specs.Found.{walk};
-ghost use Rattle.sre_model.specs.WalkBounds.{most_matches, AreInOrder};
-ghost use Rattle.sre_code.specs.Codes.{items_of, words_of};
-ghost use Rattle.sre_request.specs.Requests.{string_of, start_of, end_of, code_of, asked_of, stands_in};
+ghost use Rattle.sre_engine.specs.Terms.{Tree, Whole, no_marks, walk, most_matches, AreInOrder, items_of, words_of};
+ghost use Rattle.sre_engine.specs.Terms.{string_of, start_of, end_of, code_of, asked_of, stands_in, Refused};
 ghost use Rattle.sre_engine.specs.Counts.{StepsCount, CountsOfWalk};
 ghost use Rattle.sre_engine.specs.FirstSets.{SetsOf};
 ghost use Rattle.sre_engine.specs.Searches.{Stepped};
 ghost use Rattle.sre_engine.specs.Answers.{match_shown};
 ghost use Rattle.sre_engine.specs.Listed.{match_of};
-ghost use Rattle.sre_growth.specs.Refusal.{Refused};
 
 use crate::engine::first_sets::FirstSets;
 use crate::engine::state::{SreError, State};

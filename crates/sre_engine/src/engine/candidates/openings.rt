@@ -1,11 +1,7 @@
 //! Candidates without a confirmed prefix or first set: the starts that the FIRST set of the first items allows.
 
 ghost use Rattle.std.specs.Prelude.{◌≡◌, ◌≤◌, IfSome};
-ghost use Rattle.sre_model.specs.Tree.{Tree};
-ghost use Rattle.sre_model.specs.Grammar.{WholeItems};
-ghost use Rattle.sre_model.specs.LeadingRuns.{RunStands};
-ghost use Rattle.sre_request.specs.Requests.{end_of, asked_of};
-ghost use Rattle.sre_request.specs.Runs.{run_of, Standing};
+ghost use Rattle.sre_engine.specs.Terms.{Tree, WholeItems, RunStands, end_of, asked_of, run_of, Standing};
 ghost use Rattle.sre_engine.specs.FirstSets.{Opens};
 ghost use Rattle.sre_engine.specs.Starts.{Bars, TestsThere, PassesTo};
 

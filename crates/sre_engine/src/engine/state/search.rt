@@ -2,14 +2,8 @@
 //! select.
 
 ghost use Rattle.std.specs.Prelude.{◌≡◌, ◌≤◌, true, false, IfOk, OnErr};
-ghost use Rattle.sre_model.specs.Tree.{Tree};
-ghost use Rattle.sre_model.specs.Grammar.{Whole};
-ghost use Rattle.sre_model.specs.Marks.{no_marks};
-ghost use Rattle.sre_model.specs.Found.{matched};
-ghost use Rattle.sre_request.specs.Requests.{string_of, start_of, end_of, code_of, asked_of, stands_in};
-ghost use Rattle.sre_request.specs.Runs.{run_of};
-ghost use Rattle.sre_code.specs.Codes.{items_of, words_of};
-ghost use Rattle.sre_machine.specs.Allowances.{is_limited};
+ghost use Rattle.sre_engine.specs.Terms.{Tree, Whole, no_marks, matched, string_of, start_of, end_of, code_of};
+ghost use Rattle.sre_engine.specs.Terms.{asked_of, stands_in, run_of, items_of, words_of, is_limited};
 ghost use Rattle.sre_engine.specs.Answers.{answer_of, Spans, MayTakeMemory};
 ghost use Rattle.sre_engine.specs.Counts.{CountsStay, BeginsAgain, runs_of};
 ghost use Rattle.sre_engine.specs.Prefixed.{IsPrefix};

@@ -1,5 +1,5 @@
 use Rattle.std.proofs.Common.{◌≡◌, ◌+◌, subst, ap, arith, rules}
-use Rattle.sre_model.specs.Grammar.{Opcode, Word, skip}
+use Rattle.sre_engine.specs.Terms.{Opcode, Word, skip}
 use Rattle.sre_model.proofs.Words.{word_of}
 use Rattle.sre_model.proofs.FirstCharacters.{tree_within, run_operand, run_there}
 use Rattle.sre_engine.specs.Starts.{PassesRun}

@@ -1,6 +1,5 @@
 use Rattle.std.proofs.Common.{◌+◌, arith}
-use Rattle.sre_model.specs.Tree.{Tree}
-use Rattle.sre_model.specs.FirstCharacters.{TreeStands}
+use Rattle.sre_engine.specs.Terms.{Tree, TreeStands}
 use Rattle.sre_model.proofs.FirstCharacters.{tree_within, leads_tree}
 use Rattle.sre_engine.proofs.FirstSets.{own_bars}
 use Rattle.sre_engine.proofs.OptionalRuns.{Beyond, beyond_more, beyond_done}

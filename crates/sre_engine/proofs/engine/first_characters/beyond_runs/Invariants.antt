@@ -1,6 +1,5 @@
 use Rattle.std.proofs.Common.{◌-◌, length}
-use Rattle.sre_model.specs.Tree.{Tree}
-use Rattle.sre_model.specs.FirstCharacters.{TreeStands, HasTree}
+use Rattle.sre_engine.specs.Terms.{Tree, TreeStands, HasTree}
 use Rattle.sre_engine.proofs.OptionalRuns.{Beyond}
 use Rattle.sre_engine.proofs.engine.first_characters.beyond_runs.Given as goal
 

@@ -1,6 +1,6 @@
 use Rattle.std.proofs.Common.{refl, rules}
 use Rattle.sre_chars.specs.declared.constants.SreOpcode.TheVariants as opcode
-use Rattle.sre_model.specs.Grammar.{Opcode}
+use Rattle.sre_engine.specs.Terms.{Opcode}
 use Rattle.sre_model.specs.Roles.{ToBranch}
 use Rattle.sre_model.proofs.Families.{role_here}
 use Rattle.sre_model.proofs.FirstCharacters.{tree_within, branch_there, branch_bars}

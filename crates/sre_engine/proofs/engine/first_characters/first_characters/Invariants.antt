@@ -1,6 +1,5 @@
 use Rattle.std.proofs.Common.{◌-◌, ℕ, length}
-use Rattle.sre_model.specs.Tree.{Trees}
-use Rattle.sre_model.specs.Grammar.{ReadsBranch}
+use Rattle.sre_engine.specs.Terms.{Trees, ReadsBranch}
 use Rattle.sre_engine.proofs.FirstSets.{Left}
 use Rattle.sre_engine.proofs.engine.first_characters.first_characters.Given as goal
 

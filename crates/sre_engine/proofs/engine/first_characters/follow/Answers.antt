@@ -1,17 +1,12 @@
 use Rattle.std.proofs.Common.{◌≡◌, ◌⊎◌, ◌+◌, ℕ, List, inl, inr, refl, ap, subst, Option, None, Some, IfSome, rules}
 use Rattle.std.proofs.Common.{arith}
-use Rattle.sre_chars.specs.declared.constants.SreOpcode.{SreOpcode}
+use Rattle.sre_engine.specs.Terms.{SreOpcode, SreAtCode, at_number, Tree, Subject, Word, Opcode, NoWay, TreeStands}
+use Rattle.sre_engine.specs.Terms.{Leads, ToCheckPosition, ToMark, role}
 use Rattle.sre_chars.specs.declared.constants.SreOpcode.TheVariants as opcode
-use Rattle.sre_chars.specs.declared.constants.SreAtCode.{SreAtCode}
-use Rattle.sre_chars.specs.Numbers.{at_number}
-use Rattle.sre_model.specs.Tree.{Tree}
-use Rattle.sre_model.specs.Subject.{Subject}
-use Rattle.sre_model.specs.Grammar.{Word, Opcode}
-use Rattle.sre_model.specs.FirstCharacters.{NoWay, TreeStands, Leads}
-use Rattle.sre_model.specs.Roles.{ToCheckPosition, ToMark, ToRepeat, ToRepeatPossessively, ToGroupAtomically, role}
+use Rattle.sre_model.specs.Roles.{ToRepeat, ToRepeatPossessively, ToGroupAtomically}
 use Rattle.sre_model.proofs.Families.{HasRole, role_here}
-use Rattle.sre_model.proofs.FirstCharacters.{leads_start, leads_tree, leads_further, tree_within}
-use Rattle.sre_model.proofs.FirstCharacters.{mark_leads, atomic_leads, look_operand, look_leads, at_operand, at_leads}
+use Rattle.sre_model.proofs.FirstCharacters.{leads_start, leads_tree, leads_further, tree_within, mark_leads}
+use Rattle.sre_model.proofs.FirstCharacters.{atomic_leads, look_operand, look_leads, at_operand, at_leads}
 use Rattle.sre_model.proofs.FirstCharacters.{at_bars_there, body_operand, body_leads}
 use Rattle.sre_engine.specs.Starts.{IsElsewhere}
 use Rattle.sre_engine.proofs.Leading.{test_start, code_start, test_stuck, code_stuck, test_past, code_past, code_read}

@@ -1,7 +1,5 @@
 use Rattle.std.proofs.Common.{◌-◌, ◌<◌, ◌≤◌, ℕ, length}
-use Rattle.sre_model.specs.Tree.{Tree}
-use Rattle.sre_model.specs.Subject.{Subject}
-use Rattle.sre_model.specs.FirstCharacters.{NoWay, TreeStands, Leads}
+use Rattle.sre_engine.specs.Terms.{Tree, Subject, NoWay, TreeStands, Leads}
 use Rattle.sre_engine.specs.Starts.{IsElsewhere}
 use Rattle.sre_engine.specs.Leading.{LeadsToTest, LeadsToCode}
 use Rattle.sre_engine.proofs.engine.first_characters.follow.Given as goal

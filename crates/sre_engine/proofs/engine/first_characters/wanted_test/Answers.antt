@@ -1,5 +1,5 @@
 use Rattle.std.proofs.Common.{sym, ◌∙◌, ◌≤◌, rules}
-use Rattle.sre_model.specs.Grammar.{Opcode}
+use Rattle.sre_engine.specs.Terms.{Opcode}
 use Rattle.sre_model.proofs.FirstCharacters.{tree_within, test_there, test_bars, run_operand, run_there, run_bars}
 use Rattle.sre_model.proofs.FirstCharacters.{some_test_here}
 use Rattle.sre_engine.proofs.OptionalRuns.{run_here}

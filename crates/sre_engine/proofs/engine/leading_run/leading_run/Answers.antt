@@ -2,11 +2,7 @@ use Rattle.std.proofs.Common.{ℕ, ◌≡◌, ◌+◌, ◌-◌, ◌<◌, false, 
 use Rattle.std.proofs.Common.{rules}
 use Rattle.std.specs.Option.{is_some}
 use Rattle.sre_chars.specs.declared.constants.SreOpcode.TheVariants as opcode
-use Rattle.sre_model.specs.Tree.{Tree}
-use Rattle.sre_model.specs.Grammar.{Opcode, Whole, WholeItems}
-use Rattle.sre_code.specs.Codes.{words_of}
-use Rattle.sre_code.specs.declared.code.Code.{Code}
-use Rattle.sre_request.specs.Runs.{run_of}
+use Rattle.sre_engine.specs.Terms.{Tree, Opcode, Whole, WholeItems, words_of, Code, run_of}
 use Rattle.sre_model.proofs.TreeOf.{tree_of}
 use Rattle.sre_model.proofs.LeadingWords.{RunAhead, whole_ahead, ahead_within, run_operands, run_stands, test_ahead}
 use Rattle.sre_model.proofs.LeadingWords.{test_further, behind_test, mark_ahead}

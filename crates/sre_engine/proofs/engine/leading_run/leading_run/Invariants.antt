@@ -1,8 +1,6 @@
 use Rattle.std.proofs.Common.{◌-◌, ◌<◌, length}
-use Rattle.sre_model.specs.Tree.{Tree}
-use Rattle.sre_model.specs.Grammar.{WholeItems}
+use Rattle.sre_engine.specs.Terms.{Tree, WholeItems, run_of}
 use Rattle.sre_model.proofs.LeadingWords.{RunAhead}
-use Rattle.sre_request.specs.Runs.{run_of}
 use Rattle.sre_engine.proofs.engine.leading_run.leading_run.Given as goal
 
 abbrev pub invariant-item : goal.invariant-item

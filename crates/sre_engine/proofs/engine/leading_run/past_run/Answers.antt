@@ -1,11 +1,6 @@
 use Rattle.std.proofs.Common.{ℕ, ◌≡◌, ◌+◌, ◌<◌, ◌∙◌, sym, ap, subst, arith}
-use Rattle.sre_model.specs.Tree.{Test}
-use Rattle.sre_model.specs.Ways.{unlimited, longest_run}
-use Rattle.sre_model.specs.Standing.{TestStands}
-use Rattle.sre_model.specs.LeadingRuns.{RunStands}
-use Rattle.sre_model.specs.Found.{subject_of}
-use Rattle.sre_request.specs.Requests.{end_of, asked_of}
-use Rattle.sre_request.specs.Runs.{run_of}
+use Rattle.sre_engine.specs.Terms.{Test, unlimited, longest_run, TestStands, RunStands, subject_of, end_of, asked_of}
+use Rattle.sre_engine.specs.Terms.{run_of}
 use Rattle.sre_engine.specs.Starts.{NoneBetween}
 use Rattle.sre_model.proofs.Bounds.{longest_run-fits}
 use Rattle.sre_model.proofs.TreeOf.{tree_of}

@@ -1,8 +1,5 @@
 use Rattle.std.proofs.Common.{◌≤◌, ◌-◌, List}
-use Rattle.sre_model.specs.Tree.{SetItem}
-use Rattle.sre_code.specs.Codes.{words_of}
-use Rattle.sre_request.specs.Requests.{end_of, code_of, asked_of}
-use Rattle.sre_request.specs.Runs.{run_of}
+use Rattle.sre_engine.specs.Terms.{SetItem, words_of, end_of, code_of, asked_of, run_of}
 use Rattle.sre_engine.specs.Members.{IsFirstSet, NoMember}
 use Rattle.sre_engine.proofs.engine.members.next_taken.Given as goal
 

@@ -1,7 +1,5 @@
 use Rattle.std.proofs.Common.{◌≡◌, ◌∙◌, ap, subst, sym, List, ℕ}
-use Rattle.sre_code.specs.Codes.{words_of}
-use Rattle.sre_request.specs.Requests.{code_of}
-use Rattle.sre_model.specs.Standing.{HasSet}
+use Rattle.sre_engine.specs.Terms.{words_of, code_of, HasSet}
 use Rattle.sre_engine.proofs.AmongMembers.{set_there}
 use Rattle.sre_engine.proofs.engine.members.takes.Goals as goal
 

@@ -1,9 +1,6 @@
 use Rattle.std.proofs.Common.{ℕ, ◌≡◌, ◌<◌, false, inl, inr, subst, sym, arith}
 use Rattle.std.proofs.lemmas.Bool.{cases_lt}
-use Rattle.sre_code.specs.AsciiSet.{contains}
-use Rattle.sre_model.specs.FirstCharacters.{NotPassed}
-use Rattle.sre_model.specs.Subject.{char_at}
-use Rattle.sre_request.specs.Runs.{run_of}
+use Rattle.sre_engine.specs.Terms.{contains, NotPassed, char_at, run_of}
 use Rattle.sre_engine.proofs.FirstSets.{set_lacks}
 use Rattle.sre_engine.proofs.engine.next_start.first_in_set.Goals as goal
 

@@ -1,6 +1,5 @@
 use Rattle.std.proofs.Common.{◌-◌}
-use Rattle.sre_request.specs.Requests.{end_of}
-use Rattle.sre_request.specs.Runs.{run_of}
+use Rattle.sre_engine.specs.Terms.{end_of, run_of}
 use Rattle.sre_engine.specs.Starts.{BarredUpTo}
 use Rattle.sre_engine.proofs.engine.next_start.next_start.Given as goal
 

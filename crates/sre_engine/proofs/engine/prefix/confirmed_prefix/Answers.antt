@@ -1,8 +1,5 @@
 use Rattle.std.proofs.Common.{◌≡◌, ◌≤◌, ◌<◌, ◌+◌, ◌^◌, ℕ, List, length, Some, sym, ap, ◌∙◌, subst, arith}
-use Rattle.sre_code.specs.Codes.{words_of, hints_of}
-use Rattle.sre_model.specs.Prefixes.{prefix_of, overlaps_of}
-use Rattle.sre_code.specs.declared.code.Code.{Code}
-use Rattle.sre_code.specs.declared.code.Hints.{Hints}
+use Rattle.sre_engine.specs.Terms.{words_of, hints_of, prefix_of, overlaps_of, Code, Hints}
 use Rattle.sre_engine.specs.Prefixed.{IsPrefix}
 use Rattle.sre_engine.specs.Scans.{Overlapping}
 use Rattle.sre_engine.proofs.Hinting.{prefix_room, prefix_overlaps, prefix_is}

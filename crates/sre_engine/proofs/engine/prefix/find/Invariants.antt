@@ -1,6 +1,5 @@
 use Rattle.std.proofs.Common.{◌-◌}
-use Rattle.sre_request.specs.Requests.{start_of, end_of}
-use Rattle.sre_request.specs.Runs.{run_of}
+use Rattle.sre_engine.specs.Terms.{start_of, end_of, run_of}
 use Rattle.sre_engine.specs.Scans.{Here, NoPlace}
 use Rattle.sre_engine.proofs.engine.prefix.find.Given as goal
 

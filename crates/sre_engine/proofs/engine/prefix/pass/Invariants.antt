@@ -1,6 +1,5 @@
 use Rattle.std.proofs.Common.{◌≡◌, ◌-◌, slice_index}
-use Rattle.sre_request.specs.Requests.{start_of, end_of}
-use Rattle.sre_request.specs.Runs.{run_of}
+use Rattle.sre_engine.specs.Terms.{start_of, end_of, run_of}
 use Rattle.sre_engine.proofs.Steps.{Inside}
 use Rattle.sre_engine.proofs.engine.prefix.pass.Given as goal
 

@@ -1,8 +1,5 @@
 use Rattle.std.proofs.Common.{◌≡◌, ℕ, List, subst, sym, OnErr}
-use Rattle.sre_code.specs.Codes.{items_of}
-use Rattle.sre_request.specs.Admitting.{AllAdmitted}
-use Rattle.sre_request.specs.declared.admitted.Admitted.{Admitted}
-use Rattle.sre_request.specs.Requests.{string_of, start_of, code_of, stands_in, carrying}
+use Rattle.sre_engine.specs.Terms.{items_of, AllAdmitted, Admitted, string_of, start_of, code_of, stands_in, carrying}
 use Rattle.sre_engine.specs.Answers.{MayTakeMemory}
 use Rattle.sre_engine.specs.Costs.{Charged}
 use Rattle.sre_engine.specs.Counts.{runs_of}

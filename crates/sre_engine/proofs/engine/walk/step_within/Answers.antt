@@ -1,7 +1,5 @@
 use Rattle.std.proofs.Common.{◌≡◌, refl, ap, ◌∙◌}
-use Rattle.sre_model.specs.Found.{Asked}
-use Rattle.sre_code.specs.Codes.{words_of, hints_of}
-use Rattle.sre_request.specs.Requests.{code_of, asked_of}
+use Rattle.sre_engine.specs.Terms.{Asked, words_of, hints_of, code_of, asked_of}
 use Rattle.sre_engine.specs.Walks.{GoesOn}
 use Rattle.sre_engine.proofs.Walking.{stands_next, steps_on, falls_on}
 use Rattle.sre_code.proofs.Checked.{code_tree}

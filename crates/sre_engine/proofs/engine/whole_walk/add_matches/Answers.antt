@@ -1,11 +1,7 @@
-use Rattle.std.proofs.Common.{[], ◌∷◌, cond}
-use Rattle.sre_model.specs.Grammar.{Whole}
-use Rattle.sre_model.specs.Found.{walk}
-use Rattle.sre_code.specs.Codes.{words_of}
+use Rattle.std.proofs.Common.{[], ◌∷◌, cond, ◌≡◌, ◌+◌, ◌-◌, ◌∙◌, arith, ap, subst, sym, vec_len}
+use Rattle.sre_engine.specs.Terms.{Whole, walk, words_of, start_of, code_of, asked_of}
 use Rattle.sre_engine.specs.Listed.{match_of}
 use Rattle.sre_engine.specs.Answers.{match_shown}
-use Rattle.std.proofs.Common.{◌≡◌, ◌+◌, ◌-◌, ◌∙◌, arith, ap, subst, sym, vec_len}
-use Rattle.sre_request.specs.Requests.{start_of, code_of, asked_of}
 use Rattle.sre_engine.specs.Counts.{StepsCount}
 use Rattle.sre_engine.proofs.WalkCounts.{counts_more, inside_on, match_on, asked_on, list_on}
 use Rattle.sre_engine.proofs.engine.whole_walk.add_matches.Goals as goal

@@ -1,10 +1,6 @@
 use Rattle.std.proofs.Common.{◌≡◌, ◌≤◌, ◌+◌, ◌-◌, ◌++◌, map, vec_len}
-use Rattle.sre_model.specs.Tree.{Tree}
-use Rattle.sre_model.specs.Grammar.{Whole}
-use Rattle.sre_model.specs.Found.{walk}
-use Rattle.sre_model.specs.WalkBounds.{most_matches}
-use Rattle.sre_code.specs.Codes.{items_of, words_of}
-use Rattle.sre_request.specs.Requests.{string_of, start_of, end_of, code_of, must_advance_of, asked_of, stands_in}
+use Rattle.sre_engine.specs.Terms.{Tree, Whole, walk, most_matches, items_of, words_of, string_of, start_of, end_of}
+use Rattle.sre_engine.specs.Terms.{code_of, must_advance_of, asked_of, stands_in}
 use Rattle.sre_engine.specs.Counts.{StepsCount}
 use Rattle.sre_engine.specs.FirstSets.{SetsOf}
 use Rattle.sre_engine.specs.Listed.{match_of}

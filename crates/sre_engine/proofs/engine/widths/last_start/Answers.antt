@@ -1,8 +1,5 @@
 use Rattle.std.proofs.Common.{◌≡◌, ℕ, Option, Some, None, sym, ap, ◌∙◌, subst}
-use Rattle.sre_code.specs.Codes.{hints_of}
-use Rattle.sre_code.specs.declared.code.Code.{Code}
-use Rattle.sre_code.specs.declared.code.Hints.{Hints}
-use Rattle.sre_request.specs.Requests.{code_of, asked_of}
+use Rattle.sre_engine.specs.Terms.{hints_of, Code, Hints, code_of, asked_of}
 use Rattle.sre_engine.specs.Prefixed.{IsLast}
 use Rattle.sre_engine.proofs.Hinting.{last_none, last_if}
 use Rattle.sre_engine.proofs.engine.widths.last_start.Goals as goal

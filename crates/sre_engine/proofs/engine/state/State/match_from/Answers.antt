@@ -1,7 +1,5 @@
 use Rattle.std.proofs.Common.{◌≡◌, ◌≤◌, true, false, Some, None, sym, subst, arith, rules}
-use Rattle.sre_model.specs.Found.{at_start}
-use Rattle.sre_code.specs.Codes.{words_of, hints_of}
-use Rattle.sre_request.specs.Requests.{start_of, end_of, code_of, asked_of, stands_in}
+use Rattle.sre_engine.specs.Terms.{at_start, words_of, hints_of, start_of, end_of, code_of, asked_of, stands_in}
 use Rattle.sre_engine.proofs.Answering.{none_at, some_at, span_at}
 use Rattle.sre_code.proofs.Checked.{code_tree, items_whole}
 use Rattle.sre_engine.proofs.Looking.{once_charged, once_given_up}

@@ -1,5 +1,5 @@
 use Rattle.std.proofs.Common.{Ok, refl, ap, arith, rules}
-use Rattle.sre_request.specs.Requests.{code_of, asked_of}
+use Rattle.sre_engine.specs.Terms.{code_of, asked_of}
 use Rattle.sre_engine.proofs.Hinting.{past_none}
 use Rattle.sre_engine.proofs.LeadingStarts.{none_joined, found_none_behind}
 use Rattle.sre_engine.proofs.Looking.{begins, ready, answered_no, charged, charged_given_up, charged_then}

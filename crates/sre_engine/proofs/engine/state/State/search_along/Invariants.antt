@@ -1,6 +1,5 @@
 use Rattle.std.proofs.Common.{◌≡◌, ◌+◌, ◌-◌, true}
-use Rattle.sre_request.specs.Requests.{string_of, end_of, code_of, asked_of}
-use Rattle.sre_request.specs.Runs.{run_of}
+use Rattle.sre_engine.specs.Terms.{string_of, end_of, code_of, asked_of, run_of}
 use Rattle.sre_engine.proofs.Looking.{Searching}
 use Rattle.sre_engine.proofs.engine.state.State.search_along.Given as goal
 

@@ -1,10 +1,7 @@
-use Rattle.std.proofs.Common.{◌≡◌, ◌≤◌, ◌+◌, ◌-◌, ◌||◌, ℕ, true, false, not, nat_eq, Some, None}
-use Rattle.std.proofs.Common.{length, refl, sym, ap, ◌∙◌, subst, arith, rules}
-use Rattle.sre_chars.specs.declared.string.StringCursor.{StringCursor}
-use Rattle.sre_model.specs.Marks.{Marks, no_marks}
+use Rattle.std.proofs.Common.{◌≡◌, ◌≤◌, ◌+◌, ◌-◌, ◌||◌, ℕ, true, false, not, nat_eq, Some, None, length, refl, sym, ap}
+use Rattle.std.proofs.Common.{◌∙◌, subst, arith, rules}
+use Rattle.sre_engine.specs.Terms.{StringCursor, Marks, no_marks, at_start, code_of, asked_of, stands_in}
 use Rattle.sre_turns.specs.Board.{BoardValue}
-use Rattle.sre_model.specs.Found.{at_start}
-use Rattle.sre_request.specs.Requests.{code_of, asked_of, stands_in}
 use Rattle.sre_engine.specs.Scans.{Stands}
 use Rattle.sre_engine.proofs.Answering.{NoneBefore, found_first}
 use Rattle.sre_engine.proofs.Looking.{answered_no}

@@ -1,11 +1,5 @@
 use Rattle.std.proofs.Common.{◌≡◌, ◌+◌, ◌-◌}
-use Rattle.sre_model.specs.Tree.{Tree}
-use Rattle.sre_model.specs.Marks.{no_marks}
-use Rattle.sre_model.specs.Grammar.{Whole}
-use Rattle.sre_turns.specs.Board.{bare}
-use Rattle.sre_code.specs.Codes.{words_of}
-use Rattle.sre_request.specs.Requests.{start_of, end_of, code_of, asked_of}
-use Rattle.sre_request.specs.Runs.{run_of}
+use Rattle.sre_engine.specs.Terms.{Tree, no_marks, Whole, bare, words_of, start_of, end_of, code_of, asked_of, run_of}
 use Rattle.sre_engine.specs.Scans.{Here}
 use Rattle.sre_engine.proofs.Answering.{NoneBefore}
 use Rattle.sre_engine.proofs.engine.state.State.search_whole.Given as goal

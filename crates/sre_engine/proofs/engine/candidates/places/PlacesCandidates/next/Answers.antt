@@ -1,16 +1,11 @@
-use Rattle.std.proofs.Common.{◌≡◌, ◌+◌, ◌-◌, ◌*◌, refl, subst, arith}
-use Rattle.sre_model.specs.Grammar.{Reads}
-use Rattle.sre_model.specs.Prefixes.{behind_items}
+use Rattle.std.proofs.Common.{◌≡◌, ◌+◌, ◌-◌, ◌*◌, refl, subst, arith, length}
+use Rattle.sre_engine.specs.Terms.{Reads, behind_items, items_of, code_of, asked_of, run_of}
 use Rattle.sre_code.proofs.Checked.{whole_items}
-use Rattle.sre_code.specs.Codes.{items_of}
-use Rattle.sre_request.specs.Requests.{code_of, asked_of}
-use Rattle.sre_request.specs.Runs.{run_of}
 use Rattle.sre_engine.specs.Scans.{Stands, NoMatch}
 use Rattle.sre_engine.proofs.MayStart.{may_place}
 use Rattle.sre_engine.proofs.PrefixWays.{reads_behind}
 use Rattle.sre_engine.proofs.Searching.{decided_behind, far_end}
 use Rattle.sre_engine.proofs.Steps.{complete}
-use Rattle.std.proofs.Common.{length}
 use Rattle.sre_engine.proofs.engine.candidates.places.PlacesCandidates.next.Goals as goal
 
 pub returns-clause-some : goal.returns-clause-some
