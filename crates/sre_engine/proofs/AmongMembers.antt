@@ -1,6 +1,6 @@
 -- Where the members of a confirmed FIRST set are, and what a search along them comes to.
-use Rattle.std.proofs.Common.{◌≡◌, ◌&&◌, ℕ, List, true, false, Option, Some, None, refl, sym, ap, subst, arith, inl}
-use Rattle.std.proofs.Common.{inr, nat_lt}
+use Rattle.std.proofs.Common.{◌≡◌, ◌+◌, ◌&&◌, ℕ, List, true, false, Option, Some, None, refl, sym, ap, subst, arith}
+use Rattle.std.proofs.Common.{inl, inr, nat_lt}
 use Rattle.std.proofs.lemmas.Bool.{cases_lt}
 use Rattle.std.proofs.lemmas.Bool.Decides.{nat_tests}
 use Rattle.sre_engine.specs.Terms.{StringCursor, Tree, SetItem, no_marks, is_member, char_at, Whole, IsCode, HasSet}
@@ -9,6 +9,7 @@ use Rattle.sre_model.specs.Claims.{HasFirstSet}
 use Rattle.sre_code.proofs.Checked.{code_tree, code_confirmed}
 use Rattle.sre_engine.specs.Members.{IsFirstSet, is_among, NextMember}
 use Rattle.sre_engine.specs.Starts.{NoneBetween, NoneUntil}
+use Rattle.sre_engine.proofs.Answering.{none_joined}
 use Rattle.sre_engine.proofs.FirstMembers.{unmembered}
 
 module _ (code : Code) (is : (hints_of code).first_set ≡ true) where
@@ -47,17 +48,14 @@ module _ (code : Code) (is : (hints_of code).first_set ≡ true) where
     -- behind starts that have no match none has one up to the next member, or none in the window
     pub none_until_member : (p q : ℕ) (next : Option StringCursor) → NoneBetween a t p q
         → NextMember a (words_of code) q next → NoneUntil a t p next
-    none_until_member p q None before none = λ s from to. elim (cases_lt s q) [
-      | (inl less) ↦ before s from less
-      | (inr more) ↦
-          unmembered_at a t s table w (λ set own. elim (cases_lt s a.end) [
-            | (inl inside) ↦ (none set own).each s more inside
-            | (inr past) ↦
-                let same : a.end ≡ s = omega (arith, past, to) in
-                subst (λ q. is_among a set q ≡ false) same (at_end set)
-          ])
-    ]
-    none_until_member p q (Some next) before x = λ s from to. elim (cases_lt s q) [
-      | (inl less) ↦ before s from less
-      | (inr more) ↦ unmembered_at a t s table w (λ set own. (x.none set own).each s more to)
-    ]
+    none_until_member p q None before none =
+        none_joined a t p q (a.end + 1) before (λ s more to.
+        unmembered_at a t s table w (λ set own. elim (cases_lt s a.end) [
+          | (inl inside) ↦ (none set own).each s more inside
+          | (inr past) ↦
+              let same : a.end ≡ s = omega (arith, past, to) in
+              subst (λ q. is_among a set q ≡ false) same (at_end set)
+        ]))
+    none_until_member p q (Some next) before x =
+        none_joined a t p q next.position before (λ s more to.
+        unmembered_at a t s table w (λ set own. (x.none set own).each s more to))

@@ -1,9 +1,10 @@
 -- The first accepted outcome of a run is the match.
 
-use Rattle.std.proofs.Common.{[], ◌≡◌, ◌≤◌, ℕ, arith, Option, Some, None, sym, ap, ◌∙◌, subst}
+use Rattle.std.proofs.Common.{[], inl, inr, ◌+◌, ◌≡◌, ◌≤◌, ℕ, arith, Option, Some, None, sym, ap, ◌∙◌, subst}
 use Rattle.sre_engine.specs.Terms.{StringCursor, Tree, Marks, no_marks, ways, Asked, Match, subject_of, is_accepted}
 use Rattle.sre_engine.specs.Terms.{at_start, found, Decides, outcomes, Run}
 use Rattle.sre_engine.specs.Starts.{NoneBetween}
+use Rattle.std.proofs.lemmas.Bool.{cases_lt}
 use Rattle.sre_model.proofs.FoundLaws.{match_of_first, first_accepted-filter, at_start-is, least-found}
 
 -- what a run for a request decides about; the words are those of its tree, whatever they are
@@ -27,6 +28,17 @@ module _ (stands : StringCursor → ℕ → Type 0) (a : Asked) (t : Tree) (p : 
   -- the match lies in the window
   pub span_at : p ≤ a.end → (end : StringCursor) → decided ≡ Some end → (p ≤ end.position) × (end.position ≤ a.end)
   span_at inside end is = let from = at_start-is a t p _ inside (some_at end is).1 in (from.order, from.end)
+
+-- the start alone
+pub none_here : (a : Asked) (t : Tree) (p : ℕ) → at_start a t p ≡ None → NoneBetween a t p (p + 1)
+none_here a t p none s from to = let same : p ≡ s = omega arith in subst (λ q. at_start a t q ≡ None) same none
+
+-- starts up to a position, and from there on
+pub none_joined : (a : Asked) (t : Tree) (o p q : ℕ) → NoneBetween a t o p → NoneBetween a t p q → NoneBetween a t o q
+none_joined a t o p q before behind s from to = elim (cases_lt s p) [
+  | (inl less) ↦ before s from less
+  | (inr more) ↦ behind s more to
+]
 
 -- no start before a position has a match
 abbrev pub NoneBefore : Asked → Tree → ℕ → Type 0

@@ -1,6 +1,5 @@
 -- How a start becomes a candidate, and what is skipped after one that failed.
-use Rattle.std.proofs.Common.{◌≡◌, ◌≤◌, ◌<◌, ◌+◌, ℕ, Bool, true, List, length, Some, None, refl, subst, arith, inl, inr}
-use Rattle.std.proofs.lemmas.Bool.{cases_lt}
+use Rattle.std.proofs.Common.{◌≡◌, ◌≤◌, ◌<◌, ◌+◌, ℕ, Bool, true, List, length, Some, None, refl, arith}
 use Rattle.sre_engine.specs.Terms.{Ghosts, StringCursor, Tree, no_marks, Whole, WholeItems, is_anchored, Asked}
 use Rattle.sre_engine.specs.Terms.{subject_of, at_start, words_of, Code, Request, end_of, code_of, asked_of, run_of}
 use Rattle.sre_code.proofs.Checked.{items_whole}
@@ -10,6 +9,7 @@ use Rattle.sre_engine.specs.Scans.{NoPlace, NoMatch}
 use Rattle.sre_engine.specs.Starts.{NoneBetween, NoneUntil}
 use Rattle.sre_engine.specs.declared.engine.candidates.Candidate.{Candidate}
 use Rattle.sre_engine.proofs.Anchored.{anchored_none}
+use Rattle.sre_engine.proofs.Answering.{none_here, none_joined}
 use Rattle.sre_engine.proofs.Searching.{unplaced_between}
 
 module _ {S : Type 0} {text : Ghosts S} (r : Request S text) where
@@ -49,14 +49,10 @@ pub anchored_over : (a : Asked) (code : Code) (p : ℕ)
     → NoMatch a code p (a.end + 1)
 anchored_over a code p anchored failed inside = record {
   forward = omega (arith, inside);
-  none = λ t whole s from to. elim (cases_lt p s) [
-    | (inl behind) ↦
-        let nowhere = (anchored_none (subject_of a) t s (anchored t whole) (omega (arith, behind))).none no_marks in
-        rw nowhere refl
-    | (inr up) ↦
-        let same : p ≡ s = omega (arith, from, up) in
-        subst (λ q. at_start a t q ≡ None) same (failed.none t whole)
-  ];
+  none = λ t whole.
+      none_joined a t p (p + 1) (a.end + 1) (none_here a t p (failed.none t whole)) (λ s from to.
+      let nowhere = (anchored_none (subject_of a) t s (anchored t whole) (omega (arith, from))).none no_marks in
+      rw nowhere refl);
 }
 
 -- behind a start that failed the words of a prefix stand nowhere up to a position
@@ -64,10 +60,7 @@ pub unplaced_passed : (a : Asked) (code : Code) (vs : List ℕ) (k : ℕ) (whole
     → 0 < length vs → (p q : ℕ) → Failed a code p → NoPlace a.text vs a.end (p + 1) q → NoMatch a code p q
 unplaced_passed a code vs k whole is some p q failed passed = record {
   forward = omega (arith, passed.forward);
-  none = λ t w s from to. elim (cases_lt p s) [
-    | (inl behind) ↦ unplaced_between a code vs k whole is some t w (p + 1) q passed s (omega (arith, behind)) to
-    | (inr up) ↦
-        let same : p ≡ s = omega (arith, from, up) in
-        subst (λ q. at_start a t q ≡ None) same (failed.none t w)
-  ];
+  none = λ t w.
+      none_joined a t p (p + 1) q (none_here a t p (failed.none t w))
+      (unplaced_between a code vs k whole is some t w (p + 1) q passed);
 }

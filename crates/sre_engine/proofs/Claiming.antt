@@ -15,14 +15,19 @@ use Rattle.sre_model.proofs.Words.{opcode_within}
 
 -- Lists of words and trees
 
+-- what is there only where a test holds
+cond_some : {A : Type 0} (b : Bool) (o : Option A) {x : A} → cond b o None ≡ Some x → (b ≡ true) × (o ≡ Some x)
+cond_some true o e = (refl, e)
+cond_some false o e = absurd (cc e)
+
+cond_there : {A : Type 0} (b : Bool) (o : Option A) → is_some (cond b o None) ≡ true → (b ≡ true) × (is_some o ≡ true)
+cond_there true o e = (refl, e)
+cond_there false o e = absurd (let never : false ≡ true = e in cc never)
+
 spread_spells : (vs : List ℕ) (t : Tree) → is_some (behind_spread vs t) ≡ true → spells 0 t vs ≡ true
 spread_spells [] t h = refl
-spread_spells (v ∷ vs) (Then (One (Literal Plain u)) rest) h = by_test (nat_eq u v) h (spread_spells vs rest)
-  where
-    by_test : (b : Bool) → is_some (cond b (behind_spread vs rest) None) ≡ true
-        → (is_some (behind_spread vs rest) ≡ true → spells 0 rest vs ≡ true) → (b && spells 0 rest vs) ≡ true
-    by_test true y later = later y
-    by_test false y later = absurd (let never : false ≡ true = y in cc never)
+spread_spells (v ∷ vs) (Then (One (Literal Plain u)) rest) h =
+    let both = cond_there (nat_eq u v) (behind_spread vs rest) h in rw both.0 (spread_spells vs rest both.1)
 spread_spells (v ∷ vs) (Then (Mark n) rest) h = spread_spells (v ∷ vs) rest h
 spread_spells (v ∷ vs) t h = absurd (let never : false ≡ true = h in cc never)
 
@@ -47,12 +52,7 @@ adjacent_behind : (k : ℕ) (vs : List ℕ) (t r : Tree) → k ≤ length vs →
 adjacent_behind zero vs t r l e = let same : Some t ≡ Some r = e in cc
 adjacent_behind (suc k) [] t r l e = absurd (omega (arith, l))
 adjacent_behind (suc k) (v ∷ vs) (Then (One (Literal Plain u)) rest) r l e =
-    by_test (nat_eq u v) e (adjacent_behind k vs rest r (omega (arith, l)))
-  where
-    by_test : (b : Bool) → cond b (behind_adjacent (take k vs) rest) None ≡ Some r
-        → (behind_adjacent (take k vs) rest ≡ Some r → behind_items k rest ≡ r) → behind_items k rest ≡ r
-    by_test true y later = later y
-    by_test false y later = absurd (let never : None ≡ Some r = y in cc never)
+    adjacent_behind k vs rest r (omega (arith, l)) (cond_some (nat_eq u v) (behind_adjacent (take k vs) rest) e).1
 adjacent_behind (suc k) (v ∷ vs) t r l e = absurd (let never : None ≡ Some r = e in cc never)
 
 nothing_left : (vs : List ℕ) (o : Option Tree) → length vs ≡ 0 → is_at_end (then_spread vs o) ≡ true → o ≡ Some Empty
@@ -64,15 +64,11 @@ nothing_left (v ∷ vs) o l e = absurd (omega (arith, l))
 -- The width
 
 pub width_told : (ws : List ℕ) (t : Tree) (w : ℕ) → confirmed_width ws t ≡ Some w → w ≤ width t
-width_told ws t w e = by_test (has_block ws && nat_le (word ws 3) (width t)) refl e
-  where
-    by_test : (b : Bool) → (has_block ws && nat_le (word ws 3) (width t)) ≡ b
-        → cond b (Some (word ws 3)) None ≡ Some w → w ≤ width t
-    by_test true y same =
-        let le = leb-true (word ws 3) (width t) (and_parts (has_block ws) (nat_le (word ws 3) (width t)) y).1 in
-        let is : word ws 3 ≡ w = cc same in
-        omega (arith, le, is)
-    by_test false y same = absurd (let never : None ≡ Some w = same in cc never)
+width_told ws t w e =
+    let told = cond_some (has_block ws && nat_le (word ws 3) (width t)) (Some (word ws 3)) e in
+    let le = leb-true (word ws 3) (width t) (and_parts (has_block ws) (nat_le (word ws 3) (width t)) told.0).1 in
+    let is : word ws 3 ≡ w = cc told.1 in
+    omega (arith, le, is)
 
 -- The prefix
 
@@ -93,25 +89,16 @@ pub record Claimed (ws : List ℕ) (t : Tree) (l k : ℕ) : Type 0 where
   pub left : is_some (behind_literals (prefix_skip ws) (prefix_words ws) t) ≡ true
 
 pub claim : (ws : List ℕ) (t : Tree) (l k : ℕ) → confirmed_prefix ws t ≡ Some (l, k) → Claimed ws t l k
-claim ws t l k e = by_test (is_some (behind_prefix ws t)) refl e
-  where
-    by_has : (b : Bool) → is_some (cond b (behind_literals (prefix_skip ws) (prefix_words ws) t) None) ≡ true
-        → (b ≡ true) × (is_some (behind_literals (prefix_skip ws) (prefix_words ws) t) ≡ true)
-    by_has true y = (refl, y)
-    by_has false y = absurd (let never : false ≡ true = y in cc never)
-
-    by_test : (b : Bool) → is_some (behind_prefix ws t) ≡ b
-        → cond {A = Option (ℕ × ℕ)} b (Some (prefix_length ws, prefix_skip ws)) None ≡ Some (l, k) → Claimed ws t l k
-    by_test true y same =
-        let pair : (prefix_length ws, prefix_skip ws) ≡ (l, k) = ap (either_hint (l, k)) same in
-        let both = by_has (has_prefix ws) y in
-        record {
-          length_is = ap (λ (x : ℕ × ℕ). x.0) pair;
-          skip_is = ap (λ (x : ℕ × ℕ). x.1) pair;
-          has = both.0;
-          left = both.1;
-        }
-    by_test false y same = absurd (let never : None ≡ Some (l, k) = same in cc never)
+claim ws t l k e =
+    let told = cond_some {A = ℕ × ℕ} (is_some (behind_prefix ws t)) (Some (prefix_length ws, prefix_skip ws)) e in
+    let pair : (prefix_length ws, prefix_skip ws) ≡ (l, k) = ap (either_hint (l, k)) told.1 in
+    let both = cond_there (has_prefix ws) (behind_literals (prefix_skip ws) (prefix_words ws) t) told.0 in
+    record {
+      length_is = ap (λ (x : ℕ × ℕ). x.0) pair;
+      skip_is = ap (λ (x : ℕ × ℕ). x.1) pair;
+      has = both.0;
+      left = both.1;
+    }
 
 -- where none is confirmed, none is all of the code
 pub claim_none : (ws : List ℕ) (t : Tree) → confirmed_prefix ws t ≡ None → is_literal ws t ≡ false
@@ -174,10 +161,8 @@ module _ (ws : List ℕ) (t : Tree) (l k : ℕ) (w : Whole ws t) (c : Claimed ws
       → (k ≡ l) × (is_empty (behind_items k t) ≡ true)
   claim_whole long e =
       let three = and_parts (has_flag 2 ws && nat_eq (prefix_skip ws) (prefix_length ws)) (is_at_end (behind_prefix ws
-      t))
-      (shuffled e) in
-      let two = and_parts (has_flag 2 ws) (nat_eq (prefix_skip ws) (prefix_length ws)) three.0 in
-      let is = two.1 in
+      t)) e in
+      let is = (and_parts (has_flag 2 ws) (nat_eq (prefix_skip ws) (prefix_length ws)) three.0).1 in
       let same : prefix_skip ws ≡ prefix_length ws = grind (arith, nat_tests) in
       let equal : k ≡ l = sym c.skip_is ∙ same ∙ c.length_is in
       let words : length (prefix_words ws) ≡ l = subst (λ m. length (prefix_of ws m) ≡ l) (sym c.length_is) long in
@@ -191,12 +176,3 @@ module _ (ws : List ℕ) (t : Tree) (l k : ℕ) (w : Whole ws t) (c : Claimed ws
       let rest = adjacent_behind (prefix_skip ws) (prefix_words ws) t Empty
       (omega (arith, words, c.skip_is, equal)) left in
       (equal, subst (λ n. is_empty (behind_items n t) ≡ true) c.skip_is (ap is_empty rest))
-    where
-      shuffled : (has_flag 2 ws && nat_eq (prefix_skip ws) (prefix_length ws) && is_at_end (behind_prefix ws t)) ≡ true
-          → ((has_flag 2 ws && nat_eq (prefix_skip ws) (prefix_length ws)) && is_at_end (behind_prefix ws t)) ≡ true
-      shuffled h = by_test (has_flag 2 ws) (nat_eq (prefix_skip ws) (prefix_length ws)) (is_at_end (behind_prefix ws
-          t)) h
-        where
-          by_test : (x y z : Bool) → (x && y && z) ≡ true → ((x && y) && z) ≡ true
-          by_test true true true h = refl
-          by_test x y z h = absurd (let never : false ≡ true = h in cc never)

@@ -26,6 +26,14 @@ pub passed_on : {T E : Type 0} (result : Result T E) (e : E) (P : E → Type 0) 
 passed_on (Ok x) e P h p = absurd h
 passed_on (Err y) e P h p = subst P (sym h) p
 
+-- the runs since some memo began
+pub record CostsSince (M : Type 0) {S : Type 0} {text : Ghosts S} (r : Request S text) (now : MemoValue)
+    (given left runs : ℕ) :
+    Type 0 where
+  pub begun : MemoValue
+  pub waits : begun.waits ≤ most_waits r
+  pub upto : CostsUpTo M r begun now given left runs
+
 module _ {S : Type 0} {text : Ghosts S} (r : Request S text) where
   -- what a run costs, as a search of one run
   one_run : (pl : Remembering r) (t : ℕ) → search_cost r pl 1 t ≡ run_cost r pl t
@@ -41,76 +49,14 @@ module _ {S : Type 0} {text : Ghosts S} (r : Request S text) where
   more pl j k s t h l =
       no_less j k (1 + most_steps pl.plain.tree) s t (each_of r pl) h l
 
-  -- no run yet, and a memo that keeps no failures
-  pub costs_begin : {M : Type 0} (m : MemoValue) (left : ℕ) → m.is_open ≡ false → CostsUpTo M r m m left left 0
-  costs_begin m left closed = record { cost = λ pl. inr (inl (closed, omega arith)) }
-
-  -- another run with no outcome
-  pub costs_run : {M : Type 0} (begun m m' : MemoValue) (start : StringCursor) (given left after k : ℕ)
-      → CostsUpTo M r begun m given left k → RunSettles M r start m m' left after → start_of r ≤ start.position
-      → CostsUpTo M r begun m' given after (k + 1)
-  costs_run begun m m' start given left after k old run from = record {
-    cost = λ pl. elim (old.cost pl) [
-      | inl refused ↦ inl refused
-      | inr (inl x) ↦ elim (run.closed pl from x.0) [
-        | inl refused ↦ inl refused
-        | inr (inl y) ↦ inr (inl (y.0, omega (arith, x.1, y.1)))
-        | inr (inr y) ↦
-            let most = more pl 1 (k + 1) y.0 y.0 (omega arith) (omega arith) in
-            inr (inr (y.0, y.1, y.2, y.3, y.4, omega (arith, most, one_run pl y.0, x.1, y.5)))
-      ]
-      | inr (inr x) ↦ elim (run.keeping pl from x.4 x.1 x.3) [
-        | inl refused ↦ inl refused
-        | inr y ↦
-            inr (inr (
-              x.0 + y.0,
-              y.1,
-              omega (arith, x.2, y.2),
-              y.3,
-              y.4,
-              omega (arith, sum pl k 1 x.0 y.0, one_run pl y.0, x.5, y.5),
-            ))
-      ]
-    ];
-  }
-
-  -- another run, which is the last: no more steps were waited and no more credits granted than from where the memo
-  -- begins
-  costs_once : {M : Type 0} (begun m : MemoValue) (start : StringCursor) (given left after k : ℕ)
-      → CostsUpTo M r begun m given left k → begun.waits ≤ most_waits r → RunStops M r start m left after
-      → start_of r ≤ start.position → SearchCosts M r given after (k + 1)
-  costs_once begun m start given left after k old waits run from = record {
-    cost = λ pl. elim (old.cost pl) [
-      | inl refused ↦ inl refused
-      | inr (inl x) ↦ elim (run.closed pl from x.0) [
-        | inl refused ↦ inl refused
-        | inr y ↦
-            let most = more pl 1 (k + 1) y.0 (most_tolls r pl) (omega arith) y.1 in
-            inr (omega (arith, most, one_run pl y.0, x.1, y.2, waits))
-      ]
-      | inr (inr x) ↦ elim (run.keeping pl from x.4 x.1 x.3) [
-        | inl refused ↦ inl refused
-        | inr y ↦
-            let few : x.0 + y.0 ≤ most_tolls r pl = omega (arith, x.2, y.1) in
-            let most = more pl (k + 1) (k + 1) (x.0 + y.0) (most_tolls r pl) (omega arith) few in
-            inr (omega (arith, sum pl k 1 x.0 y.0, most, one_run pl y.0, x.5, y.2, waits))
-      ]
-    ];
-  }
-
--- the runs since some memo began
-pub record CostsSince (M : Type 0) {S : Type 0} {text : Ghosts S} (r : Request S text) (now : MemoValue)
-    (given left runs : ℕ) :
-    Type 0 where
-  pub begun : MemoValue
-  pub waits : begun.waits ≤ most_waits r
-  pub upto : CostsUpTo M r begun now given left runs
-
-module _ {S : Type 0} {text : Ghosts S} (r : Request S text) where
-  -- before any run
+  -- before any run, of a memo that keeps no failures
   pub since_begin : {M : Type 0} (m : MemoValue) (left : ℕ) → m.waits ≤ most_waits r → m.is_open ≡ false
       → CostsSince M r m left left 0
-  since_begin m left waits closed = record { begun = m; waits = waits; upto = costs_begin r m left closed }
+  since_begin m left waits closed = record {
+    begun = m;
+    waits = waits;
+    upto = record { cost = λ pl. inr (inl (closed, omega arith)) };
+  }
 
   -- another run with no outcome
   pub since_run : {M : Type 0} (m m' : MemoValue) (start : StringCursor) (given left after before runs : ℕ)
@@ -119,15 +65,55 @@ module _ {S : Type 0} {text : Ghosts S} (r : Request S text) where
   since_run m m' start given left after before runs old run from e = record {
     begun = old.begun;
     waits = old.waits;
-    upto = rw e (costs_run r old.begun m m' start given left after before old.upto run from);
+    upto = rw e (record {
+      cost = λ pl. elim (old.upto.cost pl) [
+        | inl refused ↦ inl refused
+        | inr (inl x) ↦ elim (run.closed pl from x.0) [
+          | inl refused ↦ inl refused
+          | inr (inl y) ↦ inr (inl (y.0, omega (arith, x.1, y.1)))
+          | inr (inr y) ↦
+              let most = more pl 1 (before + 1) y.0 y.0 (omega arith) (omega arith) in
+              inr (inr (y.0, y.1, y.2, y.3, y.4, omega (arith, most, one_run pl y.0, x.1, y.5)))
+        ]
+        | inr (inr x) ↦ elim (run.keeping pl from x.4 x.1 x.3) [
+          | inl refused ↦ inl refused
+          | inr y ↦
+              inr (inr (
+                x.0 + y.0,
+                y.1,
+                omega (arith, x.2, y.2),
+                y.3,
+                y.4,
+                omega (arith, sum pl before 1 x.0 y.0, one_run pl y.0, x.5, y.5),
+              ))
+        ]
+      ];
+    });
   }
 
-  -- another run, which is the last
+  -- another run, which is the last: no more steps were waited and no more credits granted than from where the memo
+  -- begins
   pub since_stopped : {M : Type 0} (m : MemoValue) (start : StringCursor) (given left after before runs : ℕ)
       → CostsSince M r m given left before → RunStops M r start m left after → start_of r ≤ start.position
       → runs ≡ before + 1 → SearchCosts M r given after runs
-  since_stopped m start given left after before runs old run from e =
-      rw e (costs_once r old.begun m start given left after before old.upto old.waits run from)
+  since_stopped m start given left after before runs old run from e = rw e (record {
+    cost = λ pl. elim (old.upto.cost pl) [
+      | inl refused ↦ inl refused
+      | inr (inl x) ↦ elim (run.closed pl from x.0) [
+        | inl refused ↦ inl refused
+        | inr y ↦
+            let most = more pl 1 (before + 1) y.0 (most_tolls r pl) (omega arith) y.1 in
+            inr (omega (arith, most, one_run pl y.0, x.1, y.2, old.waits))
+      ]
+      | inr (inr x) ↦ elim (run.keeping pl from x.4 x.1 x.3) [
+        | inl refused ↦ inl refused
+        | inr y ↦
+            let few : x.0 + y.0 ≤ most_tolls r pl = omega (arith, x.2, y.1) in
+            let most = more pl (before + 1) (before + 1) (x.0 + y.0) (most_tolls r pl) (omega arith) few in
+            inr (omega (arith, sum pl before 1 x.0 y.0, most, one_run pl y.0, x.5, y.2, old.waits))
+      ]
+    ];
+  })
 
   -- no further run: the credits are paid by what the memory holds
   pub since_ended : {M : Type 0} (m : MemoValue) (given left runs : ℕ) → CostsSince M r m given left runs
@@ -139,7 +125,7 @@ module _ {S : Type 0} {text : Ghosts S} (r : Request S text) where
       | inr (inr x) ↦
           let few : x.1 ≤ most_tolls r pl =
           account_few (run_of r) pl.plain (rows_from r pl) m.kept m.ends [] x.1 x.3.account in
-          let most = more r pl runs runs x.0 (most_tolls r pl) (omega arith) (omega (arith, x.2, few)) in
+          let most = more pl runs runs x.0 (most_tolls r pl) (omega arith) (omega (arith, x.2, few)) in
           inr (omega (arith, most, x.5, old.waits))
     ];
   }

@@ -10,7 +10,7 @@ use Rattle.sre_engine.proofs.MayStart.{own_set, may_run}
 use Rattle.sre_engine.proofs.Searching.{few_counted}
 
 -- a test that more positions pass
-how_many_weaker : (test weaker : ℕ → Bool) (p n : ℕ) → ((q : ℕ) → test q ≡ true → weaker q ≡ true)
+pub how_many_weaker : (test weaker : ℕ → Bool) (p n : ℕ) → ((q : ℕ) → test q ≡ true → weaker q ≡ true)
     → how_many test p n ≤ how_many weaker p n
 how_many_weaker test weaker p zero each = omega arith
 how_many_weaker test weaker p (suc n) each =

@@ -1,6 +1,6 @@
 -- The ASCII characters with which a tree may begin.
 use Rattle.std.proofs.Common.{◌≢◌, ◌≡◌, ◌+◌, ◌-◌, ◌≤◌, ◌<◌, ℕ, Bool, true, false, ◌&&◌, ◌||◌, nat_lt, nat_le, List}
-use Rattle.std.proofs.Common.{length, refl, ap, ◌∙◌, subst, arith}
+use Rattle.std.proofs.Common.{length, refl, sym, ap, ◌∙◌, subst, arith}
 use Rattle.std.proofs.lemmas.Bool.Decides.{nat_tests}
 use Rattle.sre_chars.specs.declared.constants.SreOpcode.TheVariants as opcode
 use Rattle.sre_engine.specs.Terms.{AsciiSet, contains, Tree, Trees, Only, Or, Test, holds, Subject, char_at, passes}
@@ -32,21 +32,17 @@ among_taken s set t p is lacks =
 pub union_lacks : (s : Subject) (a b set : AsciiSet) (p : ℕ)
     → ((c : ℕ) → contains set c ≡ (contains a c || contains b c)) → NotAmong s set p → NotAmong s a p × NotAmong s b p
 union_lacks s a b set p is lacks =
-    by_place (nat_lt p s.end) (nat_le 128 (char_at s p)) (contains a (char_at s p)) (contains b (char_at s p))
-    refl refl refl refl lacks.none
+    let both = by_place (nat_lt p s.end) (nat_le 128 (char_at s p)) (contains a (char_at s p))
+    (contains b (char_at s p)) (contains set (char_at s p)) (is (char_at s p)) lacks.none in
+    (record { none = both.0 }, record { none = both.1 })
   where
-    by_place : (e f g h : Bool) → nat_lt p s.end ≡ e → nat_le 128 (char_at s p) ≡ f → contains a (char_at s p) ≡ g
-        → contains b (char_at s p) ≡ h
-        → (nat_lt p s.end && (nat_le 128 (char_at s p) || contains set (char_at s p))) ≡ false
-        → NotAmong s a p × NotAmong s b p
-    by_place false f g h w x y z lacking = (record { none = rw w refl }, record { none = rw w refl })
-    by_place true true g h w x y z lacking = let k : true ≡ false = rw (w, x) at lacking in absurd (cc)
-    by_place true false true h w x y z lacking =
-        let k : true ≡ false = rw (w, x, is (char_at s p), y) at lacking in absurd (cc)
-    by_place true false false true w x y z lacking =
-        let k : true ≡ false = rw (w, x, is (char_at s p), y, z) at lacking in absurd (cc)
-    by_place true false false false w x y z lacking =
-        (record { none = rw (w, x, y) refl }, record { none = rw (w, x, z) refl })
+    by_place : (e f g h c : Bool) → c ≡ (g || h) → (e && (f || c)) ≡ false
+        → ((e && (f || g)) ≡ false) × ((e && (f || h)) ≡ false)
+    by_place false f g h c same none = (refl, refl)
+    by_place true true g h c same none = absurd (let never : true ≡ false = none in cc never)
+    by_place true false true h c same none = absurd (let never : true ≡ false = sym same ∙ none in cc never)
+    by_place true false false true c same none = absurd (let never : true ≡ false = sym same ∙ none in cc never)
+    by_place true false false false c same none = (refl, refl)
 
 pub taken_bars : (ws : List ℕ) (place : ℕ) (set : AsciiSet) → TakesAscii ws place set → (s : Subject) (p : ℕ)
     → NotAmong s set p → NotPassed ws s place p

@@ -9,10 +9,10 @@ use Rattle.sre_code.proofs.Borders.{overlaps_right}
 use Rattle.sre_engine.specs.Prefixed.{IsPrefix, FitsAt, IsLast}
 use Rattle.sre_engine.specs.Scans.{Overlapping}
 use Rattle.sre_engine.proofs.Steps.{overlapping}
-use Rattle.sre_engine.proofs.Answering.{NoneBefore}
+use Rattle.sre_engine.proofs.Answering.{NoneBefore, none_joined}
 use Rattle.sre_engine.proofs.Claiming.{Claimed, claim, claim_some, claim_few, claim_room, claim_overlaps, claim_spells}
 use Rattle.sre_engine.proofs.Claiming.{claim_whole, width_told}
-use Rattle.sre_engine.proofs.Searching.{narrow_at, none_on, none_in_window}
+use Rattle.sre_engine.proofs.Searching.{narrow_at, none_in_window}
 
 -- the length of a part
 range_long : (ws : List ℕ) (i n : ℕ) → i + n ≤ length ws → length (slice_range ws i (i + n)) ≡ n
@@ -106,5 +106,5 @@ later_past (Some n) p s l past = λ fits. past (omega (arith, l, fits))
 pub past_none : (a : Asked) (code : Code) (last : Option ℕ) (t : Tree) (p : ℕ) → IsLast a code last
     → Whole (words_of code) t → ¬ (FitsAt last p) → NoneBefore a t p → found a t ≡ None
 past_none a code last t p is w past before =
-    none_in_window a t (none_on a t p (a.end + 1) before
+    none_in_window a t (none_joined a t _ p (a.end + 1) before
     (λ s from to. is.narrow t w s (later_past last p s from past) (omega (arith, to))))

@@ -43,69 +43,59 @@ code_item (Mark n) rest code e = refl
 code_item (At a) rest code e = refl
 code_item item rest code e = absurd (cc e)
 
-module _ (ws : List ℕ) (i : ℕ) (t : Tree) (x : TreeStands ws i t) where
-  no_test : (test : Test) → first_test t ≡ Some test → (o : SreOpcode) → Opcode ws i o
-      → before_test (role o) ≡ false → ⊥
-  no_test test first o w other = by_tree t x.reads first
-    where
-      by_tree : (u : Tree) → Reads ws i x.end u → first_test u ≡ Some test → ⊥
-      by_tree Empty r e = absurd (cc e)
-      by_tree (Then item rest) r e =
-          true≢false
-          (sym (test_item item rest test e) ∙ ap before_test (sym (role_at ws i r.0 item o r.1 w)) ∙ other)
+module _ (ws : List ℕ) (i : ℕ) where
+  no_test : (t : Tree) → TreeStands ws i t → (test : Test) → first_test t ≡ Some test → (o : SreOpcode)
+      → Opcode ws i o → before_test (role o) ≡ false → ⊥
+  no_test Empty x test e o w other = absurd (cc e)
+  no_test (Then item rest) x test e o w other =
+      let same = role_at ws i x.reads.0 item o x.reads.1 w in
+      true≢false (sym (test_item item rest test e) ∙ ap before_test (sym same) ∙ other)
 
-  no_code : (code : SreAtCode) → first_code t ≡ Some code → (o : SreOpcode) → Opcode ws i o → is_passed (role o) ≡ false
-      → ⊥
-  no_code code first o w other = by_tree t x.reads first
-    where
-      by_tree : (u : Tree) → Reads ws i x.end u → first_code u ≡ Some code → ⊥
-      by_tree Empty r e = absurd (cc e)
-      by_tree (Then item rest) r e =
-          true≢false (sym (code_item item rest code e) ∙ ap is_passed (sym (role_at ws i r.0 item o r.1 w)) ∙ other)
+  no_code : (t : Tree) → TreeStands ws i t → (code : SreAtCode) → first_code t ≡ Some code → (o : SreOpcode)
+      → Opcode ws i o → is_passed (role o) ≡ false → ⊥
+  no_code Empty x code e o w other = absurd (cc e)
+  no_code (Then item rest) x code e o w other =
+      let same = role_at ws i x.reads.0 item o x.reads.1 w in
+      true≢false (sym (code_item item rest code e) ∙ ap is_passed (sym same) ∙ other)
 
   -- what is behind an item of two words
-  ahead_two : (Holds : Tree → Type 0) (rest : Tree) (j : ℕ) → Reads ws j x.end rest → j ≡ i + 2 → Holds rest
-      → Ahead ws (i + 2) 0 Holds
-  ahead_two Holds rest j r e holds = record {
+  ahead_two : (Holds : Tree → Type 0) (item : Item) (rest : Tree) (x : TreeStands ws i (Then item rest))
+      → x.reads.0 ≡ i + 2 → Holds rest → Ahead ws (i + 2) 0 Holds
+  ahead_two Holds item rest x e holds = record {
     tree = rest;
-    stands = subst (λ k. TreeStands ws k rest) e (stands_up_to ws j x.end rest x.code r x.there x.ends);
+    stands =
+        subst (λ k. TreeStands ws k rest) e
+        (stands_up_to ws x.reads.0 x.end rest x.code x.reads.2 x.there x.ends);
     holds = holds;
     near = refl;
   }
 
-  test_behind : (test : Test) → first_test t ≡ Some test → (o : SreOpcode) → Opcode ws i o → is_passed (role o) ≡ true
-      → Ahead ws (i + 2) 0 (λ u. first_test u ≡ Some test)
-  test_behind test first o w passed = by_tree t x.reads first
-    where
-      by_tree : (u : Tree) → Reads ws i x.end u → first_test u ≡ Some test
-          → Ahead ws (i + 2) 0 (λ v. first_test v ≡ Some test)
-      by_tree Empty r e = absurd (cc e)
-      by_tree (Then (Mark n) rest) r e = ahead_two (λ v. first_test v ≡ Some test) rest r.0 r.2 r.1.1.1 e
-      by_tree (Then (At a) rest) r e = ahead_two (λ v. first_test v ≡ Some test) rest r.0 r.2 r.1.1.1 e
-      by_tree (Then item rest) r e =
-          absurd (true≢false (sym passed ∙ ap is_passed (role_at ws i r.0 item o r.1 w)))
+  test_behind : (t : Tree) → TreeStands ws i t → (test : Test) → first_test t ≡ Some test → (o : SreOpcode)
+      → Opcode ws i o → is_passed (role o) ≡ true → Ahead ws (i + 2) 0 (λ u. first_test u ≡ Some test)
+  test_behind Empty x test e o w passed = absurd (cc e)
+  test_behind (Then (Mark n) rest) x test e o w passed =
+      ahead_two (λ v. first_test v ≡ Some test) (Mark n) rest x x.reads.1.1.1 e
+  test_behind (Then (At a) rest) x test e o w passed =
+      ahead_two (λ v. first_test v ≡ Some test) (At a) rest x x.reads.1.1.1 e
+  test_behind (Then item rest) x test e o w passed =
+      absurd (true≢false (sym passed ∙ ap is_passed (role_at ws i x.reads.0 item o x.reads.1 w)))
 
-  code_behind : (code : SreAtCode) → first_code t ≡ Some code → Opcode ws i opcode.MARK
-      → Ahead ws (i + 2) 0 (λ u. first_code u ≡ Some code)
-  code_behind code first w = by_tree t x.reads first
-    where
-      by_tree : (u : Tree) → Reads ws i x.end u → first_code u ≡ Some code
-          → Ahead ws (i + 2) 0 (λ v. first_code v ≡ Some code)
-      by_tree Empty r e = absurd (cc e)
-      by_tree (Then (Mark n) rest) r e = ahead_two (λ v. first_code v ≡ Some code) rest r.0 r.2 r.1.1.1 e
-      by_tree (Then (At a) rest) r e = absurd (cc (r.1.0, w))
-      by_tree (Then item rest) r e = absurd (cc e)
+  code_behind : (t : Tree) → TreeStands ws i t → (code : SreAtCode) → first_code t ≡ Some code
+      → Opcode ws i opcode.MARK → Ahead ws (i + 2) 0 (λ u. first_code u ≡ Some code)
+  code_behind Empty x code e w = absurd (cc e)
+  code_behind (Then (Mark n) rest) x code e w =
+      ahead_two (λ v. first_code v ≡ Some code) (Mark n) rest x x.reads.1.1.1 e
+  code_behind (Then (At a) rest) x code e w = absurd (cc (x.reads.1.0, w))
+  code_behind (Then item rest) x code e w = absurd (cc e)
 
-  code_here : (code : SreAtCode) → first_code t ≡ Some code → Opcode ws i opcode.AT → Word ws (i + 1) (at_number code)
-  code_here code first w = by_tree t x.reads first
-    where
-      by_tree : (u : Tree) → Reads ws i x.end u → first_code u ≡ Some code → Word ws (i + 1) (at_number code)
-      by_tree Empty r e = absurd (cc e)
-      by_tree (Then (At a) rest) r e =
-          let same : a ≡ code = cc e in
-          subst (λ b. Word ws (i + 1) (at_number b)) same r.1.1.0
-      by_tree (Then (Mark n) rest) r e = absurd (cc (r.1.0, w))
-      by_tree (Then item rest) r e = absurd (cc e)
+  code_here : (t : Tree) → TreeStands ws i t → (code : SreAtCode) → first_code t ≡ Some code → Opcode ws i opcode.AT
+      → Word ws (i + 1) (at_number code)
+  code_here Empty x code e w = absurd (cc e)
+  code_here (Then (At a) rest) x code e w =
+      let same : a ≡ code = cc e in
+      subst (λ b. Word ws (i + 1) (at_number b)) same x.reads.1.1.0
+  code_here (Then (Mark n) rest) x code e w = absurd (cc (x.reads.1.0, w))
+  code_here (Then item rest) x code e w = absurd (cc e)
 
 -- From the words of a start on
 
@@ -289,13 +279,10 @@ ascii_known ws place test (Some set) there takes told known = ascii_of ws place 
 
 code_first : (ws : List ℕ) (i : ℕ) (t : Tree) → TreeStands ws i t → (code : SreAtCode) → first_code t ≡ Some code
     → IsPast ws i → ⊥
-code_first ws i t x code first past = by_tree t x.reads first
-  where
-    by_tree : (u : Tree) → Reads ws i x.end u → first_code u ≡ Some code → ⊥
-    by_tree Empty r e = absurd (cc e)
-    by_tree (Then (Mark n) rest) r e = true≢false (past.other opcode.MARK r.1.0)
-    by_tree (Then (At a) rest) r e = true≢false (past.other opcode.AT r.1.0)
-    by_tree (Then item rest) r e = absurd (cc e)
+code_first ws i Empty x code e past = absurd (cc e)
+code_first ws i (Then (Mark n) rest) x code e past = true≢false (past.other opcode.MARK x.reads.1.0)
+code_first ws i (Then (At a) rest) x code e past = true≢false (past.other opcode.AT x.reads.1.0)
+code_first ws i (Then item rest) x code e past = absurd (cc e)
 
 pub wants_first : (ws : List ℕ) (i : ℕ) (f : First) → LeadsToTest ws 0 i f.back → LeadsToCode ws 0 i f.back f.at
     → IsPast ws i

@@ -1,20 +1,15 @@
 -- The starts after one without a match, and the repeat that leads from there.
-use Rattle.std.proofs.Common.{◌≡◌, ◌≤◌, ◌<◌, ◌+◌, ℕ, Bool, true, false, nat_lt, List, Option, Some, None, MatchOption}
-use Rattle.std.proofs.Common.{refl, sym, ap, ◌∙◌, subst, arith}
-use Rattle.std.proofs.lemmas.Bool.Decides.{nat_tests}
+use Rattle.std.proofs.Common.{◌≡◌, ◌≤◌, ◌<◌, ◌+◌, ℕ, Bool, true, List, Option, Some, None, MatchOption, refl, sym, ap}
+use Rattle.std.proofs.Common.{◌∙◌, arith}
 use Rattle.sre_engine.specs.Terms.{StringCursor, Tree, Test, char_at, holds, unlimited, longest_run, Asked, subject_of}
 use Rattle.sre_engine.specs.Terms.{at_start, found, TestStands, RunLeads, FrontStands, RunStands}
 use Rattle.sre_engine.specs.Starts.{NoneBetween, NoneUntil}
 use Rattle.sre_model.proofs.Passing.{read_passes}
 use Rattle.sre_model.proofs.LeadingRuns.{none_in_run}
 use Rattle.sre_model.proofs.FoundLaws.{none-found}
-use Rattle.sre_engine.proofs.Answering.{NoneBefore}
+use Rattle.sre_engine.proofs.Answering.{NoneBefore, none_joined}
 
 module _ (a : Asked) (t : Tree) where
-  -- the start alone
-  pub none_here : (p : ℕ) → at_start a t p ≡ None → NoneBetween a t p (p + 1)
-  none_here p none s from to = let same : p ≡ s = omega arith in subst (λ q. at_start a t q ≡ None) same none
-
   -- one more start, or the window's end
   pub none_until : (p last : ℕ) (result : Option StringCursor) → NoneBetween a t p (last + 1)
       → MatchOption result (a.end ≤ last) (λ next. (next.position ≡ last + 1) × (next.position ≤ a.end))
@@ -53,15 +48,7 @@ module _ (a : Asked) (t : Tree) where
             (read_passes (subject_of a) x p ch true inside read (sym held ∙ taken before.0 x before.1)) none from
             (omega (arith, count r.end r.test r.stands))
 
-  -- with the starts before
-  pub none_joined : (p q : ℕ) → NoneBefore a t p → NoneBetween a t p q → NoneBefore a t q
-  none_joined p q before behind s from to = by_place (nat_lt s p) refl
-    where
-      by_place : (b : Bool) → nat_lt s p ≡ b → at_start a t s ≡ None
-      by_place true y = before s from (grind (arith, nat_tests))
-      by_place false n = behind s (grind (arith, nat_tests)) to
-
   -- up to the window's end
   pub found_none_behind : (p : ℕ) → NoneBefore a t p → NoneBetween a t p (a.end + 1) → found a t ≡ None
   found_none_behind p before behind =
-      none-found a t (λ s from to. none_joined p (a.end + 1) before behind s from (omega arith))
+      none-found a t (λ s from to. none_joined a t _ p (a.end + 1) before behind s from (omega arith))

@@ -1,5 +1,5 @@
 -- How a search goes from candidate to candidate.
-use Rattle.std.proofs.Common.{◌≡◌, ◌≤◌, ◌<◌, ◌+◌, ◌-◌, ℕ, Bool, true, false, Option, Some, None, Result, Ok, Err}
+use Rattle.std.proofs.Common.{◌≡◌, ◌≤◌, ◌<◌, ◌+◌, ◌-◌, ℕ, Bool, true, false, Option, Some, None, Result, Ok, Err, IfErr}
 use Rattle.std.proofs.Common.{IsErrAnd, refl, sym, ◌∙◌, subst, arith}
 use Rattle.std.proofs.Math.Nat.{mul-le-mul_right}
 use Rattle.std.specs.declared.alloc.Allocator.{Ghosts as Memory}
@@ -17,9 +17,9 @@ use Rattle.sre_engine.specs.Prefixed.{IsLast, FitsAt}
 use Rattle.sre_engine.specs.Scans.{NoMatch}
 use Rattle.sre_engine.specs.Searches.{Answered, CountsInside}
 use Rattle.sre_engine.specs.declared.engine.candidates.Candidate.{Candidate}
-use Rattle.sre_engine.proofs.Answering.{NoneBefore, none_yet, none_at, some_at, span_at, found_first}
-use Rattle.sre_engine.proofs.Costing.{CostsSince, since_begin, since_run, since_stopped, since_ended, passed_on}
-use Rattle.sre_engine.proofs.LeadingStarts.{none_joined, found_none_behind}
+use Rattle.sre_engine.proofs.Answering.{NoneBefore, none_joined, none_yet, none_at, some_at, span_at, found_first}
+use Rattle.sre_engine.proofs.Costing.{CostsSince, since_begin, since_run, since_stopped, since_ended}
+use Rattle.sre_engine.proofs.LeadingStarts.{found_none_behind}
 use Rattle.sre_engine.proofs.MayStart.{RanBefore, ran_none, ran_later, ran_on, few_ran, counts_ran}
 use Rattle.sre_engine.proofs.Spending.{once_spent, run_spent}
 
@@ -127,24 +127,14 @@ module _ {M S : Type 0} {memory : Memory M} {text : Ghosts S} (r : Request S tex
       since_stopped r n.memo c.cursor _ _ _ n.started n'.started (old.costs limited)
       (costs.stops (old.limited ∙ limited)) from began.started
 
-  -- what is charged where it is not given up
-  pub charged : (b : Bool) → Charged {M = M} {memory = memory} r (Ok b) n'.started (n'.started + n'.restarted) given a'
-  charged b = record {
+  -- what is charged, also where it is given up
+  pub charged : (result : Result Bool (Halt M memory)) → IfErr result (Halted a')
+      → Charged r result n'.started (n'.started + n'.restarted) given a'
+  charged result halts = record {
     limited = costs.limited ∙ old.limited;
     fewer = omega (arith, costs.fewer, old.fewer);
     spent = spent;
-    halted = tt;
-    cost = cost;
-  }
-
-  -- and where it is
-  pub charged_given_up : (why : Halt M memory) → Halted a' why → (result : Result Bool (Halt M memory))
-      → IsErrAnd result (λ y. y ≡ why) → Charged r result n'.started (n'.started + n'.restarted) given a'
-  charged_given_up why halts result passed = record {
-    limited = costs.limited ∙ old.limited;
-    fewer = omega (arith, costs.fewer, old.fewer);
-    spent = spent;
-    halted = passed_on result why _ passed halts;
+    halted = halts;
     cost = cost;
   }
 
@@ -205,7 +195,7 @@ module _ {M S : Type 0} {memory : Memory M} {text : Ghosts S} (r : Request S tex
                 let some = some_at (stands_in r) (asked_of r) t c.start outcome n'.board.marks (decided t whole) end e
                 in
                 sym (found_first (asked_of r) t c.start _
-                (none_joined (asked_of r) t _ _ (old.none t whole) (is.none.none t whole)) some.1
+                (none_joined (asked_of r) t _ _ _ (old.none t whole) (is.none.none t whole)) some.1
                 (omega (arith, old.from, is.none.forward)) inside refl);
             cursor = λ _.
                 (some_at (stands_in r) (asked_of r) tree.0 c.start outcome n'.board.marks (decided tree.0 tree.1) end
@@ -227,7 +217,7 @@ module _ {M S : Type 0} {memory : Memory M} {text : Ghosts S} (r : Request S tex
   answered_over over s marks started compares =
       answered_no r s (c.start + 1)
       (λ t whole. found_none_behind (asked_of r) t c.start
-      (none_joined (asked_of r) t _ _ (old.none t whole) (is.none.none t whole)) (over.none t whole)) marks
+      (none_joined (asked_of r) t _ _ _ (old.none t whole) (is.none.none t whole)) (over.none t whole)) marks
       (subst (λ m. RanBefore (asked_of r) (code_of r) m (c.start + 1)) (sym started) ran) (omega (arith, inside))
       (subst (ComparesFew (asked_of r) (code_of r)) (sym compares) few)
 
@@ -241,8 +231,8 @@ module _ {M S : Type 0} {memory : Memory M} {text : Ghosts S} (r : Request S tex
     from = omega (arith, old.from, is.none.forward, on);
     inside = within;
     none = λ t whole.
-        none_joined (asked_of r) t _ _
-        (none_joined (asked_of r) t _ _ (old.none t whole) (is.none.none t whole)) (passed.none t whole);
+        none_joined (asked_of r) t _ _ _
+        (none_joined (asked_of r) t _ _ _ (old.none t whole) (is.none.none t whole)) (passed.none t whole);
     ran = ran_later (asked_of r) (code_of r) _ _ _ ran (omega (arith, on));
     again = began.again;
     never = λ unlimited. began.never (old.limited ∙ unlimited) ∙ old.never unlimited;
@@ -260,12 +250,11 @@ module _ {M S : Type 0} {memory : Memory M} {text : Ghosts S} (r : Request S tex
 module _ {M S : Type 0} {memory : Memory M} {text : Ghosts S} (r : Request S text) (n n' : RunnerValue)
     (a a' : Allowance) (literals : ℕ) (start : StringCursor) (told : Result (Option StringCursor) (Halt M memory))
     (started : n.started ≡ 0) (restarted : n.restarted ≡ 0)
-    (from : start_of r ≤ start.position) (inside : start.position ≤ end_of r)
-    (memo : Begins (start_of r) (end_of r) n.memo)
+    (at : start.position ≡ start_of r) (memo : Begins (start_of r) (end_of r) n.memo)
     (began : Began (is_limited a) n n') (costs : AttemptCosts r literals start told n n' a a') where
   twice_spent : SpentUpTo (asked_of r) (code_of r) (left_of a) (left_of a') 2
   twice_spent =
-      let once = once_spent (asked_of r) (code_of r) literals start.position _ _ _ inside
+      let once = once_spent (asked_of r) (code_of r) literals start.position _ _ _ (omega (arith, at, r.in_window.0))
       (λ t whole. costs.spent t (items_whole (code_of r) t whole)) in
       record {
         each = λ t whole most within.
@@ -276,26 +265,14 @@ module _ {M S : Type 0} {memory : Memory M} {text : Ghosts S} (r : Request S tex
   once_cost : is_limited a ≡ true → SearchCosts M r (left_of a) (left_of a') 1
   once_cost limited =
       since_stopped r n.memo start _ _ _ 0 1 (since_begin r n.memo (left_of a) memo.waits memo.closed)
-      (costs.stops limited) from refl
+      (costs.stops limited) (omega (arith, at)) refl
 
-  -- what is charged where it is not given up
-  pub once_charged : (b : Bool) → Charged {M = M} {memory = memory} r (Ok b) 1 2 a a'
-  once_charged b = record {
+  -- what is charged, also where it is given up
+  pub once_charged : (result : Result Bool (Halt M memory)) → IfErr result (Halted a') → Charged r result 1 2 a a'
+  once_charged result halts = record {
     limited = costs.limited;
     fewer = costs.fewer;
     spent = twice_spent;
-    halted = tt;
-    cost = once_cost;
-  }
-
-  -- and where it is
-  pub once_given_up : (why : Halt M memory) → Halted a' why → (result : Result Bool (Halt M memory)) → IsErrAnd result
-      (λ y. y ≡ why)
-      → Charged r result 1 2 a a'
-  once_given_up why halts result passed = record {
-    limited = costs.limited;
-    fewer = costs.fewer;
-    spent = twice_spent;
-    halted = passed_on result why _ passed halts;
+    halted = halts;
     cost = once_cost;
   }

@@ -1,10 +1,10 @@
 -- Repeats that need no character, where a tree begins with them: it may begin with what follows them, too.
-use Rattle.std.proofs.Common.{◌≡◌, ℕ, ◌+◌, ◌-◌, true, false, List, [], refl, sym, ap, ◌∙◌, subst, arith, true≢false}
-use Rattle.std.proofs.Common.{◌⊎◌, inl, inr, ◌||◌}
+use Rattle.std.proofs.Common.{◌≡◌, ℕ, ◌+◌, ◌-◌, false, List, [], refl, sym, ap, ◌∙◌, subst, arith, true≢false, ◌⊎◌, inl}
+use Rattle.std.proofs.Common.{inr, ◌||◌}
 use Rattle.sre_chars.specs.declared.constants.SreOpcode.TheVariants as opcode
 use Rattle.sre_engine.specs.Terms.{SreOpcode, Tree, Empty, Then, Test, RunKind, GreedyRun, LazyRun, PossessiveRun}
-use Rattle.sre_engine.specs.Terms.{Marks, Subject, passes, Word, Opcode, skip, Reads, ToRun, role, ways, longest_run}
-use Rattle.sre_engine.specs.Terms.{NoWay, TreeStands, Leads, contains, AsciiSet, TakesAscii}
+use Rattle.sre_engine.specs.Terms.{Marks, Subject, passes, Word, Opcode, skip, ToRun, role, ways, longest_run, NoWay}
+use Rattle.sre_engine.specs.Terms.{TreeStands, Leads, contains, AsciiSet, TakesAscii}
 use Rattle.sre_model.specs.Tree.{Run}
 use Rattle.sre_model.specs.Ways.{most_from}
 use Rattle.sre_model.specs.FirstCharacters.{is_end}
@@ -43,13 +43,13 @@ optional_none s kind high t rest p e w = record { none = λ m. by_kind kind m }
 
 -- so has a tree that begins with such a run
 module _ (ws : List ℕ) (i : ℕ) {kind : RunKind} (h : HasRole ws i (ToRun kind)) (w : Word ws (i + 2) 0) where
-  begins_so : (t : Tree) (end : ℕ) (code : SreOpcode) → Reads ws i end t → Opcode ws end code
-      → is_end (role code) ≡ true → PassesRun ws t (i + 4) (skip ws (i + 1))
-  begins_so Empty end code e there ends =
-      let here : Opcode ws i code = subst (λ j. Opcode ws j code) (sym e) there in
-      let same : h.code ≡ code = same_opcode ws i h.code code h.there here in
-      absurd (true≢false (sym ends ∙ ap is_end (sym (ap role same) ∙ h.begins)))
-  begins_so (Then item rest) end code r there ends =
+  pub passes_run : (t : Tree) → TreeStands ws i t → PassesRun ws t (i + 4) (skip ws (i + 1))
+  passes_run Empty x =
+      let here : Opcode ws i x.code = subst (λ j. Opcode ws j x.code) (sym x.reads) x.there in
+      let same : h.code ≡ x.code = same_opcode ws i h.code x.code h.there here in
+      absurd (true≢false (sym x.ends ∙ ap is_end (sym (ap role same) ∙ h.begins)))
+  passes_run (Then item rest) x =
+      let r = x.reads in
       let is = is_run ws i r.0 item h r.1 in
       let operands = is.4.1 in
       let low : is.0 ≡ 0 = same_word ws (i + 2) is.0 0 operands.1 w in
@@ -57,24 +57,18 @@ module _ (ws : List ℕ) (i : ℕ) {kind : RunKind} (h : HasRole ws i (ToRun kin
       record {
         tree = rest;
         stands =
-            subst (λ k. TreeStands ws k rest) operands.0 (stands_up_to ws r.0 end rest code r.2 there ends);
+            subst (λ k. TreeStands ws k rest) operands.0 (stands_up_to ws r.0 x.end rest x.code r.2 x.there x.ends);
         none = λ s p fails behind.
             subst (λ x. NoWay s (Then x rest) p) (sym item_is)
             (optional_none s kind is.1 is.2 rest p
             (fails.each (r.0 - 1) is.2 (record { code = operands.4; operands = operands.5 })) behind);
       }
 
-  pub passes_run : (t : Tree) → TreeStands ws i t → PassesRun ws t (i + 4) (skip ws (i + 1))
-  passes_run t x = begins_so t x.end x.code x.reads x.there x.ends
-
 -- a tree at a place; where no character of a set is, and that one has no way, nor has the whole
 pub record Beyond (ws : List ℕ) (whole : Tree) (i : ℕ) (set : AsciiSet) : Type 0 where
   pub tree : Tree
   pub stands : TreeStands ws i tree
   pub none : (s : Subject) (p : ℕ) → NotAmong s set p → NoWay s tree p → NoWay s whole p
-
-pub beyond_start : (ws : List ℕ) (t : Tree) (i : ℕ) (set : AsciiSet) → TreeStands ws i t → Beyond ws t i set
-beyond_start ws t i set x = record { tree = t; stands = x; none = λ s p lacks w. w }
 
 -- one run more, and at last a test
 module _ (ws : List ℕ) (t : Tree) (i : ℕ) (set own union : AsciiSet) (b : Beyond ws t i set)

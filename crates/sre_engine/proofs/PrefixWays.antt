@@ -161,15 +161,19 @@ reads_behind ws (suc k) t (v ∷ vs) i j e l r = let never : false ≡ true = e 
 
 -- counting
 module _ (test : ℕ → Bool) (a : ℕ) where
-  grown : (n k : ℕ) → how_many test a n ≤ how_many test a (n + k)
-  grown n zero = let e : n + 0 ≡ n = omega arith in omega (arith, ap (how_many test a) e)
-  grown n (suc k) =
+  -- two stretches, one behind the other
+  pub how_many_add : (n k : ℕ) → how_many test a (n + k) ≡ how_many test a n + how_many test (a + n) k
+  how_many_add n zero = let e : n + 0 ≡ n = omega arith in ap (how_many test a) e ∙ omega arith
+  how_many_add n (suc k) =
       let e : n + suc k ≡ suc (n + k) = omega arith in
-      omega (arith, grown n k, ap (how_many test a) e)
+      let at : a + (n + k) ≡ a + n + k = omega arith in
+      let bit : ℕ → ℕ = λ q. cond (test q) 1 0 in
+      let last : bit (a + (n + k)) ≡ bit (a + n + k) = ap bit at in
+      ap (how_many test a) e ∙ omega (arith, how_many_add n k, last)
 
   pub how_many_grows : (m n : ℕ) → m ≤ n → how_many test a m ≤ how_many test a n
   how_many_grows m n l =
-      let e : m + (n - m) ≡ n = omega (arith, l) in omega (arith, grown m (n - m), ap (how_many test a) e)
+      let e : m + (n - m) ≡ n = omega (arith, l) in omega (arith, how_many_add m (n - m), ap (how_many test a) e)
 
   pub how_many_here : (n : ℕ) → test (a + n) ≡ true → how_many test a n + 1 ≤ how_many test a (n + 1)
   how_many_here n holds =

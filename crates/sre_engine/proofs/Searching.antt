@@ -1,8 +1,7 @@
 -- What a search along the positions of a prefix comes to.
 use Rattle.std.proofs.Common.{◌≡◌, ◌≤◌, ◌<◌, ◌+◌, ◌||◌, ◌&&◌, ℕ, zero, suc, List, [], ◌∷◌, Bool, true, false, not, cond}
-use Rattle.std.proofs.Common.{length, nat_eq, Option, Some, None, refl, sym, ap, ◌∙◌, subst, arith, inl, inr}
+use Rattle.std.proofs.Common.{length, nat_eq, Option, Some, None, refl, sym, ap, ◌∙◌, subst, arith}
 use Rattle.std.specs.List.{filter}
-use Rattle.std.proofs.lemmas.Bool.{cases_lt}
 use Rattle.std.proofs.lemmas.Bool.Decides.{nat_tests}
 use Rattle.sre_engine.specs.Terms.{StringCursor, Tree, Empty, Then, At, is_anchored, Marks, no_marks, Way, here, ways}
 use Rattle.sre_engine.specs.Terms.{width, Whole, Asked, Match, subject_of, is_accepted, at_start, found, Decides}
@@ -13,7 +12,7 @@ use Rattle.sre_model.proofs.WideWays.{EachFar, narrow_none}
 use Rattle.sre_engine.specs.Prefixed.{IsPrefix}
 use Rattle.sre_engine.specs.Scans.{Stands, NoPlace}
 use Rattle.sre_engine.specs.Starts.{NoneBetween}
-use Rattle.sre_engine.proofs.Answering.{NoneBefore}
+use Rattle.sre_engine.proofs.Answering.{NoneBefore, none_here, none_joined}
 use Rattle.sre_engine.proofs.PrefixWays.{spelled_none, spelled_far, spelled_ways, stand_fit, stand_parts}
 
 -- at a start where the least width does not fit there is no match
@@ -34,18 +33,8 @@ few_counted test a (suc n) = by_test (test (a + n)) (few_counted test a n)
     by_test true l = omega (arith, l)
     by_test false l = omega (arith, l)
 
--- none has a match up to a position, and from there on to another one
-pub none_on : (a : Asked) (t : Tree) (p q : ℕ) → NoneBefore a t p → ((s : ℕ) → p ≤ s → s < q → at_start a t s ≡ None)
-    → NoneBefore a t q
-none_on a t p q before behind s from to = elim (cases_lt s p) [
-  | (inl less) ↦ before s from less
-  | (inr more) ↦ behind s more to
-]
-
 pub none_further : (a : Asked) (t : Tree) (p : ℕ) → NoneBefore a t p → at_start a t p ≡ None → NoneBefore a t (p + 1)
-none_further a t p before none =
-    none_on a t p (p + 1) before
-    (λ s from to. let same : p ≡ s = omega (arith, from, to) in subst (λ q. at_start a t q ≡ None) same none)
+none_further a t p before none = none_joined a t _ p (p + 1) before (none_here a t p none)
 
 pub none_in_window : (a : Asked) (t : Tree) → NoneBefore a t (a.end + 1) → found a t ≡ None
 none_in_window a t before = none-found a t (λ s from to. before s from (omega (arith, to)))
@@ -68,7 +57,7 @@ module _ (a : Asked) (code : Code) (vs : List ℕ) (k : ℕ) (whole : Bool) (is 
 
   pub none_unplaced : (t : Tree) → Whole (words_of code) t → (p q : ℕ) → NoneBefore a t p
       → NoPlace a.text vs a.end p q → NoneBefore a t q
-  none_unplaced t w p q before x = none_on a t p q before (unplaced_between t w p q x)
+  none_unplaced t w p q before x = none_joined a t _ p q before (unplaced_between t w p q x)
 
   module _ (s : ℕ) (stands : Stands a.text vs a.end s) where
     there : stands_at (subject_of a) vs s ≡ true
@@ -114,7 +103,7 @@ module _ (a : Asked) (code : Code) (vs : List ℕ) (k : ℕ) (whole : Bool) (is 
     whole_at all t w q at from =
         ap (first_accepted a s) alone
         ∙ (let moved : nat_eq q a.start ≡ false = grind (arith, nat_tests, some) in
-        by_flags a.match_all a.must_advance (nat_eq q a.end) (nat_eq q a.start) moved)
+        by_flags (not a.match_all || nat_eq q a.end) a.must_advance (nat_eq q a.start) moved)
       where
         alone : ways (subject_of a) t s no_marks ≡ here q no_marks
         alone =
@@ -127,15 +116,12 @@ module _ (a : Asked) (code : Code) (vs : List ℕ) (k : ℕ) (whole : Bool) (is 
         match : Option Match
         match = Some (record { start = s; end = q; marks = no_marks })
 
-        by_flags : (all advance ends starts : Bool) → starts ≡ false
-            → cond ((not all || ends) && (not advance || not starts)) match None ≡ cond (not all || ends) match None
-        by_flags true true true false n = refl
-        by_flags true true false false n = refl
-        by_flags true false true false n = refl
-        by_flags true false false false n = refl
-        by_flags false true ends false n = refl
-        by_flags false false ends false n = refl
-        by_flags all advance ends true n = absurd (cc)
+        by_flags : (keeps advance starts : Bool) → starts ≡ false
+            → cond (keeps && (not advance || not starts)) match None ≡ cond keeps match None
+        by_flags true true false n = refl
+        by_flags true false false n = refl
+        by_flags false advance starts n = refl
+        by_flags keeps advance true n = absurd (cc)
 
 -- a tree with a prefix begins with no position code
 pub anchored_never : (k : ℕ) (t : Tree) (vs : List ℕ) → spells k t vs ≡ true → 0 < length vs → is_anchored t ≡ true → ⊥

@@ -1,6 +1,6 @@
 -- Which starts are barred, and what being barred rules out.
-use Rattle.std.proofs.Common.{◌≡◌, ◌≢◌, ◌≤◌, ◌<◌, ◌-◌, ℕ, Bool, true, false, nat_eq, List, arith, inl, inr, sym, subst}
-use Rattle.std.proofs.Common.{Option, refl, Some, None}
+use Rattle.std.proofs.Common.{◌≡◌, ◌+◌, ◌≢◌, ◌≤◌, ◌<◌, ◌-◌, ℕ, Bool, true, false, nat_eq, List, arith, inl, inr, sym}
+use Rattle.std.proofs.Common.{subst, Option, refl, Some, None}
 use Rattle.std.proofs.lemmas.Bool.{cases_lt}
 use Rattle.std.proofs.lemmas.Bool.Decides.{nat_tests}
 use Rattle.sre_engine.specs.Terms.{Sought, BEGINNING_LINE, SreAtCode, StringCursor, Tree, WholeItems, no_marks, Asked}
@@ -9,6 +9,7 @@ use Rattle.sre_model.proofs.FirstCharacters.{whole_stands}
 use Rattle.sre_engine.specs.declared.engine.first_characters.First.{First}
 use Rattle.sre_engine.specs.Starts.{IsElsewhere, IsLacking, Barred, Bars, AllBarred, BarredUpTo, HeldFrom, HeldNowhere}
 use Rattle.sre_engine.specs.Starts.{NextStart, NoneBetween, NoneUntil}
+use Rattle.sre_engine.proofs.Answering.{none_joined}
 
 -- a description of what the first words lead to bars
 pub bars_if : (ws : List ℕ) (i : ℕ) (f : First) → ((t : Tree) → TreeStands ws 0 t → Leads ws t i f.back)
@@ -75,16 +76,12 @@ module _ (r : Run) (a : Asked) (t : Tree) (f : First) (same : r.subject ≡ subj
   -- behind starts that have no match none has one up to the next start, or none in the window
   pub none_until_start : (p q : ℕ) (next : Option StringCursor) → NoneBetween a t p q → NextStart r f q next
       → NoneUntil a t p next
-  none_until_start p q None before x = λ s from to. elim (cases_lt s q) [
-    | (inl earlier) ↦ before s from earlier
-    | (inr later) ↦
-        let inside : s ≤ a.end = omega (arith, to) in
-        barred_start s (x.each s later (subst (λ (y : Subject). s ≤ y.end) (sym same) inside))
-  ]
-  none_until_start p q (Some c) before x = λ s from to. elim (cases_lt s q) [
-    | (inl earlier) ↦ before s from earlier
-    | (inr later) ↦ barred_start s (x.each s later to)
-  ]
+  none_until_start p q None before x =
+      none_joined a t p q (a.end + 1) before (λ s later to.
+      let inside : s ≤ a.end = omega (arith, to) in
+      barred_start s (x.each s later (subst (λ (y : Subject). s ≤ y.end) (sym same) inside)))
+  none_until_start p q (Some c) before x =
+      none_joined a t p q c.position before (λ s later to. barred_start s (x.each s later to))
 
 -- A line
 

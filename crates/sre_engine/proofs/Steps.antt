@@ -1,6 +1,7 @@
 -- One scan with overlap words.
 use Rattle.std.proofs.Common.{ℕ, ◌+◌, ◌-◌, ◌*◌, ◌≡◌, ◌≢◌, ◌<◌, ◌≤◌, ◌⊎◌, List, length, slice_index, ⊎_elim, Bool, true}
 use Rattle.std.proofs.Common.{false, sym, ◌∙◌, ap, subst, arith}
+use Rattle.std.proofs.lemmas.Bool.{cases_lt}
 use Rattle.sre_code.specs.Borders.{Right}
 use Rattle.sre_engine.specs.Terms.{Sought, StringCursor, Run}
 use Rattle.sre_engine.specs.Scans.{Border, Longest, Overlapping, Fits, Stands, NoPlace, Front, Here, FirstSame}
@@ -15,9 +16,6 @@ pub record Inside (t p : List ℕ) (a e q b i c : ℕ) : Type 0 where
 below_or : (i k : ℕ) → i < k + 1 → (i < k) ⊎ (i ≡ k)
 below_or i k lt = grind arith
 
-split : (s b : ℕ) → (s < b) ⊎ (b ≤ s)
-split s b = grind arith
-
 first_or : (s b : ℕ) → b ≤ s → (s ≡ b) ⊎ (b < s)
 first_or s b le = grind arith
 
@@ -30,7 +28,7 @@ join_places t p e a b c x y = record {
   none = λ s from to stands. ⊎_elim
       (λ (lt : s < b). x.none s from lt stands)
       (λ (le : b ≤ s). y.none s le to stands)
-      (split s b);
+      (cases_lt s b);
 }
 
 pub enter : (t p : List ℕ) (a e q i c : ℕ) → Here t p a e q i c → i < length p → Inside t p a e q (q - i) i c
@@ -107,6 +105,24 @@ more t p a e q b i c x lt same =
       cost = omega (arith, x.cost);
     }
 
+pub falls : (p o : List ℕ) (i : ℕ) → Overlapping p o → 0 < i → i ≤ length p → slice_index o (i - 1) < i
+falls p o i ok some short = (overlap p o i ok some short).border.below
+
+-- the shorter front that an overlap leaves
+slid : (t p o : List ℕ) (a e q i : ℕ) → Front t p a e q i → Overlapping p o → 0 < i
+    → Front t p a e q (slice_index o (i - 1))
+slid t p o a e q i front ok some =
+    let k : ℕ = slice_index o (i - 1) in
+    let longest : Longest p i k = overlap p o i ok some front.short in
+    let less : k < i = longest.border.below in
+    let goes : q - i + i - k ≡ q - k = omega (arith, front.from) in
+    record {
+      from = omega (arith, front.from);
+      within = front.within;
+      short = omega (arith, front.short);
+      fits = subst (λ (s : ℕ). Fits t p s k) goes (slide t p (q - i) i k front.fits longest.border);
+    }
+
 -- it is not, and a shorter front is tried
 pub fall : (t p o : List ℕ) (a e q b i c d : ℕ) → Inside t p a e q b i c → Overlapping p o → 0 < i → slice_index t q ≢
     slice_index p i → d ≡ c + 1 → Inside t p a e q b (slice_index o (i - 1)) d
@@ -116,24 +132,15 @@ fall t p o a e q b i c d x ok some ne more =
     let less : k < i = longest.border.below in
     let at : q - i + i ≡ q = omega (arith, x.front.from) in
     let goes : q - i + i - k ≡ q - k = ap (λ y. y - k) at in
-    let P : ℕ → Type 0 = λ s. Fits t p s k in
     let Q : ℕ → Type 0 = λ s. NoPlace t p e (q - i) s in
     let not : Stands t p e (q - i) → ⊥ = wrong t p e (q - i) i x.short (λ y. ne (ap (slice_index t) (sym at) ∙ y)) in
     record {
-      front = record {
-        from = omega (arith, x.front.from);
-        within = x.front.within;
-        short = omega (arith, x.front.short);
-        fits = subst P goes (slide t p (q - i) i k x.front.fits longest.border);
-      };
+      front = slid t p o a e q i x.front ok some;
       cost = omega (arith, x.cost);
       short = omega (arith, x.short);
       passed = join_places t p e b (q - i) (q - k) x.passed (subst Q goes (skips t p e (q - i) i k x.front.fits
           x.front.short longest not));
     }
-
-pub falls : (p o : List ℕ) (i : ℕ) → Overlapping p o → 0 < i → i ≤ length p → slice_index o (i - 1) < i
-falls p o i ok some short = (overlap p o i ok some short).border.below
 
 -- no front ends behind the character
 pub fresh : (t p : List ℕ) (a e q b i c d : ℕ) → Inside t p a e q b i c → q < e → i ≡ 0 → slice_index t q ≢
@@ -166,7 +173,7 @@ over t p a e q b i c f none here short end next = record {
   none = λ s from to stands. ⊎_elim
       (λ (lt : s < q - i). none.none s from lt stands)
       (λ (le : q - i ≤ s). absurd (omega (arith, stands.within, here.front.from)))
-      (split s (q - i));
+      (cases_lt s (q - i));
 }
 
 -- with all words matched the prefix stands
@@ -180,21 +187,9 @@ complete t p a e q i c here all = record {
 pub onward : (t p o : List ℕ) (a e q i c : ℕ) → Here t p a e q i c → Overlapping p o → i ≡ length p → Here t p a e q
     (slice_index o (i - 1)) c
 onward t p o a e q i c here ok all =
-    let k : ℕ = slice_index o (i - 1) in
-    let longest : Longest p i k = overlap p o i ok (omega (arith, ok.some)) here.front.short in
-    let less : k < i = longest.border.below in
-    let at : q - i + i ≡ q = omega (arith, here.front.from) in
-    let goes : q - i + i - k ≡ q - k = ap (λ y. y - k) at in
-    let P : ℕ → Type 0 = λ s. Fits t p s k in
-    record {
-      front = record {
-        from = omega (arith, here.front.from);
-        within = here.front.within;
-        short = omega (arith, here.front.short);
-        fits = subst P goes (slide t p (q - i) i k here.front.fits longest.border);
-      };
-      cost = omega (arith, here.cost);
-    }
+    let some : 0 < i = omega (arith, ok.some) in
+    let less = falls p o i ok some here.front.short in
+    record { front = slid t p o a e q i here.front ok some; cost = omega (arith, here.cost, less) }
 
 pub onward_less : (p o : List ℕ) (i : ℕ) → Overlapping p o → i ≡ length p → slice_index o (i - 1) < i
 onward_less p o i ok all = falls p o i ok (omega (arith, ok.some)) (omega arith)

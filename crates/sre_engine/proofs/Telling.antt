@@ -1,10 +1,9 @@
 -- Where a scan for a prefix continues, by what is known of starts without a match.
-use Rattle.std.proofs.Common.{◌≡◌, ◌≤◌, ◌<◌, ℕ, List, length, Bool, refl, sym, subst, arith, inl, inr, ⊎_elim}
-use Rattle.std.proofs.lemmas.Bool.{cases_lt}
-use Rattle.sre_engine.specs.Terms.{Tree, Asked, Code}
+use Rattle.std.proofs.Common.{◌≡◌, ◌≤◌, ◌<◌, ℕ, List, length, Bool, refl, sym, subst, arith, inr, ⊎_elim}
+use Rattle.sre_engine.specs.Terms.{Asked, Code}
 use Rattle.sre_engine.specs.Prefixed.{IsPrefix}
 use Rattle.sre_engine.specs.Scans.{NoPlace, Here, MovesOn, NoMatch}
-use Rattle.sre_engine.specs.Starts.{NoneBetween}
+use Rattle.sre_engine.proofs.Answering.{none_joined}
 use Rattle.sre_engine.proofs.Searching.{unplaced_between}
 
 -- the scan stays as it is
@@ -30,17 +29,10 @@ here_on t p a e q i r j c here on inside = ⊎_elim
     subst (λ x. Here t p a e r x c) (sym same.0) (subst (λ x. Here t p a e x i c) (sym same.1) here))
     on.fewer
 
-between_joined : (a : Asked) (t : Tree) (p q r : ℕ) → NoneBetween a t p q → NoneBetween a t q r → NoneBetween a t p r
-between_joined a t p q r before behind s from to = elim (cases_lt s q) [
-  | (inl less) ↦ before s from less
-  | (inr more) ↦ behind s more to
-]
-
 -- behind starts that have no match none has one up to the next place
 pub no_match_unplaced : (a : Asked) (code : Code) (vs : List ℕ) (k : ℕ) (whole : Bool) → IsPrefix code vs k whole
     → 0 < length vs → (p q r : ℕ) → NoMatch a code p q → NoPlace a.text vs a.end q r → NoMatch a code p r
 no_match_unplaced a code vs k whole is some p q r before x = record {
   forward = omega (arith, before.forward, x.forward);
-  none = λ t w.
-      between_joined a t p q r (before.none t w) (unplaced_between a code vs k whole is some t w q r x);
+  none = λ t w. none_joined a t p q r (before.none t w) (unplaced_between a code vs k whole is some t w q r x);
 }

@@ -1,6 +1,6 @@
 -- What the steps of an iteration count together.
-use Rattle.std.proofs.Common.{◌≡◌, ◌≤◌, ◌+◌, ◌-◌, ℕ, zero, suc, List, Bool, true, false, cond, nat_eq, [], ◌∷◌, ◌++◌}
-use Rattle.std.proofs.Common.{map, Option, Some, None, refl, sym, ap, ◌∙◌, subst, arith}
+use Rattle.std.proofs.Common.{◌≡◌, ◌≤◌, ◌+◌, ◌-◌, ℕ, List, Bool, nat_eq, [], ◌∷◌, ◌++◌, map, Option, Some, None, refl}
+use Rattle.std.proofs.Common.{sym, ap, ◌∙◌, subst, arith}
 use mathlib.Core.List.{append_assoc, map-append}
 use Rattle.sre_engine.specs.Terms.{SetItem, Asked, asked_after, how_many, words_of, hints_of, Code, Ghosts, Request}
 use Rattle.sre_engine.specs.Terms.{start_of, end_of, code_of, must_advance_of, asked_of}
@@ -9,35 +9,9 @@ use Rattle.sre_engine.specs.Counts.{CountsUpTo, StepsCount, width_fits, prefix_s
 use Rattle.sre_engine.specs.Searches.{CountsInside}
 use Rattle.sre_engine.specs.Walks.{GoesOn}
 use Rattle.sre_engine.proofs.MayStart.{may_run}
-use Rattle.sre_engine.proofs.PrefixWays.{how_many_grows}
-
--- two stretches, one behind the other
-how_many_add : (test : ℕ → Bool) (p n k : ℕ) → how_many test p (n + k) ≡ how_many test p n + how_many test (p + n) k
-how_many_add test p n zero =
-    let e : n + 0 ≡ n = omega arith in ap (how_many test p) e ∙ omega arith
-how_many_add test p n (suc k) =
-    let e : n + suc k ≡ suc (n + k) = omega arith in
-    let at : p + (n + k) ≡ p + n + k = omega arith in
-    let bit : ℕ → ℕ = λ q. cond (test q) 1 0 in
-    let last : bit (p + (n + k)) ≡ bit (p + n + k) = ap bit at in
-    ap (how_many test p) e ∙ omega (arith, how_many_add test p n k, last)
-
-how_many_same : (test same : ℕ → Bool) (p n : ℕ) → ((q : ℕ) → test q ≡ same q) → how_many test p n ≡ how_many same p n
-how_many_same test same p zero each = refl
-how_many_same test same p (suc n) each =
-    let bit : Bool → ℕ = λ b. cond b 1 0 in
-    let last : bit (test (p + n)) ≡ bit (same (p + n)) = ap bit (each (p + n)) in
-    omega (arith, how_many_same test same p n each, last)
-
--- one more position is one more at most
-how_many_next : (test : ℕ → Bool) (p n : ℕ) → how_many test p (n + 1) ≤ how_many test p n + 1
-how_many_next test p n =
-    let e : n + 1 ≡ suc n = omega arith in
-    omega (arith, ap (how_many test p) e, at_most_one (test (p + n)))
-  where
-    at_most_one : (b : Bool) → cond b 1 0 ≤ 1
-    at_most_one true = omega arith
-    at_most_one false = omega arith
+use Rattle.sre_engine.proofs.CountLaws.{how_many_weaker}
+use Rattle.sre_engine.proofs.PrefixWays.{how_many_add, how_many_grows}
+use Rattle.sre_engine.proofs.Searching.{few_counted}
 
 -- what is asked of a step differs from what is asked of the walk in the window's start alone, and where an empty match
 -- is refused
@@ -64,7 +38,8 @@ module _ (a : Asked) (code : Code) (at : ℕ) (must : Bool) where
   counts_on n started compared from before s to seen begun cost own up far sum total = record {
     runs = λ set member.
         let test = may_run a code set in
-        let same = how_many_same (may_run (step_of a at must) code set) test at (to - at) (may_same set) in
+        let same = how_many_weaker (may_run (step_of a at must) code set) test at (to - at)
+        (λ q may. sym (may_same set q) ∙ may) in
         let there : a.start + (at - a.start) ≡ at = omega (arith, from) in
         let all : at - a.start + (to - at) ≡ to - a.start = omega (arith, from, up) in
         let both = how_many_add test a.start (at - a.start) (to - at) in
@@ -94,7 +69,8 @@ counts_match a code start end n started compared from forward counted = record {
         arith,
         counted.runs set member,
         ap (how_many test a.start) up,
-        how_many_next test a.start (start - a.start),
+        how_many_add test a.start (start - a.start) 1,
+        few_counted test (a.start + (start - a.start)) 1,
         grown,
       );
   comparisons = counted.comparisons;
@@ -108,15 +84,6 @@ counts_more a code to seen n m started compared l counted = record {
   runs = λ set member. omega (arith, counted.runs set member, l);
   comparisons = counted.comparisons;
   uncompared = counted.uncompared;
-}
-
--- no step yet
-pub counts_none : (a : Asked) (code : Code) (n started compared : ℕ) → started ≡ 0 → compared ≡ 0
-    → StepsCount a code a.start a.start n started compared
-counts_none a code n started compared none nothing = record {
-  runs = λ set member. omega (arith, none);
-  comparisons = omega (arith, nothing);
-  uncompared = λ plain. nothing;
 }
 
 -- a step of a walk over the window of one request, which asks another one

@@ -1,10 +1,10 @@
 -- A step of an iteration gives its first match, and leaves the iteration from that match's end on.
-use Rattle.std.proofs.Common.{◌≡◌, ◌<◌, ◌∷◌, List, Bool, true, false, Some, sym, ap, ◌∙◌, subst}
-use Rattle.sre_engine.specs.Terms.{Ghosts, Tree, Asked, Match, found, asked_after, walk, most_matches, Request}
-use Rattle.sre_engine.specs.Terms.{string_of, start_of, stands_in}
-use Rattle.sre_model.proofs.WalkLaws.{walk-end, walk-next, most_matches-falls}
+use Rattle.std.proofs.Common.{◌≡◌, ◌<◌, ◌∷◌, Bool, true, Some, sym, ap, ◌∙◌, subst}
+use Rattle.sre_engine.specs.Terms.{Ghosts, Tree, Asked, found, asked_after, walk, most_matches, Request, string_of}
+use Rattle.sre_engine.specs.Terms.{start_of, stands_in}
+use Rattle.sre_model.proofs.WalkLaws.{walk-next, most_matches-falls}
 use Rattle.sre_engine.specs.Answers.{Shown, match_shown, answer_of}
-use Rattle.sre_engine.specs.Walks.{StepsTo, GoesOn}
+use Rattle.sre_engine.specs.Walks.{GoesOn}
 
 -- the cursor at its end stands where the window starts then
 pub stands_next : {S : Type 0} {text : Ghosts S} (r : Request S text) (s : Shown) (u : Request S text) → GoesOn r s u
@@ -30,9 +30,3 @@ module _ (a : Asked) (t : Tree) (b : Bool) (s : Shown) (answer : answer_of b s �
   falls_on is after next =
       subst (λ u. most_matches u < most_matches a) (sym next)
       (most_matches-falls a t (match_shown s) (found_shown is))
-
-  -- no match, and the walk's end
-  pub steps_out : b ≡ false → (after : List Match) → StepsTo (walk a t) b s after
-  steps_out is after =
-      subst (λ c. StepsTo (walk a t) c s after) (sym is)
-      (walk-end a t (sym answer ∙ ap (λ c. answer_of c s) is))

@@ -11,15 +11,13 @@ word-requires c = tree_within c.args.words.now c.args.place c.requires
 
 pub operand-requires : goal.operand-requires
 operand-requires c =
-    let code : Opcode c.args.words.now c.args.place c.in_ok-opcode.opcode = search rules in
-    run_operand c.args.words.now _ _ c.requires.stands (run_here _ _ _ code c.in-REPEAT_ONE.is).1
+    run_operand c.args.words.now _ _ c.requires.stands (run_here _ _ _ (search rules) c.in-REPEAT_ONE.is).1
 
 pub operand-skip-requires : goal.operand-skip-requires
 operand-skip-requires c =
-    let code : Opcode c.args.words.now c.args.place c.in_ok-opcode.opcode = search rules in
     omega (
       arith,
-      run_operand c.args.words.now _ _ c.requires.stands (run_here _ _ _ code c.in-REPEAT_ONE.is).1,
+      run_operand c.args.words.now _ _ c.requires.stands (run_here _ _ _ (search rules) c.in-REPEAT_ONE.is).1,
     )
 
 pub returns-else-operand-gt0-clause-passes : goal.returns-else-operand-gt0-clause-passes
@@ -35,5 +33,4 @@ returns-else-operand-gt0-clause-passes c = λ t stands.
 
 pub returns-else-operand-gt0-clause-test : goal.returns-else-operand-gt0-clause-test
 returns-else-operand-gt0-clause-test c =
-    let code : Opcode c.args.words.now c.args.place c.in_ok-opcode.opcode = search rules in
-    run_there c.args.words.now _ _ c.requires.stands (run_here _ _ _ code c.in-REPEAT_ONE.is).1
+    run_there c.args.words.now _ _ c.requires.stands (run_here _ _ _ (search rules) c.in-REPEAT_ONE.is).1

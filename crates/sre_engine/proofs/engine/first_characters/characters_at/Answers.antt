@@ -1,6 +1,5 @@
 use Rattle.std.proofs.Common.{refl, rules}
 use Rattle.sre_chars.specs.declared.constants.SreOpcode.TheVariants as opcode
-use Rattle.sre_engine.specs.Terms.{Opcode}
 use Rattle.sre_model.specs.Roles.{ToBranch}
 use Rattle.sre_model.proofs.Families.{role_here}
 use Rattle.sre_model.proofs.FirstCharacters.{tree_within, branch_there, branch_bars}
@@ -11,11 +10,9 @@ word-requires c = tree_within c.args.words.now c.args.place c.requires
 
 pub first_characters-requires : goal.first_characters-requires
 first_characters-requires c =
-    let code : Opcode c.args.words.now c.args.place opcode.BRANCH = search rules in
-    branch_there c.args.words.now _ _ c.requires.stands (role_here _ _ opcode.BRANCH ToBranch code refl)
+    branch_there c.args.words.now _ _ c.requires.stands (role_here _ _ opcode.BRANCH ToBranch (search rules) refl)
 
 pub returns : goal.returns
 returns c = λ t stands s p lacking.
-    let code : Opcode c.args.words.now c.args.place opcode.BRANCH = search rules in
-    branch_bars c.args.words.now t _ stands (role_here _ _ opcode.BRANCH ToBranch code refl) s p
+    branch_bars c.args.words.now t _ stands (role_here _ _ opcode.BRANCH ToBranch (search rules) refl) s p
     (λ j ts reads. c.in_ok-characters.ensures j ts reads s p lacking)

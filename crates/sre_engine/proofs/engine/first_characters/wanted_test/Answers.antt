@@ -11,8 +11,7 @@ word-requires c = tree_within c.args.words.now c.args.place c.requires
 
 pub operand-requires : goal.operand-requires
 operand-requires c =
-    let code : Opcode c.args.words.now c.args.place c.in_ok-opcode.opcode = search rules in
-    run_operand c.args.words.now _ _ c.requires.stands (run_here _ _ _ code c.in-REPEAT_ONE.is).1
+    run_operand c.args.words.now _ _ c.requires.stands (run_here _ _ _ (search rules) c.in-REPEAT_ONE.is).1
 
 pub returns-in_err-opcode-clause-own : goal.returns-in_err-opcode-clause-own
 returns-in_err-opcode-clause-own c = λ t test stands first past.
@@ -21,8 +20,7 @@ returns-in_err-opcode-clause-own c = λ t test stands first past.
 
 pub returns-then-operand-gt0 : goal.returns-then-operand-gt0
 returns-then-operand-gt0 c =
-    let code : Opcode c.args.words.now c.args.place c.in_ok-opcode.opcode = search rules in
-    let run = (run_here _ _ _ code c.in-REPEAT_ONE.is).1 in
+    let run = (run_here c.args.words.now c.args.place _ (search rules) c.in-REPEAT_ONE.is).1 in
     record {
       bars = λ t stands s p lacking.
           run_bars c.args.words.now t _ stands _ run c.operand.ensures.word c.if-operand-gt0.true s p lacking;
@@ -43,8 +41,7 @@ returns-then-is_test c =
 
 pub returns-else-operand-gt0-clause-own : goal.returns-else-operand-gt0-clause-own
 returns-else-operand-gt0-clause-own c = λ t test stands first past.
-    let code : Opcode c.args.words.now c.args.place c.in_ok-opcode.opcode = search rules in
-    found_some c.args.words.now _ t stands test first past _ (run_here _ _ _ code c.in-REPEAT_ONE.is).1
+    found_some c.args.words.now _ t stands test first past _ (run_here _ _ _ (search rules) c.in-REPEAT_ONE.is).1
     c.operand.ensures.word c.if-operand-gt0.false
 
 pub returns-else-is_test-clause-own : goal.returns-else-is_test-clause-own

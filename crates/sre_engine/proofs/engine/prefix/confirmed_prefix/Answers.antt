@@ -4,29 +4,26 @@ use Rattle.sre_engine.specs.Prefixed.{IsPrefix}
 use Rattle.sre_engine.specs.Scans.{Overlapping}
 use Rattle.sre_engine.proofs.Hinting.{prefix_room, prefix_overlaps, prefix_is}
 use Rattle.sre_engine.proofs.engine.prefix.confirmed_prefix.Goals as goal
+use Rattle.sre_engine.proofs.engine.prefix.confirmed_prefix.Goals.{After-words-words}
+use Rattle.sre_engine.proofs.engine.prefix.confirmed_prefix.Given.{Over}
 
 -- the prefix that the code's hints give
-hint : (code : Code) (h : Hints) (l k : ℕ) → h ≡ hints_of code → h.prefix ≡ Some (l, k)
-    → (hints_of code).prefix ≡ Some (l, k)
-hint code h l k same is = sym (ap (λ (x : Hints). x.prefix) same) ∙ is
+hint : (g : Over) (c : After-words-words g)
+    → (hints_of c.pattern_codes-code.result).prefix ≡ Some (c.in-Some.length, c.in-Some.literals)
+hint g c = sym (ap (λ (x : Hints). x.prefix) c.hints-hints.ensures.same) ∙ c.in-Some.is
 
-room : (code : Code) (words : List ℕ) (h : Hints) (l k : ℕ) → words ≡ words_of code → h ≡ hints_of code
-    → h.prefix ≡ Some (l, k) → 7 + l + l ≤ length words
-room code words h l k same hints is =
-    subst (λ ws. 7 + l + l ≤ length ws) (sym same) (prefix_room code l k (hint code h l k hints is))
+room : (g : Over) (c : After-words-words g) → 7 + c.in-Some.length + c.in-Some.length ≤ length c.words-words.result.now
+room g c =
+    subst (λ ws. 7 + c.in-Some.length + c.in-Some.length ≤ length ws) (sym c.words-words.ensures.same)
+    (prefix_room c.pattern_codes-code.result c.in-Some.length c.in-Some.literals (hint g c))
 
 pub slice_bounds-prefix-end : goal.slice_bounds-prefix-end
-slice_bounds-prefix-end g c =
-    omega (
-      arith,
-      room c.pattern_codes-code.result c.words-words.result.now c.hints-hints.result c.in-Some.length
-          c.in-Some.literals c.words-words.ensures.same c.hints-hints.ensures.same c.in-Some.is,
-    )
+slice_bounds-prefix-end g c = omega (arith, room g (goal.at.slice_bounds-prefix-end g c).After-words-words)
 
 pub invariant_of-result : goal.invariant_of-result
 invariant_of-result g c =
     let code = c.pattern_codes-code.result in
-    let e = hint code c.hints-hints.result _ _ c.hints-hints.ensures.same c.in-Some.is in
+    let e = hint g (goal.at.invariant_of-result g c).After-words-words in
     record {
       confirmed =
           subst (λ (ws : List ℕ). Overlapping (prefix_of ws c.in-Some.length) (overlaps_of ws c.in-Some.length))
@@ -37,7 +34,7 @@ invariant_of-result g c =
 pub returns-clause-some : goal.returns-clause-some
 returns-clause-some g c =
     let code = c.pattern_codes-code.result in
-    let e = hint code c.hints-hints.result _ _ c.hints-hints.ensures.same c.in-Some.is in
+    let e = hint g (goal.at.returns-clause-some g c).After-words-words in
     let l = c.in-Some.length in
     let lit = c.hints-hints.result.literal in
     let few : length (words_of code) < 2 ^ 64 =
@@ -48,9 +45,4 @@ returns-clause-some g c =
     (prefix_is code l c.in-Some.literals e lit (ap (λ (x : Hints). x.literal) c.hints-hints.ensures.same) few))
 
 pub slice_bounds-result-end : goal.slice_bounds-result-end
-slice_bounds-result-end g c =
-    omega (
-      arith,
-      room c.pattern_codes-code.result c.words-words.result.now c.hints-hints.result c.in-Some.length
-          c.in-Some.literals c.words-words.ensures.same c.hints-hints.ensures.same c.in-Some.is,
-    )
+slice_bounds-result-end g c = omega (arith, room g (goal.at.slice_bounds-result-end g c).After-words-words)

@@ -1,49 +1,45 @@
 use Rattle.std.proofs.Common.{[], ◌∷◌, cond, ◌≡◌, ◌+◌, ◌-◌, ◌∙◌, arith, ap, subst, sym, vec_len}
-use Rattle.sre_engine.specs.Terms.{Whole, walk, words_of, start_of, code_of, asked_of}
+use Rattle.sre_engine.specs.Terms.{Whole, walk, words_of, start_of, end_of, code_of, asked_of}
 use Rattle.sre_engine.specs.Listed.{match_of}
 use Rattle.sre_engine.specs.Answers.{match_shown}
 use Rattle.sre_engine.specs.Counts.{StepsCount}
 use Rattle.sre_engine.proofs.WalkCounts.{counts_more, inside_on, match_on, asked_on, list_on}
 use Rattle.sre_engine.proofs.engine.whole_walk.add_matches.Goals as goal
+use Rattle.sre_engine.proofs.engine.whole_walk.add_matches.Goals.{After-counted_step}
+use Rattle.sre_engine.proofs.engine.whole_walk.add_matches.Given.{Over}
 
-pub returns-in_err-counted_step-clause-counts : goal.returns-in_err-counted_step-clause-counts
-returns-in_err-counted_step-clause-counts g c =
-    let inv = c.step.invariant in
-    let step = c.counted_step.ensures in
-    counts_more _ _ _ _ _ _ _ _ (omega (arith, inv.few))
-    (inside_on c.args.req c.step.req _ _ _ _ _ c.counted_step.new.state inv.code inv.asked inv.from inv.inside
-    inv.counted step.started step.compared step.stepped.counts)
-
-pub returns-in_err-found-clause-counts : goal.returns-in_err-found-clause-counts
-returns-in_err-found-clause-counts g c =
-    let inv = c.step.invariant in
-    let step = c.counted_step.ensures in
-    counts_more _ _ _ _ _ _ _ _ (omega (arith, inv.few))
-    (inside_on c.args.req c.step.req _ _ _ _ _ c.counted_step.new.state inv.code inv.asked inv.from inv.inside
-    inv.counted step.started step.compared step.stepped.counts)
-
-pub returns-in_err-push-clause-counts : goal.returns-in_err-push-clause-counts
-returns-in_err-push-clause-counts g c =
-    let inv = c.step.invariant in
-    let step = c.counted_step.ensures in
-    counts_more _ _ _ _ _ _ _ _ (omega (arith, inv.few))
-    (inside_on c.args.req c.step.req _ _ _ _ _ c.counted_step.new.state inv.code inv.asked inv.from inv.inside
-    inv.counted step.started step.compared step.stepped.counts)
-
-pub returns-clause-counts : goal.returns-clause-counts
-returns-clause-counts g c =
-    let inv = c.step.invariant in
-    let step = c.counted_step.ensures in
-    counts_more _ _ _ _ _ _ _ _ (omega (arith, inv.few))
-    (inside_on c.args.req c.step.req _ _ _ _ _ c.counted_step.new.state inv.code inv.asked inv.from inv.inside
-    inv.counted step.started step.compared step.stepped.counts)
-
-pub returns-clause-by_matches : goal.returns-clause-by_matches
-returns-clause-by_matches g c =
+-- the counts up to a step without a match
+inside : (g : Over) (c : After-counted_step g) → StepsCount (asked_of c.args.req) (code_of c.args.req)
+    (end_of c.args.req + 1) (end_of c.args.req) (vec_len c.step.all - vec_len c.args.all.now)
+    c.counted_step.new.tally.started c.counted_step.new.tally.compared
+inside g c =
     let inv = c.step.invariant in
     let step = c.counted_step.ensures in
     inside_on c.args.req c.step.req _ _ _ _ _ c.counted_step.new.state inv.code inv.asked inv.from inv.inside
     inv.counted step.started step.compared step.stepped.counts
+
+pub returns-in_err-counted_step-clause-counts : goal.returns-in_err-counted_step-clause-counts
+returns-in_err-counted_step-clause-counts g c =
+    counts_more _ _ _ _ _ _ _ _ (omega (arith, c.step.invariant.few))
+    (inside g (goal.at.returns-in_err-counted_step-clause-counts g c).After-counted_step)
+
+pub returns-in_err-found-clause-counts : goal.returns-in_err-found-clause-counts
+returns-in_err-found-clause-counts g c =
+    counts_more _ _ _ _ _ _ _ _ (omega (arith, c.step.invariant.few))
+    (inside g (goal.at.returns-in_err-found-clause-counts g c).After-counted_step)
+
+pub returns-in_err-push-clause-counts : goal.returns-in_err-push-clause-counts
+returns-in_err-push-clause-counts g c =
+    counts_more _ _ _ _ _ _ _ _ (omega (arith, c.step.invariant.few))
+    (inside g (goal.at.returns-in_err-push-clause-counts g c).After-counted_step)
+
+pub returns-clause-counts : goal.returns-clause-counts
+returns-clause-counts g c =
+    counts_more _ _ _ _ _ _ _ _ (omega (arith, c.step.invariant.few))
+    (inside g (goal.at.returns-clause-counts g c).After-counted_step)
+
+pub returns-clause-by_matches : goal.returns-clause-by_matches
+returns-clause-by_matches g c = inside g (goal.at.returns-clause-by_matches g c).After-counted_step
 
 pub step-preserved : goal.step-preserved
 step-preserved g c =

@@ -1,8 +1,9 @@
-use Rattle.std.proofs.Common.{◌≡◌, ◌≤◌, true, false, Some, None, sym, subst, arith, rules}
+use Rattle.std.proofs.Common.{◌≡◌, ◌≤◌, Ok, true, false, Some, None, sym, subst, arith, rules}
 use Rattle.sre_engine.specs.Terms.{at_start, words_of, hints_of, start_of, end_of, code_of, asked_of, stands_in}
 use Rattle.sre_engine.proofs.Answering.{none_at, some_at, span_at}
 use Rattle.sre_code.proofs.Checked.{code_tree, items_whole}
-use Rattle.sre_engine.proofs.Looking.{once_charged, once_given_up}
+use Rattle.sre_engine.proofs.Costing.{passed_on}
+use Rattle.sre_engine.proofs.Looking.{once_charged}
 use Rattle.sre_engine.proofs.engine.state.State.match_from.Goals as goal
 
 pub returns-in-Some-clause-answer : goal.returns-in-Some-clause-answer
@@ -44,24 +45,16 @@ returns-in-None-clause-answer g c = λ t whole.
 
 pub returns-in-Some-clause-charged : goal.returns-in-Some-clause-charged
 returns-in-Some-clause-charged g c =
-    let r = c.args.req.now in
-    let at : c.args.from.position ≡ start_of r = search rules in
-    once_charged r _ _ c.args.allowed.now _ 0 _ _ c.begin.ensures.started c.begin.ensures.restarted (omega (arith, at))
-    (omega (arith, at, r.in_window.0)) c.begin.ensures.begins c.attempt-told.ensures.began c.in_ok-end.ensures.costs
-    true
+    once_charged c.args.req.now _ _ c.args.allowed.now _ 0 _ _ c.begin.ensures.started c.begin.ensures.restarted
+    (search rules) c.begin.ensures.begins c.attempt-told.ensures.began c.in_ok-end.ensures.costs (Ok true) tt
 
 pub returns-in-None-clause-charged : goal.returns-in-None-clause-charged
 returns-in-None-clause-charged g c =
-    let r = c.args.req.now in
-    let at : c.args.from.position ≡ start_of r = search rules in
-    once_charged r _ _ c.args.allowed.now _ 0 _ _ c.begin.ensures.started c.begin.ensures.restarted (omega (arith, at))
-    (omega (arith, at, r.in_window.0)) c.begin.ensures.begins c.attempt-told.ensures.began c.in_ok-end.ensures.costs
-    false
+    once_charged c.args.req.now _ _ c.args.allowed.now _ 0 _ _ c.begin.ensures.started c.begin.ensures.restarted
+    (search rules) c.begin.ensures.begins c.attempt-told.ensures.began c.in_ok-end.ensures.costs (Ok false) tt
 
 pub returns-in_err-end-clause-charged : goal.returns-in_err-end-clause-charged
 returns-in_err-end-clause-charged g c =
-    let r = c.args.req.now in
-    let at : c.args.from.position ≡ start_of r = search rules in
-    once_given_up r _ _ c.args.allowed.now _ 0 _ _ c.begin.ensures.started c.begin.ensures.restarted (omega (arith, at))
-    (omega (arith, at, r.in_window.0)) c.begin.ensures.begins c.attempt-told.ensures.began c.in_err-end.ensures.costs
-    c.in_err-end.field-0.0 c.in_err-end.ensures.halted _ c.from_residual.ensures.1
+    once_charged c.args.req.now _ _ c.args.allowed.now _ 0 _ _ c.begin.ensures.started c.begin.ensures.restarted
+    (search rules) c.begin.ensures.begins c.attempt-told.ensures.began c.in_err-end.ensures.costs _
+    (passed_on _ c.in_err-end.field-0.0 _ c.from_residual.ensures.1 c.in_err-end.ensures.halted)

@@ -1,9 +1,11 @@
 use Rattle.std.proofs.Common.{Ok, refl, ap, arith, rules}
 use Rattle.sre_engine.specs.Terms.{code_of, asked_of}
+use Rattle.sre_engine.proofs.Costing.{passed_on}
 use Rattle.sre_engine.proofs.Hinting.{past_none}
-use Rattle.sre_engine.proofs.LeadingStarts.{none_joined, found_none_behind}
-use Rattle.sre_engine.proofs.Looking.{begins, ready, answered_no, charged, charged_given_up, charged_then}
-use Rattle.sre_engine.proofs.Looking.{answered_given_up, failed, answered_yes, answered_over, searching_on}
+use Rattle.sre_engine.proofs.Answering.{none_joined}
+use Rattle.sre_engine.proofs.LeadingStarts.{found_none_behind}
+use Rattle.sre_engine.proofs.Looking.{begins, ready, answered_no, charged, charged_then, answered_given_up, failed}
+use Rattle.sre_engine.proofs.Looking.{answered_yes, answered_over, searching_on}
 use Rattle.sre_engine.proofs.engine.state.State.search_along.Goals as goal
 
 pub candidate-init : goal.candidate-init
@@ -24,7 +26,7 @@ returns-then-is_past-clause-answers g c =
     answered_no r _ _
     (λ t whole. past_none (asked_of r) (code_of r) c.last_start-last.result t _ c.last_start-last.ensures whole
     (c.is_past.ensures.past c.if-is_past.true)
-    (none_joined (asked_of r) t _ _ (inv.none t whole) (some.none.none t whole)))
+    (none_joined (asked_of r) t _ _ _ (inv.none t whole) (some.none.none t whole)))
     (ap (λ b. b.marks) inv.fresh) inv.ran (omega (arith, inv.inside)) c.in-Some.ensures.few
 
 pub returns-clause-answers : goal.returns-clause-answers
@@ -54,9 +56,10 @@ returns-in_err-end-clause-answers g c =
 
 pub returns-in_err-end-clause-charged : goal.returns-in_err-end-clause-charged
 returns-in_err-end-clause-charged g c =
-    charged_given_up c.args.req.now _ _ _ _ _ _ _ _ _ _ c.candidate.invariant.searching c.in-Some.ensures.some
+    charged c.args.req.now _ _ _ _ _ _ _ _ _ _ c.candidate.invariant.searching c.in-Some.ensures.some
     c.in-Some.ensures.few c.last_start-last.ensures (c.is_past.ensures.fits c.if-is_past.false) c.attempt.ensures.began
-    c.in_err-end.ensures.costs c.in_err-end.field-0.0 c.in_err-end.ensures.halted _ c.from_residual.ensures.1
+    c.in_err-end.ensures.costs _
+    (passed_on _ c.in_err-end.field-0.0 _ c.from_residual.ensures.1 c.in_err-end.ensures.halted)
 
 pub returns-in-Some-2-clause-answers : goal.returns-in-Some-2-clause-answers
 returns-in-Some-2-clause-answers g c =
@@ -68,7 +71,7 @@ pub returns-in-Some-2-clause-charged : goal.returns-in-Some-2-clause-charged
 returns-in-Some-2-clause-charged g c =
     charged c.args.req.now _ _ _ _ _ _ _ _ _ _ c.candidate.invariant.searching c.in-Some.ensures.some
     c.in-Some.ensures.few c.last_start-last.ensures (c.is_past.ensures.fits c.if-is_past.false) c.attempt.ensures.began
-    c.in_ok-end.ensures.costs _
+    c.in_ok-end.ensures.costs (Ok _) tt
 
 pub pass-requires-clause-failed : goal.pass-requires-clause-failed
 pass-requires-clause-failed g c =
@@ -87,7 +90,7 @@ pub returns-then-not-pass-clause-charged : goal.returns-then-not-pass-clause-cha
 returns-then-not-pass-clause-charged g c =
     charged c.args.req.now _ _ _ _ _ _ _ _ _ _ c.candidate.invariant.searching c.in-Some.ensures.some
     c.in-Some.ensures.few c.last_start-last.ensures (c.is_past.ensures.fits c.if-is_past.false) c.attempt.ensures.began
-    c.in_ok-end.ensures.costs _
+    c.in_ok-end.ensures.costs (Ok _) tt
 
 pub candidate-preserved : goal.candidate-preserved
 candidate-preserved g c =

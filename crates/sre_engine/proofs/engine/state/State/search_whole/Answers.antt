@@ -1,6 +1,6 @@
 use Rattle.std.proofs.Common.{◌≡◌, ◌≤◌, ◌+◌, ◌-◌, ◌||◌, ℕ, true, false, not, nat_eq, Some, None, length, refl, sym, ap}
 use Rattle.std.proofs.Common.{◌∙◌, subst, arith, rules}
-use Rattle.sre_engine.specs.Terms.{StringCursor, Marks, no_marks, at_start, code_of, asked_of, stands_in}
+use Rattle.sre_engine.specs.Terms.{StringCursor, no_marks, at_start, code_of, asked_of, stands_in}
 use Rattle.sre_turns.specs.Board.{BoardValue}
 use Rattle.sre_engine.specs.Scans.{Stands}
 use Rattle.sre_engine.proofs.Answering.{NoneBefore, found_first}
@@ -47,7 +47,7 @@ returns-then-may_end-clause-answers g c =
     omega (arith, c.prefix_start.ensures, there.0, here.front.from) in
     let taken : (not a.match_all || nat_eq c.find.new.spot.cursor.position a.end) ≡ true =
     sym c.may_end.ensures ∙ c.if-may_end.true in
-    let marks : no_marks ≡ c.place.self-inside.runner.board.marks = sym (ap (λ (b : BoardValue). b.marks) inv.fresh) in
+    let marks : c.place.self-inside.runner.board.marks ≡ no_marks = ap (λ (b : BoardValue). b.marks) inv.fresh in
     let ran = ran_none a (code_of asked) _ 0 inv.idle in
     record {
       answer = λ t whole.
@@ -62,12 +62,7 @@ returns-then-may_end-clause-answers g c =
             end = c.find.new.spot.cursor.position;
             marks = c.place.self-inside.runner.board.marks;
           }) =
-          match
-          ∙ rw taken (ap (λ (m : Marks). Some (record {
-            start = c.prefix_start.result;
-            end = c.find.new.spot.cursor.position;
-            marks = m;
-          })) marks) in
+          match ∙ rw (taken, marks) refl in
           sym (found_first a t _ _ before found_ from (omega (arith, stands.within)) refl);
       cursor = λ _. c.find.ensures.stands;
       span = λ _. (
