@@ -1,14 +1,11 @@
 -- Where the members of a confirmed FIRST set are, and what a search along them comes to.
-use Rattle.std.proofs.Common.{◌≡◌, ◌+◌, ◌&&◌, ℕ, List, true, false, Option, Some, None, refl, sym, ap, subst, arith}
-use Rattle.std.proofs.Common.{inl, inr, nat_lt}
-use Rattle.std.proofs.lemmas.Bool.{cases_lt}
-use Rattle.std.proofs.lemmas.Bool.Decides.{nat_tests}
-use Rattle.sre_engine.specs.Terms.{StringCursor, Tree, SetItem, no_marks, is_member, char_at, Whole, IsCode, HasSet}
-use Rattle.sre_engine.specs.Terms.{Asked, subject_of, at_start, words_of, uni_of, hints_of, Code}
+use Rattle.sre_engine.proofs.Terms.{◌≡◌, ◌+◌, ◌&&◌, ℕ, List, true, false, Option, Some, None, refl, sym, ap, subst}
+use Rattle.sre_engine.proofs.Terms.{arith, inl, inr, nat_lt, cases_lt, nat_tests, StringCursor, Tree, SetItem, no_marks}
+use Rattle.sre_engine.proofs.Terms.{is_member, char_at, Whole, IsCode, HasSet, Asked, subject_of, at_start, words_of}
+use Rattle.sre_engine.proofs.Terms.{uni_of, hints_of, Code, code_tree, code_confirmed, IsFirstSet, is_among}
+use Rattle.sre_engine.proofs.Terms.{NoneBetween, NoneUntil}
 use Rattle.sre_model.specs.Claims.{HasFirstSet}
-use Rattle.sre_code.proofs.Checked.{code_tree, code_confirmed}
-use Rattle.sre_engine.specs.Members.{IsFirstSet, is_among, NextMember}
-use Rattle.sre_engine.specs.Starts.{NoneBetween, NoneUntil}
+use Rattle.sre_engine.specs.Members.{NextMember}
 use Rattle.sre_engine.proofs.Answering.{none_joined}
 use Rattle.sre_engine.proofs.FirstMembers.{unmembered}
 

@@ -1,8 +1,7 @@
 -- Codes that match at the text's start alone.
-use Rattle.std.proofs.Common.{◌≡◌, ◌<◌, ℕ, true, false, nat_eq, refl, arith}
-use Rattle.std.proofs.lemmas.Bool.Decides.{nat_tests}
+use Rattle.sre_engine.proofs.Terms.{◌≡◌, ◌<◌, ℕ, true, false, nat_eq, refl, arith, nat_tests, Tree, Then, At}
+use Rattle.sre_engine.proofs.Terms.{is_anchored, Subject, NoWay}
 use Rattle.sre_chars.specs.declared.constants.SreAtCode.TheVariants as at
-use Rattle.sre_engine.specs.Terms.{Tree, Then, At, is_anchored, Subject, NoWay}
 
 -- it begins nowhere else
 pub anchored_none : (s : Subject) (t : Tree) (p : ℕ) → is_anchored t ≡ true → 0 < p → NoWay s t p

@@ -1,10 +1,8 @@
 -- The first accepted outcome of a run is the match.
 
-use Rattle.std.proofs.Common.{[], inl, inr, ◌+◌, ◌≡◌, ◌≤◌, ℕ, arith, Option, Some, None, sym, ap, ◌∙◌, subst}
-use Rattle.sre_engine.specs.Terms.{StringCursor, Tree, Marks, no_marks, ways, Asked, Match, subject_of, is_accepted}
-use Rattle.sre_engine.specs.Terms.{at_start, found, Decides, outcomes, Run}
-use Rattle.sre_engine.specs.Starts.{NoneBetween}
-use Rattle.std.proofs.lemmas.Bool.{cases_lt}
+use Rattle.sre_engine.proofs.Terms.{[], inl, inr, ◌+◌, ◌≡◌, ◌≤◌, ℕ, arith, Option, Some, None, sym, ap, ◌∙◌, subst}
+use Rattle.sre_engine.proofs.Terms.{StringCursor, Tree, Marks, no_marks, ways, Asked, Match, subject_of, is_accepted}
+use Rattle.sre_engine.proofs.Terms.{at_start, found, Decides, outcomes, Run, NoneBetween, cases_lt}
 use Rattle.sre_model.proofs.FoundLaws.{match_of_first, first_accepted-filter, at_start-is, least-found}
 
 -- what a run for a request decides about; the words are those of its tree, whatever they are

@@ -1,13 +1,9 @@
 -- Where a match may begin, by what its first code words want.
-use Rattle.std.proofs.Common.{ℕ, ◌≡◌, ◌-◌, Bool, true, false, inl, inr, List, Option, Some, None, IfSome, IsSomeAnd}
-use Rattle.std.proofs.Common.{sym, ◌∙◌, subst, arith}
-use Rattle.sre_engine.specs.Terms.{BEGINNING_LINE, AsciiSet, WholeItems, behind_block, Subject, holds_at, Test}
-use Rattle.sre_engine.specs.Terms.{TakesAscii}
-use Rattle.sre_engine.specs.Beginnings.{BeginsIn, BeginsAtLines, KnowsTest, KnowsLines, has_ascii, IsAsciiOf}
-use Rattle.sre_engine.specs.Beginnings.{is_line_start}
-use Rattle.sre_engine.specs.Leading.{Wants, WantsFirst}
-use Rattle.sre_engine.specs.Starts.{Bars, NotAmong, IsLacking, IsElsewhere}
-use Rattle.sre_engine.specs.declared.engine.first_characters.First.{First}
+use Rattle.sre_engine.proofs.Terms.{ℕ, ◌≡◌, ◌-◌, Bool, true, false, inl, inr, List, Option, Some, None, IfSome}
+use Rattle.sre_engine.proofs.Terms.{IsSomeAnd, sym, ◌∙◌, subst, arith, BEGINNING_LINE, AsciiSet, WholeItems}
+use Rattle.sre_engine.proofs.Terms.{behind_block, Subject, holds_at, Test, TakesAscii, has_ascii, IsAsciiOf, Wants}
+use Rattle.sre_engine.proofs.Terms.{WantsFirst, Bars, NotAmong, IsLacking, IsElsewhere, First}
+use Rattle.sre_engine.specs.Beginnings.{BeginsIn, BeginsAtLines, KnowsTest, KnowsLines, is_line_start}
 use Rattle.sre_engine.specs.declared.engine.first_characters.Wanted.TheVariants as wanted
 use Rattle.sre_engine.proofs.FirstSets.{taken_bars}
 

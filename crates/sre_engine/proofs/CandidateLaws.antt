@@ -1,13 +1,10 @@
 -- How a start becomes a candidate, and what is skipped after one that failed.
-use Rattle.std.proofs.Common.{◌≡◌, ◌≤◌, ◌<◌, ◌+◌, ℕ, Bool, true, List, length, Some, None, refl, arith}
-use Rattle.sre_engine.specs.Terms.{Ghosts, StringCursor, Tree, no_marks, Whole, WholeItems, is_anchored, Asked}
-use Rattle.sre_engine.specs.Terms.{subject_of, at_start, words_of, Code, Request, end_of, code_of, asked_of, run_of}
-use Rattle.sre_code.proofs.Checked.{items_whole}
-use Rattle.sre_engine.specs.Candidates.{MayBegin, IsCandidate, IsBare, Failed, bare_candidate}
-use Rattle.sre_engine.specs.Prefixed.{IsPrefix}
-use Rattle.sre_engine.specs.Scans.{NoPlace, NoMatch}
-use Rattle.sre_engine.specs.Starts.{NoneBetween, NoneUntil}
-use Rattle.sre_engine.specs.declared.engine.candidates.Candidate.{Candidate}
+use Rattle.sre_engine.proofs.Terms.{◌≡◌, ◌≤◌, ◌<◌, ◌+◌, ℕ, Bool, true, List, length, Some, None, refl, arith, Ghosts}
+use Rattle.sre_engine.proofs.Terms.{StringCursor, Tree, no_marks, Whole, WholeItems, is_anchored, Asked, subject_of}
+use Rattle.sre_engine.proofs.Terms.{at_start, words_of, Code, Request, end_of, code_of, asked_of, run_of, items_whole}
+use Rattle.sre_engine.proofs.Terms.{MayBegin, IsCandidate, Failed, IsPrefix, NoPlace, NoMatch, NoneBetween, NoneUntil}
+use Rattle.sre_engine.proofs.Terms.{Candidate}
+use Rattle.sre_engine.specs.Candidates.{IsBare, bare_candidate}
 use Rattle.sre_engine.proofs.Anchored.{anchored_none}
 use Rattle.sre_engine.proofs.Answering.{none_here, none_joined}
 use Rattle.sre_engine.proofs.Searching.{unplaced_between}

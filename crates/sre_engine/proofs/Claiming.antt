@@ -1,17 +1,15 @@
 -- What a confirmed claim implies for the tree.
-use Rattle.std.proofs.Common.{◌≡◌, ◌≤◌, ◌<◌, ◌+◌, ◌-◌, ◌*◌, ◌/◌, ◌%◌, ◌&&◌, ℕ, zero, suc, List, [], ◌∷◌, Bool, true}
-use Rattle.std.proofs.Common.{false, cond, length, take, drop, slice_range, nat_eq, nat_lt, nat_le, Option, Some, None}
-use Rattle.std.proofs.Common.{is_some, refl, sym, ap, ◌∙◌, subst, arith, length-drop}
-use Rattle.std.proofs.lemmas.Bool.{and_parts, leb-true}
-use Rattle.std.proofs.lemmas.Bool.Decides.{nat_tests}
+use Rattle.sre_engine.proofs.Terms.{◌≡◌, ◌≤◌, ◌<◌, ◌+◌, ◌-◌, ◌*◌, ◌&&◌, ℕ, zero, suc, List, [], ◌∷◌, Bool, true, false}
+use Rattle.sre_engine.proofs.Terms.{cond, length, slice_range, nat_eq, nat_lt, nat_le, Option, Some, None, refl, sym}
+use Rattle.sre_engine.proofs.Terms.{ap, ◌∙◌, subst, arith, length-drop, and_parts, leb-true, nat_tests, Tree, Empty}
+use Rattle.sre_engine.proofs.Terms.{Then, One, Mark, Literal, Plain, width, word, skip, behind_block, Whole, spells}
+use Rattle.sre_engine.proofs.Terms.{behind_items, is_empty, prefix_of, overlaps_of, opcode_within}
+use Rattle.std.proofs.Common.{◌/◌, ◌%◌, take, drop, is_some}
 use Rattle.sre_chars.specs.declared.constants.SreOpcode.TheVariants as opcode
-use Rattle.sre_engine.specs.Terms.{Tree, Empty, Then, One, Mark, Literal, Plain, width, word, skip, behind_block, Whole}
-use Rattle.sre_engine.specs.Terms.{spells, behind_items, is_empty, prefix_of, overlaps_of}
 use Rattle.sre_model.specs.Grammar.{has_block}
 use Rattle.sre_model.specs.Claims.{has_flag, has_prefix, prefix_length, prefix_skip, prefix_words, overlap_words}
 use Rattle.sre_model.specs.Claims.{are_overlaps, behind_adjacent, behind_spread, then_spread, behind_literals}
 use Rattle.sre_model.specs.Claims.{behind_prefix, confirmed_width, confirmed_prefix, is_literal, is_at_end}
-use Rattle.sre_model.proofs.Words.{opcode_within}
 
 -- Lists of words and trees
 

@@ -1,11 +1,11 @@
 -- How the costs of a search's runs add up.
-use Rattle.std.proofs.Common.{◌≡◌, ℕ, ◌+◌, ◌*◌, ◌≤◌, inl, inr, false, [], refl, arith, Result, Ok, Err, IfErr, IsErrAnd}
-use Rattle.std.proofs.Common.{sym, subst, add-mul, one-mul}
-use Rattle.std.proofs.Math.Nat.{mul-le-mul_right}
-use Rattle.sre_engine.specs.Terms.{Ghosts, StringCursor, Request, start_of, run_of, most_steps, MemoValue, Remembering}
-use Rattle.sre_engine.specs.Terms.{rows_from, each_of}
+use Rattle.sre_engine.proofs.Terms.{◌≡◌, ℕ, ◌+◌, ◌*◌, ◌≤◌, inl, inr, false, [], refl, arith, Result, Ok, Err, IfErr}
+use Rattle.sre_engine.proofs.Terms.{IsErrAnd, sym, subst, add-mul, mul-le-mul_right, Ghosts, StringCursor, Request}
+use Rattle.sre_engine.proofs.Terms.{start_of, run_of, most_steps, MemoValue, Remembering, rows_from, each_of}
+use Rattle.sre_engine.proofs.Terms.{search_cost, most_tolls, most_waits, SearchCosts}
+use Rattle.std.proofs.Common.{one-mul}
 use Rattle.sre_board.proofs.AccountLaws.{account_few}
-use Rattle.sre_engine.specs.Costs.{search_cost, most_tolls, most_waits, CostsUpTo, SearchCosts}
+use Rattle.sre_engine.specs.Costs.{CostsUpTo}
 use Rattle.sre_machine.specs.Paying.{run_cost, RunStops, RunSettles}
 
 -- what j runs cost, and what k more of them cost

@@ -1,11 +1,8 @@
 -- What the bound on the runs of a search comes to by each of a code's search hints.
-use Rattle.std.proofs.Common.{◌≡◌, ◌≤◌, ◌<◌, ◌+◌, ◌-◌, ◌&&◌, ◌||◌, ℕ, zero, suc, List, Bool, true, false, not, cond}
-use Rattle.std.proofs.Common.{Some, refl, sym, ◌∙◌, subst, arith}
-use Rattle.std.proofs.lemmas.Bool.{leb-true}
-use Rattle.sre_engine.specs.Terms.{SetItem, Asked, subject_of, stands_at, how_many, prefix_of, words_of, hints_of, Code}
-use Rattle.sre_engine.specs.Answers.{Shown}
-use Rattle.sre_engine.specs.Counts.{CountsUpTo, width_fits, prefix_stands}
-use Rattle.sre_engine.specs.Members.{IsFirstSet, is_among}
+use Rattle.sre_engine.proofs.Terms.{◌≡◌, ◌≤◌, ◌<◌, ◌+◌, ◌-◌, ◌&&◌, ◌||◌, ℕ, zero, suc, List, Bool, true, false, not}
+use Rattle.sre_engine.proofs.Terms.{cond, Some, refl, sym, ◌∙◌, subst, arith, leb-true, SetItem, Asked, subject_of}
+use Rattle.sre_engine.proofs.Terms.{stands_at, how_many, prefix_of, words_of, hints_of, Code, Shown, CountsUpTo}
+use Rattle.sre_engine.proofs.Terms.{width_fits, prefix_stands, IsFirstSet, is_among}
 use Rattle.sre_engine.proofs.MayStart.{own_set, may_run}
 use Rattle.sre_engine.proofs.Searching.{few_counted}
 

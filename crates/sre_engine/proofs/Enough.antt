@@ -1,17 +1,16 @@
 -- A search that memoizes each failure takes at most its step bound, unless an allocation failed. So it exceeds no
 -- sufficient step limit.
-use Rattle.std.proofs.Common.{◌≡◌, ℕ, ◌+◌, ◌-◌, ◌*◌, ◌≤◌, ◌⊎◌, inl, inr, Bool, true, length, Option, None, Result, Ok}
-use Rattle.std.proofs.Common.{Err, IfOk, ap, ◌∙◌, subst, arith}
-use Rattle.std.proofs.Math.Nat.{mul-le-mul_right}
+use Rattle.sre_engine.proofs.Terms.{◌≡◌, ℕ, ◌+◌, ◌-◌, ◌*◌, ◌≤◌, ◌⊎◌, inl, inr, Bool, true, length, Option, None, Result}
+use Rattle.sre_engine.proofs.Terms.{Ok, Err, ap, ◌∙◌, subst, arith, mul-le-mul_right, Ghosts, Refused, Tree, Whole}
+use Rattle.sre_engine.proofs.Terms.{Asked, IsRemembered, step_bound, most_steps, Request, start_of, end_of, asked_of}
+use Rattle.sre_engine.proofs.Terms.{code_of, words_of, items_of, Code, is_limited, left_of, Allowance, Halt}
+use Rattle.sre_engine.proofs.Terms.{Remembering, each_of, items_whole, Charged, SearchCosts, search_cost, most_tolls}
+use Rattle.sre_engine.proofs.Terms.{most_waits}
+use Rattle.std.proofs.Common.{IfOk}
 use Rattle.std.specs.declared.alloc.Allocator.{Ghosts as Memory}
-use Rattle.sre_engine.specs.Terms.{Ghosts, Refused, Tree, Whole, Asked, IsRemembered, step_bound, most_steps, Request}
-use Rattle.sre_engine.specs.Terms.{start_of, end_of, asked_of, code_of, words_of, items_of, Code, is_limited, left_of}
-use Rattle.sre_engine.specs.Terms.{Allowance, Halt, Remembering, each_of}
 use Rattle.sre_model.specs.Remembered.{kept_positions, sides}
 use Rattle.sre_model.specs.TreePrices.{cost_of}
-use Rattle.sre_code.proofs.Checked.{items_whole}
 use Rattle.sre_engine.specs.Counts.{AreEnough, KeepsToSteps}
-use Rattle.sre_engine.specs.Costs.{Charged, SearchCosts, search_cost, most_tolls, most_waits}
 use Rattle.sre_machine.specs.declared.turns.Halt.TheVariants as halt
 
 -- runs from as many starts as there are, from where a memo begins, cost no more

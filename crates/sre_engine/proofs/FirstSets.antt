@@ -1,15 +1,13 @@
 -- The ASCII characters with which a tree may begin.
-use Rattle.std.proofs.Common.{◌≢◌, ◌≡◌, ◌+◌, ◌-◌, ◌≤◌, ◌<◌, ℕ, Bool, true, false, ◌&&◌, ◌||◌, nat_lt, nat_le, List}
-use Rattle.std.proofs.Common.{length, refl, sym, ap, ◌∙◌, subst, arith}
-use Rattle.std.proofs.lemmas.Bool.Decides.{nat_tests}
+use Rattle.sre_engine.proofs.Terms.{◌≢◌, ◌≡◌, ◌+◌, ◌-◌, ◌≤◌, ◌<◌, ℕ, Bool, true, false, ◌&&◌, ◌||◌, nat_lt, nat_le}
+use Rattle.sre_engine.proofs.Terms.{List, length, refl, sym, ap, ◌∙◌, subst, arith, nat_tests, AsciiSet, contains, Tree}
+use Rattle.sre_engine.proofs.Terms.{Trees, Only, Or, Test, holds, Subject, char_at, passes, Word, word, skip}
+use Rattle.sre_engine.proofs.Terms.{ReadsBranch, NoWay, NoneOf, NotPassed, TreeStands, HasTree, HasAlternatives, Leads}
+use Rattle.sre_engine.proofs.Terms.{TakesAscii, same_word, word_of, opcode_within, stands_up_to, NotAmong}
 use Rattle.sre_chars.specs.declared.constants.SreOpcode.TheVariants as opcode
-use Rattle.sre_engine.specs.Terms.{AsciiSet, contains, Tree, Trees, Only, Or, Test, holds, Subject, char_at, passes}
-use Rattle.sre_engine.specs.Terms.{Word, word, skip, ReadsBranch, NoWay, NoneOf, NotPassed, TreeStands, HasTree}
-use Rattle.sre_engine.specs.Terms.{HasAlternatives, Leads, TakesAscii}
-use Rattle.sre_model.proofs.Words.{same_word, word_of, word_within, opcode_within}
+use Rattle.sre_model.proofs.Words.{word_within}
 use Rattle.sre_model.proofs.Places.{alternative_long}
-use Rattle.sre_model.proofs.FirstCharacters.{stands_up_to, only_none, or_none}
-use Rattle.sre_engine.specs.Starts.{NotAmong}
+use Rattle.sre_model.proofs.FirstCharacters.{only_none, or_none}
 
 -- a test that takes the ASCII characters of a set alone does not pass where none of them is, and none past ASCII
 among_taken : (s : Subject) (set : AsciiSet) (t : Test) (p : ℕ)

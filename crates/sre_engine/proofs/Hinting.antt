@@ -1,13 +1,10 @@
 -- What the confirmed search hints of a code imply for its tree.
-use Rattle.std.proofs.Common.{◌≡◌, ◌≤◌, ◌<◌, ◌+◌, ◌-◌, ◌^◌, ℕ, List, Bool, length, Option, Some, None, sym, ap, ◌∙◌}
-use Rattle.std.proofs.Common.{arith, inl, inr, SomeIff, slice_range, length-take, length-drop}
-use Rattle.std.proofs.lemmas.Bool.{cases_lt}
-use Rattle.sre_engine.specs.Terms.{Tree, width, Whole, IsCode, Asked, found, prefix_of, overlaps_of, words_of, hints_of}
-use Rattle.sre_engine.specs.Terms.{Code}
-use Rattle.sre_code.proofs.Checked.{code_tree, code_confirmed}
+use Rattle.sre_engine.proofs.Terms.{◌≡◌, ◌≤◌, ◌<◌, ◌+◌, ◌-◌, ◌^◌, ℕ, List, Bool, length, Option, Some, None, sym, ap}
+use Rattle.sre_engine.proofs.Terms.{◌∙◌, arith, inl, inr, slice_range, length-drop, cases_lt, Tree, width, Whole}
+use Rattle.sre_engine.proofs.Terms.{IsCode, Asked, found, prefix_of, overlaps_of, words_of, hints_of, Code, code_tree}
+use Rattle.sre_engine.proofs.Terms.{code_confirmed, IsPrefix, FitsAt, IsLast, Overlapping}
+use Rattle.std.proofs.Common.{SomeIff, length-take}
 use Rattle.sre_code.proofs.Borders.{overlaps_right}
-use Rattle.sre_engine.specs.Prefixed.{IsPrefix, FitsAt, IsLast}
-use Rattle.sre_engine.specs.Scans.{Overlapping}
 use Rattle.sre_engine.proofs.Steps.{overlapping}
 use Rattle.sre_engine.proofs.Answering.{NoneBefore, none_joined}
 use Rattle.sre_engine.proofs.Claiming.{Claimed, claim, claim_some, claim_few, claim_room, claim_overlaps, claim_spells}

@@ -1,21 +1,21 @@
 -- What the first code words lead to: a tree's first test, and its first position code.
-use Rattle.std.proofs.Common.{◌≡◌, ◌⊎◌, ◌+◌, ◌-◌, ◌<◌, ◌≤◌, ℕ, Bool, true, false, nat_lt, cond, List, Option, Some}
-use Rattle.std.proofs.Common.{None, IfSome, IsSome, IsSomeAnd, refl, sym, ap, ◌∙◌, subst, inl, inr, arith, true≢false}
-use Rattle.std.proofs.lemmas.Bool.Decides.{nat_tests}
-use Rattle.sre_engine.specs.Terms.{at_number, SreAtCode, SreOpcode, AsciiSet, Tree, Empty, Then, One, At, Mark, Test}
-use Rattle.sre_engine.specs.Terms.{Any, InCategory, Literal, NotLiteral, RunKind, GreedyRun, LazyRun, PossessiveRun}
-use Rattle.sre_engine.specs.Terms.{Plain, Word, Opcode, Reads, Role, ToRun, role, begins_test, TreeStands, TakesAscii}
+use Rattle.sre_engine.proofs.Terms.{◌≡◌, ◌⊎◌, ◌+◌, ◌-◌, ◌<◌, ◌≤◌, ℕ, Bool, true, false, nat_lt, cond, List, Option}
+use Rattle.sre_engine.proofs.Terms.{Some, None, IfSome, IsSomeAnd, refl, sym, ap, ◌∙◌, subst, inl, inr, arith}
+use Rattle.sre_engine.proofs.Terms.{true≢false, nat_tests, at_number, SreAtCode, SreOpcode, AsciiSet, Tree, Empty, Then}
+use Rattle.sre_engine.proofs.Terms.{One, At, Mark, Test, Any, InCategory, Literal, NotLiteral, RunKind, GreedyRun}
+use Rattle.sre_engine.proofs.Terms.{LazyRun, PossessiveRun, Plain, Word, Opcode, Reads, Role, ToRun, role, begins_test}
+use Rattle.sre_engine.proofs.Terms.{TreeStands, TakesAscii, same_word, same_opcode, HasRole, stands_up_to, whole_stands}
+use Rattle.sre_engine.proofs.Terms.{has_ascii, IsAsciiOf, LeadsToTest, LeadsToCode, Wants, WantsFirst, First}
+use Rattle.std.proofs.Common.{IsSome}
 use Rattle.sre_chars.specs.declared.constants.SreOpcode.TheVariants as opcode
 use Rattle.sre_model.specs.Tree.{Item, Run, Ascii, Unicode}
 use Rattle.sre_model.specs.Grammar.{ReadsItem, item_opcode, run_opcode, test_opcode}
 use Rattle.sre_model.specs.Roles.{ToTest, is_test_role}
-use Rattle.sre_model.proofs.Words.{same_word, same_opcode, opcode_low}
-use Rattle.sre_model.proofs.Families.{HasRole, item_role, role_same, test_kind, test_role, run_role}
-use Rattle.sre_model.proofs.FirstCharacters.{stands_up_to, whole_stands}
+use Rattle.sre_model.proofs.Words.{opcode_low}
+use Rattle.sre_model.proofs.Families.{item_role, role_same, test_kind, test_role, run_role}
 use Rattle.sre_request.specs.AsciiSets.{is_told}
-use Rattle.sre_engine.specs.Beginnings.{first_test, first_code, has_ascii, IsAsciiOf}
-use Rattle.sre_engine.specs.Leading.{is_passed, IsPast, Ahead, LeadsToTest, LeadsToCode, IsTestAt, Wants, WantsFirst}
-use Rattle.sre_engine.specs.declared.engine.first_characters.First.{First}
+use Rattle.sre_engine.specs.Beginnings.{first_test, first_code}
+use Rattle.sre_engine.specs.Leading.{is_passed, IsPast, Ahead, IsTestAt}
 
 -- The items before a first test, or a first position code
 

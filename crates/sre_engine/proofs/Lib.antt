@@ -1,3 +1,4 @@
+mod Terms
 pub mod Answering
 pub mod LeadingStarts
 pub mod Walking

@@ -1,9 +1,7 @@
 -- What a search says within a budget of steps, by what it says of its answer.
-use Rattle.std.proofs.Common.{◌≡◌, ◌≢◌, Bool, true, false, Some, None, Ok, Err, refl}
-use Rattle.sre_engine.specs.Terms.{Ghosts, no_marks, Request, code_of}
-use Rattle.sre_engine.specs.Answers.{Shown, MayTakeMemory}
+use Rattle.sre_engine.proofs.Terms.{◌≡◌, ◌≢◌, Bool, true, false, Some, None, Ok, Err, refl, Ghosts, no_marks, Request}
+use Rattle.sre_engine.proofs.Terms.{code_of, Shown, MayTakeMemory, Answered, RunsOnceAnchored}
 use Rattle.sre_engine.specs.Counts.{BeginsAgain}
-use Rattle.sre_engine.specs.Searches.{Answered, RunsOnceAnchored}
 use Rattle.sre_engine.specs.Within.{AnsweredWithin}
 
 module _ {S E F : Type 0} {text : Ghosts S} (r : Request S text) (s : Shown) where

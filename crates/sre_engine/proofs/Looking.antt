@@ -1,22 +1,15 @@
 -- How a search goes from candidate to candidate.
-use Rattle.std.proofs.Common.{◌≡◌, ◌≤◌, ◌<◌, ◌+◌, ◌-◌, ℕ, Bool, true, false, Option, Some, None, Result, Ok, Err, IfErr}
-use Rattle.std.proofs.Common.{IsErrAnd, refl, sym, ◌∙◌, subst, arith}
-use Rattle.std.proofs.Math.Nat.{mul-le-mul_right}
+use Rattle.sre_engine.proofs.Terms.{◌≡◌, ◌≤◌, ◌<◌, ◌+◌, ◌-◌, ℕ, Bool, true, false, Option, Some, None, Result, Ok, Err}
+use Rattle.sre_engine.proofs.Terms.{IfErr, IsErrAnd, refl, sym, ◌∙◌, subst, arith, mul-le-mul_right, Ghosts}
+use Rattle.sre_engine.proofs.Terms.{StringCursor, Tree, no_marks, Whole, found, bare, Decides, outcomes, words_of}
+use Rattle.sre_engine.proofs.Terms.{hints_of, Request, start_of, end_of, code_of, asked_of, stands_in, run_of}
+use Rattle.sre_engine.proofs.Terms.{is_limited, left_of, Halted, Allowance, Halt, code_tree, items_whole, Shown}
+use Rattle.sre_engine.proofs.Terms.{SpentUpTo, IsCandidate, Failed, Charged, SearchCosts, IsLast, FitsAt, NoMatch}
+use Rattle.sre_engine.proofs.Terms.{Answered, CountsInside, Candidate}
 use Rattle.std.specs.declared.alloc.Allocator.{Ghosts as Memory}
-use Rattle.sre_engine.specs.Terms.{Ghosts, StringCursor, Tree, no_marks, Whole, found, bare, Decides, outcomes}
-use Rattle.sre_engine.specs.Terms.{words_of, hints_of, Request, start_of, end_of, code_of, asked_of, stands_in, run_of}
-use Rattle.sre_engine.specs.Terms.{is_limited, left_of, Halted, Allowance, Halt}
-use Rattle.sre_code.proofs.Checked.{code_tree, items_whole}
 use Rattle.sre_machine.specs.Memos.{Recalls, Begins}
 use Rattle.sre_machine.specs.Runners.{RunnerValue, IsReady, Began, AttemptDecides, AttemptCosts}
-use Rattle.sre_engine.specs.Answers.{Shown}
-use Rattle.sre_engine.specs.Counts.{SpentUpTo}
-use Rattle.sre_engine.specs.Candidates.{IsCandidate, ComparesFew, Failed}
-use Rattle.sre_engine.specs.Costs.{Charged, SearchCosts}
-use Rattle.sre_engine.specs.Prefixed.{IsLast, FitsAt}
-use Rattle.sre_engine.specs.Scans.{NoMatch}
-use Rattle.sre_engine.specs.Searches.{Answered, CountsInside}
-use Rattle.sre_engine.specs.declared.engine.candidates.Candidate.{Candidate}
+use Rattle.sre_engine.specs.Candidates.{ComparesFew}
 use Rattle.sre_engine.proofs.Answering.{NoneBefore, none_joined, none_yet, none_at, some_at, span_at, found_first}
 use Rattle.sre_engine.proofs.Costing.{CostsSince, since_begin, since_run, since_stopped, since_ended}
 use Rattle.sre_engine.proofs.LeadingStarts.{found_none_behind}

@@ -1,15 +1,9 @@
 -- At how many starts a search ran: no more than there are at which a run may begin.
-use Rattle.std.proofs.Common.{◌≡◌, ◌≤◌, ◌+◌, ◌-◌, ◌*◌, ◌&&◌, ◌||◌, ℕ, List, [], Bool, true, false, not, length, Option}
-use Rattle.std.proofs.Common.{Some, None, Result, Ok, Err, OnErr, refl, sym, ap, ◌∙◌, subst, arith}
-use Rattle.std.proofs.lemmas.Bool.Decides.{nat_tests}
-use Rattle.sre_engine.specs.Terms.{SetItem, Asked, subject_of, stands_at, how_many, words_of, hints_of, Code}
-use Rattle.sre_code.proofs.Checked.{code_tree, code_confirmed}
-use Rattle.sre_engine.specs.Answers.{Shown}
-use Rattle.sre_engine.specs.Counts.{CountsUpTo, width_fits, prefix_stands, may_start}
-use Rattle.sre_engine.specs.Candidates.{MayBegin}
-use Rattle.sre_engine.specs.Members.{IsFirstSet, is_among}
-use Rattle.sre_engine.specs.Prefixed.{IsPrefix, IsLast, FitsAt}
-use Rattle.sre_engine.specs.Scans.{Stands}
+use Rattle.sre_engine.proofs.Terms.{◌≡◌, ◌≤◌, ◌+◌, ◌-◌, ◌*◌, ◌&&◌, ◌||◌, ℕ, List, [], Bool, true, false, not, length}
+use Rattle.sre_engine.proofs.Terms.{Option, Some, None, Result, Ok, Err, OnErr, refl, sym, ap, ◌∙◌, subst, arith}
+use Rattle.sre_engine.proofs.Terms.{nat_tests, SetItem, Asked, subject_of, stands_at, how_many, words_of, hints_of}
+use Rattle.sre_engine.proofs.Terms.{Code, code_tree, code_confirmed, Shown, CountsUpTo, width_fits, prefix_stands}
+use Rattle.sre_engine.proofs.Terms.{may_start, MayBegin, IsFirstSet, is_among, IsPrefix, IsLast, FitsAt, Stands}
 use Rattle.sre_engine.proofs.AmongMembers.{some_set}
 use Rattle.sre_engine.proofs.Claiming.{claim_none}
 use Rattle.sre_engine.proofs.FirstMembers.{no_prefix}

@@ -1,18 +1,15 @@
 -- Repeats that need no character, where a tree begins with them: it may begin with what follows them, too.
-use Rattle.std.proofs.Common.{◌≡◌, ℕ, ◌+◌, ◌-◌, false, List, [], refl, sym, ap, ◌∙◌, subst, arith, true≢false, ◌⊎◌, inl}
-use Rattle.std.proofs.Common.{inr, ◌||◌}
+use Rattle.sre_engine.proofs.Terms.{◌≡◌, ℕ, ◌+◌, ◌-◌, false, List, [], refl, sym, ap, ◌∙◌, subst, arith, true≢false}
+use Rattle.sre_engine.proofs.Terms.{◌⊎◌, inl, inr, ◌||◌, SreOpcode, Tree, Empty, Then, Test, RunKind, GreedyRun}
+use Rattle.sre_engine.proofs.Terms.{LazyRun, PossessiveRun, Marks, Subject, passes, Word, Opcode, skip, ToRun, role}
+use Rattle.sre_engine.proofs.Terms.{ways, longest_run, NoWay, TreeStands, Leads, contains, AsciiSet, TakesAscii}
+use Rattle.sre_engine.proofs.Terms.{same_word, same_opcode, HasRole, role_here, stands_up_to, PassesRun, NotAmong}
 use Rattle.sre_chars.specs.declared.constants.SreOpcode.TheVariants as opcode
-use Rattle.sre_engine.specs.Terms.{SreOpcode, Tree, Empty, Then, Test, RunKind, GreedyRun, LazyRun, PossessiveRun}
-use Rattle.sre_engine.specs.Terms.{Marks, Subject, passes, Word, Opcode, skip, ToRun, role, ways, longest_run, NoWay}
-use Rattle.sre_engine.specs.Terms.{TreeStands, Leads, contains, AsciiSet, TakesAscii}
 use Rattle.sre_model.specs.Tree.{Run}
 use Rattle.sre_model.specs.Ways.{most_from}
 use Rattle.sre_model.specs.FirstCharacters.{is_end}
-use Rattle.sre_model.proofs.Words.{same_word, same_opcode}
 use Rattle.sre_model.proofs.Longest.{run_has}
-use Rattle.sre_model.proofs.Families.{HasRole, is_run, role_here}
-use Rattle.sre_model.proofs.FirstCharacters.{stands_up_to}
-use Rattle.sre_engine.specs.Starts.{PassesRun, NotAmong}
+use Rattle.sre_model.proofs.Families.{is_run}
 use Rattle.sre_engine.proofs.FirstSets.{union_lacks, taken_bars}
 
 -- a run, by its opcode

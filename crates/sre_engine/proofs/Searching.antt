@@ -1,17 +1,13 @@
 -- What a search along the positions of a prefix comes to.
-use Rattle.std.proofs.Common.{◌≡◌, ◌≤◌, ◌<◌, ◌+◌, ◌||◌, ◌&&◌, ℕ, zero, suc, List, [], ◌∷◌, Bool, true, false, not, cond}
-use Rattle.std.proofs.Common.{length, nat_eq, Option, Some, None, refl, sym, ap, ◌∙◌, subst, arith}
+use Rattle.sre_engine.proofs.Terms.{◌≡◌, ◌≤◌, ◌<◌, ◌+◌, ◌||◌, ◌&&◌, ℕ, zero, suc, List, [], ◌∷◌, Bool, true, false, not}
+use Rattle.sre_engine.proofs.Terms.{cond, length, nat_eq, Option, Some, None, refl, sym, ap, ◌∙◌, subst, arith}
+use Rattle.sre_engine.proofs.Terms.{nat_tests, StringCursor, Tree, Empty, Then, At, is_anchored, Marks, no_marks, Way}
+use Rattle.sre_engine.proofs.Terms.{here, ways, width, Whole, Asked, Match, subject_of, is_accepted, at_start, found}
+use Rattle.sre_engine.proofs.Terms.{Decides, outcomes, Run, spells, behind_items, is_empty, stands_at, how_many}
+use Rattle.sre_engine.proofs.Terms.{words_of, Code, none-found, EachFar, IsPrefix, Stands, NoPlace, NoneBetween}
 use Rattle.std.specs.List.{filter}
-use Rattle.std.proofs.lemmas.Bool.Decides.{nat_tests}
-use Rattle.sre_engine.specs.Terms.{StringCursor, Tree, Empty, Then, At, is_anchored, Marks, no_marks, Way, here, ways}
-use Rattle.sre_engine.specs.Terms.{width, Whole, Asked, Match, subject_of, is_accepted, at_start, found, Decides}
-use Rattle.sre_engine.specs.Terms.{outcomes, Run, spells, behind_items, is_empty, stands_at, how_many, words_of, Code}
 use Rattle.sre_model.specs.Found.{first_accepted}
-use Rattle.sre_model.proofs.FoundLaws.{none-found}
-use Rattle.sre_model.proofs.WideWays.{EachFar, narrow_none}
-use Rattle.sre_engine.specs.Prefixed.{IsPrefix}
-use Rattle.sre_engine.specs.Scans.{Stands, NoPlace}
-use Rattle.sre_engine.specs.Starts.{NoneBetween}
+use Rattle.sre_model.proofs.WideWays.{narrow_none}
 use Rattle.sre_engine.proofs.Answering.{NoneBefore, none_here, none_joined}
 use Rattle.sre_engine.proofs.PrefixWays.{spelled_none, spelled_far, spelled_ways, stand_fit, stand_parts}
 

@@ -1,9 +1,8 @@
 -- Where no word of a prefix is matched, the scan continues after the next first word, or after the next position of
 -- another one.
-use Rattle.std.proofs.Common.{ℕ, ◌+◌, ◌-◌, ◌≡◌, ◌≢◌, ◌<◌, ◌≤◌, List, length, slice_index, refl, sym, ◌∙◌, subst, true}
-use Rattle.std.proofs.Common.{false, arith}
-use Rattle.sre_engine.specs.Terms.{StringCursor, Run}
-use Rattle.sre_engine.specs.Scans.{NoPlace, Front, Here, GoesTo, FirstSame}
+use Rattle.sre_engine.proofs.Terms.{ℕ, ◌+◌, ◌-◌, ◌≡◌, ◌≢◌, ◌<◌, ◌≤◌, List, length, slice_index, refl, sym, ◌∙◌, subst}
+use Rattle.sre_engine.proofs.Terms.{true, false, arith, StringCursor, Run, NoPlace, Front, Here, FirstSame}
+use Rattle.sre_engine.specs.Scans.{GoesTo}
 use Rattle.sre_engine.proofs.Steps.{Inside, join_places, more, fresh}
 
 -- no words end somewhere on in the window

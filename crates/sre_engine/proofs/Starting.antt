@@ -1,14 +1,10 @@
 -- Which starts are barred, and what being barred rules out.
-use Rattle.std.proofs.Common.{◌≡◌, ◌+◌, ◌≢◌, ◌≤◌, ◌<◌, ◌-◌, ℕ, Bool, true, false, nat_eq, List, arith, inl, inr, sym}
-use Rattle.std.proofs.Common.{subst, Option, refl, Some, None}
-use Rattle.std.proofs.lemmas.Bool.{cases_lt}
-use Rattle.std.proofs.lemmas.Bool.Decides.{nat_tests}
-use Rattle.sre_engine.specs.Terms.{Sought, BEGINNING_LINE, SreAtCode, StringCursor, Tree, WholeItems, no_marks, Asked}
-use Rattle.sre_engine.specs.Terms.{subject_of, at_start, Subject, char_at, holds_at, Run, NoWay, TreeStands, Leads}
-use Rattle.sre_model.proofs.FirstCharacters.{whole_stands}
-use Rattle.sre_engine.specs.declared.engine.first_characters.First.{First}
-use Rattle.sre_engine.specs.Starts.{IsElsewhere, IsLacking, Barred, Bars, AllBarred, BarredUpTo, HeldFrom, HeldNowhere}
-use Rattle.sre_engine.specs.Starts.{NextStart, NoneBetween, NoneUntil}
+use Rattle.sre_engine.proofs.Terms.{◌≡◌, ◌+◌, ◌≢◌, ◌≤◌, ◌<◌, ◌-◌, ℕ, Bool, true, false, nat_eq, List, arith, inl, inr}
+use Rattle.sre_engine.proofs.Terms.{sym, subst, Option, refl, Some, None, cases_lt, nat_tests, Sought, BEGINNING_LINE}
+use Rattle.sre_engine.proofs.Terms.{SreAtCode, StringCursor, Tree, WholeItems, no_marks, Asked, subject_of, at_start}
+use Rattle.sre_engine.proofs.Terms.{Subject, char_at, holds_at, Run, NoWay, TreeStands, Leads, whole_stands, First}
+use Rattle.sre_engine.proofs.Terms.{IsElsewhere, IsLacking, Bars, BarredUpTo, NextStart, NoneBetween, NoneUntil}
+use Rattle.sre_engine.specs.Starts.{Barred, AllBarred, HeldFrom, HeldNowhere}
 use Rattle.sre_engine.proofs.Answering.{none_joined}
 
 -- a description of what the first words lead to bars

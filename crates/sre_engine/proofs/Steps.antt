@@ -1,10 +1,9 @@
 -- One scan with overlap words.
-use Rattle.std.proofs.Common.{ℕ, ◌+◌, ◌-◌, ◌*◌, ◌≡◌, ◌≢◌, ◌<◌, ◌≤◌, ◌⊎◌, List, length, slice_index, ⊎_elim, Bool, true}
-use Rattle.std.proofs.Common.{false, sym, ◌∙◌, ap, subst, arith}
-use Rattle.std.proofs.lemmas.Bool.{cases_lt}
+use Rattle.sre_engine.proofs.Terms.{ℕ, ◌+◌, ◌-◌, ◌*◌, ◌≡◌, ◌≢◌, ◌<◌, ◌≤◌, ◌⊎◌, List, length, slice_index, ⊎_elim, Bool}
+use Rattle.sre_engine.proofs.Terms.{true, false, sym, ◌∙◌, ap, subst, arith, cases_lt, Sought, StringCursor, Run}
+use Rattle.sre_engine.proofs.Terms.{Overlapping, Fits, Stands, NoPlace, Front, Here, FirstSame}
 use Rattle.sre_code.specs.Borders.{Right}
-use Rattle.sre_engine.specs.Terms.{Sought, StringCursor, Run}
-use Rattle.sre_engine.specs.Scans.{Border, Longest, Overlapping, Fits, Stands, NoPlace, Front, Here, FirstSame}
+use Rattle.sre_engine.specs.Scans.{Border, Longest}
 
 -- a scan inside one character: i matched words end at q, and none of the places passed since b counts
 pub record Inside (t p : List ℕ) (a e q b i c : ℕ) : Type 0 where

@@ -1,13 +1,10 @@
 -- What the steps of an iteration count together.
-use Rattle.std.proofs.Common.{◌≡◌, ◌≤◌, ◌+◌, ◌-◌, ℕ, List, Bool, nat_eq, [], ◌∷◌, ◌++◌, map, Option, Some, None, refl}
-use Rattle.std.proofs.Common.{sym, ap, ◌∙◌, subst, arith}
+use Rattle.sre_engine.proofs.Terms.{◌≡◌, ◌≤◌, ◌+◌, ◌-◌, ℕ, List, Bool, nat_eq, [], ◌∷◌, ◌++◌, map, Option, Some, None}
+use Rattle.sre_engine.proofs.Terms.{refl, sym, ap, ◌∙◌, subst, arith, SetItem, Asked, asked_after, how_many, words_of}
+use Rattle.sre_engine.proofs.Terms.{hints_of, Code, Ghosts, Request, start_of, end_of, code_of, must_advance_of}
+use Rattle.sre_engine.proofs.Terms.{asked_of, Shown, match_shown, CountsUpTo, StepsCount, width_fits, prefix_stands}
+use Rattle.sre_engine.proofs.Terms.{CountsInside, GoesOn}
 use mathlib.Core.List.{append_assoc, map-append}
-use Rattle.sre_engine.specs.Terms.{SetItem, Asked, asked_after, how_many, words_of, hints_of, Code, Ghosts, Request}
-use Rattle.sre_engine.specs.Terms.{start_of, end_of, code_of, must_advance_of, asked_of}
-use Rattle.sre_engine.specs.Answers.{Shown, match_shown}
-use Rattle.sre_engine.specs.Counts.{CountsUpTo, StepsCount, width_fits, prefix_stands}
-use Rattle.sre_engine.specs.Searches.{CountsInside}
-use Rattle.sre_engine.specs.Walks.{GoesOn}
 use Rattle.sre_engine.proofs.MayStart.{may_run}
 use Rattle.sre_engine.proofs.CountLaws.{how_many_weaker}
 use Rattle.sre_engine.proofs.PrefixWays.{how_many_add, how_many_grows}

@@ -1,8 +1,5 @@
-use Rattle.std.proofs.Common.{◌≡◌, ◌+◌, subst, ap, arith, rules}
-use Rattle.sre_engine.specs.Terms.{Opcode, Word, skip}
-use Rattle.sre_model.proofs.Words.{word_of}
-use Rattle.sre_model.proofs.FirstCharacters.{tree_within, run_operand, run_there}
-use Rattle.sre_engine.specs.Starts.{PassesRun}
+use Rattle.sre_engine.proofs.Terms.{◌≡◌, ◌+◌, subst, ap, arith, rules, Opcode, Word, skip, word_of, tree_within}
+use Rattle.sre_engine.proofs.Terms.{run_operand, run_there, PassesRun}
 use Rattle.sre_engine.proofs.OptionalRuns.{run_here, passes_run}
 use Rattle.sre_engine.proofs.engine.first_characters.behind_run.Goals as goal
 

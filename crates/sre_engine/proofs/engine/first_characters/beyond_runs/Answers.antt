@@ -1,6 +1,4 @@
-use Rattle.std.proofs.Common.{◌+◌, arith}
-use Rattle.sre_engine.specs.Terms.{Tree, TreeStands}
-use Rattle.sre_model.proofs.FirstCharacters.{tree_within, leads_tree}
+use Rattle.sre_engine.proofs.Terms.{◌+◌, arith, Tree, TreeStands, tree_within, leads_tree}
 use Rattle.sre_engine.proofs.FirstSets.{own_bars}
 use Rattle.sre_engine.proofs.OptionalRuns.{Beyond, beyond_more, beyond_done}
 use Rattle.sre_engine.proofs.engine.first_characters.beyond_runs.Goals as goal

@@ -1,5 +1,4 @@
-use Rattle.std.proofs.Common.{◌-◌, length}
-use Rattle.sre_engine.specs.Terms.{Tree, TreeStands, HasTree}
+use Rattle.sre_engine.proofs.Terms.{◌-◌, length, Tree, TreeStands, HasTree}
 use Rattle.sre_engine.proofs.OptionalRuns.{Beyond}
 use Rattle.sre_engine.proofs.engine.first_characters.beyond_runs.Given as goal
 

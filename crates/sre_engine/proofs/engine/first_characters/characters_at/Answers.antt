@@ -1,8 +1,7 @@
-use Rattle.std.proofs.Common.{refl, rules}
+use Rattle.sre_engine.proofs.Terms.{refl, rules, role_here, tree_within}
 use Rattle.sre_chars.specs.declared.constants.SreOpcode.TheVariants as opcode
 use Rattle.sre_model.specs.Roles.{ToBranch}
-use Rattle.sre_model.proofs.Families.{role_here}
-use Rattle.sre_model.proofs.FirstCharacters.{tree_within, branch_there, branch_bars}
+use Rattle.sre_model.proofs.FirstCharacters.{branch_there, branch_bars}
 use Rattle.sre_engine.proofs.engine.first_characters.characters_at.Goals as goal
 
 pub word-requires : goal.word-requires

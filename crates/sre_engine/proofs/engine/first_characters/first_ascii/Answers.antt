@@ -1,5 +1,4 @@
-use Rattle.std.proofs.Common.{subst, arith}
-use Rattle.sre_engine.specs.Leading.{Wants}
+use Rattle.sre_engine.proofs.Terms.{subst, arith, Wants}
 use Rattle.sre_engine.proofs.Beginnings.{test_lacks}
 use Rattle.sre_engine.proofs.Leading.{ascii_known}
 use Rattle.sre_engine.proofs.engine.first_characters.first_ascii.Goals as goal

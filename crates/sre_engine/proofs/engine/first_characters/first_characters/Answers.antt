@@ -1,5 +1,4 @@
-use Rattle.std.proofs.Common.{refl, arith}
-use Rattle.sre_model.proofs.FirstCharacters.{leads_tree}
+use Rattle.sre_engine.proofs.Terms.{refl, arith, leads_tree}
 use Rattle.sre_engine.proofs.FirstSets.{alternatives_tree, alternatives_next, alternatives_within, own_bars, left_there}
 use Rattle.sre_engine.proofs.FirstSets.{left_more, left_done}
 use Rattle.sre_engine.proofs.engine.first_characters.first_characters.Goals as goal

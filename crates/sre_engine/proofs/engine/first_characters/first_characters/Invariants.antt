@@ -1,5 +1,4 @@
-use Rattle.std.proofs.Common.{◌-◌, ℕ, length}
-use Rattle.sre_engine.specs.Terms.{Trees, ReadsBranch}
+use Rattle.sre_engine.proofs.Terms.{◌-◌, ℕ, length, Trees, ReadsBranch}
 use Rattle.sre_engine.proofs.FirstSets.{Left}
 use Rattle.sre_engine.proofs.engine.first_characters.first_characters.Given as goal
 

@@ -1,7 +1,5 @@
-use Rattle.std.proofs.Common.{◌-◌, ◌<◌, ◌≤◌, ℕ, length}
-use Rattle.sre_engine.specs.Terms.{Tree, Subject, NoWay, TreeStands, Leads}
-use Rattle.sre_engine.specs.Starts.{IsElsewhere}
-use Rattle.sre_engine.specs.Leading.{LeadsToTest, LeadsToCode}
+use Rattle.sre_engine.proofs.Terms.{◌-◌, ◌<◌, ◌≤◌, ℕ, length, Tree, Subject, NoWay, TreeStands, Leads, IsElsewhere}
+use Rattle.sre_engine.proofs.Terms.{LeadsToTest, LeadsToCode}
 use Rattle.sre_engine.proofs.engine.first_characters.follow.Given as goal
 
 abbrev pub invariant-item : goal.invariant-item

@@ -1,7 +1,5 @@
-use Rattle.std.proofs.Common.{sym, ◌∙◌, ◌≤◌, rules}
-use Rattle.sre_engine.specs.Terms.{Opcode}
-use Rattle.sre_model.proofs.FirstCharacters.{tree_within, test_there, test_bars, run_operand, run_there, run_bars}
-use Rattle.sre_model.proofs.FirstCharacters.{some_test_here}
+use Rattle.sre_engine.proofs.Terms.{sym, ◌∙◌, ◌≤◌, rules, Opcode, tree_within, run_operand, run_there}
+use Rattle.sre_model.proofs.FirstCharacters.{test_there, test_bars, run_bars, some_test_here}
 use Rattle.sre_engine.proofs.OptionalRuns.{run_here}
 use Rattle.sre_engine.proofs.Leading.{found_here, found_inside, found_some, found_known, found_either}
 use Rattle.sre_engine.proofs.engine.first_characters.wanted_test.Goals as goal

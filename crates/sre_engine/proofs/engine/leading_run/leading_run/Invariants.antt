@@ -1,6 +1,4 @@
-use Rattle.std.proofs.Common.{◌-◌, ◌<◌, length}
-use Rattle.sre_engine.specs.Terms.{Tree, WholeItems, run_of}
-use Rattle.sre_model.proofs.LeadingWords.{RunAhead}
+use Rattle.sre_engine.proofs.Terms.{◌-◌, ◌<◌, length, Tree, WholeItems, run_of, RunAhead}
 use Rattle.sre_engine.proofs.engine.leading_run.leading_run.Given as goal
 
 abbrev pub invariant-item : goal.invariant-item

@@ -1,11 +1,8 @@
-use Rattle.std.proofs.Common.{ℕ, ◌≡◌, ◌+◌, ◌<◌, ◌∙◌, sym, ap, subst, arith}
-use Rattle.sre_engine.specs.Terms.{Test, unlimited, longest_run, TestStands, RunStands, subject_of, end_of, asked_of}
-use Rattle.sre_engine.specs.Terms.{run_of}
-use Rattle.sre_engine.specs.Starts.{NoneBetween}
+use Rattle.sre_engine.proofs.Terms.{ℕ, ◌≡◌, ◌+◌, ◌<◌, ◌∙◌, sym, ap, subst, arith, Test, unlimited, longest_run}
+use Rattle.sre_engine.proofs.Terms.{TestStands, RunStands, subject_of, end_of, asked_of, run_of, NoneBetween, tree_of}
+use Rattle.sre_engine.proofs.Terms.{whole_of}
 use Rattle.sre_model.proofs.Bounds.{longest_run-fits}
-use Rattle.sre_model.proofs.TreeOf.{tree_of}
 use Rattle.sre_model.proofs.LeadingWords.{run_test, front_test}
-use Rattle.sre_code.proofs.Checked.{whole_of}
 use Rattle.sre_engine.proofs.LeadingStarts.{none_until, none_past_run, none_behind_front}
 use Rattle.sre_engine.proofs.engine.leading_run.past_run.Goals as goal
 

@@ -1,6 +1,5 @@
-use Rattle.std.proofs.Common.{◌≤◌, ◌-◌, List}
-use Rattle.sre_engine.specs.Terms.{SetItem, words_of, end_of, code_of, asked_of, run_of}
-use Rattle.sre_engine.specs.Members.{IsFirstSet, NoMember}
+use Rattle.sre_engine.proofs.Terms.{◌≤◌, ◌-◌, List, SetItem, words_of, end_of, code_of, asked_of, run_of, IsFirstSet}
+use Rattle.sre_engine.specs.Members.{NoMember}
 use Rattle.sre_engine.proofs.engine.members.next_taken.Given as goal
 
 abbrev pub invariant-character : goal.invariant-character

@@ -1,6 +1,4 @@
-use Rattle.std.proofs.Common.{◌-◌}
-use Rattle.sre_engine.specs.Terms.{end_of, run_of}
-use Rattle.sre_engine.specs.Starts.{WantedFrom}
+use Rattle.sre_engine.proofs.Terms.{◌-◌, end_of, run_of, WantedFrom}
 use Rattle.sre_engine.specs.declared.engine.first_characters.Wanted.TheVariants.{Characters}
 use Rattle.sre_engine.proofs.engine.next_start.first_among.Given as goal
 

@@ -1,6 +1,5 @@
-use Rattle.std.proofs.Common.{ℕ, ◌≡◌, ◌<◌, false, inl, inr, subst, sym, arith}
-use Rattle.std.proofs.lemmas.Bool.{cases_lt}
-use Rattle.sre_engine.specs.Terms.{contains, NotPassed, char_at, run_of}
+use Rattle.sre_engine.proofs.Terms.{ℕ, ◌≡◌, ◌<◌, false, inl, inr, subst, sym, arith, cases_lt, contains, NotPassed}
+use Rattle.sre_engine.proofs.Terms.{char_at, run_of}
 use Rattle.sre_engine.proofs.FirstSets.{set_lacks}
 use Rattle.sre_engine.proofs.engine.next_start.first_in_set.Goals as goal
 

@@ -1,6 +1,4 @@
-use Rattle.std.proofs.Common.{rules, sym, subst}
-use Rattle.sre_engine.specs.Terms.{run_of}
-use Rattle.sre_engine.specs.Starts.{NextStart}
+use Rattle.sre_engine.proofs.Terms.{rules, sym, subst, run_of, NextStart}
 use Rattle.sre_engine.proofs.Starting.{up_to_further, up_to_held, all_unheld}
 use Rattle.sre_engine.proofs.engine.next_start.next_start.Goals as goal
 

@@ -1,6 +1,4 @@
-use Rattle.std.proofs.Common.{◌-◌}
-use Rattle.sre_engine.specs.Terms.{end_of, run_of}
-use Rattle.sre_engine.specs.Starts.{BarredUpTo}
+use Rattle.sre_engine.proofs.Terms.{◌-◌, end_of, run_of, BarredUpTo}
 use Rattle.sre_engine.proofs.engine.next_start.next_start.Given as goal
 
 abbrev pub invariant-start : goal.invariant-start

@@ -1,6 +1,4 @@
-use Rattle.std.proofs.Common.{subst, Bool, IsTrue, slice_index}
-use Rattle.sre_engine.specs.Terms.{start_of, run_of}
-use Rattle.sre_engine.specs.Scans.{FirstSame}
+use Rattle.sre_engine.proofs.Terms.{subst, Bool, IsTrue, slice_index, start_of, run_of, FirstSame}
 use Rattle.sre_engine.proofs.Seeking.{sought_there, sought_other}
 use Rattle.sre_engine.proofs.engine.prefix.behind_sought.Goals as goal
 

@@ -1,7 +1,5 @@
-use Rattle.std.proofs.Common.{◌≡◌, ◌≤◌, ◌<◌, ◌+◌, ◌^◌, ℕ, List, length, Some, sym, ap, ◌∙◌, subst, arith}
-use Rattle.sre_engine.specs.Terms.{words_of, hints_of, prefix_of, overlaps_of, Code, Hints}
-use Rattle.sre_engine.specs.Prefixed.{IsPrefix}
-use Rattle.sre_engine.specs.Scans.{Overlapping}
+use Rattle.sre_engine.proofs.Terms.{◌≡◌, ◌≤◌, ◌<◌, ◌+◌, ◌^◌, ℕ, List, length, Some, sym, ap, ◌∙◌, subst, arith}
+use Rattle.sre_engine.proofs.Terms.{words_of, hints_of, prefix_of, overlaps_of, Code, Hints, IsPrefix, Overlapping}
 use Rattle.sre_engine.proofs.Hinting.{prefix_room, prefix_overlaps, prefix_is}
 use Rattle.sre_engine.proofs.engine.prefix.confirmed_prefix.Goals as goal
 use Rattle.sre_engine.proofs.engine.prefix.confirmed_prefix.Goals.{After-words-words}

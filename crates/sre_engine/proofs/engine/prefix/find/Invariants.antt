@@ -1,6 +1,4 @@
-use Rattle.std.proofs.Common.{◌-◌}
-use Rattle.sre_engine.specs.Terms.{start_of, end_of, run_of}
-use Rattle.sre_engine.specs.Scans.{Here, NoPlace}
+use Rattle.sre_engine.proofs.Terms.{◌-◌, start_of, end_of, run_of, Here, NoPlace}
 use Rattle.sre_engine.proofs.engine.prefix.find.Given as goal
 
 abbrev pub invariant-spot : goal.invariant-spot

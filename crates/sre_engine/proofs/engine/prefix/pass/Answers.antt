@@ -1,4 +1,4 @@
-use Rattle.std.proofs.Common.{arith, IsTrue, ◌∙◌}
+use Rattle.sre_engine.proofs.Terms.{arith, IsTrue, ◌∙◌}
 use Rattle.sre_engine.proofs.Steps.{fall}
 use Rattle.sre_engine.proofs.engine.prefix.pass.Goals as goal
 

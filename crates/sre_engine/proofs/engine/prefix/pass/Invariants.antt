@@ -1,5 +1,4 @@
-use Rattle.std.proofs.Common.{◌≡◌, ◌-◌, slice_index}
-use Rattle.sre_engine.specs.Terms.{start_of, end_of, run_of}
+use Rattle.sre_engine.proofs.Terms.{◌≡◌, ◌-◌, slice_index, start_of, end_of, run_of}
 use Rattle.sre_engine.proofs.Steps.{Inside}
 use Rattle.sre_engine.proofs.engine.prefix.pass.Given as goal
 

@@ -1,4 +1,4 @@
-use Rattle.std.proofs.Common.{◌<◌, ◌-◌, length}
+use Rattle.sre_engine.proofs.Terms.{◌<◌, ◌-◌, length}
 use Rattle.sre_engine.proofs.engine.prefix.rarest.Given as goal
 
 abbrev pub invariant-word : goal.invariant-word

@@ -1,4 +1,4 @@
-use Rattle.sre_engine.specs.Terms.{code_of, asked_of}
+use Rattle.sre_engine.proofs.Terms.{code_of, asked_of}
 use Rattle.sre_engine.proofs.Telling.{no_match_unplaced}
 use Rattle.sre_engine.proofs.engine.told.find_told.Goals as goal
 

@@ -1,5 +1,4 @@
-use Rattle.std.proofs.Common.{refl}
-use Rattle.sre_engine.specs.Terms.{code_of, asked_of}
+use Rattle.sre_engine.proofs.Terms.{refl, code_of, asked_of}
 use Rattle.sre_engine.proofs.AmongMembers.{none_until_member}
 use Rattle.sre_engine.proofs.engine.told.next_member_told.Goals as goal
 

@@ -1,6 +1,4 @@
-use Rattle.std.proofs.Common.{refl}
-use Rattle.sre_engine.specs.Terms.{asked_of, run_of}
-use Rattle.sre_code.proofs.Checked.{items_whole}
+use Rattle.sre_engine.proofs.Terms.{refl, asked_of, run_of, items_whole}
 use Rattle.sre_engine.proofs.Starting.{none_until_start}
 use Rattle.sre_engine.proofs.engine.told.next_start_told.Goals as goal
 

@@ -1,10 +1,8 @@
-use Rattle.std.proofs.Common.{◌≡◌, ℕ, List, subst, sym, OnErr}
-use Rattle.sre_engine.specs.Terms.{items_of, AllAdmitted, Admitted, string_of, start_of, code_of, stands_in}
-use Rattle.sre_engine.specs.Answers.{MayTakeMemory}
-use Rattle.sre_engine.specs.Costs.{Charged}
+use Rattle.sre_engine.proofs.Terms.{◌≡◌, ℕ, List, subst, sym, OnErr, items_of, AllAdmitted, Admitted, string_of}
+use Rattle.sre_engine.proofs.Terms.{start_of, code_of, stands_in, MayTakeMemory, Charged, SetsOf, Answered}
+use Rattle.sre_engine.proofs.Terms.{RunsOnceAnchored}
 use Rattle.sre_engine.specs.Counts.{runs_of}
-use Rattle.sre_engine.specs.FirstSets.{Sets, SetsOf}
-use Rattle.sre_engine.specs.Searches.{Answered, RunsOnceAnchored}
+use Rattle.sre_engine.specs.FirstSets.{Sets}
 use Rattle.sre_engine.proofs.Carrying.{answered_alike, charged_alike}
 use Rattle.sre_engine.proofs.engine.walk.search_admitted.Goals as goal
 

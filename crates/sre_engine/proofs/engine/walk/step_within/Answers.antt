@@ -1,8 +1,5 @@
-use Rattle.std.proofs.Common.{◌≡◌, refl, ap, ◌∙◌}
-use Rattle.sre_engine.specs.Terms.{Asked, words_of, hints_of, code_of, asked_of}
-use Rattle.sre_engine.specs.Walks.{GoesOn}
+use Rattle.sre_engine.proofs.Terms.{◌≡◌, refl, ap, ◌∙◌, Asked, words_of, hints_of, code_of, asked_of, GoesOn, code_tree}
 use Rattle.sre_engine.proofs.Walking.{stands_next, steps_on, falls_on}
-use Rattle.sre_code.proofs.Checked.{code_tree}
 use Rattle.sre_engine.proofs.engine.walk.step_within.Goals as goal
 use Rattle.sre_engine.proofs.engine.walk.step_within.Goals.{After-set_start}
 use Rattle.sre_engine.proofs.engine.walk.step_within.Given.{Over}

@@ -1,8 +1,5 @@
-use Rattle.std.proofs.Common.{[], ◌∷◌, cond, ◌≡◌, ◌+◌, ◌-◌, ◌∙◌, arith, ap, subst, sym, vec_len}
-use Rattle.sre_engine.specs.Terms.{Whole, walk, words_of, start_of, end_of, code_of, asked_of}
-use Rattle.sre_engine.specs.Listed.{match_of}
-use Rattle.sre_engine.specs.Answers.{match_shown}
-use Rattle.sre_engine.specs.Counts.{StepsCount}
+use Rattle.sre_engine.proofs.Terms.{[], ◌∷◌, cond, ◌≡◌, ◌+◌, ◌-◌, ◌∙◌, arith, ap, subst, sym, vec_len, Whole, walk}
+use Rattle.sre_engine.proofs.Terms.{words_of, start_of, end_of, code_of, asked_of, match_of, match_shown, StepsCount}
 use Rattle.sre_engine.proofs.WalkCounts.{counts_more, inside_on, match_on, asked_on, list_on}
 use Rattle.sre_engine.proofs.engine.whole_walk.add_matches.Goals as goal
 use Rattle.sre_engine.proofs.engine.whole_walk.add_matches.Goals.{After-counted_step}

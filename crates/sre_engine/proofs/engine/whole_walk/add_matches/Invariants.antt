@@ -1,9 +1,6 @@
-use Rattle.std.proofs.Common.{◌≡◌, ◌≤◌, ◌+◌, ◌-◌, ◌++◌, map, vec_len}
-use Rattle.sre_engine.specs.Terms.{Tree, Whole, walk, most_matches, items_of, words_of, string_of, start_of, end_of}
-use Rattle.sre_engine.specs.Terms.{code_of, must_advance_of, asked_of, stands_in}
-use Rattle.sre_engine.specs.Counts.{StepsCount}
-use Rattle.sre_engine.specs.FirstSets.{SetsOf}
-use Rattle.sre_engine.specs.Listed.{match_of}
+use Rattle.sre_engine.proofs.Terms.{◌≡◌, ◌≤◌, ◌+◌, ◌-◌, ◌++◌, map, vec_len, Tree, Whole, walk, most_matches, items_of}
+use Rattle.sre_engine.proofs.Terms.{words_of, string_of, start_of, end_of, code_of, must_advance_of, asked_of}
+use Rattle.sre_engine.proofs.Terms.{stands_in, StepsCount, SetsOf, match_of}
 use Rattle.sre_engine.proofs.WalkCounts.{step_of}
 use Rattle.sre_engine.proofs.engine.whole_walk.add_matches.Given as goal
 

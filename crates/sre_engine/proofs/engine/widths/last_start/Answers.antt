@@ -1,6 +1,5 @@
-use Rattle.std.proofs.Common.{◌≡◌, ℕ, Option, Some, None, sym, ap, ◌∙◌, subst}
-use Rattle.sre_engine.specs.Terms.{hints_of, Code, Hints, code_of, asked_of}
-use Rattle.sre_engine.specs.Prefixed.{IsLast}
+use Rattle.sre_engine.proofs.Terms.{◌≡◌, ℕ, Option, Some, None, sym, ap, ◌∙◌, subst, hints_of, Code, Hints, code_of}
+use Rattle.sre_engine.proofs.Terms.{asked_of, IsLast}
 use Rattle.sre_engine.proofs.Hinting.{last_none, last_if}
 use Rattle.sre_engine.proofs.engine.widths.last_start.Goals as goal
 

@@ -1,4 +1,4 @@
-use Rattle.sre_model.proofs.FirstCharacters.{whole_stands, leads_tree}
+use Rattle.sre_engine.proofs.Terms.{whole_stands, leads_tree}
 use Rattle.sre_engine.proofs.Starting.{bars_if}
 use Rattle.sre_engine.proofs.Leading.{wants_first}
 use Rattle.sre_engine.proofs.engine.first_characters.First.of_items.Goals as goal

@@ -1,5 +1,4 @@
-use Rattle.std.proofs.Math.Logic.{∥∥₁_elim}
-use Rattle.sre_engine.specs.Terms.{string_of, start_of}
+use Rattle.sre_engine.proofs.Terms.{∥∥₁_elim, string_of, start_of}
 use Rattle.sre_engine.proofs.engine.search_iter.SearchIter.next_within_by.Goals as goal
 
 pub step_limited-requires-clause-stands : goal.step_limited-requires-clause-stands

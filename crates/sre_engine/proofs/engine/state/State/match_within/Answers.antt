@@ -1,4 +1,4 @@
-use Rattle.std.proofs.Common.{refl, arith}
+use Rattle.sre_engine.proofs.Terms.{refl, arith}
 use Rattle.sre_engine.proofs.Enough.{keeps_to, used_up}
 use Rattle.sre_engine.proofs.engine.state.State.match_within.Goals as goal
 

@@ -1,5 +1,4 @@
-use Rattle.std.proofs.Common.{Ok, refl, ap, arith, rules}
-use Rattle.sre_engine.specs.Terms.{code_of, asked_of}
+use Rattle.sre_engine.proofs.Terms.{Ok, refl, ap, arith, rules, code_of, asked_of}
 use Rattle.sre_engine.proofs.Costing.{passed_on}
 use Rattle.sre_engine.proofs.Hinting.{past_none}
 use Rattle.sre_engine.proofs.Answering.{none_joined}

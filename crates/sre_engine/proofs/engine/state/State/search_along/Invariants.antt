@@ -1,5 +1,4 @@
-use Rattle.std.proofs.Common.{◌≡◌, ◌+◌, ◌-◌, true}
-use Rattle.sre_engine.specs.Terms.{string_of, end_of, code_of, asked_of, run_of}
+use Rattle.sre_engine.proofs.Terms.{◌≡◌, ◌+◌, ◌-◌, true, string_of, end_of, code_of, asked_of, run_of}
 use Rattle.sre_engine.proofs.Looking.{Searching}
 use Rattle.sre_engine.proofs.engine.state.State.search_along.Given as goal
 

@@ -1,6 +1,4 @@
-use Rattle.std.proofs.Common.{◌≡◌, true, false, refl, sym, ◌∙◌, rules}
-use Rattle.sre_code.proofs.Checked.{items_whole}
-use Rattle.sre_engine.specs.Terms.{code_of}
+use Rattle.sre_engine.proofs.Terms.{◌≡◌, true, false, refl, sym, ◌∙◌, rules, items_whole, code_of}
 use Rattle.sre_engine.proofs.MayStart.{not_literal, on_error}
 use Rattle.sre_engine.proofs.Searching.{anchored_never}
 use Rattle.sre_engine.proofs.engine.state.State.search_from.Goals as goal

@@ -1,8 +1,7 @@
-use Rattle.std.proofs.Common.{◌≡◌, ◌≤◌, ◌+◌, ◌-◌, ◌||◌, ℕ, true, false, not, nat_eq, Some, None, length, refl, sym, ap}
-use Rattle.std.proofs.Common.{◌∙◌, subst, arith, rules}
-use Rattle.sre_engine.specs.Terms.{StringCursor, no_marks, at_start, code_of, asked_of, stands_in}
+use Rattle.sre_engine.proofs.Terms.{◌≡◌, ◌≤◌, ◌+◌, ◌-◌, ◌||◌, ℕ, true, false, not, nat_eq, Some, None, length, refl}
+use Rattle.sre_engine.proofs.Terms.{sym, ap, ◌∙◌, subst, arith, rules, StringCursor, no_marks, at_start, code_of}
+use Rattle.sre_engine.proofs.Terms.{asked_of, stands_in, Stands}
 use Rattle.sre_turns.specs.Board.{BoardValue}
-use Rattle.sre_engine.specs.Scans.{Stands}
 use Rattle.sre_engine.proofs.Answering.{NoneBefore, found_first}
 use Rattle.sre_engine.proofs.Looking.{answered_no}
 use Rattle.sre_engine.proofs.Steps.{complete}

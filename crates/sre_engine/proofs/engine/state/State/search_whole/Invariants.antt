@@ -1,6 +1,5 @@
-use Rattle.std.proofs.Common.{◌≡◌, ◌+◌, ◌-◌}
-use Rattle.sre_engine.specs.Terms.{Tree, no_marks, Whole, bare, words_of, start_of, end_of, code_of, asked_of, run_of}
-use Rattle.sre_engine.specs.Scans.{Here}
+use Rattle.sre_engine.proofs.Terms.{◌≡◌, ◌+◌, ◌-◌, Tree, no_marks, Whole, bare, words_of, start_of, end_of, code_of}
+use Rattle.sre_engine.proofs.Terms.{asked_of, run_of, Here}
 use Rattle.sre_engine.proofs.Answering.{NoneBefore}
 use Rattle.sre_engine.proofs.engine.state.State.search_whole.Given as goal
 

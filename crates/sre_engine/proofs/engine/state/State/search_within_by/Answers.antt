@@ -1,4 +1,4 @@
-use Rattle.std.proofs.Common.{refl}
+use Rattle.sre_engine.proofs.Terms.{refl}
 use Rattle.sre_engine.proofs.CountLaws.{once}
 use Rattle.sre_engine.proofs.Enough.{keeps_to, used_up}
 use Rattle.sre_engine.proofs.engine.state.State.search_within_by.Goals as goal

@@ -1,4 +1,4 @@
-use Rattle.std.proofs.Common.{arith}
+use Rattle.sre_engine.proofs.Terms.{arith}
 use Rattle.sre_engine.proofs.CandidateLaws.{bare}
 use Rattle.sre_engine.proofs.MayStart.{may_plain}
 use Rattle.sre_engine.proofs.engine.candidates.only_start.OnlyStartCandidates.next.Goals as goal

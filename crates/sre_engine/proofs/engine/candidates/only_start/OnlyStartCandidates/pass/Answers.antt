@@ -1,5 +1,4 @@
-use Rattle.std.proofs.Common.{arith}
-use Rattle.sre_engine.specs.Terms.{code_of, asked_of}
+use Rattle.sre_engine.proofs.Terms.{arith, code_of, asked_of}
 use Rattle.sre_engine.proofs.CandidateLaws.{anchored_over}
 use Rattle.sre_engine.proofs.engine.candidates.only_start.OnlyStartCandidates.pass.Goals as goal
 

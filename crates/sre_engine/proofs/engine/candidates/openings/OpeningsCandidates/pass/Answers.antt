@@ -1,4 +1,4 @@
-use Rattle.std.proofs.Common.{arith}
+use Rattle.sre_engine.proofs.Terms.{arith}
 use Rattle.sre_engine.proofs.CandidateLaws.{passed_to}
 use Rattle.sre_engine.proofs.engine.candidates.openings.OpeningsCandidates.pass.Goals as goal
 

@@ -1,7 +1,5 @@
-use Rattle.std.proofs.Common.{◌≡◌, ◌+◌, ◌-◌, ◌*◌, refl, subst, arith, length}
-use Rattle.sre_engine.specs.Terms.{Reads, behind_items, items_of, code_of, asked_of, run_of}
-use Rattle.sre_code.proofs.Checked.{whole_items}
-use Rattle.sre_engine.specs.Scans.{Stands, NoMatch}
+use Rattle.sre_engine.proofs.Terms.{◌≡◌, ◌+◌, ◌-◌, ◌*◌, refl, subst, arith, length, Reads, behind_items, items_of}
+use Rattle.sre_engine.proofs.Terms.{code_of, asked_of, run_of, whole_items, Stands, NoMatch}
 use Rattle.sre_engine.proofs.MayStart.{may_place}
 use Rattle.sre_engine.proofs.PrefixWays.{reads_behind}
 use Rattle.sre_engine.proofs.Searching.{decided_behind, far_end}

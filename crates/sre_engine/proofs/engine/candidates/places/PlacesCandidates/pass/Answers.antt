@@ -1,4 +1,4 @@
-use Rattle.sre_engine.specs.Terms.{code_of, asked_of}
+use Rattle.sre_engine.proofs.Terms.{code_of, asked_of}
 use Rattle.sre_engine.proofs.CandidateLaws.{unplaced_passed}
 use Rattle.sre_engine.proofs.engine.candidates.places.PlacesCandidates.pass.Goals as goal
 
