@@ -1,10 +1,10 @@
 -- How a start becomes a candidate, and what is skipped after one that failed.
-use Rattle.sre_engine.proofs.Terms.{◌≡◌, ◌≤◌, ◌<◌, ◌+◌, ℕ, Bool, true, List, length, Some, None, refl, arith, Ghosts}
-use Rattle.sre_engine.proofs.Terms.{StringCursor, Tree, no_marks, Whole, WholeItems, is_anchored, Asked, subject_of}
-use Rattle.sre_engine.proofs.Terms.{at_start, words_of, Code, Request, end_of, code_of, asked_of, run_of, items_whole}
-use Rattle.sre_engine.proofs.Terms.{MayBegin, IsCandidate, Failed, IsPrefix, NoPlace, NoMatch, NoneBetween, NoneUntil}
-use Rattle.sre_engine.proofs.Terms.{Candidate}
+use Rattle.sre_engine.proofs.Terms.{◌≡◌, ◌≤◌, ◌<◌, ◌+◌, ℕ, Bool, cond, false, true, List, length, Some, refl, arith}
+use Rattle.sre_engine.proofs.Terms.{Ghosts, StringCursor, Tree, no_marks, Whole, is_anchored, Asked, subject_of}
+use Rattle.sre_engine.proofs.Terms.{words_of, Code, Request, end_of, code_of, asked_of, run_of, items_whole, MayBegin}
+use Rattle.sre_engine.proofs.Terms.{IsCandidate, Failed, IsPrefix, NoPlace, NoMatch, NoneUntil, Candidate}
 use Rattle.sre_engine.specs.Candidates.{IsBare, bare_candidate}
+use Rattle.sre_engine.specs.Starts.{PassesTo}
 use Rattle.sre_engine.proofs.Anchored.{anchored_none}
 use Rattle.sre_engine.proofs.Answering.{none_here, none_joined}
 use Rattle.sre_engine.proofs.Searching.{unplaced_between}
@@ -29,16 +29,21 @@ module _ {S : Type 0} {text : Ghosts S} (r : Request S text) where
   })
 
   -- from a candidate that failed on none has a match up to where it is passed to
-  pub passed_to : (c : Candidate) → IsBare c → Failed (asked_of r) (code_of r) c.start → (to : ℕ)
-      → ((t : Tree) → WholeItems (run_of r).words t → at_start (asked_of r) t c.cursor.position ≡ None
-      → NoneBetween (asked_of r) t c.cursor.position to)
-      → c.start ≤ to → NoMatch (asked_of r) (code_of r) c.start to
-  passed_to c is failed to none on = record {
-    forward = on;
+  pub passed_to : (c : Candidate) (further : Bool) (cursor : StringCursor) → IsBare c
+      → Failed (asked_of r) (code_of r) c.start → c.cursor.position ≤ end_of r
+      → PassesTo (run_of r) (asked_of r) c.cursor.position further cursor
+      → NoMatch (asked_of r) (code_of r) c.start (cond further cursor.position (end_of r + 1))
+  passed_to c further cursor is failed inside passes = record {
+    forward = by_end further passes.next;
     none = λ t whole.
-        let here = rw is.start at none t (items_whole (code_of r) t whole) in
+        let here = rw is.start at passes.none t (items_whole (code_of r) t whole) in
         here (failed.none t whole);
   }
+    where
+      by_end : (b : Bool) → (b ≡ true → (c.cursor.position < cursor.position) × (cursor.position ≤ end_of r))
+          → c.start ≤ cond b cursor.position (end_of r + 1)
+      by_end true on = omega (arith, is.start, (on refl).0)
+      by_end false on = omega (arith, is.start, inside)
 
 -- behind the start of a code that is anchored at the text's start none has a match
 pub anchored_over : (a : Asked) (code : Code) (p : ℕ)

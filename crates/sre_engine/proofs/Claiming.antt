@@ -22,6 +22,11 @@ cond_there : {A : Type 0} (b : Bool) (o : Option A) → is_some (cond b o None) 
 cond_there true o e = (refl, e)
 cond_there false o e = absurd (let never : false ≡ true = e in cc never)
 
+spread_there : (b : Bool) (vs : List ℕ) (o : Option Tree) → is_some (then_spread vs (cond b o None)) ≡ true
+    → (b ≡ true) × (is_some (then_spread vs o) ≡ true)
+spread_there true vs o e = (refl, e)
+spread_there false vs o e = absurd (let never : false ≡ true = e in cc never)
+
 spread_spells : (vs : List ℕ) (t : Tree) → is_some (behind_spread vs t) ≡ true → spells 0 t vs ≡ true
 spread_spells [] t h = refl
 spread_spells (v ∷ vs) (Then (One (Literal Plain u)) rest) h =
@@ -34,15 +39,9 @@ adjacent_spells : (k : ℕ) (vs : List ℕ) (t : Tree)
 adjacent_spells zero vs t h = spread_spells vs t h
 adjacent_spells (suc k) [] t h = refl
 adjacent_spells (suc k) (v ∷ vs) (Then (One (Literal Plain u)) rest) h =
-    by_test (nat_eq u v) h (adjacent_spells k vs rest)
-  where
-    by_test : (b : Bool)
-        → is_some (then_spread (drop k vs) (cond b (behind_adjacent (take k vs) rest) None)) ≡ true
-        → (is_some (then_spread (drop k vs) (behind_adjacent (take k vs) rest)) ≡ true → spells k rest vs ≡ true)
-        → (b && spells (suc k - 1) rest vs) ≡ true
-    by_test true y later =
-        let less : k ≡ suc k - 1 = omega arith in subst (λ n. spells n rest vs ≡ true) less (later y)
-    by_test false y later = absurd (let never : false ≡ true = y in cc never)
+    let both = spread_there (nat_eq u v) (drop k vs) (behind_adjacent (take k vs) rest) h in
+    let less : k ≡ suc k - 1 = omega arith in
+    rw both.0 (subst (λ n. spells n rest vs ≡ true) less (adjacent_spells k vs rest both.1))
 adjacent_spells (suc k) (v ∷ vs) t h = absurd (let never : false ≡ true = h in cc never)
 
 adjacent_behind : (k : ℕ) (vs : List ℕ) (t r : Tree) → k ≤ length vs → behind_adjacent (take k vs) t ≡ Some r

@@ -11,14 +11,12 @@ pub how_many_weaker : (test weaker : ℕ → Bool) (p n : ℕ) → ((q : ℕ) �
     → how_many test p n ≤ how_many weaker p n
 how_many_weaker test weaker p zero each = omega arith
 how_many_weaker test weaker p (suc n) each =
-    by_tests (test (p + n)) (weaker (p + n)) (each (p + n)) (how_many_weaker test weaker p n each)
+    omega (arith, how_many_weaker test weaker p n each, by_tests (test (p + n)) (weaker (p + n)) (each (p + n)))
   where
-    by_tests : (b c : Bool) → (b ≡ true → c ≡ true) → how_many test p n ≤ how_many weaker p n
-        → how_many test p n + cond b 1 0 ≤ how_many weaker p n + cond c 1 0
-    by_tests true true later l = omega (arith, l)
-    by_tests true false later l = absurd (let never : false ≡ true = later refl in cc never)
-    by_tests false true later l = omega (arith, l)
-    by_tests false false later l = omega (arith, l)
+    by_tests : (b c : Bool) → (b ≡ true → c ≡ true) → cond b 1 0 ≤ cond c 1 0
+    by_tests true true later = omega arith
+    by_tests true false later = absurd (let never : false ≡ true = later refl in cc never)
+    by_tests false c later = omega arith
 
 -- a test that only positions below one pass
 how_many_below : (test : ℕ → Bool) (p n end : ℕ) → ((q : ℕ) → test q ≡ true → q < end) → how_many test p n ≤ end - p

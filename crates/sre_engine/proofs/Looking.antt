@@ -190,9 +190,7 @@ module _ {M S : Type 0} {memory : Memory M} {text : Ghosts S} (r : Request S tex
                 sym (found_first (asked_of r) t c.start _
                 (none_joined (asked_of r) t _ _ _ (old.none t whole) (is.none.none t whole)) some.1
                 (omega (arith, old.from, is.none.forward)) inside refl);
-            cursor = λ _.
-                (some_at (stands_in r) (asked_of r) tree.0 c.start outcome n'.board.marks (decided tree.0 tree.1) end
-                e).0;
+            cursor = λ _. own.0;
             span = λ _. (
               omega (arith, old.from, is.none.forward),
               record { starts = refl; forward = span.0; inside = span.1 },

@@ -1,7 +1,7 @@
 -- Where no word of a prefix is matched, the scan continues after the next first word, or after the next position of
 -- another one.
-use Rattle.sre_engine.proofs.Terms.{ℕ, ◌+◌, ◌-◌, ◌≡◌, ◌≢◌, ◌<◌, ◌≤◌, List, length, slice_index, refl, sym, ◌∙◌, subst}
-use Rattle.sre_engine.proofs.Terms.{true, false, arith, StringCursor, Run, NoPlace, Front, Here, FirstSame}
+use Rattle.sre_engine.proofs.Terms.{ℕ, ◌+◌, ◌-◌, ◌≡◌, ◌≢◌, ◌<◌, ◌≤◌, List, length, slice_index, refl, sym, subst, true}
+use Rattle.sre_engine.proofs.Terms.{false, arith, StringCursor, Run, NoPlace, Front, Here, FirstSame}
 use Rattle.sre_engine.specs.Scans.{GoesTo}
 use Rattle.sre_engine.proofs.Steps.{Inside, join_places, more, fresh}
 
@@ -63,7 +63,7 @@ sought_nowhere r p a c d k start ahead behind here short on first count =
     }
 
 -- at a place at which the word that is sought stands, behind which its character was read; none is before it
-sought_inside : (r : Run) (p : List ℕ) (a c d k q : ℕ) (start ahead behind : StringCursor)
+pub sought_inside : (r : Run) (p : List ℕ) (a c d k q : ℕ) (start ahead behind : StringCursor)
     → Here r.subject.text p a r.subject.end start.position 0 c → k < length p
     → ahead.position ≡ start.position + k → FirstSame r (slice_index p k) ahead true behind
     → d ≡ c + (behind.position - ahead.position) → q ≡ behind.position - (k + 1)
@@ -82,11 +82,11 @@ sought_inside r p a c d k q start ahead behind here short on first count back =
     )
 
 -- the place's first character is the first word, and was compared with it by now
-there : (r : Run) (p : List ℕ) (a d f q : ℕ) (start cursor : StringCursor)
+pub sought_there : (r : Run) (p : List ℕ) (a d f q : ℕ) (start cursor : StringCursor)
     → Inside r.subject.text p a r.subject.end q start.position 0 d × q < r.subject.end
     → slice_index r.subject.text q ≡ slice_index p 0 → cursor.position ≡ q + 1 → f ≤ d + 1
     → GoesTo r.subject.text p a r.subject.end start.position true cursor.position 1 f
-there r p a d f q start cursor own same next few =
+sought_there r p a d f q start cursor own same next few =
     let t = r.subject.text in
     let e = r.subject.end in
     let word = more t p a e q start.position 0 d own.0 own.1 same in
@@ -99,6 +99,24 @@ there r p a d f q start cursor own same next few =
       none = λ no. absurd (cc);
     }
 
+-- the place's first character is another one, and was compared with the first word
+pub sought_other : (r : Run) (p : List ℕ) (a d f q : ℕ) (start cursor : StringCursor)
+    → Inside r.subject.text p a r.subject.end q start.position 0 d × q < r.subject.end
+    → slice_index r.subject.text q ≢ slice_index p 0 → cursor.position ≡ q + 1 → f ≡ d + 1
+    → GoesTo r.subject.text p a r.subject.end start.position true cursor.position 0 f
+sought_other r p a d f q start cursor own other next counted =
+    let t = r.subject.text in
+    let e = r.subject.end in
+    let passed = fresh t p a e q start.position 0 d f own.0 own.1 refl other counted in
+    let P : ℕ → Type 0 = λ n. Here t p a e n 0 f in
+    let R : ℕ → Type 0 = λ n. NoPlace t p e start.position n in
+    let at : q + 1 ≡ cursor.position - 0 = omega (arith, next) in
+    record {
+      here = subst P (sym next) passed.0;
+      further = λ _. (omega (arith, own.0.passed.forward, next), subst R at passed.1);
+      none = λ no. absurd (cc);
+    }
+
 -- the first word is the one that is sought
 pub first_there : (r : Run) (p : List ℕ) (a c d : ℕ) (start cursor : StringCursor)
     → Here r.subject.text p a r.subject.end start.position 0 c → 0 < length p
@@ -107,7 +125,7 @@ pub first_there : (r : Run) (p : List ℕ) (a c d : ℕ) (start cursor : StringC
 first_there r p a c d start cursor here some first count =
     let q : ℕ = cursor.position - 1 in
     let is = first.is refl in
-    there r p a d d q start cursor
+    sought_there r p a d d q start cursor
     (sought_inside r p a c d 0 q start start cursor here some (omega arith) first count (omega arith))
     is.1 (omega (arith, is.0)) (omega arith)
 
@@ -118,37 +136,7 @@ pub first_nowhere : (r : Run) (p : List ℕ) (a c d : ℕ) (start cursor : Strin
 first_nowhere r p a c d start cursor here some first count =
     sought_nowhere r p a c d 0 start start cursor here some (omega arith) first count
 
-pub sought_there : (r : Run) (p : List ℕ) (a c d f k q x : ℕ) (start ahead behind cursor : StringCursor)
-    → Here r.subject.text p a r.subject.end start.position 0 c → k < length p
-    → ahead.position ≡ start.position + k → FirstSame r (slice_index p k) ahead true behind
-    → d ≡ c + (behind.position - ahead.position) → q ≡ behind.position - (k + 1)
-    → x ≡ slice_index r.subject.text q → x ≡ slice_index p 0 → cursor.position ≡ q + 1 → f ≡ d + 1
-    → GoesTo r.subject.text p a r.subject.end start.position true cursor.position 1 f
-sought_there r p a c d f k q x start ahead behind cursor here short on first count back read same next counted =
-    there r p a d f q start cursor (sought_inside r p a c d k q start ahead behind here short on first count back)
-    (sym read ∙ same) next (omega (arith, counted))
-
-pub sought_other : (r : Run) (p : List ℕ) (a c d f k q x : ℕ) (start ahead behind cursor : StringCursor)
-    → Here r.subject.text p a r.subject.end start.position 0 c → k < length p
-    → ahead.position ≡ start.position + k → FirstSame r (slice_index p k) ahead true behind
-    → d ≡ c + (behind.position - ahead.position) → q ≡ behind.position - (k + 1)
-    → x ≡ slice_index r.subject.text q → x ≢ slice_index p 0 → cursor.position ≡ q + 1 → f ≡ d + 1
-    → GoesTo r.subject.text p a r.subject.end start.position true cursor.position 0 f
-sought_other r p a c d f k q x start ahead behind cursor here short on first count back read other next counted =
-    let t = r.subject.text in
-    let e = r.subject.end in
-    let own = sought_inside r p a c d k q start ahead behind here short on first count back in
-    let passed = fresh t p a e q start.position 0 d f own.0 own.1 refl (λ z. other (read ∙ z)) counted in
-    let P : ℕ → Type 0 = λ n. Here t p a e n 0 f in
-    let R : ℕ → Type 0 = λ n. NoPlace t p e start.position n in
-    let at : q + 1 ≡ cursor.position - 0 = omega (arith, next) in
-    record {
-      here = subst P (sym next) passed.0;
-      further = λ _. (omega (arith, own.0.passed.forward, next), subst R at passed.1);
-      none = λ no. absurd (cc);
-    }
-
 -- what seeking the first word does, and what seeking another
 pub ruleset first_laws = (first_there, first_nowhere)
 
-pub ruleset sought_laws = (sought_near, sought_nowhere, sought_there, sought_other)
+pub ruleset sought_laws = (sought_near, sought_nowhere)

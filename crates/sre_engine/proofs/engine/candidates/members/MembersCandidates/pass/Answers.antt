@@ -1,15 +1,12 @@
-use Rattle.sre_engine.proofs.Terms.{arith}
 use Rattle.sre_engine.proofs.CandidateLaws.{passed_to}
 use Rattle.sre_engine.proofs.engine.candidates.members.MembersCandidates.pass.Goals as goal
 
 pub returns-clause-passed : goal.returns-clause-passed
 returns-clause-passed g c = λ e.
-    let bare = c.requires.is_at.1 in
-    passed_to c.args.req.now c.args.candidate bare c.requires.failed _ (rw e at c.pass_start.ensures.none)
-    (omega (arith, bare.start, (c.pass_start.ensures.next e).0))
+    rw e at (passed_to c.args.req.now c.args.candidate _ _ c.requires.is_at.1 c.requires.failed c.requires.inside
+    c.pass_start.ensures)
 
 pub returns-clause-none : goal.returns-clause-none
 returns-clause-none g c = λ e.
-    let bare = c.requires.is_at.1 in
-    passed_to c.args.req.now c.args.candidate bare c.requires.failed _ (rw e at c.pass_start.ensures.none)
-    (omega (arith, bare.start, c.requires.inside))
+    rw e at (passed_to c.args.req.now c.args.candidate _ _ c.requires.is_at.1 c.requires.failed c.requires.inside
+    c.pass_start.ensures)
