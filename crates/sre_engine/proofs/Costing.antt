@@ -1,12 +1,11 @@
 -- How the costs of a search's runs add up.
-use Rattle.sre_engine.proofs.Terms.{◌≡◌, ℕ, ◌+◌, ◌*◌, ◌≤◌, inl, inr, false, [], refl, arith, Result, Ok, Err, IfErr}
-use Rattle.sre_engine.proofs.Terms.{IsErrAnd, sym, subst, add-mul, mul-le-mul_right, Ghosts, StringCursor, Request}
-use Rattle.sre_engine.proofs.Terms.{start_of, run_of, most_steps, MemoValue, Remembering, rows_from, each_of}
-use Rattle.sre_engine.proofs.Terms.{search_cost, most_tolls, most_waits, SearchCosts}
+use Rattle.sre_engine.proofs.Terms.{◌≡◌, ℕ, ◌+◌, ◌*◌, ◌≤◌, ◌⊎◌, inl, inr, false, true, Refused, [], refl, arith, Result}
+use Rattle.sre_engine.proofs.Terms.{Ok, Err, IfErr, IsErrAnd, sym, subst, add-mul, mul-le-mul_right, Ghosts}
+use Rattle.sre_engine.proofs.Terms.{StringCursor, Request, start_of, run_of, most_steps, MemoValue, Remembering}
+use Rattle.sre_engine.proofs.Terms.{rows_from, each_of, search_cost, most_tolls, most_waits, SearchCosts}
 use Rattle.std.proofs.Common.{one-mul}
 use Rattle.sre_board.proofs.AccountLaws.{account_few}
-use Rattle.sre_engine.specs.Costs.{CostsUpTo}
-use Rattle.sre_machine.specs.Paying.{run_cost, RunStops, RunSettles}
+use Rattle.sre_machine.specs.Paying.{run_cost, RunStops, RunSettles, HoldsBits}
 
 -- what j runs cost, and what k more of them cost
 sum_of : (j k a s t m : ℕ) → ((j + k) * a + (s + t)) * m ≡ (j * a + s) * m + (k * a + t) * m
@@ -26,13 +25,16 @@ pub passed_on : {T E : Type 0} (result : Result T E) (e : E) (P : E → Type 0) 
 passed_on (Ok x) e P h p = absurd h
 passed_on (Err y) e P h p = subst P (sym h) p
 
--- the runs since some memo began
+-- runs with no outcome, from some memo that began to one that is there now: what they cost of the steps that were
+-- given, and, where failures are memoized by now, what the memory holds
 pub record CostsSince (M : Type 0) {S : Type 0} {text : Ghosts S} (r : Request S text) (now : MemoValue)
-    (given left runs : ℕ) :
-    Type 0 where
+    (given left runs : ℕ) : Type 0 where
   pub begun : MemoValue
   pub waits : begun.waits ≤ most_waits r
-  pub upto : CostsUpTo M r begun now given left runs
+  pub cost : (pl : Remembering r)
+      → Refused M ⊎ (((now.is_open ≡ false) × (given + now.waits ≤ left + begun.waits))
+      ⊎ ((tolls n : ℕ) × (tolls ≤ n) × HoldsBits r pl now n × (now.is_open ≡ true)
+      × (given ≤ left + begun.waits + search_cost r pl runs tolls)))
 
 module _ {S : Type 0} {text : Ghosts S} (r : Request S text) where
   -- what a run costs, as a search of one run
@@ -52,44 +54,39 @@ module _ {S : Type 0} {text : Ghosts S} (r : Request S text) where
   -- before any run, of a memo that keeps no failures
   pub since_begin : {M : Type 0} (m : MemoValue) (left : ℕ) → m.waits ≤ most_waits r → m.is_open ≡ false
       → CostsSince M r m left left 0
-  since_begin m left waits closed = record {
-    begun = m;
-    waits = waits;
-    upto = record { cost = λ pl. inr (inl (closed, omega arith)) };
-  }
+  since_begin m left waits closed =
+      record { begun = m; waits = waits; cost = λ pl. inr (inl (closed, omega arith)) }
 
   -- another run with no outcome
   pub since_run : {M : Type 0} (m m' : MemoValue) (start : StringCursor) (given left after before runs : ℕ)
       → CostsSince M r m given left before → RunSettles M r start m m' left after → start_of r ≤ start.position
       → runs ≡ before + 1 → CostsSince M r m' given after runs
-  since_run m m' start given left after before runs old run from e = record {
+  since_run m m' start given left after before runs old run from e = rw e (record {
     begun = old.begun;
     waits = old.waits;
-    upto = rw e (record {
-      cost = λ pl. elim (old.upto.cost pl) [
+    cost = λ pl. elim (old.cost pl) [
+      | inl refused ↦ inl refused
+      | inr (inl x) ↦ elim (run.closed pl from x.0) [
         | inl refused ↦ inl refused
-        | inr (inl x) ↦ elim (run.closed pl from x.0) [
-          | inl refused ↦ inl refused
-          | inr (inl y) ↦ inr (inl (y.0, omega (arith, x.1, y.1)))
-          | inr (inr y) ↦
-              let most = more pl 1 (before + 1) y.0 y.0 (omega arith) (omega arith) in
-              inr (inr (y.0, y.1, y.2, y.3, y.4, omega (arith, most, one_run pl y.0, x.1, y.5)))
-        ]
-        | inr (inr x) ↦ elim (run.keeping pl from x.4 x.1 x.3) [
-          | inl refused ↦ inl refused
-          | inr y ↦
-              inr (inr (
-                x.0 + y.0,
-                y.1,
-                omega (arith, x.2, y.2),
-                y.3,
-                y.4,
-                omega (arith, sum pl before 1 x.0 y.0, one_run pl y.0, x.5, y.5),
-              ))
-        ]
-      ];
-    });
-  }
+        | inr (inl y) ↦ inr (inl (y.0, omega (arith, x.1, y.1)))
+        | inr (inr y) ↦
+            let most = more pl 1 (before + 1) y.0 y.0 (omega arith) (omega arith) in
+            inr (inr (y.0, y.1, y.2, y.3, y.4, omega (arith, most, one_run pl y.0, x.1, y.5)))
+      ]
+      | inr (inr x) ↦ elim (run.keeping pl from x.4 x.1 x.3) [
+        | inl refused ↦ inl refused
+        | inr y ↦
+            inr (inr (
+              x.0 + y.0,
+              y.1,
+              omega (arith, x.2, y.2),
+              y.3,
+              y.4,
+              omega (arith, sum pl before 1 x.0 y.0, one_run pl y.0, x.5, y.5),
+            ))
+      ]
+    ];
+  })
 
   -- another run, which is the last: no more steps were waited and no more credits granted than from where the memo
   -- begins
@@ -97,7 +94,7 @@ module _ {S : Type 0} {text : Ghosts S} (r : Request S text) where
       → CostsSince M r m given left before → RunStops M r start m left after → start_of r ≤ start.position
       → runs ≡ before + 1 → SearchCosts M r given after runs
   since_stopped m start given left after before runs old run from e = rw e (record {
-    cost = λ pl. elim (old.upto.cost pl) [
+    cost = λ pl. elim (old.cost pl) [
       | inl refused ↦ inl refused
       | inr (inl x) ↦ elim (run.closed pl from x.0) [
         | inl refused ↦ inl refused
@@ -119,7 +116,7 @@ module _ {S : Type 0} {text : Ghosts S} (r : Request S text) where
   pub since_ended : {M : Type 0} (m : MemoValue) (given left runs : ℕ) → CostsSince M r m given left runs
       → SearchCosts M r given left runs
   since_ended m given left runs old = record {
-    cost = λ pl. elim (old.upto.cost pl) [
+    cost = λ pl. elim (old.cost pl) [
       | inl refused ↦ inl refused
       | inr (inl x) ↦ inr (omega (arith, x.1, old.waits))
       | inr (inr x) ↦

@@ -1,11 +1,11 @@
 -- What a search that is limited costs at most, where no allocation fails.
 -- Definitions for the contracts inside this crate; what it makes public does not rest on it.
-use Rattle.std.specs.Prelude.{ℕ, ◌+◌, ◌*◌, ◌≤◌, ◌≡◌, ◌⊎◌, Bool, true, false, Result, IfErr}
+use Rattle.std.specs.Prelude.{ℕ, ◌+◌, ◌*◌, ◌≤◌, ◌≡◌, ◌⊎◌, Bool, true, Result, IfErr}
 use Rattle.std.specs.declared.alloc.Allocator.{Ghosts as Memory}
 use Rattle.sre_engine.specs.Terms.{Ghosts, Refused, Request, code_of, asked_of, run_of, most_steps, is_limited, left_of}
-use Rattle.sre_engine.specs.Terms.{Halted, Allowance, Halt, MemoValue, Remembering, rows_from, each_of}
+use Rattle.sre_engine.specs.Terms.{Halted, Allowance, Halt, Remembering, rows_from, each_of}
 use Rattle.sre_board.specs.Accounts.{most_paid}
-use Rattle.sre_machine.specs.Paying.{HoldsBits, window_of}
+use Rattle.sre_machine.specs.Paying.{window_of}
 use Rattle.sre_engine.specs.Counts.{SpentUpTo}
 
 -- what so many runs count for at most, by the credits that are granted to them
@@ -19,15 +19,6 @@ most_tolls r pl = most_paid (run_of r) pl.plain (rows_from r pl)
 -- how many steps a memo waits at most before failures are memoized
 abbrev pub most_waits : {S : Type 0} {text : Ghosts S} → Request S text → ℕ
 most_waits r = 32 * (window_of r + 1)
-
--- runs with no outcome, from a memo that began to one that is there now: what they cost of the steps that were given,
--- and, where failures are memoized by now, what the memory holds
-pub record CostsUpTo (M : Type 0) {S : Type 0} {text : Ghosts S} (r : Request S text) (begun now : MemoValue)
-    (given left runs : ℕ) : Type 0 where
-  pub cost : (pl : Remembering r)
-      → Refused M ⊎ (((now.is_open ≡ false) × (given + now.waits ≤ left + begun.waits))
-      ⊎ ((tolls n : ℕ) × (tolls ≤ n) × HoldsBits r pl now n × (now.is_open ≡ true)
-      × (given ≤ left + begun.waits + search_cost r pl runs tolls)))
 
 -- a search, whatever it tells: how many steps it takes at most, where no allocation fails. They cost no more than what
 -- its memo waits, and the credits that it pays
