@@ -7,11 +7,6 @@ returns-in-Ok-clause-steps g c =
     keeps_to c.args.req.now c.args.steps.now _ _ _ _ _ _ _ c.match_from-told.ensures.charged refl refl c.left.ensures
     (omega (arith, c.args.req.now.in_window.0)) (λ none. absurd (cc none))
 
-pub returns-in-Err-Refused-clause-steps : goal.returns-in-Err-Refused-clause-steps
-returns-in-Err-Refused-clause-steps g c =
-    keeps_to c.args.req.now c.args.steps.now _ _ _ _ _ _ _ c.match_from-told.ensures.charged refl refl c.left.ensures
-    (omega (arith, c.args.req.now.in_window.0)) tt
-
 pub returns-in-Err-UsedUp-clause-steps : goal.returns-in-Err-UsedUp-clause-steps
 returns-in-Err-UsedUp-clause-steps g c =
     let up = c.in-Err-UsedUp in

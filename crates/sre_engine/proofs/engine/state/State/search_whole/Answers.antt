@@ -78,12 +78,6 @@ returns-then-may_end-clause-answers g c =
           (λ plain. absurd (has_prefix (code_of asked) _ _ _ is plain));
     }
 
-pub returns-then-may_end-clause-none : goal.returns-then-may_end-clause-none
-returns-then-may_end-clause-none g c = omega (arith, c.place.invariant.idle, c.place.invariant.calm)
-
-pub returns-clause-none : goal.returns-clause-none
-returns-clause-none g c = omega (arith, c.place.invariant.idle, c.place.invariant.calm)
-
 pub place-preserved : goal.place-preserved
 place-preserved g c =
     let asked = c.args.req.now in

@@ -8,11 +8,6 @@ returns-in-Ok-clause-steps g c =
     keeps_to c.args.req c.args.steps.now _ _ _ _ _ _ _ c.search_from-told.ensures.charged refl refl c.left.ensures
     (once _ _ _ _ _ c.search_from-told.ensures.answers.counts) (λ none. absurd (cc none))
 
-pub returns-in-Err-Refused-clause-steps : goal.returns-in-Err-Refused-clause-steps
-returns-in-Err-Refused-clause-steps g c =
-    keeps_to c.args.req c.args.steps.now _ _ _ _ _ _ _ c.search_from-told.ensures.charged refl refl c.left.ensures
-    (once _ _ _ _ _ c.search_from-told.ensures.answers.counts) tt
-
 pub returns-clause-steps : goal.returns-clause-steps
 returns-clause-steps g c =
     let up = c.in-Err-UsedUp in
