@@ -1,11 +1,10 @@
 -- How a start becomes a candidate, and what is skipped after one that failed.
 use Rattle.sre_engine.proofs.Terms.{◌≡◌, ◌≤◌, ◌<◌, ◌+◌, ℕ, Bool, cond, false, true, List, length, Some, refl, arith}
-use Rattle.sre_engine.proofs.Terms.{Ghosts, StringCursor, Tree, no_marks, Whole, is_anchored, Asked, subject_of}
-use Rattle.sre_engine.proofs.Terms.{words_of, Code, Request, end_of, code_of, asked_of, run_of, items_whole, MayBegin}
-use Rattle.sre_engine.proofs.Terms.{IsCandidate, Failed, IsPrefix, NoPlace, NoMatch, NoneUntil, Candidate}
+use Rattle.sre_engine.proofs.Terms.{Ghosts, StringCursor, Tree, Whole, Asked, words_of, Code, Request, end_of, code_of}
+use Rattle.sre_engine.proofs.Terms.{asked_of, run_of, items_whole, MayBegin, IsCandidate, Failed, IsPrefix, NoPlace}
+use Rattle.sre_engine.proofs.Terms.{NoMatch, NoneUntil, Candidate}
 use Rattle.sre_engine.specs.Candidates.{IsBare, bare_candidate}
 use Rattle.sre_engine.specs.Starts.{PassesTo}
-use Rattle.sre_engine.proofs.Anchored.{anchored_none}
 use Rattle.sre_engine.proofs.Answering.{none_here, none_joined}
 use Rattle.sre_engine.proofs.Searching.{unplaced_between}
 
@@ -44,18 +43,6 @@ module _ {S : Type 0} {text : Ghosts S} (r : Request S text) where
           → c.start ≤ cond b cursor.position (end_of r + 1)
       by_end true on = omega (arith, is.start, (on refl).0)
       by_end false on = omega (arith, is.start, inside)
-
--- behind the start of a code that is anchored at the text's start none has a match
-pub anchored_over : (a : Asked) (code : Code) (p : ℕ)
-    → ((t : Tree) → Whole (words_of code) t → is_anchored t ≡ true) → Failed a code p → p ≤ a.end
-    → NoMatch a code p (a.end + 1)
-anchored_over a code p anchored failed inside = record {
-  forward = omega (arith, inside);
-  none = λ t whole.
-      none_joined a t p (p + 1) (a.end + 1) (none_here a t p (failed.none t whole)) (λ s from to.
-      let nowhere = (anchored_none (subject_of a) t s (anchored t whole) (omega (arith, from))).none no_marks in
-      rw nowhere refl);
-}
 
 -- behind a start that failed the words of a prefix stand nowhere up to a position
 pub unplaced_passed : (a : Asked) (code : Code) (vs : List ℕ) (k : ℕ) (whole : Bool) → IsPrefix code vs k whole

@@ -6,7 +6,6 @@ pub mod Starting
 pub mod FirstSets
 pub mod Leading
 pub mod Beginnings
-pub mod Anchored
 pub mod Steps
 pub mod Seeking
 pub mod OptionalRuns
