@@ -1,19 +1,16 @@
 -- What the first code words lead to: a tree's first test, and its first position code.
 use Rattle.sre_engine.proofs.Terms.{◌≡◌, ◌⊎◌, ◌+◌, ◌-◌, ◌<◌, ◌≤◌, ℕ, Bool, true, false, nat_lt, cond, List, Option}
-use Rattle.sre_engine.proofs.Terms.{Some, None, IfSome, IsSomeAnd, refl, sym, ap, ◌∙◌, subst, inl, inr, arith}
-use Rattle.sre_engine.proofs.Terms.{true≢false, nat_tests, at_number, SreAtCode, SreOpcode, AsciiSet, Tree, Empty, Then}
-use Rattle.sre_engine.proofs.Terms.{One, At, Mark, Test, Any, InCategory, Literal, NotLiteral, RunKind, GreedyRun}
-use Rattle.sre_engine.proofs.Terms.{LazyRun, PossessiveRun, Plain, Word, Opcode, Reads, Role, ToRun, role, begins_test}
-use Rattle.sre_engine.proofs.Terms.{TreeStands, TakesAscii, same_word, same_opcode, HasRole, stands_up_to, whole_stands}
-use Rattle.sre_engine.proofs.Terms.{has_ascii, IsAsciiOf, LeadsToTest, LeadsToCode, Wants, WantsFirst, First}
-use Rattle.std.proofs.Common.{IsSome}
+use Rattle.sre_engine.proofs.Terms.{Some, None, IfSome, refl, sym, ap, ◌∙◌, subst, inl, inr, arith, true≢false}
+use Rattle.sre_engine.proofs.Terms.{nat_tests, at_number, SreAtCode, SreOpcode, Tree, Empty, Then, One, At, Mark, Test}
+use Rattle.sre_engine.proofs.Terms.{RunKind, GreedyRun, LazyRun, PossessiveRun, Word, Opcode, Reads, Role, ToRun, role}
+use Rattle.sre_engine.proofs.Terms.{begins_test, TreeStands, same_word, same_opcode, HasRole, stands_up_to}
+use Rattle.sre_engine.proofs.Terms.{whole_stands, LeadsToTest, LeadsToCode, Wants, WantsFirst, First}
 use Rattle.sre_chars.specs.declared.constants.SreOpcode.TheVariants as opcode
-use Rattle.sre_model.specs.Tree.{Item, Run, Ascii, Unicode}
+use Rattle.sre_model.specs.Tree.{Item, Run}
 use Rattle.sre_model.specs.Grammar.{ReadsItem, item_opcode, run_opcode, test_opcode}
 use Rattle.sre_model.specs.Roles.{ToTest, is_test_role}
 use Rattle.sre_model.proofs.Words.{opcode_low}
 use Rattle.sre_model.proofs.Families.{item_role, role_same, test_kind, test_role, run_role}
-use Rattle.sre_request.specs.AsciiSets.{is_told}
 use Rattle.sre_engine.specs.Beginnings.{first_test, first_code}
 use Rattle.sre_engine.specs.Leading.{is_passed, IsPast, Ahead, IsTestAt}
 
@@ -250,30 +247,6 @@ module _ (ws : List ℕ) (i : ℕ) (t : Tree) (x : TreeStands ws i t) (test : Te
       by_kind GreedyRun there = greedy (same_opcode ws i o opcode.REPEAT_ONE w there)
       by_kind LazyRun there = lazy (same_opcode ws i o opcode.MIN_REPEAT_ONE w there)
       by_kind PossessiveRun there = possessive (same_opcode ws i o opcode.POSSESSIVE_REPEAT_ONE w there)
-
--- Its ASCII characters
-
-told_of : (test : Test) → has_ascii test ≡ true → is_told (test_opcode test) ≡ true
-told_of Any e = refl
-told_of (InCategory category) e = refl
-told_of (Literal Plain v) e = refl
-told_of (Literal Ascii v) e = refl
-told_of (Literal Unicode v) e = refl
-told_of (NotLiteral Plain v) e = refl
-told_of test e = absurd (cc e)
-
-pub ascii_of : (ws : List ℕ) (place : ℕ) (test : Test) (set : AsciiSet) → IsTestAt ws place test
-    → TakesAscii ws place set → IsAsciiOf test set
-ascii_of ws place test set there takes =
-    record { agrees = λ table c low. takes table there.end test there.stands c low }
-
-pub ascii_known : (ws : List ℕ) (place : ℕ) (test : Test) (r : Option AsciiSet) → IsTestAt ws place test
-    → IfSome r (λ set. TakesAscii ws place set)
-    → ((o : SreOpcode) → Opcode ws place o → is_told o ≡ true → IsSome r) → has_ascii test ≡ true
-    → IsSomeAnd r (λ set. IsAsciiOf test set)
-ascii_known ws place test None there takes told known =
-    absurd (true≢false (sym (told (test_opcode test) there.stands.code (told_of test known))))
-ascii_known ws place test (Some set) there takes told known = ascii_of ws place test set there takes
 
 -- Of the whole
 
