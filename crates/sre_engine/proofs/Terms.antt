@@ -31,22 +31,22 @@ pub use Rattle.sre_engine.specs.Scans.{FirstSame, Fits, Front, Here, NoMatch, No
 pub use Rattle.sre_engine.specs.Searches.{Answered, CountsInside, RunsOnceAnchored}
 pub use Rattle.sre_engine.specs.Starts.{BarredUpTo, Bars, IsElsewhere, IsLacking, NextStart, NoneBetween, NoneUntil}
 pub use Rattle.sre_engine.specs.Starts.{NotAmong, PassesRun, WantedFrom}
-pub use Rattle.sre_engine.specs.Terms.{Admitted, AllAdmitted, Allowance, Any, AreInOrder, AreTold, AsciiSet, Asked, At}
+pub use Rattle.sre_engine.specs.Terms.{Admitted, AllAdmitted, Allowance, AreInOrder, AreTold, AsciiSet, Asked, At}
 pub use Rattle.sre_engine.specs.Terms.{BEGINNING_LINE, Code, Decides, Empty, FrontStands, Ghosts, GreedyRun, Halt}
-pub use Rattle.sre_engine.specs.Terms.{Halted, HasAlternatives, HasSet, HasTree, Hints, In, InCategory, IsCode}
-pub use Rattle.sre_engine.specs.Terms.{IsRemembered, LazyRun, Leads, Literal, Mark, Marks, Match, MemoValue, NoWay}
-pub use Rattle.sre_engine.specs.Terms.{NoneOf, NotLiteral, NotPassed, One, Only, Opcode, Or, Plain, PossessiveRun}
-pub use Rattle.sre_engine.specs.Terms.{Reads, ReadsBranch, Refused, Remembering, Request, Role, Run, RunKind, RunLeads}
-pub use Rattle.sre_engine.specs.Terms.{RunStands, RunsWithin, SetItem, Sought, SreAtCode, SreOpcode, StringCursor}
-pub use Rattle.sre_engine.specs.Terms.{Subject, TakesAscii, Test, TestStands, Then, ToCheckPosition, ToMark, ToRun}
-pub use Rattle.sre_engine.specs.Terms.{Tree, TreeStands, Trees, Way, Whole, WholeItems, Word, after, asked_after}
-pub use Rattle.sre_engine.specs.Terms.{asked_of, at_number, at_start, bare, begins_test, behind_block, behind_items}
-pub use Rattle.sre_engine.specs.Terms.{carrying, char_at, code_of, contains, each_of, end_of, found, here, hints_of}
-pub use Rattle.sre_engine.specs.Terms.{holds, holds_at, how_many, is_accepted, is_anchored, is_empty, is_limited}
-pub use Rattle.sre_engine.specs.Terms.{is_member, left_of, longest_run, most_matches, most_steps, must_advance_of}
-pub use Rattle.sre_engine.specs.Terms.{no_marks, outcomes, overlaps_of, passes, prefix_of, role, rows_from, run_of}
-pub use Rattle.sre_engine.specs.Terms.{set_mark, skip, spells, stands_at, stands_in, start_of, step_bound, string_of}
-pub use Rattle.sre_engine.specs.Terms.{subject_of, uni_of, unlimited, walk, ways, width, word, words_of}
+pub use Rattle.sre_engine.specs.Terms.{Halted, HasAlternatives, HasSet, HasTree, Hints, In, IsCode, IsRemembered}
+pub use Rattle.sre_engine.specs.Terms.{LazyRun, Leads, Literal, Mark, Marks, Match, MemoValue, NoWay, NoneOf, NotPassed}
+pub use Rattle.sre_engine.specs.Terms.{One, Only, Opcode, Or, Plain, PossessiveRun, Reads, ReadsBranch, Refused}
+pub use Rattle.sre_engine.specs.Terms.{Remembering, Request, Role, Run, RunKind, RunLeads, RunStands, RunsWithin}
+pub use Rattle.sre_engine.specs.Terms.{SetItem, Sought, SreAtCode, SreOpcode, StringCursor, Subject, TakesAscii, Test}
+pub use Rattle.sre_engine.specs.Terms.{TestStands, Then, ToCheckPosition, ToMark, ToRun, Tree, TreeStands, Trees, Way}
+pub use Rattle.sre_engine.specs.Terms.{Whole, WholeItems, Word, after, asked_after, asked_of, at_number, at_start, bare}
+pub use Rattle.sre_engine.specs.Terms.{begins_test, behind_block, behind_items, carrying, char_at, code_of, contains}
+pub use Rattle.sre_engine.specs.Terms.{each_of, end_of, found, here, hints_of, holds, holds_at, how_many, is_accepted}
+pub use Rattle.sre_engine.specs.Terms.{is_anchored, is_empty, is_limited, is_member, left_of, longest_run, most_matches}
+pub use Rattle.sre_engine.specs.Terms.{most_steps, must_advance_of, no_marks, outcomes, overlaps_of, passes, prefix_of}
+pub use Rattle.sre_engine.specs.Terms.{role, rows_from, run_of, set_mark, skip, spells, stands_at, stands_in, start_of}
+pub use Rattle.sre_engine.specs.Terms.{step_bound, string_of, subject_of, uni_of, unlimited, walk, ways, width, word}
+pub use Rattle.sre_engine.specs.Terms.{words_of}
 unfoldable pub use Rattle.sre_engine.specs.Terms.{items_of}
 pub use Rattle.sre_engine.specs.Walks.{GoesOn}
 pub use Rattle.sre_engine.specs.declared.engine.candidates.Candidate.{Candidate}
