@@ -66,9 +66,8 @@ pub overlaps_same : (p o : List ℕ) (n : ℕ) → are_overlaps p n o ≡ true �
 overlaps_same p [] n e = refl
 overlaps_same p (x ∷ xs) n e =
     let both = and_parts (nat_eq x (border_length (take n p))) (are_overlaps p (n + 1) xs) e in
-    let equal : nat_eq x (border_length (take n p)) ≡ true = both.0 in
-    let first : x ≡ border_length (take n p) = grind (arith, nat_tests) in
-    ap (λ y. y ∷ xs) first ∙ ap (λ l. border_length (take n p) ∷ l) (overlaps_same p xs (n + 1) both.1)
+    let first : x ≡ border_length (take n p) = grind (arith, nat_tests, both.0) in
+    let more = overlaps_same p xs (n + 1) both.1 in cc
 
 -- What the items begin with
 
@@ -303,19 +302,16 @@ full_block t k least flags b ws os count some words right long w f alone =
     same ∙ sym (some_leading t k count some)
 
 -- a block with a prefix, from the last word to the first
-pub prefix_written : {M : Type 0} (a b c d e f g h : Held) (flags least k n m : ℕ) (ws os : List ℕ)
-    → n ≡ length ws + length os + 6
-    → m ≡ length ws → Wrote M a b os → Wrote M b c ws → Wrote M c d (k ∷ []) → Wrote M d e (m ∷ [])
-    → Wrote M e f (flags ∷ least ∷ unlimited ∷ []) → Wrote M f g (n ∷ []) → Wrote M g h (opcode_number opcode.INFO ∷ [])
+pub prefix_written : {M : Type 0} {a b c d e f g h : Held} (flags least k n m : ℕ) (ws os : List ℕ)
+    → n ≡ length ws + length os + 6 → m ≡ length ws → Wrote M a b os → Wrote M b c ws → Wrote M c d (k ∷ [])
+    → Wrote M d e (m ∷ []) → Wrote M e f (flags ∷ least ∷ unlimited ∷ []) → Wrote M f g (n ∷ [])
+    → Wrote M g h (opcode_number opcode.INFO ∷ [])
     → Wrote M a h (block flags least (length ws ∷ k ∷ (ws ++ os)))
-prefix_written a b c d e f g h flags least k n m ws os size many p q r s t u v =
-    wrote_equal a h _ _ same
-    (wrote_more a g h _ _ (wrote_more a f g _ _ (wrote_more a e f _ _ (wrote_more a d e _ _
-    (wrote_more a c d _ _ (wrote_more a b c _ _ p q) r) s) t) u) v)
-  where
-    same : opcode_number opcode.INFO ∷ n ∷ flags ∷ least ∷ unlimited ∷ m ∷ k ∷ (ws ++ os)
-        ≡ block flags least (length ws ∷ k ∷ (ws ++ os))
-    same = let skip : n ≡ length (length ws ∷ k ∷ (ws ++ os)) + 4 = omega (arith, size, length-append ws os) in cc
+prefix_written flags least k n m ws os size many p q r s t u v =
+    let skip : length (length ws ∷ k ∷ (ws ++ os)) + 4 ≡ n = omega (arith, size, length-append ws os) in
+    let same : opcode_number opcode.INFO ∷ n ∷ flags ∷ least ∷ unlimited ∷ m ∷ k ∷ (ws ++ os)
+        ≡ block flags least (length ws ∷ k ∷ (ws ++ os)) = cc in
+    wrote_equal same (wrote_more (wrote_more (wrote_more (wrote_more (wrote_more (wrote_more p q) r) s) t) u) v)
 
 -- what the writing of a block is to know
 pub ruleset block_laws = (long_block, some_words)

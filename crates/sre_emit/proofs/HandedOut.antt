@@ -22,7 +22,7 @@ module _ {M : Type 0} (p : Part) (with_block : Bool) (a b c : Held) (lawful : Ha
   all = front with_block (tree_of p) ++ code_words (tree_of p)
 
   wrote : Wrote M a c all
-  wrote = wrote_more a b c _ _ code block
+  wrote = wrote_more code block
 
   pub code_emitted : (words : List ℕ) → c.failure ≡ None → words ≡ reverse c.words → Emitted p with_block words
   code_emitted words f same =

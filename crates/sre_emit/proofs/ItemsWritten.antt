@@ -1,5 +1,5 @@
 -- What is written of items and parts, by what is written of what is inside.
-use Rattle.std.proofs.Common.{ℕ, suc, zero, ◌+◌, ◌-◌, ◌≡◌, ◌<◌, ◌≤◌, Bool, true, List, [], ◌∷◌, map, drop, length}
+use Rattle.std.proofs.Common.{ℕ, suc, zero, ◌-◌, ◌≡◌, ◌<◌, ◌≤◌, Bool, true, List, [], ◌∷◌, map, drop, length}
 use Rattle.std.proofs.Common.{slice_index_or, refl, sym, ◌∙◌, ap, arith}
 use Rattle.std.specs.List.{All}
 use Rattle.std.proofs.lemmas.Bool.{and_parts}
@@ -26,12 +26,12 @@ all_parts [] e = absurd (cc)
 all_parts (p ∷ ps) e = each_true has_alternatives (p ∷ ps) e
 
 -- an item, by one layer of it
-pub item_written : {M : Type 0} (a b : Held) (x : Item) (l : layer.Item-F Item Part) → x ≡ roll-Item l
+pub item_written : {M : Type 0} {a b : Held} {x : Item} (l : layer.Item-F Item Part) → x ≡ roll-Item l
     → Wrote M a b (item_words (item_step (map-Item Item Part tree.Item tree.Tree item_of tree_of l)))
     → Wrote M a b (item_words (item_of x))
-item_written a b x l e w =
+item_written l e w =
     let is = ap item_of e ∙ fold-roll-Item tree.Item tree.Tree item_step part_step l in
-    wrote_equal a b _ _ (sym (ap item_words is)) w
+    wrote_equal (sym (ap item_words is)) w
 
 -- items, from the last to the first
 abbrev pub items_words : List Item → List ℕ
@@ -47,16 +47,16 @@ parts_behind p [] = refl
 parts_behind p (q ∷ ps) = ap (alternative (tree_words (tree_of p))) (parts_behind q ps)
 
 -- from the last to the first
-pub parts_more : {M : Type 0} (a b c : Held) (ps : List Part) (p : Part) (start k n : ℕ) → n ≡ k + 1 → k < length ps
-    → p ≡ slice_index_or ps k p → start ≡ length a.words → Wrote M a b (parts_words (drop n ps))
+pub parts_more : {M : Type 0} {a b c : Held} (ps : List Part) (p : Part) (start n : ℕ) → 0 < n → n ≤ length ps
+    → p ≡ slice_index_or ps (n - 1) p → start ≡ length a.words → Wrote M a b (parts_words (drop n ps))
     → Wrote M b c (guarded 3 (tree_words (tree_of p)) (length b.words - start))
-    → Wrote M a c (parts_words (drop k ps))
-parts_more a b c ps p start k n f l same far u v =
-    wrote_equal a c _ _ (ap parts_words (sym (at_place ps p k n f l same)))
-    (wrote_before a b c start 3 (tree_words (tree_of p)) _ far u v)
+    → Wrote M a c (parts_words (drop (n - 1) ps))
+parts_more ps p start n some l same far u v =
+    rw (at_place ps p (n - 1) n (omega (arith, some)) (omega (arith, some, l)) same)
+    (wrote_before start 3 (tree_words (tree_of p)) far u v)
 
-pub parts_all : {M : Type 0} (a b : Held) (ps : List Part) (k : ℕ) → some_parts (map has_alternatives ps) ≡ true → k ≤ 0
+pub parts_all : {M : Type 0} {a b : Held} (ps : List Part) (k : ℕ) → some_parts (map has_alternatives ps) ≡ true → k ≤ 0
     → Wrote M a b (parts_words (drop k ps)) → Wrote M a b (branch_words (alternatives (map tree_of ps)))
-parts_all a b [] k some e w = absurd (cc)
-parts_all a b (p ∷ ps) k some e w =
-    wrote_equal a b _ _ (parts_behind p ps) (written_all parts_words a b (p ∷ ps) k e w)
+parts_all [] k some e w = absurd (cc)
+parts_all (p ∷ ps) k some e w =
+    wrote_equal (parts_behind p ps) (written_all parts_words (p ∷ ps) k e w)

@@ -2,7 +2,7 @@
 use Rattle.std.proofs.Common.{ℕ, zero, suc, ◌+◌, ◌*◌, ◌/◌, ◌-◌, ◌≡◌, ◌<◌, ◌≤◌, List, [], ◌∷◌, ◌++◌, reverse, drop, map}
 use Rattle.std.proofs.Common.{slice_index, slice_index_or, Option, Some, None, refl, sym, ◌∙◌, ap}
 use Rattle.std.proofs.Common.{length, subst, arith, length-append, length-drop}
-use Rattle.std.proofs.Math.Seq.{drop-cons, drop-length}
+use Rattle.std.proofs.Math.Seq.{drop-cons}
 use Rattle.std.proofs.lemmas.List.{reverse-append, append_assoc, append-nil, length-reverse, get_or_default}
 use Rattle.sre_chars.specs.Numbers.{opcode_number}
 use Rattle.sre_chars.specs.declared.constants.SreOpcode.TheVariants as opcode
@@ -61,8 +61,8 @@ wrote_nothing a = record {
 }
 
 -- the same words
-pub wrote_equal : {M : Type 0} (a b : Held) (xs ys : List ℕ) → xs ≡ ys → Wrote M a b xs → Wrote M a b ys
-wrote_equal {M} a b xs ys e w = subst (λ zs. Wrote M a b zs) e w
+pub wrote_equal : {M : Type 0} {a b : Held} {xs ys : List ℕ} → xs ≡ ys → Wrote M a b xs → Wrote M a b ys
+wrote_equal {M} {a} {b} e w = subst (λ zs. Wrote M a b zs) e w
 
 -- a failure, behind which nothing more is written
 wrote_past : {M : Type 0} (a b c : Held) (xs ys zs : List ℕ) (d : EmitError) → b.failure ≡ Some d → Wrote M a b xs
@@ -76,8 +76,8 @@ wrote_past {M} a b c xs ys zs d p v w = record {
 }
 
 -- words, and then words in front of them
-pub wrote_more : {M : Type 0} (a b c : Held) (xs ys : List ℕ) → Wrote M a b xs → Wrote M b c ys → Wrote M a c (ys ++ xs)
-wrote_more {M} a b c xs ys v w = by b.failure refl
+pub wrote_more : {M : Type 0} {a b c : Held} {xs ys : List ℕ} → Wrote M a b xs → Wrote M b c ys → Wrote M a c (ys ++ xs)
+wrote_more {M} {a} {b} {c} {xs} {ys} v w = by b.failure refl
   where
     by : (m : Option EmitError) → b.failure ≡ m → Wrote M a c (ys ++ xs)
     by None p = record {
@@ -107,43 +107,36 @@ at_place xs x k n e l same =
 
 -- F has the words of some elements
 module _ {X : Type 0} (F : List X → List ℕ) {M : Type 0} where
-  pub written_none : (a b : Held) (xs : List X) (ws : List ℕ) → F [] ≡ ws → Wrote M a b ws
-      → Wrote M a b (F (drop (length xs) xs))
-  written_none a b xs ws e w = wrote_equal a b ws _ (sym (ap F (drop-length xs) ∙ e)) w
+  pub written_more : {a b c : Held} {ws : List ℕ} (xs : List X) (x : X) (n : ℕ) → 0 < n → n ≤ length xs
+      → x ≡ slice_index_or xs (n - 1) x → ws ++ F (drop n xs) ≡ F (x ∷ drop n xs) → Wrote M a b (F (drop n xs))
+      → Wrote M b c ws → Wrote M a c (F (drop (n - 1) xs))
+  written_more xs x n some l same step v w =
+      rw (at_place xs x (n - 1) n (omega (arith, some)) (omega (arith, some, l)) same, ← step) (wrote_more v w)
 
-  pub written_more : (a b c : Held) (xs : List X) (x : X) (ws : List ℕ) (k n : ℕ) → n ≡ k + 1 → k < length xs
-      → x ≡ slice_index_or xs k x → ws ++ F (drop n xs) ≡ F (x ∷ drop n xs) → Wrote M a b (F (drop n xs))
-      → Wrote M b c ws → Wrote M a c (F (drop k xs))
-  written_more a b c xs x ws k n e l same step v w =
-      wrote_equal a c _ _ (step ∙ ap F (sym (at_place xs x k n e l same))) (wrote_more a b c _ _ v w)
-
-  pub written_all : (a b : Held) (xs : List X) (k : ℕ) → k ≤ 0 → Wrote M a b (F (drop k xs)) → Wrote M a b (F xs)
-  written_all a b xs k e w =
+  pub written_all : {a b : Held} (xs : List X) (k : ℕ) → k ≤ 0 → Wrote M a b (F (drop k xs)) → Wrote M a b (F xs)
+  written_all xs k e w =
       let zero_is : k ≡ 0 = omega (arith, e) in
-      wrote_equal a b _ _ (ap (λ n. F (drop n xs)) zero_is) w
+      wrote_equal (ap (λ n. F (drop n xs)) zero_is) w
 
 -- block numbers, four a word
 pub no_four : {M : Type 0} (a : Held) (ns : List ℕ) → Wrote M a a (packed (drop (4 * (length ns / 4)) ns))
-no_four a ns = wrote_equal a a [] _
-    (sym (short (drop (4 * (length ns / 4)) ns) (omega (arith, length-drop (4 * (length ns / 4)) ns))))
-    (wrote_nothing a)
+no_four a ns =
+    wrote_equal (sym (short _ (omega (arith, length-drop (4 * (length ns / 4)) ns)))) (wrote_nothing a)
   where
     short : (xs : List ℕ) → length xs < 4 → packed xs ≡ []
     short (x ∷ y ∷ z ∷ w ∷ xs) l = absurd (omega (arith, l))
     short xs l = refl
 
-pub wrote_four : {M : Type 0} (a b c : Held) (ns : List ℕ) (k n w : ℕ) → n ≡ k + 1 → 4 * n ≤ length ns
+pub wrote_four : {M : Type 0} {a b c : Held} (ns : List ℕ) (k n w : ℕ) → n ≡ k + 1 → 4 * n ≤ length ns
     → w ≡ slice_index ns (4 * k) + 256 * slice_index ns (4 * k + 1) + 65536 * slice_index ns (4 * k + 2)
     + 16777216 * slice_index ns (4 * k + 3)
     → Wrote M a b (packed (drop (4 * n) ns)) → Wrote M b c (w ∷ []) → Wrote M a c (packed (drop (4 * k) ns))
-wrote_four a b c ns k n w e l same v x =
+wrote_four ns k n w e l same v x =
     let one = at (4 * k) (4 * k + 1) refl (omega (arith, e, l)) in
     let two = at (4 * k + 1) (4 * k + 2) (omega arith) (omega (arith, e, l)) in
     let three = at (4 * k + 2) (4 * k + 3) (omega arith) (omega (arith, e, l)) in
     let four = at (4 * k + 3) (4 * n) (omega (arith, e)) (omega (arith, e, l)) in
-    wrote_equal a c _ _ (ap (λ u. u ∷ packed (drop (4 * n) ns)) same ∙ sym (ap packed (one
-    ∙ ap (λ l. slice_index ns (4 * k) ∷ l) (two ∙ ap (λ l. slice_index ns (4 * k + 1) ∷ l)
-    (three ∙ ap (λ l. slice_index ns (4 * k + 2) ∷ l) four))))) (wrote_more a b c _ _ v x)
+    rw (one, two, three, four, ← same) (wrote_more v x)
   where
     at : (i j : ℕ) → j ≡ i + 1 → i < length ns → drop i ns ≡ slice_index ns i ∷ drop j ns
     at i j e l = at_place ns (slice_index ns i) i j e l (get_or_default ns i 0 _ l)
@@ -166,46 +159,41 @@ wrote_length : {M : Type 0} (a b : Held) (xs : List ℕ) → Wrote M a b xs → 
 wrote_length a b xs w q = by a.failure refl
   where
     by : (f : Option EmitError) → a.failure ≡ f → length b.words ≡ length a.words + length xs
-    by None p = omega (
-      arith,
-      ap length (w.done p q).0,
-      length-append a.words (reverse xs),
-      length-reverse xs,
-    )
+    by None p =
+        omega (arith, ap length (w.done p q).0, length-append a.words (reverse xs), length-reverse xs)
     by (Some e) p = let k : b.failure ≡ Some e = w.kept e p in absurd (cc)
 
 -- words, and then some in front of them, with their number, which is that of the words since the start
-pub wrote_counted : {M : Type 0} (a b c : Held) (xs : List ℕ) (start : ℕ) (f : ℕ → List ℕ) → start ≡ length a.words
+pub wrote_counted : {M : Type 0} {a b c : Held} {xs : List ℕ} (start : ℕ) (f : ℕ → List ℕ) → start ≡ length a.words
     → Wrote M a b xs → Wrote M b c (f (length b.words - start)) → Wrote M a c (f (length xs) ++ xs)
-wrote_counted {M} a b c xs start f e v w = by b.failure refl
+wrote_counted {M} {a} {b} {c} {xs} start f e v w = by b.failure refl
   where
     by : (g : Option EmitError) → b.failure ≡ g → Wrote M a c (f (length xs) ++ xs)
     by None p =
         let count : length b.words - start ≡ length xs = omega (arith, e, wrote_length a b xs v p) in
-        wrote_equal a c _ _ (ap (λ k. f k ++ xs) count) (wrote_more a b c xs _ v w)
+        wrote_equal (ap (λ k. f k ++ xs) count) (wrote_more v w)
     by (Some d) p = wrote_past a b c xs _ (f (length xs)) d p v w
 
 -- what ends a body, the body, and in front of it an opcode, a skip and operands
-pub wrote_closed : {M : Type 0} (a b c d e : Held) (code end start extra : ℕ) (os xs : List ℕ) → start ≡ length b.words
-    → Wrote M a b (end ∷ []) → Wrote M b c xs → Wrote M c d ((length c.words - start + extra) ∷ os)
-    → Wrote M d e (code ∷ []) → Wrote M a e (closed code extra os xs end)
-wrote_closed a b c d e code end start extra os xs same u v w x =
-    wrote_equal a e _ _ (ap (λ l. code ∷ (length xs + extra) ∷ l) (append_assoc os xs (end ∷ [])))
-    (wrote_more a d e _ _
-    (wrote_more a b d _ _ u (wrote_counted b c d xs start (λ k. (k + extra) ∷ os) same v w)) x)
+pub wrote_closed : {M : Type 0} {a b c d e : Held} {code end : ℕ} {os xs : List ℕ} (start extra : ℕ)
+    → start ≡ length b.words → Wrote M a b (end ∷ []) → Wrote M b c xs
+    → Wrote M c d ((length c.words - start + extra) ∷ os) → Wrote M d e (code ∷ [])
+    → Wrote M a e (closed code extra os xs end)
+wrote_closed {end} {os} {xs} start extra same u v w x =
+    rw (← append_assoc os xs (end ∷ []))
+    (wrote_more (wrote_more u (wrote_counted start (λ k. (k + extra) ∷ os) same v w)) x)
 
 -- a JUMP over what is behind it, a part, and its length
-pub wrote_guarded : {M : Type 0} (a b c d e : Held) (rest start extra : ℕ) (xs : List ℕ) → start ≡ length c.words
+pub wrote_guarded : {M : Type 0} {a b c d e : Held} {xs : List ℕ} (rest start extra : ℕ) → start ≡ length c.words
     → Wrote M a b ((rest + 1) ∷ []) → Wrote M b c (opcode_number opcode.JUMP ∷ []) → Wrote M c d xs
     → Wrote M d e ((length d.words - start + extra) ∷ []) → Wrote M a e (guarded extra xs rest)
-wrote_guarded a b c d e rest start extra xs same u v w x =
-    wrote_more a c e _ _ (wrote_more a b c _ _ u v) (wrote_counted c d e xs start (λ k. (k + extra) ∷ []) same w x)
+wrote_guarded rest start extra same u v w x =
+    wrote_more (wrote_more u v) (wrote_counted start (λ k. (k + extra) ∷ []) same w x)
 
 -- the same behind words
-pub wrote_before : {M : Type 0} (a b c : Held) (start extra : ℕ) (ts xs : List ℕ) → start ≡ length a.words
+pub wrote_before : {M : Type 0} {a b c : Held} {xs : List ℕ} (start extra : ℕ) (ts : List ℕ) → start ≡ length a.words
     → Wrote M a b xs → Wrote M b c (guarded extra ts (length b.words - start))
     → Wrote M a c ((length ts + extra) ∷ (ts ++ (opcode_number opcode.JUMP ∷ (length xs + 1) ∷ xs)))
-wrote_before a b c start extra ts xs same u v =
-    wrote_equal a c _ _
-    (ap (λ l. (length ts + extra) ∷ l) (append_assoc ts (opcode_number opcode.JUMP ∷ (length xs + 1) ∷ []) xs))
-    (wrote_counted a b c xs start (guarded extra ts) same u v)
+wrote_before {xs} start extra ts same u v =
+    rw (← append_assoc ts (opcode_number opcode.JUMP ∷ (length xs + 1) ∷ []) xs)
+    (wrote_counted start (guarded extra ts) same u v)

@@ -91,9 +91,7 @@ impl<A: Allocator> Writer<A> {
         requires { all (map item_has_alternatives items.now) ≡ true }
         ensures { Wrote A self.old self.new (tree_words (in_order (map item_of items.now))) }
     {
-        let mut at = items.len();
-        'items: while at > 0 {
-            at -= 1;
+        for at in (0..items.len()).rev() {
             self.put_item(&items[at]);
         }
     }
@@ -145,9 +143,7 @@ impl<A: Allocator> Writer<A> {
     {
         let start = self.len();
         self.put(0);
-        let mut at = parts.len();
-        'parts: while at > 0 {
-            at -= 1;
+        for at in (0..parts.len()).rev() {
             self.put_before(start, 3, &parts[at]);
         }
         self.put_opcode(SreOpcode::BRANCH);

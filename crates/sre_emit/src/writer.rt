@@ -99,9 +99,7 @@ impl<A: Allocator> Writer<A> {
     pub fn put_all(&mut self, words: &[u32])
         ensures { Wrote A self.old self.new words.now }
     {
-        let mut at = words.len();
-        'words: while at > 0 {
-            at -= 1;
+        for at in (0..words.len()).rev() {
             self.put(words[at]);
         }
     }
@@ -110,9 +108,7 @@ impl<A: Allocator> Writer<A> {
     fn put_numbers(&mut self, numbers: &[u8])
         ensures { Wrote A self.old self.new (packed numbers.now) }
     {
-        let mut at = numbers.len() / 4;
-        'numbers: while at > 0 {
-            at -= 1;
+        for at in (0..numbers.len() / 4).rev() {
             let i = 4 * at;
             self.put(word_of_four(numbers[i], numbers[i + 1], numbers[i + 2], numbers[i + 3]));
         }
@@ -149,9 +145,7 @@ impl<A: Allocator> Writer<A> {
     pub fn put_set(&mut self, set: &[SetItem])
         ensures { Wrote A self.old self.new (set_words (map set_item_of set.now)) }
     {
-        let mut at = set.len();
-        'items: while at > 0 {
-            at -= 1;
+        for at in (0..set.len()).rev() {
             self.put_set_item(&set[at]);
         }
     }

@@ -12,8 +12,7 @@ returns-in-Ok-border_lengths g c =
     let words = c.deref-in-Ok-border_lengths.ensures.value in
     let overlaps = c.deref-in-Ok-border_lengths-2.ensures.value in
     let same = words ∙ sym c.deref.ensures.value in
-    wrote_equal _ _ _ _
-    (full_block (in_order (map item_of c.args.items.now)) c.leading-adjacent.result c.args.least
+    wrote_equal (full_block (in_order (map item_of c.args.items.now)) c.leading-adjacent.result c.args.least
     c.prefix_flags-flags.result _ ws os c.leading-adjacent.ensures.count c.if-adjacent-eq0.false
     (words ∙ c.in-Ok.ensures)
     (ap (λ l. are_overlaps l 1 os) same ∙ ap (λ l. are_overlaps c.deref.result.now 1 l) overlaps

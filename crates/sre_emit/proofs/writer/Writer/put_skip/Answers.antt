@@ -4,5 +4,5 @@ use Rattle.sre_emit.proofs.writer.Writer.put_skip.Goals as goal
 
 pub returns : goal.returns
 returns g c =
-    wrote_equal _ _ _ _ (ap (λ n. (n - c.args.start + c.args.extra) ∷ c.args.operands.now) c.len.ensures.words)
-    (wrote_more _ _ _ _ _ c.put_all.ensures c.put_count.ensures)
+    wrote_equal (ap (λ n. (n - c.args.start + c.args.extra) ∷ c.args.operands.now) c.len.ensures.words)
+    (wrote_more c.put_all.ensures c.put_count.ensures)

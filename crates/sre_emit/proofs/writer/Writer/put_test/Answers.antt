@@ -6,6 +6,6 @@ pub returns-in-In : goal.returns-in-In
 returns-in-In g c =
     search (
       rules,
-      wrote_closed _ _ _ _ _ _ _ _ _ _ _ c.len-start.ensures.words c.put_opcode-in-In.ensures
-          c.put_set.ensures c.put_skip.ensures c.put_opcode-in-In-2.ensures,
+      wrote_closed _ _ c.len-start.ensures.words c.put_opcode-in-In.ensures c.put_set.ensures
+          c.put_skip.ensures c.put_opcode-in-In-2.ensures,
     )
