@@ -1,32 +1,22 @@
 -- A block before the code words of a tree: its rows, that they are still the tree's, and that its claims are confirmed.
-use Rattle.std.proofs.Common.{ℕ, zero, suc, ◌+◌, ◌*◌, ◌-◌, ◌/◌, ◌%◌, ◌≡◌, ◌<◌, ◌≤◌, Bool, true, false, cond}
-use Rattle.std.proofs.Common.{nat_eq, nat_lt}
-use Rattle.std.proofs.Common.{nat_le, List, [], ◌∷◌, ◌++◌, length, take, drop, Some, is_some}
-use Rattle.std.proofs.Common.{refl, sym, ◌∙◌, ap, subst, arith, length-append, ◌≢◌}
+use Rattle.std.proofs.Common.{ℕ, zero, suc, ◌+◌, ◌*◌, ◌-◌, ◌/◌, ◌%◌, ◌≡◌, ◌<◌, ◌≤◌, Bool, true, false, cond, nat_eq}
+use Rattle.std.proofs.Common.{nat_lt, nat_le, List, [], ◌∷◌, ◌++◌, length, take, drop, Some, is_some, refl, sym, ◌∙◌}
+use Rattle.std.proofs.Common.{ap, subst, arith, length-append, ◌≢◌}
 use Rattle.std.proofs.Math.Seq.{drop-append_seam, take-append_seam}
 use Rattle.std.proofs.lemmas.List.{append_assoc}
 use Rattle.std.proofs.lemmas.Bool.{and_parts}
 use Rattle.std.proofs.lemmas.Bool.Decides.{nat_tests}
-use Rattle.sre_chars.specs.Numbers.{opcode_number}
 use Rattle.sre_chars.specs.declared.constants.SreOpcode.TheVariants as opcode
 use Rattle.sre_model.specs.Tree.{Tree, Empty, Then, One, Mark, Branch, Only, Or, Literal, Plain}
-use Rattle.sre_model.specs.Ways.{unlimited}
-use Rattle.sre_model.specs.Grammar.{has_block, behind_block, fits_block, WholeItems, Whole}
-use Rattle.sre_model.specs.Standing.{AreWords}
 use Rattle.sre_model.specs.Shown.{items, a, b, c, d}
-use Rattle.sre_model.specs.Width.{width}
-use Rattle.sre_model.specs.Claims.{border_length, are_overlaps, has_prefix, prefix_words}
-use Rattle.sre_model.specs.Claims.{overlap_words, behind_spread, behind_literals, is_at_end, behind_prefix}
-use Rattle.sre_model.specs.Claims.{confirmed_width, confirmed_prefix, is_literal}
-use Rattle.sre_model.specs.Lawful.{LawfulTree}
-use Rattle.sre_model.specs.Written.{code_words}
+use Rattle.sre_model.specs.Claims.{border_length, has_prefix, prefix_words, overlap_words, behind_spread}
+use Rattle.sre_model.specs.Claims.{behind_literals, is_at_end, behind_prefix, confirmed_width, confirmed_prefix}
 use Rattle.sre_model.proofs.CutOff.{no_block, none_behind, whole_items}
 use Rattle.sre_model.proofs.OneToOne.{code_whole, whole_are}
-use Rattle.sre_emit.specs.Block.{leading, spread, has_literals_alone}
-use Rattle.sre_emit.specs.Block.{is_all_literals, block_prefix, overlaps_from, block, prefix_part, prefixed}
-use Rattle.sre_emit.specs.Block.{block_words}
-use Rattle.sre_emit.specs.Emitted.{front, Emits}
-use Rattle.sre_emit.specs.Writing.{Held, Wrote}
+use Rattle.sre_emit.specs.Emitting.{opcode_number, unlimited, has_block, behind_block, fits_block, WholeItems, Whole}
+use Rattle.sre_emit.specs.Emitting.{AreWords, width, are_overlaps, LawfulTree, code_words, leading, spread}
+use Rattle.sre_emit.specs.Emitting.{has_literals_alone, is_all_literals, block_prefix, overlaps_from, block}
+use Rattle.sre_emit.specs.Emitting.{prefix_part, prefixed, block_words, is_literal, front, Emits, Held, Wrote}
 use Rattle.sre_emit.proofs.Written.{wrote_equal, wrote_more}
 
 letter : block_words (items (a ∷ [])) ≡ 14 ∷ 8 ∷ 3 ∷ 1 ∷ unlimited ∷ 1 ∷ 1 ∷ 97 ∷ 0 ∷ []
@@ -109,10 +99,8 @@ leading_least (Then x rest) = omega arith
 -- whatever a block claims, what is behind it stays
 pub block_behind : (flags least : ℕ) (others ws : List ℕ) → behind_block (block flags least others ++ ws) ≡ ws
 block_behind flags least others ws =
+    let far : 1 + (length others + 4) ≡ length (block flags least others) = omega arith in
     ap (λ n. drop n (block flags least others ++ ws)) far ∙ drop-append_seam (block flags least others) ws
-  where
-    far : 1 + (length others + 4) ≡ length (block flags least others)
-    far = omega arith
 
 pub block_fits : (flags least : ℕ) (others ws : List ℕ) → fits_block (block flags least others ++ ws) ≡ true
 block_fits flags least others ws = grind (arith, nat_tests)
@@ -132,32 +120,29 @@ module _ (flags least k : ℕ) (ps os ws : List ℕ) where
   words_read : prefix_words all ≡ ps
   words_read =
       let far : 7 + length ps - 7 ≡ length ps = omega arith in
-      ap (λ n. take n ((ps ++ os) ++ ws)) far ∙ ap (take (length ps)) (append_assoc ps os ws)
-      ∙ take-append_seam ps (os ++ ws)
+      rw (far, append_assoc ps os ws) (take-append_seam ps (os ++ ws))
 
   overlaps_read : length os ≡ length ps → overlap_words all ≡ os
   overlaps_read e =
-      let head : List ℕ = opcode_number opcode.INFO ∷ (length (length ps ∷ k ∷ (ps ++ os)) + 4) ∷ flags ∷ least
-      ∷ unlimited ∷ length ps ∷ k ∷ ps in
-      let far : 7 + length ps ≡ length head = omega arith in
+      let far : 7 + length ps ≡ suc (suc (suc (suc (suc (suc (suc (length ps))))))) = omega arith in
       let many : 7 + 2 * length ps - (7 + length ps) ≡ length os = omega (arith, e) in
-      let same : all ≡ head ++ (os ++ ws) =
-      ap (λ l. opcode_number opcode.INFO ∷ (length (length ps ∷ k ∷ (ps ++ os)) + 4) ∷ flags ∷ least ∷ unlimited
-      ∷ length ps ∷ k ∷ l) (append_assoc ps os ws) in
       let rest : drop (7 + length ps) all ≡ os ++ ws =
-      ap (λ n. drop n all) far ∙ ap (drop (length head)) same ∙ drop-append_seam head (os ++ ws) in
-      ap (λ n. take n (drop (7 + length ps) all)) many ∙ ap (take (length os)) rest ∙ take-append_seam os ws
+      ap (λ n. drop n all) far ∙ ap (drop (length ps)) (append_assoc ps os ws) ∙ drop-append_seam ps (os ++ ws) in
+      rw (many, rest) (take-append_seam os ws)
 
   prefix_there : nat_eq (flags / 1 % 2) 1 ≡ true → 0 < length ps → k ≤ length ps → length os ≡ length ps
       → are_overlaps ps 1 os ≡ true → has_prefix all ≡ true
   prefix_there flag some few long right =
       let one : nat_lt 0 (length ps) ≡ true = grind (arith, nat_tests) in
       let two : nat_le k (length ps) ≡ true = grind (arith, nat_tests) in
-      let size : 1 + (length (length ps ∷ k ∷ (ps ++ os)) + 4) ≡ 7 + 2 * length ps =
-      omega (arith, long, length-append ps os) in
       let three : nat_eq (1 + (length (length ps ∷ k ∷ (ps ++ os)) + 4)) (7 + 2 * length ps) ≡ true =
-      grind (arith, nat_tests) in
+      grind (arith, nat_tests, long, length-append ps os) in
       rw (flag, one, two, three, words_read, overlaps_read long, right) refl
+
+-- the flags of a block with a prefix say so
+flagged : (alone : Bool) → nat_eq (cond alone 3 1 / 1 % 2) 1 ≡ true
+flagged true = refl
+flagged false = refl
 
 -- what a block claims of the words behind it is confirmed
 module _ (t : Tree) where
@@ -173,21 +158,14 @@ module _ (t : Tree) where
     abbrev words : List ℕ
     words = behind_one (cond (has_literals_alone t) 3 1) (prefix_part (spread t) (leading t))
 
-    flagged : nat_eq (cond (has_literals_alone t) 3 1 / 1 % 2) 1 ≡ true
-    flagged = by (has_literals_alone t)
-      where
-        by : (b : Bool) → nat_eq (cond b 3 1 / 1 % 2) 1 ≡ true
-        by true = refl
-        by false = refl
-
     there : has_prefix words ≡ true
     there =
         let ps = spread t in
         let least : leading t ≤ length ps = leading_least t in
         let first : 0 < leading t = grind (arith, nat_tests) in
         prefix_there (cond (has_literals_alone t) 3 1) (width t) (leading t) ps (overlaps_from ps 1 (length ps))
-        (code_words t) flagged (omega (arith, least, first)) least (overlaps_long ps 1 (length ps))
-        (overlaps_are ps 1 (length ps))
+        (code_words t) (flagged (has_literals_alone t)) (omega (arith, least, first)) least
+        (overlaps_long ps 1 (length ps)) (overlaps_are ps 1 (length ps))
 
     left_is : behind_prefix words t ≡ behind_literals (leading t) (spread t) t
     left_is =
@@ -206,8 +184,7 @@ module _ (t : Tree) where
         by : (b : Bool) → has_literals_alone t ≡ b → is_literal words t ≡ is_all_literals t
         by true e =
             let each = alone_left t e in
-            let size : nat_eq (leading t) (length (spread t)) ≡ true = ap (λ n. nat_eq (leading t) n) (sym each.1)
-            ∙ nat_same (leading t) in
+            let size : nat_eq (leading t) (length (spread t)) ≡ true = grind (arith, nat_tests, each.1) in
             rw (left_is, e, some, size, each.0) refl
         by false e = rw (e, some) refl
 
@@ -222,8 +199,7 @@ module _ (t : Tree) where
           tree = block_whole t flags (width t) others h;
           words = a;
           block = refl;
-          in_front = ap (λ l. block flags (width t) others ++ l) (sym rest)
-              ∙ ap (λ l. l ++ behind_block (behind_one flags others)) (sym e);
+          in_front = cc (e, rest);
           only = λ vs k n w. whole_are vs t k n w ∙ sym rest;
           least = width_confirmed flags others;
           prefix = p;
@@ -282,14 +258,9 @@ pub long_block : (t : Tree) (k : ℕ) (ws : List ℕ) → k ≡ leading t → k 
 long_block t k ws count some same long h =
     let words : AreWords (prefixed t) = subst AreWords (some_leading t k count some) h in
     let skip_fits : length (prefix_part (spread t) (leading t)) + 4 ≤ unlimited = words.fits 1 _ refl in
-    omega (
-      arith,
-      skip_fits,
-      ap length same,
-      long,
-      overlaps_long (spread t) 1 (length (spread t)),
-      length-append (spread t) (overlaps_from (spread t) 1 (length (spread t))),
-    )
+    let lengths = overlaps_long (spread t) 1 (length (spread t)) in
+    let sum = length-append (spread t) (overlaps_from (spread t) 1 (length (spread t))) in
+    omega (arith, skip_fits, ap length same, lengths, sum)
 
 -- one with a prefix
 pub full_block : (t : Tree) (k least flags : ℕ) (b : Bool) (ws os : List ℕ) → k ≡ leading t → k ≢ 0 → ws ≡ spread t
@@ -310,7 +281,7 @@ pub prefix_written : {M : Type 0} {a b c d e f g h : Held} (flags least k n m : 
 prefix_written flags least k n m ws os size many p q r s t u v =
     let skip : length (length ws ∷ k ∷ (ws ++ os)) + 4 ≡ n = omega (arith, size, length-append ws os) in
     let same : opcode_number opcode.INFO ∷ n ∷ flags ∷ least ∷ unlimited ∷ m ∷ k ∷ (ws ++ os)
-        ≡ block flags least (length ws ∷ k ∷ (ws ++ os)) = cc in
+    ≡ block flags least (length ws ∷ k ∷ (ws ++ os)) = cc in
     wrote_equal same (wrote_more (wrote_more (wrote_more (wrote_more (wrote_more (wrote_more p q) r) s) t) u) v)
 
 -- what the writing of a block is to know

@@ -1,16 +1,9 @@
 -- What a writer returns are the code words of a part, after the block that was requested.
-use Rattle.std.proofs.Common.{ℕ, ◌≡◌, ◌≤◌, Bool, List, [], ◌++◌, reverse, None, Some, sym, ◌∙◌, ap}
-use Rattle.std.proofs.Common.{subst}
+use Rattle.std.proofs.Common.{ℕ, ◌≡◌, ◌≤◌, Bool, List, [], ◌++◌, reverse, None, Some, sym, ◌∙◌, ap, subst}
 use Rattle.std.proofs.lemmas.List.{reverse-reverse}
-use Rattle.sre_model.specs.Standing.{AreWords}
-use Rattle.sre_model.specs.Written.{code_words}
 use Rattle.sre_model.proofs.OneToOne.{whole_are}
-use Rattle.sre_emit.specs.declared.part.Part.{Part}
-use Rattle.sre_emit.specs.declared.error.EmitError.{EmitError}
-use Rattle.sre_emit.specs.declared.error.EmitError.TheVariants.{Memory, TooLong, TooDeep, BadPart}
-use Rattle.sre_emit.specs.Parts.{tree_of, depth, HasTree}
-use Rattle.sre_emit.specs.Writing.{Held, Wrote}
-use Rattle.sre_emit.specs.Emitted.{front, Emitted, Cause}
+use Rattle.sre_emit.specs.Emitting.{AreWords, code_words, Part, EmitError, Memory, TooLong, TooDeep, BadPart, tree_of}
+use Rattle.sre_emit.specs.Emitting.{depth, HasTree, Held, Wrote, front, Emitted, Cause}
 use Rattle.sre_emit.proofs.Blocks.{emits}
 use Rattle.sre_emit.proofs.Written.{back_words, wrote_more}
 

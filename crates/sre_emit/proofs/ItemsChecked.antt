@@ -3,17 +3,11 @@ use Rattle.std.proofs.Common.{ℕ, ◌+◌, ◌≡◌, ◌<◌, ◌≤◌, min, 
 use Rattle.std.proofs.Common.{slice_index_or, refl, ap, subst, arith}
 use Rattle.std.proofs.lemmas.Bool.{and_parts}
 use Rattle.std.proofs.lemmas.Bool.Decides.{nat_tests}
-use Rattle.sre_model.specs.Lawful.{LawfulTree, LawfulTrees}
-use Rattle.sre_model.specs.Width.{width, least_width}
 use Rattle.sre_model.specs.Tree.{Tree, Empty, Then}
-use Rattle.sre_emit.specs.declared.part.Part.{Part}
-use Rattle.sre_emit.specs.declared.part.Item.{Item}
-use Rattle.sre_emit.specs.declared.error.EmitError.{EmitError}
-use Rattle.sre_emit.specs.declared.error.EmitError.TheVariants.{Memory, TooLong, TooDeep, BadPart}
-use Rattle.sre_emit.specs.Parts.{tree_of, item_of, in_order, has_alternatives, alternatives, all}
-use Rattle.sre_emit.specs.Parts.{HasTree, HasItemTree}
 use Rattle.sre_emit.proofs.Written.{at_place}
-use Rattle.sre_emit.specs.Checked.{Causes, HaveTrees, HaveAlternatives}
+use Rattle.sre_emit.specs.Emitting.{LawfulTree, LawfulTrees, width, least_width, Part, Item, EmitError, Memory, TooLong}
+use Rattle.sre_emit.specs.Emitting.{TooDeep, BadPart, tree_of, item_of, in_order, has_alternatives, alternatives, all}
+use Rattle.sre_emit.specs.Emitting.{HasTree, HasItemTree, Causes, HaveTrees, HaveAlternatives}
 
 -- a cause of something inside
 pub cause_up : (d n : ℕ) (L M : Type 0) → d ≤ n → (M → L) → (e : EmitError) → Causes d L e → Causes n M e

@@ -4,14 +4,12 @@ use Rattle.std.proofs.Common.{slice_index_or, refl, sym, ◌∙◌, ap, arith}
 use Rattle.std.specs.List.{All}
 use Rattle.std.proofs.lemmas.Bool.{and_parts}
 use Rattle.sre_model.specs.Tree as tree
-use Rattle.sre_emit.specs.declared.part.Part.{Part}
-use Rattle.sre_emit.specs.declared.part.Item.{Item, roll-Item}
+use Rattle.sre_emit.specs.declared.part.Item.{roll-Item}
 use Rattle.sre_emit.specs.declared.part.Item.TheFolds.{map-Item, fold-roll-Item}
 use Rattle.sre_emit.specs.declared.part.Item.TheOpen as layer
-use Rattle.sre_emit.specs.Parts.{tree_of, item_of, item_step, part_step, in_order, alternatives}
-use Rattle.sre_emit.specs.Parts.{has_alternatives, all, some_parts}
-use Rattle.sre_model.specs.Written.{tree_words, item_words, branch_words, alternative}
-use Rattle.sre_emit.specs.Writing.{Held, Wrote, guarded}
+use Rattle.sre_emit.specs.Emitting.{Part, Item, tree_of, item_of, item_step, part_step, in_order, alternatives}
+use Rattle.sre_emit.specs.Emitting.{has_alternatives, all, some_parts, tree_words, item_words, branch_words}
+use Rattle.sre_emit.specs.Emitting.{alternative, Held, Wrote, guarded}
 use Rattle.sre_emit.proofs.Written.{wrote_equal, wrote_before, at_place, written_all}
 
 -- branches inside have parts

@@ -1,22 +1,15 @@
 -- What a writer does, step after step.
 use Rattle.std.proofs.Common.{ℕ, zero, suc, ◌+◌, ◌*◌, ◌/◌, ◌-◌, ◌≡◌, ◌<◌, ◌≤◌, List, [], ◌∷◌, ◌++◌, reverse, drop, map}
-use Rattle.std.proofs.Common.{slice_index, slice_index_or, Option, Some, None, refl, sym, ◌∙◌, ap}
-use Rattle.std.proofs.Common.{length, subst, arith, length-append, length-drop}
+use Rattle.std.proofs.Common.{slice_index, slice_index_or, Option, Some, None, refl, sym, ◌∙◌, ap, length, subst, arith}
+use Rattle.std.proofs.Common.{length-append, length-drop}
 use Rattle.std.proofs.Math.Seq.{drop-cons}
 use Rattle.std.proofs.lemmas.List.{reverse-append, append_assoc, append-nil, length-reverse, get_or_default}
-use Rattle.sre_chars.specs.Numbers.{opcode_number}
 use Rattle.sre_chars.specs.declared.constants.SreOpcode.TheVariants as opcode
 use Rattle.sre_model.specs.Tree.{SetItem, BigCharset}
-use Rattle.sre_model.specs.Ways.{unlimited}
-use Rattle.sre_model.specs.Grammar.{Word}
-use Rattle.sre_model.specs.Standing.{AreWords}
-use Rattle.sre_model.specs.Written.{packed, set_item_words, set_words}
 use Rattle.sre_model.proofs.StandingWords.{in_front, in_back}
-use Rattle.sre_emit.specs.declared.error.EmitError.{EmitError}
-use Rattle.sre_emit.specs.declared.error.EmitError.TheVariants.{Memory, TooLong}
 use Rattle.sre_emit.specs.declared.part.SetItem as part
-use Rattle.sre_emit.specs.Parts.{set_item_of}
-use Rattle.sre_emit.specs.Writing.{Held, Stops, Wrote, closed, guarded}
+use Rattle.sre_emit.specs.Emitting.{opcode_number, unlimited, Word, AreWords, packed, set_item_words, set_words}
+use Rattle.sre_emit.specs.Emitting.{EmitError, Memory, TooLong, set_item_of, Held, Stops, Wrote, closed, guarded}
 
 -- words of which all are words
 front_words : (xs ys : List ℕ) → AreWords (xs ++ ys) → AreWords xs

@@ -2,12 +2,9 @@
 -- Definitions for the check's contracts; the public clauses rest on parts.
 use Rattle.std.specs.Prelude.{ℕ, ◌+◌, ◌≤◌, ◌<◌, ◌≡◌, true, List, map, Result, Ok, Err}
 use Rattle.sre_model.specs.Lawful.{LawfulTree, LawfulTrees}
-use Rattle.sre_emit.specs.declared.part.Part.{Part}
-use Rattle.sre_emit.specs.declared.part.Item.{Item}
-use Rattle.sre_emit.specs.Parts.{tree_of, item_of, in_order, alternatives, has_alternatives, item_has_alternatives}
-use Rattle.sre_emit.specs.Parts.{all, some_parts, most, depth, item_depth}
-use Rattle.sre_emit.specs.declared.error.EmitError.{EmitError}
-use Rattle.sre_emit.specs.declared.error.EmitError.TheVariants.{TooDeep, BadPart}
+use Rattle.sre_emit.specs.Parts.{Part, Item, tree_of, item_of, in_order, alternatives, has_alternatives}
+use Rattle.sre_emit.specs.Parts.{item_has_alternatives, all, some_parts, most, depth, item_depth}
+use Rattle.sre_emit.specs.Errors.{EmitError, TooDeep, BadPart}
 
 -- a bad part has no tree, and a deep one lies too deep; no other cause is named
 abbrev pub Causes : ℕ → Type 0 → EmitError → Type 0

@@ -7,10 +7,8 @@ use Rattle.sre_model.specs.Grammar.{has_block, behind_block, Whole}
 use Rattle.sre_model.specs.Standing.{AreWords}
 use Rattle.sre_model.specs.Width.{width}
 use Rattle.sre_model.specs.Claims.{confirmed_width, confirmed_prefix, is_literal}
-use Rattle.sre_emit.specs.declared.part.Part.{Part}
-use Rattle.sre_emit.specs.declared.error.EmitError.{EmitError}
-use Rattle.sre_emit.specs.declared.error.EmitError.TheVariants.{Memory, TooLong, TooDeep, BadPart}
-use Rattle.sre_emit.specs.Parts.{tree_of, depth, HasTree}
+use Rattle.sre_emit.specs.Errors.{EmitError, Memory, TooLong, TooDeep, BadPart}
+use Rattle.sre_emit.specs.Parts.{Part, tree_of, depth, HasTree}
 use Rattle.sre_emit.specs.Block.{block_words, block_prefix, is_all_literals}
 
 -- what stands in front of a code's items: a block, where one is asked for

@@ -1,8 +1,8 @@
 -- Why no bytecode is written: the numbers of the causes.
 -- Public clauses rest on it.
 use Rattle.std.specs.Prelude.{ℕ}
-use Rattle.sre_emit.specs.declared.error.EmitError.{EmitError}
-use Rattle.sre_emit.specs.declared.error.EmitError.TheVariants.{Memory, TooLong, TooDeep, BadPart}
+pub use Rattle.sre_emit.specs.declared.error.EmitError.{EmitError}
+pub use Rattle.sre_emit.specs.declared.error.EmitError.TheVariants.{Memory, TooLong, TooDeep, BadPart}
 
 abbrev pub emit_error_number : EmitError → ℕ
 emit_error_number Memory = 1

@@ -4,3 +4,4 @@ pub mod Checked
 pub mod Writing
 pub mod Emitted
 pub mod Block
+pub mod Emitting

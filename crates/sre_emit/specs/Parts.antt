@@ -11,8 +11,8 @@ use Rattle.sre_emit.specs.declared.part.SetItem.{SetItem}
 use Rattle.sre_emit.specs.declared.part.SetItem.TheVariants as set
 use Rattle.sre_emit.specs.declared.part.OneChar.{OneChar}
 use Rattle.sre_emit.specs.declared.part.OneChar.TheVariants as test
-use Rattle.sre_emit.specs.declared.part.Part.{Part}
-use Rattle.sre_emit.specs.declared.part.Item.{Item}
+pub use Rattle.sre_emit.specs.declared.part.Part.{Part}
+pub use Rattle.sre_emit.specs.declared.part.Item.{Item}
 use Rattle.sre_emit.specs.declared.part.Item.TheOpen as layer
 use Rattle.sre_emit.specs.declared.part.Item.TheFolds.{fold-Item, fold-Part}
 

@@ -5,8 +5,7 @@ use Rattle.sre_growth.specs.Refusal.{Refused}
 use Rattle.sre_chars.specs.Numbers.{opcode_number}
 use Rattle.sre_chars.specs.declared.constants.SreOpcode.TheVariants as opcode
 use Rattle.sre_model.specs.Standing.{AreWords}
-use Rattle.sre_emit.specs.declared.error.EmitError.{EmitError}
-use Rattle.sre_emit.specs.declared.error.EmitError.TheVariants.{Memory, TooLong}
+use Rattle.sre_emit.specs.Errors.{EmitError, Memory, TooLong}
 
 -- what a writer holds: the words so far, the last one first, and why no more are written
 pub record Held : Type 0 where

@@ -1,11 +1,8 @@
 //! The INFO block before the bytecode of a tree: the least width, and a prefix if the tree begins with plain literals.
 
 ghost use Rattle.std.specs.Prelude.{◌≡◌, ◌+◌, ◌<◌, ◌≤◌, ◌∷◌, ◌++◌, IfOk, length, map, nat_eq, cond};
-ghost use Rattle.sre_model.specs.Width.{width};
-ghost use Rattle.sre_emit.specs.Parts.{item_of, in_order};
-ghost use Rattle.sre_emit.specs.Block.{plain, is_mark, leading, spread, has_literals_alone};
-ghost use Rattle.sre_emit.specs.Block.{block, block_words};
-ghost use Rattle.sre_emit.specs.Writing.{Wrote};
+ghost use Rattle.sre_emit.specs.Emitting.{width, item_of, in_order, plain, is_mark, leading, spread};
+ghost use Rattle.sre_emit.specs.Emitting.{has_literals_alone, block, block_words, Wrote};
 
 use crate::error::EmitError;
 use crate::part::{Fold, Item, OneChar};

@@ -1,11 +1,10 @@
 //! The check of a part before anything is written, and its least width.
 
 ghost use Rattle.std.specs.Prelude.{◌≡◌, ◌+◌, ◌≤◌, ◌<◌, IsTrue, ◌↔◌, IfOk, length, map};
-ghost use Rattle.sre_emit.specs.Parts.{set_item_of, test_of, tree_of, item_of, in_order, alternatives};
-ghost use Rattle.sre_emit.specs.Parts.{depth, item_depth, HasTree, HasItemTree};
-ghost use Rattle.sre_model.specs.Lawful.{NumbersBelow, LawfulSetItem, LawfulSet, LawfulTest};
-ghost use Rattle.sre_model.specs.Width.{width, item_width, least_width};
-ghost use Rattle.sre_emit.specs.Checked.{Checks, HaveTrees, HaveAlternatives, items_depth, parts_depth};
+ghost use Rattle.sre_emit.specs.Emitting.{set_item_of, test_of, tree_of, item_of, in_order, alternatives, depth};
+ghost use Rattle.sre_emit.specs.Emitting.{item_depth, HasTree, HasItemTree, NumbersBelow, LawfulSetItem, LawfulSet};
+ghost use Rattle.sre_emit.specs.Emitting.{LawfulTest, width, item_width, least_width, Checks, HaveTrees};
+ghost use Rattle.sre_emit.specs.Emitting.{HaveAlternatives, items_depth, parts_depth};
 
 use crate::error::EmitError;
 use crate::part::{Item, OneChar, Part, SetItem};

@@ -1,11 +1,7 @@
 //! [`emit`]: the bytecode of a part, or why there is none.
 
 ghost use Rattle.std.specs.Prelude.{◌≡◌, IfOk, IfErr, true};
-ghost use Rattle.sre_model.specs.Written.{code_words};
-ghost use Rattle.sre_model.specs.Width.{width};
-ghost use Rattle.sre_emit.specs.Parts.{tree_of, has_alternatives};
-ghost use Rattle.sre_emit.specs.Emitted.{front, Emitted, Cause};
-ghost use Rattle.sre_emit.specs.Writing.{Wrote};
+ghost use Rattle.sre_emit.specs.Emitting.{code_words, width, tree_of, has_alternatives, front, Emitted, Cause, Wrote};
 
 use crate::check::check_part;
 use crate::error::EmitError;

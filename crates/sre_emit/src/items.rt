@@ -1,11 +1,9 @@
 //! Writing tests, items and parts.
 
 ghost use Rattle.std.specs.Prelude.{◌≡◌, ◌+◌, ◌-◌, ◌≤◌, ◌∷◌, [], length, map, true};
-ghost use Rattle.sre_chars.specs.Numbers.{opcode_number};
-ghost use Rattle.sre_emit.specs.Parts.{test_of, tree_of, item_of, alternatives, in_order};
-ghost use Rattle.sre_emit.specs.Parts.{has_alternatives, item_has_alternatives, all, some_parts};
-ghost use Rattle.sre_model.specs.Written.{test_words, repeated, tree_words, item_words, branch_words};
-ghost use Rattle.sre_emit.specs.Writing.{Wrote, closed, guarded};
+ghost use Rattle.sre_emit.specs.Emitting.{opcode_number, test_of, tree_of, item_of, alternatives, in_order};
+ghost use Rattle.sre_emit.specs.Emitting.{has_alternatives, item_has_alternatives, all, some_parts, test_words};
+ghost use Rattle.sre_emit.specs.Emitting.{repeated, tree_words, item_words, branch_words, Wrote, closed, guarded};
 
 use crate::codes;
 use crate::part::{Item, OneChar, Part};

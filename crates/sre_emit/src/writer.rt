@@ -1,10 +1,8 @@
 //! The writer of bytecode, from the last word to the first. What a skip jumps over is then written before the skip.
 
-ghost use Rattle.std.specs.Prelude.{◌≡◌, ◌+◌, ◌*◌, ◌-◌, ◌<◌, ◌^◌, ◌∷◌, [], Some, None, IfOk, IfErr};
-ghost use Rattle.std.specs.Prelude.{map, length, reverse};
-ghost use Rattle.sre_emit.specs.Parts.{set_item_of};
-ghost use Rattle.sre_model.specs.Written.{packed, set_item_words, set_words};
-ghost use Rattle.sre_emit.specs.Writing.{Wrote};
+ghost use Rattle.std.specs.Prelude.{◌≡◌, ◌+◌, ◌*◌, ◌-◌, ◌<◌, ◌^◌, ◌∷◌, [], Some, None, IfOk, IfErr, map, length};
+ghost use Rattle.std.specs.Prelude.{reverse};
+ghost use Rattle.sre_emit.specs.Emitting.{set_item_of, packed, set_item_words, set_words, Wrote};
 
 use crate::error::EmitError;
 use crate::part::SetItem;

@@ -1,6 +1,5 @@
 use Rattle.std.proofs.Common.{◌≡◌, ◌+◌, drop, map}
-use Rattle.sre_emit.specs.Parts.{item_of, in_order}
-use Rattle.sre_emit.specs.Block.{leading, has_literals_alone}
+use Rattle.sre_emit.specs.Emitting.{item_of, in_order, leading, has_literals_alone}
 use Rattle.sre_emit.proofs.block.leading.Given as goal
 
 abbrev pub invariant-loop-item : goal.invariant-loop-item

@@ -1,6 +1,5 @@
 use Rattle.std.proofs.Common.{◌≡◌, ◌++◌, drop, map}
-use Rattle.sre_emit.specs.Parts.{item_of, in_order}
-use Rattle.sre_emit.specs.Block.{spread}
+use Rattle.sre_emit.specs.Emitting.{item_of, in_order, spread}
 use Rattle.sre_emit.proofs.block.spread.Given as goal
 
 abbrev pub invariant-loop-item : goal.invariant-loop-item

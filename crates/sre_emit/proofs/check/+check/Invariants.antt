@@ -1,6 +1,5 @@
 use Rattle.std.proofs.Common.{◌≡◌, ◌≤◌, ◌+◌, min, drop}
-use Rattle.sre_model.specs.Width.{capped}
-use Rattle.sre_emit.specs.Checked.{HaveTrees, items_depth, parts_depth}
+use Rattle.sre_emit.specs.Emitting.{capped, HaveTrees, items_depth, parts_depth}
 use Rattle.sre_emit.proofs.ItemsChecked.{Left, HaveAll, width_from, narrowest}
 use Rattle.sre_emit.proofs.check.+check.Given as goal
 

@@ -1,7 +1,6 @@
 use Rattle.std.specs.List.{All}
 use Rattle.std.proofs.Common.{true, ◌≡◌, drop}
-use Rattle.sre_emit.specs.Parts.{has_alternatives, item_has_alternatives}
-use Rattle.sre_emit.specs.Writing.{Wrote}
+use Rattle.sre_emit.specs.Emitting.{has_alternatives, item_has_alternatives, Wrote}
 use Rattle.sre_emit.proofs.ItemsWritten.{items_words, parts_words}
 use Rattle.sre_emit.proofs.writer.Writer.+put.Given as goal
 

@@ -1,6 +1,5 @@
 use Rattle.std.proofs.Common.{length, map, sym, ◌∙◌, ap}
-use Rattle.sre_model.specs.Claims.{are_overlaps}
-use Rattle.sre_emit.specs.Parts.{item_of, in_order}
+use Rattle.sre_emit.specs.Emitting.{are_overlaps, item_of, in_order}
 use Rattle.sre_emit.proofs.Blocks.{full_block}
 use Rattle.sre_emit.proofs.Written.{wrote_equal}
 use Rattle.sre_emit.proofs.writer.Writer.put_block.Goals as goal

@@ -7,5 +7,8 @@ returns-in-Charset g c = search (rules, wrote_more c.put_all-in-Charset.ensures 
 
 pub returns-in-BigCharset : goal.returns-in-BigCharset
 returns-in-BigCharset g c =
-    search (rules, wrote_more (wrote_more (wrote_more c.put_all-in-BigCharset.ensures c.put_numbers.ensures)
-    c.put_count.ensures) c.put-in-BigCharset.ensures)
+    search (
+      rules,
+      wrote_more (wrote_more (wrote_more c.put_all-in-BigCharset.ensures c.put_numbers.ensures)
+          c.put_count.ensures) c.put-in-BigCharset.ensures,
+    )
