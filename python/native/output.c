@@ -16,8 +16,8 @@ void output_end(Output *output) {
 /* Makes room for so many bytes more. False with MemoryError. */
 static bool grow(Output *output, size_t bytes) {
   bool is_first = output->data == output->first;
-  size_t room = bytes <= PY_SSIZE_T_MAX - output->used ? output->used + bytes : PY_SSIZE_T_MAX;
-  room = room <= PY_SSIZE_T_MAX / 2 ? 2 * room : PY_SSIZE_T_MAX;
+  size_t least = bytes <= PY_SSIZE_T_MAX - output->used ? output->used + bytes : PY_SSIZE_T_MAX;
+  size_t room = Py_MAX(least, output->room / 2 * 3);
   char *data = PyMem_Realloc(is_first ? NULL : output->data, room);
   if (!data) {
     PyErr_NoMemory();

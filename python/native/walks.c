@@ -175,8 +175,11 @@ static PyObject *written(Call *call, PyObject *replacement, Py_ssize_t most, Py_
     is_well = output_slice(&output, text, last, (Py_ssize_t)row[0]) && output_parts(&output, text, replacement, row);
     last = (Py_ssize_t)row[1];
   }
-  if (is_well && !call->walk.has_failed && output_slice(&output, text, last, text->length))
-    joined = *made ? output_made(&output, text) : text_slice(text, 0, text->length);
+  is_well = is_well && !call->walk.has_failed;
+  if (is_well && !*made)
+    joined = text_slice(text, 0, text->length);
+  else if (is_well && output_slice(&output, text, last, text->length))
+    joined = output_made(&output, text);
   output_end(&output);
   return joined;
 }
