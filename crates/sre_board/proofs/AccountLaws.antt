@@ -1,22 +1,13 @@
 -- How the account of the bits changes: an instruction is tried, it has failed, the body ends in which some were tried,
 -- and the memo grows. And how many bits there are at most.
-use Rattle.std.proofs.Common.{◌≡◌, ℕ, ◌+◌, ◌*◌, ◌<◌, ◌≤◌, ◌⊎◌, inl, inr, true, List, [], ◌∷◌, ◌++◌, Some, slice_get}
-use Rattle.std.proofs.Common.{slice_index, refl, sym, ap, ◌∙◌, subst, arith, append_assoc}
-use Rattle.std.specs.Int.{bit_at}
-use Rattle.std.specs.List.{AllByRecursion}
-use Rattle.sre_chars.specs.declared.string.StringCursor.{StringCursor}
-use Rattle.sre_model.specs.Regions.{has_forked_region}
-use Rattle.sre_model.specs.Runs.{Run}
-use Rattle.sre_turns.specs.Alike.{Alike}
-use Rattle.sre_turns.specs.Attempts.{Attempt}
-use Rattle.sre_turns.specs.Nested.{Lies}
-use Rattle.sre_turns.specs.Settled.{Counted}
-use Rattle.sre_board.specs.Accounts.{BitOf, IsSet, IsEnded, StaysEnded, BitsOf, IsOwned, RowLies, IsRoomy, Account}
-use Rattle.sre_board.specs.Accounts.{most_paid, toll_at, charge}
-use Rattle.sre_board.specs.Apart.{IsIn, Apart}
-use Rattle.sre_board.specs.Ends.{EndsTable, HoldsEnd}
-use Rattle.sre_board.specs.Failures.{BitsKept, Kept, kept_of, IsOpen, Sets, BitsStay, RowsStay, Laid}
-use Rattle.sre_board.specs.declared.failures.Row.{Row}
+use Rattle.sre_board.proofs.Terms.{◌≡◌, ℕ, ◌+◌, ◌*◌, ◌<◌, ◌≤◌, ◌⊎◌, inl, inr, true, List, [], ◌∷◌, ◌++◌, Some}
+use Rattle.sre_board.proofs.Terms.{slice_get, slice_index, refl, sym, ap, ◌∙◌, subst, arith, append_assoc, bit_at}
+use Rattle.sre_board.proofs.Terms.{AllByRecursion, StringCursor, has_forked_region, Run, Alike, Attempt, Lies, Counted}
+use Rattle.sre_board.proofs.Terms.{BitOf, IsOwned, RowLies, Account, toll_at, charge, IsIn, Apart, EndsTable, HoldsEnd}
+use Rattle.sre_board.proofs.Terms.{BitsKept, Kept, kept_of, Sets, BitsStay, RowsStay, Laid, Row}
+use Rattle.sre_board.specs.Accounts.{IsSet, IsEnded, StaysEnded, BitsOf, IsRoomy}
+use Rattle.sre_board.specs.Accounts.{most_paid}
+use Rattle.sre_board.specs.Failures.{IsOpen}
 use Rattle.sre_board.proofs.EndsKept.{one_number, number_stays}
 use Rattle.sre_board.proofs.OneEntry.{one_entry}
 use Rattle.sre_board.proofs.OwnedBits.{owned_bit, owned_still, few_charged}

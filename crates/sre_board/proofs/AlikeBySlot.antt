@@ -1,13 +1,12 @@
 -- Loops with the same number are equivalent.
-use Rattle.std.proofs.Common.{◌≡◌, ℕ, ◌+◌, ◌*◌, ◌<◌, ◌≤◌, Bool, true, false, List, [], ◌∷◌, length, Option, Some, None}
-use Rattle.std.proofs.Common.{cond, min, refl, sym, ap, ◌∙◌, subst, arith}
-use Rattle.std.proofs.lemmas.Bool.Decides.{nat_tests}
-use Rattle.std.proofs.lemmas.Nat.{same_from_place}
-use Rattle.std.proofs.lemmas.Option.{get_or_from_slice_get, same_Some}
-use Rattle.sre_model.specs.Grammar.{Word, word}
-use Rattle.sre_turns.specs.Alike.{FramesAlike, LoopsAlike, counted_to, is_last}
-use Rattle.sre_turns.specs.declared.Frame.{Frame}
-use Rattle.sre_board.specs.Failures.{counted_at, digit, radix, IsPassed, HasSlot}
+use Rattle.sre_board.proofs.Terms.{◌≡◌, ℕ, ◌+◌, ◌*◌, ◌<◌, ◌≤◌, Bool, true, false, List, [], ◌∷◌, length, Option, Some}
+use Rattle.sre_board.proofs.Terms.{None, cond, refl, sym, ap, ◌∙◌, subst, arith, nat_tests, same_from_place}
+use Rattle.sre_board.proofs.Terms.{get_or_from_slice_get, same_Some, Word, FramesAlike, LoopsAlike, Frame, digit, radix}
+use Rattle.sre_board.proofs.Terms.{IsPassed, HasSlot}
+use Rattle.std.proofs.Common.{min}
+use Rattle.sre_model.specs.Grammar.{word}
+use Rattle.sre_turns.specs.Alike.{counted_to, is_last}
+use Rattle.sre_board.specs.Failures.{counted_at}
 
 -- a test as a number
 abbrev pub one_if : Bool → ℕ

@@ -1,14 +1,13 @@
 -- Laws of the table of chains.
-use Rattle.std.proofs.Common.{◌≡◌, ℕ, zero, suc, ◌+◌, ◌-◌, ◌<◌, ◌≤◌, List, [], ◌∷◌, ◌++◌, length, take, drop, add-zero}
-use Rattle.std.proofs.Common.{Some, slice_index_or, slice_get, refl, sym, ap, ◌∙◌, arith}
-use Rattle.std.proofs.Common.{length-append, append_assoc, inl, inr}
-use Rattle.std.proofs.lemmas.List.{take-append-drop, length-take-le, append-nil, get_or_past}
-use Rattle.std.proofs.Math.Seq.{take-append_seam, get_or-append_seam}
-use Rattle.std.proofs.Math.ListN.{get_or-append}
+use Rattle.sre_board.proofs.Terms.{◌≡◌, ℕ, zero, suc, ◌+◌, ◌-◌, ◌<◌, ◌≤◌, List, [], ◌∷◌, ◌++◌, length, take, drop, Some}
+use Rattle.sre_board.proofs.Terms.{slice_index_or, slice_get, refl, sym, ap, ◌∙◌, arith, length-append, append_assoc}
+use Rattle.sre_board.proofs.Terms.{inl, inr, length-take-le, append-nil, get_or_past, take-append_seam}
+use Rattle.sre_board.proofs.Terms.{get_or-append_seam, get_or-append, slice_get-get_or, slice_get_read, Frame}
+use Rattle.std.proofs.Common.{add-zero}
+use Rattle.std.proofs.lemmas.List.{take-append-drop}
 use Rattle.std.proofs.lemmas.Bool.{cases_lt}
-use Rattle.std.proofs.lemmas.Option.{slice_get-get_or, slice_get_read, slice_get_cases}
+use Rattle.std.proofs.lemmas.Option.{slice_get_cases}
 use Rattle.sre_board.specs.Chains.{frame_of, grown, table, Based}
-use Rattle.sre_turns.specs.declared.Frame.{Frame}
 use Rattle.sre_board.specs.declared.chains.Node.{Node}
 use Rattle.sre_board.proofs.Listed.{got_more}
 

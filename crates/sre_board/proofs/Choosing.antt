@@ -1,18 +1,14 @@
 -- Laws of saved alternatives with one trail and one table of chains.
-use Rattle.std.proofs.Common.{◌≡◌, ℕ, ◌+◌, ◌-◌, ◌<◌, ◌≤◌, List, [], ◌∷◌, ◌++◌, length, map, reverse, take, drop, Bool}
-use Rattle.std.proofs.Common.{true, inr, Option, Some, slice_index_or, refl, sym, ap, ◌∙◌, subst, arith, length-append}
+use Rattle.sre_board.proofs.Terms.{◌≡◌, ℕ, ◌+◌, ◌-◌, ◌<◌, ◌≤◌, List, [], ◌∷◌, ◌++◌, length, map, reverse, take, drop}
+use Rattle.sre_board.proofs.Terms.{Bool, true, inr, Option, Some, slice_index_or, refl, sym, ap, ◌∙◌, subst, arith}
+use Rattle.sre_board.proofs.Terms.{length-append, length-take-le, get_or-append, get_or-append_seam, Marks, no_marks}
+use Rattle.sre_board.proofs.Terms.{set_mark, Trail, states, SetsMark, choice, BoardValue, StringCursor, Frame}
+use Rattle.sre_board.proofs.Terms.{choice_of, board_of, Fits, regions_of, regions_in, Saved}
 use Rattle.std.specs.Option.{option_to_list}
-use Rattle.std.proofs.lemmas.List.{get_or-take, reverse-append, length-take-le}
-use Rattle.std.proofs.Math.ListN.{get_or-append}
-use Rattle.std.proofs.Math.Seq.{get_or-append_seam}
-use Rattle.sre_model.specs.Marks.{Marks, no_marks, set_mark}
-use Rattle.sre_board.specs.Trail.{Trail, states, SameUpTo, SetsMark}
-use Rattle.sre_turns.specs.Board.{Else, choice, BoardValue, Dropped}
+use Rattle.std.proofs.lemmas.List.{get_or-take, reverse-append}
+use Rattle.sre_board.specs.Trail.{SameUpTo}
+use Rattle.sre_turns.specs.Board.{Else, Dropped}
 use Rattle.sre_turns.specs.declared.Point.TheVariants.{Instruction}
-use Rattle.sre_chars.specs.declared.string.StringCursor.{StringCursor}
-use Rattle.sre_turns.specs.declared.Frame.{Frame}
-use Rattle.sre_board.specs.Choices.{choice_of, board_of, Fits, regions_of, regions_in}
-use Rattle.sre_board.specs.declared.saved.Saved.{Saved}
 
 abbrev pub Table : Type 0
 Table = List (List Frame)

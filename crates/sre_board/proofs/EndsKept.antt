@@ -1,20 +1,14 @@
 -- Body ends memoized by the numbers of configurations: what adding one preserves, that configurations with one number
 -- are equivalent, and that ends which are right stay so.
 -- The machine's memo of body ends rests on it.
-use Rattle.std.proofs.Common.{◌≡◌, ℕ, inl, inr, Bool, true, List, [], ◌∷◌, ◌++◌}
-use Rattle.std.proofs.Common.{Option, Some, None, IfNone, sym, ap, ◌∙◌, subst, arith}
-use Rattle.std.specs.List.{AllByRecursion}
-use Rattle.sre_chars.specs.declared.string.StringCursor.{StringCursor}
-use Rattle.sre_model.specs.Marks.{no_marks}
-use Rattle.sre_model.specs.Runs.{Run}
-use Rattle.sre_turns.specs.Alike.{Alike}
+use Rattle.sre_board.proofs.Terms.{◌≡◌, ℕ, inl, inr, Bool, true, List, [], ◌∷◌, ◌++◌, Option, Some, None, sym, ap, ◌∙◌}
+use Rattle.sre_board.proofs.Terms.{subst, arith, AllByRecursion, StringCursor, no_marks, Run, Alike, Choice, Spot, Kept}
+use Rattle.sre_board.proofs.Terms.{Entry, Laid, BitsStay, HasBit, EndsTable, end_at, HoldsEnd, HoldsNoEnd}
+use Rattle.sre_board.proofs.Terms.{HoldsOpenMore, HasEnd, TellsEnd, NumberOf, EndsRight}
+use Rattle.std.proofs.Common.{IfNone}
 use Rattle.sre_turns.specs.BodyEnds.{EndsAt}
-use Rattle.sre_turns.specs.Board.{Choice}
-use Rattle.sre_turns.specs.Moves.{Spot}
 use Rattle.sre_turns.specs.OpenMarks.{EachOpen}
-use Rattle.sre_board.specs.Failures.{Kept, Entry, Laid, BitsStay, HasBit}
-use Rattle.sre_board.specs.Ends.{EndsTable, end_at, HoldsEnd, HoldsNoEnd, HoldsOpenMore, HasEnd, TellsEnd, NumberOf}
-use Rattle.sre_board.specs.Ends.{EndRight, EndsRight}
+use Rattle.sre_board.specs.Ends.{EndRight}
 use Rattle.sre_board.proofs.OneEntry.{one_entry}
 use Rattle.sre_board.proofs.KeptSpots.{one_bit}
 use Rattle.sre_board.proofs.Remembering.{alike_onward}

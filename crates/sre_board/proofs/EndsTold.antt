@@ -1,17 +1,9 @@
 -- Which ends a memo returns for configurations once it has grown: those from before, none outside of atomic scopes.
 -- That the step bound suffices (`enough` of sre_engine) rests on this.
-use Rattle.std.proofs.Common.{◌≡◌, ℕ, ◌+◌, ◌*◌, ◌/◌, Bool, true, false, List, [], ◌∷◌, Some}
-use Rattle.std.proofs.Common.{refl, sym, ap, ◌∙◌, subst, arith}
-use Rattle.sre_chars.specs.declared.string.StringCursor.{StringCursor}
-use Rattle.sre_model.specs.Runs.{Run}
-use Rattle.sre_turns.specs.Alike.{LoopsAlike, least_from}
-use Rattle.sre_turns.specs.Attempts.{Attempt}
-use Rattle.sre_turns.specs.Moves.{Spot}
-use Rattle.sre_turns.specs.declared.Frame.{Frame}
-use Rattle.sre_board.specs.Accounts.{BitOf}
-use Rattle.sre_board.specs.Ends.{EndsTable, HoldsEnd, NumberOf, EndsRight, TellsEnd}
-use Rattle.sre_board.specs.Failures.{Kept, Entry, HasSlot, BitsStay, RowsStay, Laid, radix, digit}
-use Rattle.sre_board.specs.declared.failures.Row.{Row}
+use Rattle.sre_board.proofs.Terms.{◌≡◌, ℕ, ◌+◌, ◌*◌, ◌/◌, Bool, true, false, List, [], ◌∷◌, Some, refl, sym, ap, ◌∙◌}
+use Rattle.sre_board.proofs.Terms.{subst, arith, StringCursor, Run, LoopsAlike, least_from, Attempt, Spot, Frame, BitOf}
+use Rattle.sre_board.proofs.Terms.{EndsTable, HoldsEnd, NumberOf, EndsRight, TellsEnd, Kept, Entry, HasSlot, BitsStay}
+use Rattle.sre_board.proofs.Terms.{RowsStay, Laid, radix, digit, Row}
 use Rattle.sre_board.proofs.EndsKept.{one_number, number_stays}
 use Rattle.sre_board.proofs.KeptSpots.{same_row}
 use Rattle.sre_board.proofs.OneEntry.{entry_at}

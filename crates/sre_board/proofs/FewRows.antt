@@ -1,14 +1,11 @@
 -- Rows of addresses below a bound are fewer than the bound where one of these addresses has none.
-use Rattle.std.proofs.Common.{◌≡◌, ℕ, suc, ◌<◌, inl, inr, true, false, List, [], ◌∷◌, length, map, Some, slice_get}
-use Rattle.std.proofs.Common.{refl, sym, arith}
-use Rattle.std.specs.List.{AllByRecursion, IsDistinct, list_any}
+use Rattle.sre_board.proofs.Terms.{◌≡◌, ℕ, suc, ◌<◌, inl, inr, true, false, List, [], ◌∷◌, length, map, Some, slice_get}
+use Rattle.sre_board.proofs.Terms.{refl, sym, arith, AllByRecursion, eqb_tells, Row, Kept, Laid, HasNoRow}
+use Rattle.std.specs.List.{IsDistinct, list_any}
 use Rattle.std.proofs.Math.Dec.{eqb}
-use Rattle.std.proofs.lemmas.Bool.Decides.{eqb_tells}
 use Rattle.std.proofs.lemmas.List.{length-map}
 use Rattle.std.proofs.lemmas.Map.Keys.{IsDistinct-cons}
 use Rattle.std.proofs.lemmas.Map.Steps.{length-le_from_distinct_below}
-use Rattle.sre_board.specs.declared.failures.Row.{Row}
-use Rattle.sre_board.specs.Failures.{Kept, Laid, HasNoRow}
 
 abbrev places : List Row → List ℕ
 places rs = map (λ (r : Row). r.place) rs

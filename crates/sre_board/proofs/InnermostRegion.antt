@@ -1,17 +1,12 @@
 -- The innermost atomic scope on a backtrack stack, and what is left when it ends.
-use Rattle.std.proofs.Common.{◌≡◌, ℕ, ◌+◌, ◌-◌, ◌<◌, ◌≤◌, ◌⊎◌, inl, inr, List, [], ◌∷◌, length, map, reverse, take}
-use Rattle.std.proofs.Common.{slice_index_or, refl, sym, ap, ◌∙◌, subst, arith, Bool, true, false, not, nat_eq}
-use Rattle.std.proofs.lemmas.Bool.Decides.{nat_tests}
+use Rattle.sre_board.proofs.Terms.{◌≡◌, ℕ, ◌+◌, ◌-◌, ◌<◌, ◌≤◌, ◌⊎◌, inl, inr, List, [], ◌∷◌, length, map, reverse, take}
+use Rattle.sre_board.proofs.Terms.{slice_index_or, refl, sym, ap, ◌∙◌, subst, arith, Bool, true, false, nat_tests}
+use Rattle.sre_board.proofs.Terms.{length-reverse, length-take-le, Marks, no_marks, Trail, states, Choice, BoardValue}
+use Rattle.sre_board.proofs.Terms.{Region, Inside, Point, choice_of, board_of, Fits, regions_of, regions_in}
+use Rattle.sre_board.proofs.Terms.{down_to_region, Saved}
+use Rattle.std.proofs.Common.{not, nat_eq}
 use Rattle.sre_turns.specs.Fruit.{is_inside}
-use Rattle.std.proofs.lemmas.List.{length-reverse, length-take-le}
-use Rattle.sre_model.specs.Marks.{Marks, no_marks}
-use Rattle.sre_board.specs.Trail.{Trail, states}
-use Rattle.sre_turns.specs.Board.{Choice, from_region, BoardValue, Cuts}
-use Rattle.sre_turns.specs.declared.Region.{Region}
-use Rattle.sre_turns.specs.declared.Point.TheVariants.{Inside}
-use Rattle.sre_turns.specs.declared.Point.{Point}
-use Rattle.sre_board.specs.Choices.{choice_of, board_of, Fits, regions_of, regions_in, down_to_region}
-use Rattle.sre_board.specs.declared.saved.Saved.{Saved}
+use Rattle.sre_turns.specs.Board.{from_region, Cuts}
 use Rattle.sre_board.proofs.Choosing.{Table, agree_cut, fits-more, same_choices}
 
 -- from the innermost region on, as the board has it and as its value has it

@@ -1,20 +1,13 @@
 -- Configurations that are memoized as bits: those with one bit are alike, and one more is memoized where a bit is set.
-use Rattle.std.proofs.Common.{◌≡◌, ℕ, ◌+◌, ◌-◌, ◌*◌, ◌/◌, ◌%◌, ◌^◌, ◌<◌, ◌⊎◌, inl, inr, Bool, List, length, Some}
-use Rattle.std.proofs.Common.{slice_get, slice_index, slice_set, get_or, sym, ap, ◌∙◌, subst, arith, w64}
-use Rattle.std.specs.Prelude.{bit_or}
-use Rattle.std.specs.Int.{bit_at}
-use Rattle.std.proofs.lemmas.Bool.{cases_order, cases_eq}
-use Rattle.std.proofs.lemmas.List.{get_or-set_same, get_or-set_other, get_or_read}
-use Rattle.std.proofs.lemmas.Nat.{same_from_place}
-use Rattle.std.proofs.lemmas.Nat.Bits.{bit_at_set_same, bit_at_set_other}
-use Rattle.std.proofs.lemmas.Option.{same_Some}
-use Rattle.sre_turns.specs.Alike.{LoopsAlike, Alike, least_from}
-use Rattle.sre_turns.specs.Moves.{Spot}
-use Rattle.sre_turns.specs.Nested.{repeats, place_of, is_again}
-use Rattle.sre_turns.proofs.bound.NestedPlaces.{same_point, placed_from}
-use Rattle.sre_board.specs.Failures.{Kept, kept_of, Entry, HoldsOneMore, HoldsStill, BitsStay, BitsKept, Sets, HasSlot}
-use Rattle.sre_board.specs.Failures.{Laid, ones_below}
-use Rattle.sre_board.specs.declared.failures.Row.{Row}
+use Rattle.sre_board.proofs.Terms.{◌≡◌, ℕ, ◌+◌, ◌-◌, ◌*◌, ◌/◌, ◌%◌, ◌^◌, ◌<◌, ◌⊎◌, inl, inr, Bool, List, length, Some}
+use Rattle.sre_board.proofs.Terms.{slice_get, slice_index, slice_set, get_or, sym, ap, ◌∙◌, subst, arith, w64, bit_or}
+use Rattle.sre_board.proofs.Terms.{bit_at, cases_eq, get_or-set_same, get_or-set_other, get_or_read, same_from_place}
+use Rattle.sre_board.proofs.Terms.{bit_at_set_same, bit_at_set_other, same_Some, LoopsAlike, Alike, least_from, Spot}
+use Rattle.sre_board.proofs.Terms.{repeats, place_of, is_again, placed_from, Kept, kept_of, Entry, HoldsOneMore}
+use Rattle.sre_board.proofs.Terms.{BitsStay, BitsKept, Sets, HasSlot, Laid, ones_below, Row}
+use Rattle.std.proofs.lemmas.Bool.{cases_order}
+use Rattle.sre_turns.proofs.bound.NestedPlaces.{same_point}
+use Rattle.sre_board.specs.Failures.{HoldsStill}
 use Rattle.sre_board.proofs.AlikeBySlot.{one_if, same_pair, loops_alike}
 use Rattle.sre_board.proofs.CountingBits.{one_set, sum_set}
 use Rattle.sre_board.proofs.OneEntry.{entry_at}

@@ -1,15 +1,12 @@
 -- No memoized configuration is lost where a row is added, and none is new. So a further row extends the memo.
-use Rattle.std.proofs.Common.{◌≡◌, ℕ, zero, suc, ◌+◌, ◌-◌, ◌*◌, ◌^◌, ◌<◌, ◌≤◌, ◌⊎◌, inl, inr, List, [], ◌∷◌, ◌++◌}
-use Rattle.std.proofs.Common.{length, replicate, Some, slice_get, slice_index, sum_by, Bool, true, false, cond, refl}
-use Rattle.std.proofs.Common.{sym, ap, ◌∙◌, subst, arith, length-append}
-use Rattle.std.specs.Int.{bit_at}
-use Rattle.std.proofs.lemmas.List.{get_or_append_left, get_or-append_right, append-nil, length-replicate}
-use Rattle.std.proofs.lemmas.Nat.Bits.{bit_at-zero}
-use Rattle.std.proofs.lemmas.Option.{slice_get_within}
-use Rattle.sre_turns.specs.declared.Frame.{Frame}
-use Rattle.sre_board.specs.Failures.{Kept, kept_of, HoldsNoMore, BitsStay, BitsKept, Grows, OneRowMore, HasSlot, Laid}
-use Rattle.sre_board.specs.Failures.{ones_below, radix, digit, HasNoRow}
-use Rattle.sre_board.specs.declared.failures.Row.{Row}
+use Rattle.sre_board.proofs.Terms.{◌≡◌, ℕ, zero, suc, ◌+◌, ◌-◌, ◌*◌, ◌^◌, ◌<◌, ◌≤◌, ◌⊎◌, inl, inr, List, [], ◌∷◌, ◌++◌}
+use Rattle.sre_board.proofs.Terms.{length, replicate, Some, slice_get, slice_index, Bool, true, false, cond, refl, sym}
+use Rattle.sre_board.proofs.Terms.{ap, ◌∙◌, subst, arith, length-append, bit_at, append-nil, bit_at-zero}
+use Rattle.sre_board.proofs.Terms.{slice_get_within, Frame, Kept, kept_of, HoldsNoMore, BitsStay, BitsKept, OneRowMore}
+use Rattle.sre_board.proofs.Terms.{HasSlot, Laid, ones_below, radix, digit, HasNoRow, Row}
+use Rattle.std.proofs.Common.{sum_by}
+use Rattle.std.proofs.lemmas.List.{get_or_append_left, get_or-append_right, length-replicate}
+use Rattle.sre_board.specs.Failures.{Grows}
 use Rattle.sre_board.proofs.AlikeBySlot.{slot_length}
 use Rattle.sre_board.proofs.CountingBits.{sum_filled, none_in_zero}
 use Rattle.sre_board.proofs.KeptSpots.{still_kept}

@@ -23,3 +23,4 @@ pub mod Prepared
 mod Pages
 pub mod EndsKept
 pub mod EndsTold
+pub mod Terms

@@ -1,13 +1,9 @@
 -- The code words of each loop around a configuration exist.
-use Rattle.std.proofs.Common.{ℕ, ◌+◌, ◌-◌, List, [], length}
-use Rattle.std.proofs.lemmas.Option.{slice_get_within}
+use Rattle.sre_board.proofs.Terms.{ℕ, ◌+◌, ◌-◌, List, [], length, slice_get_within, Point, Spot, repeats, Lies}
+use Rattle.sre_board.proofs.Terms.{WordsThere}
 use Rattle.sre_model.specs.Tree.{Tree, Item}
 use Rattle.sre_model.specs.Grammar.{Reads, Operands, WholeItems}
-use Rattle.sre_turns.specs.declared.Point.{Point}
-use Rattle.sre_turns.specs.Moves.{Spot}
-use Rattle.sre_turns.specs.Nested.{repeats, Lies}
 use Rattle.sre_turns.proofs.semantics.Parts.{Own, Ends, Law, lies_law, possessive, until, success}
-use Rattle.sre_board.specs.Failures.{WordsThere}
 
 module _ (ws : List ℕ) where
   own_words : {i j : ℕ} {js : List ℕ} {x : Item} {r : Operands ws i j x} {pt : Point} {ks : List ℕ}

@@ -1,8 +1,6 @@
 -- Loops with a counter state of a shape, and loops without one below a number.
-use Rattle.std.proofs.Common.{◌≡◌, ◌↔◌, ℕ, ◌+◌, ◌*◌, ◌<◌, ◌≤◌, List, [], ◌∷◌, length, Some, slice_get, ◌^◌}
-use Rattle.std.proofs.Common.{sym, subst, ap, ◌∙◌, arith}
-use Rattle.sre_turns.specs.declared.Frame.{Frame}
-use Rattle.sre_board.specs.Failures.{HasSlot, AreRead, IsPassed, radix, digit}
+use Rattle.sre_board.proofs.Terms.{◌≡◌, ◌↔◌, ℕ, ◌+◌, ◌*◌, ◌<◌, ◌≤◌, List, [], ◌∷◌, length, Some, slice_get, ◌^◌, sym}
+use Rattle.sre_board.proofs.Terms.{subst, ap, ◌∙◌, arith, Frame, HasSlot, AreRead, IsPassed, radix, digit}
 
 -- with each loop the number grows
 slot_grows : (ws : List ℕ) (p : ℕ) (shapes : List ℕ) (j i before : ℕ) (fs : List Frame) (s : ℕ)

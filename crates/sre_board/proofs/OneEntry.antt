@@ -1,14 +1,8 @@
 -- A configuration has one bit at most: its address has one row, and its loops have one counter state there. It has one
 -- exactly where that row has it.
-use Rattle.std.proofs.Common.{◌≡◌, ℕ, ◌+◌, ◌-◌, ◌*◌, ◌/◌, ◌%◌, ◌^◌, ◌<◌, ◌≤◌, Bool, List, [], ◌∷◌, cond, length, Some}
-use Rattle.std.proofs.Common.{slice_get, sym, ap, ◌∙◌, subst, arith}
-use Rattle.std.proofs.lemmas.Option.{same_Some}
-use Rattle.sre_turns.specs.Moves.{Spot}
-use Rattle.sre_turns.specs.declared.Frame.{Frame}
-use Rattle.sre_turns.specs.Nested.{place_of, is_again}
-use Rattle.sre_board.specs.Ends.{NumberOf}
-use Rattle.sre_board.specs.Failures.{Kept, Entry, HasBit, HasSlot, Laid, AreRead, radix, digit}
-use Rattle.sre_board.specs.declared.failures.Row.{Row}
+use Rattle.sre_board.proofs.Terms.{◌≡◌, ℕ, ◌+◌, ◌-◌, ◌*◌, ◌/◌, ◌%◌, ◌^◌, ◌<◌, ◌≤◌, Bool, List, [], ◌∷◌, cond, length}
+use Rattle.sre_board.proofs.Terms.{Some, slice_get, sym, ap, ◌∙◌, subst, arith, same_Some, Spot, Frame, place_of}
+use Rattle.sre_board.proofs.Terms.{is_again, NumberOf, Kept, Entry, HasBit, HasSlot, Laid, AreRead, radix, digit, Row}
 
 -- an entry rests on its row and on the shape of its loops alone
 pub entry_at : {k l : Kept} {ws : List ℕ} {inside : Bool} {x : Spot} {at bit : ℕ} (e : Entry k ws inside x at bit)

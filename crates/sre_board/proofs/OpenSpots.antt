@@ -1,24 +1,20 @@
 -- The configurations tried in the innermost atomic scope, one saved alternative after the other.
-use Rattle.std.specs.List.{AllByRecursion}
-use Rattle.std.proofs.Common.{◌≡◌, ℕ, zero, suc, ◌+◌, ◌-◌, ◌<◌, ◌≤◌, inl, inr, false, List, [], ◌∷◌, ◌++◌, drop, length}
-use Rattle.std.proofs.Common.{map, reverse, get_or, option_map, Some, slice_get, refl, sym, ap, ◌∙◌, subst, arith}
-use Rattle.std.proofs.lemmas.List.{append_assoc, drop_all, drop_more, get_or-reverse, length-reverse}
-use Rattle.std.proofs.lemmas.Option.{slice_get-map, slice_get-get_or, slice_get_within, get_or_from_slice_get}
-use Rattle.sre_chars.specs.declared.string.StringCursor.{StringCursor}
-use Rattle.sre_model.specs.Marks.{Marks}
-use Rattle.sre_turns.specs.Board.{Choice, Keep, Trying, choice}
-use Rattle.sre_turns.specs.Moves.{Spot, spot_at}
+use Rattle.sre_board.proofs.Terms.{AllByRecursion, ◌≡◌, ℕ, zero, suc, ◌+◌, ◌-◌, ◌<◌, ◌≤◌, inl, inr, false, List, []}
+use Rattle.sre_board.proofs.Terms.{◌∷◌, ◌++◌, drop, length, map, reverse, get_or, Some, slice_get, refl, sym, ap, ◌∙◌}
+use Rattle.sre_board.proofs.Terms.{subst, arith, length-reverse, slice_get-get_or, slice_get_within}
+use Rattle.sre_board.proofs.Terms.{get_or_from_slice_get, StringCursor, Marks, Choice, Trying, choice, Spot, spot_at}
+use Rattle.sre_board.proofs.Terms.{Frame, Region, Point, Inside, Kept, Fits, Saved, EndsTable, HoldsEnd, HoldsOpenMore}
+use Rattle.sre_board.proofs.Terms.{HasEnd, KeepsOpenEnds}
+use Rattle.std.proofs.Common.{option_map}
+use Rattle.std.proofs.lemmas.List.{append_assoc, drop_all, drop_more, get_or-reverse}
+use Rattle.std.proofs.lemmas.Option.{slice_get-map}
+use Rattle.sre_turns.specs.Board.{Keep}
 use Rattle.sre_turns.specs.OpenMarks.{open_spots}
-use Rattle.sre_turns.specs.declared.Frame.{Frame}
-use Rattle.sre_turns.specs.declared.Region.{Region}
-use Rattle.sre_turns.specs.declared.Point.{Point}
-use Rattle.sre_turns.specs.declared.Point.TheVariants.{Inside, Tried, TriedAgain}
-use Rattle.sre_board.specs.Failures.{Kept}
-use Rattle.sre_board.specs.Choices.{Fits, is_tried}
+use Rattle.sre_turns.specs.declared.Point.TheVariants.{Tried, TriedAgain}
+use Rattle.sre_board.specs.Choices.{is_tried}
 use Rattle.std.proofs.lemmas.Bool.{true≢false}
-use Rattle.sre_board.specs.declared.saved.Saved.{Saved}
-use Rattle.sre_board.specs.Ends.{EndsTable, HoldsEnd, HoldsSpotMore, HoldsOpenMore, IsOpenSpot, HasEnd}
-use Rattle.sre_board.specs.Ends.{KeepsSpotEnds, KeepsOpenEnds, HoldsOpenEnds}
+use Rattle.sre_board.specs.Ends.{HoldsSpotMore, IsOpenSpot}
+use Rattle.sre_board.specs.Ends.{KeepsSpotEnds, HoldsOpenEnds}
 use Rattle.sre_board.proofs.EndsKept.{each_among}
 
 -- a choice by how many are newer, as the board has it and as its value has it

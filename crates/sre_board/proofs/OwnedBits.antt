@@ -1,26 +1,17 @@
 -- The bits of the account pay for at most what the tree's instructions cost: each belongs to an address, a counter
 -- state, a side and a position.
 -- That the step bound suffices (`enough` of sre_engine) rests on this.
-use Rattle.std.proofs.Common.{◌≡◌, ℕ, ◌+◌, ◌-◌, ◌*◌, ◌<◌, ◌≤◌, inl, inr, Bool, true, false, cond, List, [], ◌∷◌, length}
-use Rattle.std.proofs.Common.{Some, slice_get, refl, sym, ap, ◌∙◌, arith}
-use Rattle.std.specs.List.{AllByRecursion, sum_by}
-use Rattle.std.proofs.lemmas.Nat.{same_from_place}
-use Rattle.std.proofs.lemmas.Option.{same_Some}
+use Rattle.sre_board.proofs.Terms.{◌≡◌, ℕ, ◌+◌, ◌-◌, ◌*◌, ◌<◌, ◌≤◌, inl, inr, Bool, true, false, cond, List, [], ◌∷◌}
+use Rattle.sre_board.proofs.Terms.{length, Some, slice_get, refl, sym, ap, ◌∙◌, arith, AllByRecursion, sum_by}
+use Rattle.sre_board.proofs.Terms.{same_from_place, same_Some, has_forked_region, Run, Frame, Attempt, Point}
+use Rattle.sre_board.proofs.Terms.{place_under, Lies, repeats, slots, Counted, BitOf, IsOwned, RowLies, toll_at, charge}
+use Rattle.sre_board.proofs.Terms.{IsIn, Apart, Kept, HasSlot, RowsStay, Laid, radix, digit, Row}
 use Rattle.std.proofs.lemmas.List.Sums.{sum_by-cons}
-use Rattle.sre_model.specs.Regions.{has_forked_region}
 use Rattle.sre_model.specs.Remembered.{sides}
-use Rattle.sre_model.specs.Runs.{Run}
-use Rattle.sre_turns.specs.declared.Frame.{Frame}
-use Rattle.sre_turns.specs.Attempts.{Attempt}
-use Rattle.sre_turns.specs.declared.Point.{Point}
-use Rattle.sre_turns.specs.Nested.{place_under, Lies, LiesIn, repeats, slots}
+use Rattle.sre_turns.specs.Nested.{LiesIn}
 use Rattle.sre_model.specs.TreePrices.{cost_of}
-use Rattle.sre_turns.specs.Settled.{Counted}
 use Rattle.sre_turns.proofs.bound.TreeCosts.{Distinct, whole_costs}
-use Rattle.sre_board.specs.Accounts.{BitOf, IsOwned, RowLies, positions_of, toll_at, charge}
-use Rattle.sre_board.specs.Apart.{IsIn, Apart}
-use Rattle.sre_board.specs.Failures.{Kept, HasSlot, RowsStay, Laid, radix, digit}
-use Rattle.sre_board.specs.declared.failures.Row.{Row}
+use Rattle.sre_board.specs.Accounts.{positions_of}
 use Rattle.sre_board.proofs.AlikeBySlot.{digit_below}
 use Rattle.sre_board.proofs.RowsThere.{placed_below, within_lines}
 

@@ -1,22 +1,17 @@
 -- What the memo of failures has taken in stays when a row is prepared for a configuration, which has a bit then, inside
 -- an atomic scope and outside.
-use Rattle.std.proofs.Common.{◌≡◌, ℕ, zero, suc, ◌+◌, ◌*◌, ◌^◌, ◌<◌, ◌≤◌, ◌⊎◌, inl, inr, Bool, List, [], ◌∷◌}
-use Rattle.std.proofs.Common.{length, Some, slice_get, refl, sym, ap, ◌∙◌, subst, arith}
-use Rattle.std.proofs.lemmas.Bool.{cases_eq}
-use Rattle.std.proofs.lemmas.Option.{slice_get_within}
-use Rattle.std.proofs.Math.Nat.{mul-le-mul_left, mul-le-mul_right}
-use Rattle.sre_model.specs.Runs.{Run}
-use Rattle.sre_turns.specs.Attempts.{Attempt}
-use Rattle.sre_turns.specs.Moves.{Spot}
-use Rattle.sre_turns.specs.Nested.{repeats, slots, most_slots, place_of, is_again}
-use Rattle.sre_turns.specs.Settled.{Counted, SettledIn}
-use Rattle.sre_turns.proofs.bound.NestedPlaces.{same_station, same_number, placed_from}
+use Rattle.sre_board.proofs.Terms.{◌≡◌, ℕ, zero, suc, ◌+◌, ◌*◌, ◌^◌, ◌<◌, ◌≤◌, ◌⊎◌, inl, inr, Bool, List, [], ◌∷◌}
+use Rattle.sre_board.proofs.Terms.{length, Some, slice_get, refl, sym, ap, ◌∙◌, subst, arith, cases_eq}
+use Rattle.sre_board.proofs.Terms.{slice_get_within, mul-le-mul_left, mul-le-mul_right, Run, Attempt, Spot, repeats}
+use Rattle.sre_board.proofs.Terms.{slots, place_of, is_again, Counted, placed_from, Account, RowLies, EndsTable, Kept}
+use Rattle.sre_board.proofs.Terms.{HasRow, HasNoRow, NewRow, Capacity, BitsStay, BitsKept, Laid, Roomy, HasBit}
+use Rattle.sre_board.proofs.Terms.{most_words, Row}
+use Rattle.sre_turns.specs.Nested.{most_slots}
+use Rattle.sre_turns.specs.Settled.{SettledIn}
+use Rattle.sre_turns.proofs.bound.NestedPlaces.{same_station, same_number}
 use Rattle.sre_turns.proofs.bound.NestedSlots.{slots_within}
-use Rattle.sre_board.specs.Accounts.{Account, RowLies, Room}
-use Rattle.sre_board.specs.Ends.{EndsTable}
-use Rattle.sre_board.specs.Failures.{Kept, HasRow, HasNoRow, NewRow, Capacity, BitsStay, BitsKept, Laid, Roomy, HasBit}
-use Rattle.sre_board.specs.Failures.{HasSlots, most_words}
-use Rattle.sre_board.specs.declared.failures.Row.{Row}
+use Rattle.sre_board.specs.Accounts.{Room}
+use Rattle.sre_board.specs.Failures.{HasSlots}
 use Rattle.sre_board.proofs.AccountLaws.{account_grows, lies_still}
 use Rattle.sre_board.proofs.FewRows.{fewer_rows}
 use Rattle.sre_board.proofs.LoopsRead.{lies_words}

@@ -1,14 +1,9 @@
 -- What is memoized of the configurations that failed.
-use Rattle.std.proofs.Common.{◌≡◌, ℕ, ◌+◌, inl, inr, Bool, List, [], ◌∷◌, sym, ap, ◌∙◌, subst}
-use Rattle.sre_model.specs.Grammar.{Word}
-use Rattle.sre_model.specs.Marks.{Marks}
-use Rattle.sre_model.specs.Runs.{Run}
-use Rattle.sre_turns.specs.Alike.{FramesAlike, LoopsAlike, Alike, least_from}
+use Rattle.sre_board.proofs.Terms.{◌≡◌, ℕ, ◌+◌, inl, inr, Bool, List, [], ◌∷◌, sym, ap, ◌∙◌, subst, Word, Marks, Run}
+use Rattle.sre_board.proofs.Terms.{FramesAlike, LoopsAlike, Alike, least_from, Spot, Frame, Point, Kept, HoldsNoMore}
+use Rattle.sre_board.proofs.Terms.{HoldsOneMore}
 use Rattle.sre_turns.specs.Hopeless.{Hopeless}
-use Rattle.sre_turns.specs.Moves.{Spot}
-use Rattle.sre_turns.specs.declared.Frame.{Frame}
-use Rattle.sre_turns.specs.declared.Point.{Point}
-use Rattle.sre_board.specs.Failures.{Kept, HoldsNone, HoldsNoMore, HoldsOneMore, Remembers}
+use Rattle.sre_board.specs.Failures.{HoldsNone, Remembers}
 
 frames_onward : (ws : List ℕ) (p : ℕ) (f g h : Frame) → FramesAlike ws p f g → FramesAlike ws p g h
     → FramesAlike ws p f h

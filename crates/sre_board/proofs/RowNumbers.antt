@@ -1,8 +1,7 @@
 -- Each row's number is stored at its address, so an address without a number has no row.
-use Rattle.std.proofs.Common.{◌≡◌, ◌≢◌, ℕ, List, [], ◌∷◌, ◌++◌, length, cond, Bool, true, false, Some, slice_get}
-use Rattle.std.proofs.Common.{sym, ap, ◌∙◌, inl, inr}
-use Rattle.sre_board.specs.Failures.{Kept, kept_of, HasNoRow, Numbered}
-use Rattle.sre_board.specs.declared.failures.Row.{Row}
+use Rattle.sre_board.proofs.Terms.{◌≡◌, ◌≢◌, ℕ, List, [], ◌∷◌, ◌++◌, length, cond, Bool, true, false, Some, slice_get}
+use Rattle.sre_board.proofs.Terms.{sym, ap, ◌∙◌, inl, inr, Kept, kept_of, HasNoRow, Row}
+use Rattle.sre_board.specs.Failures.{Numbered}
 use Rattle.sre_board.proofs.Listed.{got_more}
 
 -- the number of a place that has no row is another

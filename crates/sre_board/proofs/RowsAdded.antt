@@ -1,13 +1,9 @@
 -- When a row is added, the others stay, and the new one is for what it was made for.
-use Rattle.std.proofs.Common.{◌≡◌, ℕ, ◌+◌, ◌-◌, ◌*◌, ◌^◌, ◌<◌, ◌≤◌, inl, inr, Bool, true, false, cond, List, [], ◌∷◌}
-use Rattle.std.proofs.Common.{◌++◌, length, Some, slice_get, Result, Ok, Err, is_ok, IfOk, sym, ap, ◌∙◌, subst, arith}
-use Rattle.std.proofs.lemmas.List.{append-nil}
-use Rattle.std.proofs.Math.Nat.{mul-le-mul_right}
-use Rattle.sre_turns.specs.Nested.{slots, place_under, is_again}
-use Rattle.sre_turns.specs.declared.Point.{Point}
-use Rattle.sre_board.specs.declared.failures.Row.{Row}
-use Rattle.sre_board.specs.Failures.{Kept, HasShape, WordsThere, RowFor, RowsStay, Capacity, HasRow}
-use Rattle.sre_board.specs.Failures.{NewRow, OneRowMore, Roomy, most_words}
+use Rattle.sre_board.proofs.Terms.{◌≡◌, ℕ, ◌+◌, ◌-◌, ◌*◌, ◌^◌, ◌<◌, ◌≤◌, inl, inr, Bool, true, false, cond, List, []}
+use Rattle.sre_board.proofs.Terms.{◌∷◌, ◌++◌, length, Some, slice_get, Result, Ok, Err, is_ok, IfOk, sym, ap, ◌∙◌}
+use Rattle.sre_board.proofs.Terms.{subst, arith, append-nil, mul-le-mul_right, slots, place_under, is_again, Point, Row}
+use Rattle.sre_board.proofs.Terms.{Kept, HasShape, WordsThere, RowFor, RowsStay, Capacity, HasRow, NewRow, OneRowMore}
+use Rattle.sre_board.proofs.Terms.{Roomy, most_words}
 use Rattle.sre_board.proofs.Listed.{got_still, got_next, got_more}
 use Rattle.sre_board.proofs.ShapesAdded.{shape_still, some_slots}
 

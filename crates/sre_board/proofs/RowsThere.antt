@@ -1,13 +1,9 @@
 -- A configuration has a bit where a row exists for its address, its position and its loops.
-use Rattle.std.proofs.Common.{◌≡◌, ℕ, ◌+◌, ◌-◌, ◌*◌, ◌/◌, ◌%◌, ◌<◌, ◌≤◌, Bool, List, [], ◌∷◌, Some, sym, subst, refl}
-use Rattle.std.proofs.Common.{slice_get, arith, Option, None}
-use Rattle.std.proofs.Math.Nat.{mul_assoc, mul-le-mul_right}
-use Rattle.sre_turns.specs.declared.Frame.{Frame}
-use Rattle.sre_turns.proofs.bound.NestedPlaces.{placed_from}
-use Rattle.sre_turns.specs.Moves.{Spot}
-use Rattle.sre_turns.specs.Nested.{repeats, BegunBy, AllBegunBy, Passed, slots, place_of, is_again}
-use Rattle.sre_board.specs.declared.failures.Row.{Row}
-use Rattle.sre_board.specs.Failures.{Kept, IsPassed, digit, radix, HasSlot, HasShape, HasBit, RowFor, WordsThere}
+use Rattle.sre_board.proofs.Terms.{◌≡◌, ℕ, ◌+◌, ◌-◌, ◌*◌, ◌/◌, ◌%◌, ◌<◌, ◌≤◌, Bool, List, [], ◌∷◌, Some, sym, subst}
+use Rattle.sre_board.proofs.Terms.{refl, slice_get, arith, Option, None, mul_assoc, mul-le-mul_right, Frame}
+use Rattle.sre_board.proofs.Terms.{placed_from, Spot, repeats, slots, place_of, is_again, Row, Kept, IsPassed, digit}
+use Rattle.sre_board.proofs.Terms.{radix, HasSlot, HasShape, HasBit, RowFor, WordsThere}
+use Rattle.sre_turns.specs.Nested.{BegunBy, AllBegunBy, Passed}
 use Rattle.sre_board.proofs.AlikeBySlot.{one_if, one_if_few, digit_below}
 
 -- a loop that was passed has a digit

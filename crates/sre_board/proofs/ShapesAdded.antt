@@ -1,12 +1,8 @@
 -- The addresses of the loops in progress as they are appended to the shapes, and the number of their counter states.
-use Rattle.std.proofs.Common.{◌≡◌, ℕ, ◌+◌, ◌*◌, ◌<◌, ◌≤◌, List, [], ◌∷◌, ◌++◌, length, take, slice_get, ◌^◌}
-use Rattle.std.proofs.Common.{sym, ap, ◌∙◌, subst, arith, length-append, append_assoc}
-use Rattle.std.proofs.lemmas.List.{append-nil}
-use Rattle.std.proofs.Math.Seq.{take-append_seam}
-use Rattle.std.proofs.Math.Nat.{mul_assoc, mul-le-mul_left, one-le-mul}
-use Rattle.sre_turns.specs.declared.Frame.{Frame}
-use Rattle.sre_turns.specs.Nested.{repeats, slots}
-use Rattle.sre_board.specs.Failures.{radix, HasShape, WordsThere}
+use Rattle.sre_board.proofs.Terms.{◌≡◌, ℕ, ◌+◌, ◌*◌, ◌<◌, ◌≤◌, List, [], ◌∷◌, ◌++◌, length, take, slice_get, ◌^◌, sym}
+use Rattle.sre_board.proofs.Terms.{ap, ◌∙◌, subst, arith, length-append, append_assoc, append-nil, take-append_seam}
+use Rattle.sre_board.proofs.Terms.{mul_assoc, mul-le-mul_left, Frame, repeats, slots, radix, HasShape, WordsThere}
+use Rattle.std.proofs.Math.Nat.{one-le-mul}
 use Rattle.sre_board.proofs.Listed.{got_still, got_next}
 
 -- one place more

@@ -1,9 +1,8 @@
 -- Flags of the ASCII characters that a first test takes.
-use Rattle.std.proofs.Common.{ℕ, ◌≡◌, ◌<◌, ◌||◌, ◌∙◌, Bool, false, nat_le, List, length, slice_index_or, Some, arith}
+use Rattle.sre_c.proofs.Terms.{ℕ, ◌≡◌, ◌<◌, ◌||◌, ◌∙◌, Bool, false, nat_le, List, length, slice_index_or, Some, arith}
+use Rattle.sre_c.proofs.Terms.{contains, KnowsTest}
 use Rattle.std.proofs.lemmas.Bool.Decides.{nat_tests}
-use Rattle.sre_code.specs.AsciiSet.{contains}
 use Rattle.sre_code.specs.declared.ascii_set.AsciiSet.{AsciiSet}
-use Rattle.sre_engine.specs.Beginnings.{KnowsTest}
 use Rattle.sre_c.specs.Beginnings.{KnowsFlags}
 
 pub knows_flags : (ws : List ℕ) (set : AsciiSet) (flags : List Bool) → KnowsTest ws (Some set)

@@ -1,23 +1,11 @@
 -- What is left of a call's steps, and of those of the searches for some matches.
-use Rattle.std.proofs.Common.{◌≡◌, ◌≢◌, ◌+◌, ℕ, List, [], ◌∷◌, ◌++◌, Bool, true, false, Option, None}
-use Rattle.std.proofs.Common.{Some, Result, Ok, Err, IfOk, inr, refl, sym, subst, arith}
-use Rattle.std.specs.Global.{Global}
-use Rattle.sre_chars.specs.declared.string.StrDrive.{Ghosts}
-use Rattle.sre_growth.specs.Refusal.{Refused}
-use Rattle.sre_model.specs.Found.{Asked, Match, asked_after}
-use Rattle.sre_code.specs.Codes.{words_of}
-use Rattle.sre_code.specs.declared.code.Code.{Code}
-use Rattle.sre_request.specs.declared.request.Request.{Request}
-use Rattle.sre_engine.specs.Requests.{end_of, code_of, asked_of}
-use Rattle.sre_engine.specs.declared.engine.state.SreError.{SreError}
-use Rattle.sre_engine.specs.Answers.{Shown}
-use Rattle.sre_engine.specs.Counts.{KeepsToSteps, BeginsAgain, runs_of}
-use Rattle.sre_engine.specs.Searches.{CountsAll}
-use Rattle.sre_engine.proofs.CountLaws.{once}
-use Rattle.sre_c.specs.Given.{IsEnough}
-use Rattle.sre_c.specs.Answered.{last_start}
-use Rattle.sre_c.specs.Budgets.{KeepsBudget, KeepBudget}
-use Rattle.sre_c.specs.Rows.{asked_behind}
+use Rattle.sre_c.proofs.Terms.{◌≡◌, ◌+◌, ℕ, List, [], ◌∷◌, ◌++◌, Bool, true, false, Option, None, Some, Result, Ok, Err}
+use Rattle.sre_c.proofs.Terms.{IfOk, refl, sym, subst, arith, Global, Ghosts, Refused, Asked, Match, asked_after}
+use Rattle.sre_c.proofs.Terms.{words_of, Code, Request, end_of, code_of, asked_of, SreError, Shown, KeepsToSteps}
+use Rattle.sre_c.proofs.Terms.{BeginsAgain, runs_of, CountsAll, once, IsEnough, last_start, KeepsBudget, KeepBudget}
+use Rattle.sre_c.proofs.Terms.{asked_behind}
+use Rattle.std.proofs.Common.{◌≢◌}
+use Rattle.std.proofs.Common.{inr}
 use Rattle.sre_c.proofs.Telling.{enough_of}
 
 -- no step is taken

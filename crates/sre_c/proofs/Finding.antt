@@ -1,23 +1,11 @@
 -- What a search or a match answers, with the steps that it leaves.
-use Rattle.std.proofs.Common.{◌≡◌, ℕ, List, Bool, true, false, cond, Option, Some, Result, Ok, Err, IfOk}
-use Rattle.std.proofs.Common.{IfSome, OnErr, refl, sym, subst}
-use Rattle.std.specs.Global.{Global}
-use Rattle.sre_chars.specs.declared.string.StrDrive.{Ghosts}
-use Rattle.sre_growth.specs.Refusal.{Refused}
-use Rattle.sre_model.specs.Tree.{Tree}
-use Rattle.sre_model.specs.Grammar.{Whole}
-use Rattle.sre_model.specs.Found.{Asked, matched, found}
-use Rattle.sre_code.specs.Codes.{words_of}
-use Rattle.sre_code.specs.declared.code.Code.{Code}
-use Rattle.sre_request.specs.declared.request.Request.{Request}
-use Rattle.sre_engine.specs.Requests.{code_of, asked_of}
-use Rattle.sre_engine.specs.declared.engine.state.SreError.{SreError}
-use Rattle.sre_engine.specs.Answers.{Shown, answer_of}
-use Rattle.sre_engine.specs.Counts.{KeepsToSteps, BeginsAgain, runs_of}
-use Rattle.sre_engine.specs.Searches.{CountsAll}
+use Rattle.sre_c.proofs.Terms.{◌≡◌, ℕ, List, Bool, true, false, cond, Option, Some, Result, Ok, Err, IfOk, IfSome, refl}
+use Rattle.sre_c.proofs.Terms.{sym, subst, Global, Ghosts, Refused, Tree, Whole, Asked, matched, found, words_of, Code}
+use Rattle.sre_c.proofs.Terms.{Request, code_of, asked_of, SreError, Shown, answer_of, KeepsToSteps, BeginsAgain}
+use Rattle.sre_c.proofs.Terms.{runs_of, CountsAll, last_start, Finds}
+use Rattle.std.proofs.Common.{OnErr}
 use Rattle.sre_c.specs.Budgets.{no_limit}
-use Rattle.sre_c.specs.Answered.{last_start}
-use Rattle.sre_c.specs.Replies.{told_of, Finds}
+use Rattle.sre_c.specs.Replies.{told_of}
 use Rattle.sre_c.proofs.Budgets.{unspent, match_kept, search_kept}
 
 -- what was searched is searched

@@ -1,15 +1,11 @@
 -- What follows from a check's report on bytecode.
-use Rattle.std.proofs.Common.{ℕ, ◌≡◌, ◌∙◌, List, false, ap}
+use Rattle.sre_c.proofs.Terms.{ℕ, ◌≡◌, ◌∙◌, List, false, ap, Table, Tree, Whole, IsCode, Confirmed}
 use Rattle.std.proofs.Props.{props}
 use Rattle.std.proofs.Math.Logic.{∥∥₁_map, ∥∥₁_elim}
-use Rattle.sre_chars.specs.Tables.{Table}
-use Rattle.sre_model.specs.Tree.{Tree}
-use Rattle.sre_model.specs.Grammar.{Whole, IsCode}
 use Rattle.sre_model.specs.References.{refers, asked_from}
 use Rattle.sre_model.specs.LooksBehind.{longest_lookbehind}
 use Rattle.sre_model.proofs.Unique.{whole_same}
 use Rattle.sre_model.proofs.Props.{kept_tree}
-use Rattle.sre_code.specs.Hinted.{Confirmed}
 use Rattle.sre_c.specs.declared.types.SreHints.{SreHints}
 use Rattle.sre_c.specs.Known.{hints_told, IsKnown}
 

@@ -1,9 +1,7 @@
 -- FIRST sets of a code, in words of its bytecode.
-use Rattle.std.proofs.Common.{◌≡◌, ℕ, List, sym, subst}
-use Rattle.sre_model.specs.Grammar.{behind_block}
-use Rattle.sre_code.specs.declared.code.Code.{Code}
-use Rattle.sre_code.specs.Codes.{words_of, items_of}
-use Rattle.sre_engine.specs.FirstSets.{Sets, SetsOf}
+use Rattle.sre_c.proofs.Terms.{◌≡◌, ℕ, List, sym, subst, behind_block, Code, words_of, SetsOf}
+use Rattle.sre_code.specs.Codes.{items_of}
+use Rattle.sre_engine.specs.FirstSets.{Sets}
 
 module _ (code : Code) (ws : List ℕ) (sets : Sets) (own : words_of code ≡ ws) where
   pub sets_of : SetsOf (behind_block ws) sets → SetsOf (items_of code) sets

@@ -10,3 +10,4 @@ pub mod Finding
 pub mod Matches
 pub mod Knowing
 pub mod Begun
+pub mod Terms

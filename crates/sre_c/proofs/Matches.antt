@@ -1,20 +1,11 @@
 -- What the engine answers is what a caller's code and text have by the specification.
-use Rattle.std.proofs.Common.{◌≡◌, ℕ, Bool, true, false, cond, List, Option, None, Some, Ok, IfOk, IfSome}
-use Rattle.std.proofs.Common.{sym, subst}
-use Rattle.sre_chars.specs.Tables.{Table}
-use Rattle.sre_model.specs.Grammar.{IsCode}
-use Rattle.sre_model.specs.Found.{Asked, Match, matched, found}
-use Rattle.sre_engine.specs.Answers.{answer_of, match_shown}
-use Rattle.sre_c.specs.declared.status.Status.{Status}
-use Rattle.sre_c.specs.declared.status.Status.TheVariants.{No, Yes, StepLimit, Memory, NoCode, NoRoom}
-use Rattle.sre_c.specs.declared.status.Status.TheVariants.{NotUtf8, FaultyTable}
-use Rattle.sre_c.specs.declared.code.SreCode.{SreCode}
-use Rattle.sre_c.specs.declared.types.SreAsked.{SreAsked}
+use Rattle.sre_c.proofs.Terms.{◌≡◌, ℕ, Bool, true, false, cond, List, Option, None, Some, Ok, IfOk, IfSome, sym, subst}
+use Rattle.sre_c.proofs.Terms.{Table, IsCode, Asked, Match, matched, found, answer_of, match_shown, Status, No, Yes}
+use Rattle.sre_c.proofs.Terms.{StepLimit, Memory, NoCode, NoRoom, NotUtf8, FaultyTable, SreCode, SreAsked, table_in}
+use Rattle.sre_c.proofs.Terms.{asked_in, KeepsBudget, last_start}
 use Rattle.sre_c.specs.declared.types.SreFound.{SreFound}
-use Rattle.sre_c.specs.Known.{table_in}
-use Rattle.sre_c.specs.Given.{asked_in, model_of, OfTree}
-use Rattle.sre_c.specs.Budgets.{KeepsBudget}
-use Rattle.sre_c.specs.Answered.{HasMatch, IsFound, IsTold, last_start, LeavesSteps, Answers}
+use Rattle.sre_c.specs.Given.{model_of, OfTree}
+use Rattle.sre_c.specs.Answered.{HasMatch, IsFound, IsTold, LeavesSteps, Answers}
 use Rattle.sre_c.specs.Replies.{Replies}
 use Rattle.sre_c.proofs.Budgets.{limit_used, limit_refused}
 

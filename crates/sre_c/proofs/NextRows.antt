@@ -1,14 +1,8 @@
 -- One more row of an iteration, or why there is none.
-use Rattle.std.proofs.Common.{◌≡◌, ◌∙◌, ◌<◌, ◌+◌, ◌*◌, ℕ, List, slice_index, true, false, Some, None, Ok, refl, sym}
-use Rattle.std.proofs.Common.{ap, subst, arith}
-use Rattle.sre_chars.specs.declared.string.StrDrive.{Ghosts}
-use Rattle.sre_request.specs.declared.request.Request.{Request}
-use Rattle.sre_engine.specs.Requests.{start_of, must_advance_of}
-use Rattle.sre_engine.specs.Answers.{Shown, match_shown}
-use Rattle.sre_c.specs.declared.status.Status.TheVariants.{No, StepLimit}
-use Rattle.sre_c.specs.declared.types.SreWalked.{SreWalked}
-use Rattle.sre_c.specs.Walked.{IsRow}
-use Rattle.sre_c.specs.Rows.{RowsKeep, Searched, WritesNext}
+use Rattle.sre_c.proofs.Terms.{◌≡◌, ◌∙◌, ◌<◌, ◌+◌, ◌*◌, ℕ, List, slice_index, true, false, Some, None, Ok, refl, sym}
+use Rattle.sre_c.proofs.Terms.{ap, subst, arith, Ghosts, Request, start_of, must_advance_of, Shown, match_shown, No}
+use Rattle.sre_c.proofs.Terms.{StepLimit, SreWalked, IsRow, RowsKeep, Searched}
+use Rattle.sre_c.specs.Rows.{WritesNext}
 use Rattle.sre_c.proofs.Rows.{with_steps}
 use Rattle.sre_c.proofs.SpanRows.{span_written, shown_written}
 use Rattle.sre_c.proofs.RowBudgets.{one_behind, one_more_kept, rows_ended, rows_limited}

@@ -1,25 +1,13 @@
 -- What the searches for the rows of an iteration leave of its steps.
-use Rattle.std.proofs.Common.{◌≡◌, ◌∙◌, ◌+◌, ◌≤◌, ℕ, List, [], ◌∷◌, ◌++◌, length, take, Bool, true, false, Option}
-use Rattle.std.proofs.Common.{Some, None, Ok, refl, sym, ap, subst, arith}
-use Rattle.std.proofs.Common.{append_assoc, length-append, take_at, zero, suc}
-use Rattle.std.specs.Global.{Global}
-use Rattle.sre_chars.specs.declared.string.StrDrive.{Ghosts}
-use Rattle.sre_model.specs.Tree.{Tree}
-use Rattle.sre_model.specs.Grammar.{Whole}
-use Rattle.sre_model.specs.Found.{Match, walk, asked_after}
-use Rattle.sre_code.specs.Codes.{words_of}
-use Rattle.sre_request.specs.declared.request.Request.{Request}
-use Rattle.sre_engine.specs.Requests.{end_of, code_of, asked_of}
-use Rattle.sre_engine.specs.Answers.{Shown, match_shown}
+use Rattle.sre_c.proofs.Terms.{◌≡◌, ◌∙◌, ◌+◌, ◌≤◌, ℕ, List, [], ◌∷◌, ◌++◌, length, take, Bool, true, false, Option}
+use Rattle.sre_c.proofs.Terms.{Some, None, Ok, refl, sym, ap, subst, arith, append_assoc, length-append, Global, Ghosts}
+use Rattle.sre_c.proofs.Terms.{Tree, Whole, Match, walk, asked_after, words_of, Request, end_of, code_of, asked_of}
+use Rattle.sre_c.proofs.Terms.{Shown, match_shown, KeepsToSteps, runs_of, SreError, once, No, StepLimit, SreWalked}
+use Rattle.sre_c.proofs.Terms.{IsWritten, KeepsBudget, KeepBudget, IsSoFar, RowsKeep, asked_behind, WritesRows}
+use Rattle.sre_c.proofs.Terms.{Searched}
+use Rattle.std.proofs.Common.{take_at, zero, suc}
 use Rattle.sre_engine.specs.Searches.{Stepped, CountsInside}
-use Rattle.sre_engine.specs.Counts.{KeepsToSteps, runs_of}
-use Rattle.sre_engine.specs.declared.engine.state.SreError.{SreError}
-use Rattle.sre_engine.proofs.CountLaws.{once}
-use Rattle.sre_c.specs.declared.status.Status.TheVariants.{No, StepLimit}
-use Rattle.sre_c.specs.declared.types.SreWalked.{SreWalked}
-use Rattle.sre_c.specs.Walked.{IsWritten}
-use Rattle.sre_c.specs.Budgets.{KeepsBudget, KeepBudget}
-use Rattle.sre_c.specs.Rows.{IsSoFar, RowsKeep, IsBehind, asked_behind, WritesRows, Searched}
+use Rattle.sre_c.specs.Rows.{IsBehind}
 use Rattle.sre_c.proofs.Rows.{with_steps, written_with, so_far_with}
 use Rattle.sre_c.proofs.Budgets.{one_kept, behind_one, rows_unspent, unspent}
 

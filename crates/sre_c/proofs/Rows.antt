@@ -1,12 +1,8 @@
 -- Rows of matches: one more after those that exist, and an iteration that is written up to some request.
-use Rattle.std.proofs.Common.{◌≡◌, ◌∙◌, ◌<◌, ◌+◌, ◌*◌, ℕ, List, [], ◌∷◌, ◌++◌, length, slice_index, sym, ap, subst}
-use Rattle.std.proofs.Common.{arith, append_assoc, length-append}
-use Rattle.sre_chars.specs.declared.string.StrDrive.{Ghosts}
-use Rattle.sre_model.specs.Found.{Match}
-use Rattle.sre_request.specs.declared.request.Request.{Request}
-use Rattle.sre_c.specs.declared.types.SreWalked.{SreWalked}
-use Rattle.sre_c.specs.Walked.{IsRow, AreRows, IsWritten}
-use Rattle.sre_c.specs.Rows.{IsSoFar}
+use Rattle.sre_c.proofs.Terms.{◌≡◌, ◌∙◌, ◌<◌, ◌+◌, ◌*◌, ℕ, List, [], ◌∷◌, ◌++◌, length, slice_index, sym, ap, subst}
+use Rattle.sre_c.proofs.Terms.{arith, append_assoc, length-append, Ghosts, Match, Request, SreWalked, IsRow, IsWritten}
+use Rattle.sre_c.proofs.Terms.{IsSoFar}
+use Rattle.sre_c.specs.Walked.{AreRows}
 
 -- rows stay where their numbers do
 rows_kept : (ms : List Match) (at width : ℕ) (old new : List ℕ)

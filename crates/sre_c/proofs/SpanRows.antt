@@ -1,22 +1,14 @@
 -- Rows of an iteration: one more after those that exist, whether DFAs or the machine found its match.
-use Rattle.std.proofs.Common.{◌≡◌, ◌∙◌, ◌<◌, ◌+◌, ◌*◌, ℕ, List, [], ◌∷◌, slice_index, nat_eq, true, Some, refl, sym}
-use Rattle.std.proofs.Common.{ap, subst, arith}
-use Rattle.sre_chars.specs.declared.string.StrDrive.{Ghosts}
-use Rattle.sre_model.specs.Tree.{Tree}
-use Rattle.sre_model.specs.Grammar.{Whole}
-use Rattle.sre_model.specs.Found.{Asked, walk}
+use Rattle.sre_c.proofs.Terms.{◌≡◌, ◌∙◌, ◌<◌, ◌+◌, ◌*◌, ℕ, List, [], ◌∷◌, slice_index, true, Some, refl, sym, ap, subst}
+use Rattle.sre_c.proofs.Terms.{arith, Ghosts, Tree, Whole, Asked, walk, words_of, Request, start_of, code_of, asked_of}
+use Rattle.sre_c.proofs.Terms.{must_advance_of, Shown, match_shown, match_with, SreWalked, IsRow, IsWritten, IsSoFar}
+use Rattle.std.proofs.Common.{nat_eq}
 use Rattle.sre_model.proofs.WalkLaws.{walk-next, walk-end}
-use Rattle.sre_code.specs.Codes.{words_of}
-use Rattle.sre_request.specs.declared.request.Request.{Request}
-use Rattle.sre_engine.specs.Requests.{start_of, code_of, asked_of, must_advance_of}
-use Rattle.sre_engine.specs.Answers.{Shown, match_shown}
 use Rattle.sre_engine.specs.Searches.{WalksOn}
 use Rattle.sre_engine.specs.Walks.{GoesOn}
-use Rattle.sre_finder.specs.Spans.{match_with, FindsNone}
+use Rattle.sre_finder.specs.Spans.{FindsNone}
 use Rattle.sre_finder.proofs.Spans.{first_found, steps_span}
-use Rattle.sre_c.specs.declared.types.SreWalked.{SreWalked}
-use Rattle.sre_c.specs.Walked.{IsRow, IsWritten}
-use Rattle.sre_c.specs.Rows.{IsSoFar, WritesSpan}
+use Rattle.sre_c.specs.Rows.{WritesSpan}
 use Rattle.sre_c.proofs.Rows.{one_written}
 
 -- of a walk that is written so far one match more is written

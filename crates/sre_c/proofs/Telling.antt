@@ -1,16 +1,10 @@
 -- Step bounds of a code, in the terms of C.
-use Rattle.std.proofs.Common.{◌≡◌, ℕ, length, sym, subst}
-use Rattle.sre_model.specs.Tree.{Tree}
-use Rattle.sre_model.specs.Grammar.{Whole, IsCode, behind_block}
-use Rattle.sre_model.specs.Found.{Asked}
-use Rattle.sre_code.specs.declared.code.Code.{Code}
-use Rattle.sre_code.specs.Codes.{words_of, items_of}
+use Rattle.sre_c.proofs.Terms.{◌≡◌, ℕ, length, sym, subst, Tree, Whole, IsCode, behind_block, Asked, Code, words_of}
+use Rattle.sre_c.proofs.Terms.{Yes, No, SreCode, IsEnough}
+use Rattle.sre_code.specs.Codes.{items_of}
 use Rattle.sre_code.specs.StepBounds.{IsStepBound, HasNoStepBound}
 use Rattle.sre_engine.specs.Counts.{AreEnough}
-use Rattle.sre_c.specs.declared.status.Status.TheVariants.{Yes, No}
-use Rattle.sre_c.specs.declared.code.SreCode.{SreCode}
 use Rattle.sre_c.specs.Bounded.{Bounds}
-use Rattle.sre_c.specs.Given.{IsEnough}
 
 -- a budget that suffices for the words of a code does so for the code
 pub enough_of : (code : Code) (a : Asked) (steps : ℕ) → IsEnough (words_of code) a steps → AreEnough a code steps

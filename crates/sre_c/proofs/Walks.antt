@@ -1,23 +1,12 @@
 -- What is written of an iteration's request, in the terms of C.
-use Rattle.std.proofs.Common.{◌≡◌, ◌∙◌, ◌≤◌, ℕ, List, [], length, min, take, Bool, false, Option, Some, None, Ok}
-use Rattle.std.proofs.Common.{arith, sym, ap, subst}
-use Rattle.sre_chars.specs.declared.string.StrDrive.{Ghosts}
-use Rattle.sre_model.specs.Grammar.{Whole, IsCode}
-use Rattle.sre_model.specs.Found.{Asked, walk}
-use Rattle.sre_code.specs.Codes.{words_of}
-use Rattle.sre_request.specs.declared.request.Request.{Request}
-use Rattle.sre_engine.specs.Requests.{end_of, code_of, asked_of}
-use Rattle.sre_c.specs.declared.status.Status.{Status}
-use Rattle.sre_c.specs.declared.status.Status.TheVariants.{No, Yes, StepLimit, Memory, NoCode, NoRoom}
-use Rattle.sre_c.specs.declared.status.Status.TheVariants.{NotUtf8, FaultyTable}
-use Rattle.sre_c.specs.declared.code.SreCode.{SreCode}
-use Rattle.sre_c.specs.declared.types.SreAsked.{SreAsked}
-use Rattle.sre_c.specs.declared.types.SreWalked.{SreWalked}
-use Rattle.sre_c.specs.Known.{table_in}
-use Rattle.sre_c.specs.Given.{asked_in, IsEnough}
-use Rattle.sre_c.specs.Budgets.{KeepsBudget, KeepBudget}
-use Rattle.sre_c.specs.Walked.{IsWritten, asked_next, IsUpTo, RowsLeave, LastLeaves, Walks}
-use Rattle.sre_c.specs.Rows.{IsSoFar, RowsKeep, LastKeeps, WritesRows}
+use Rattle.sre_c.proofs.Terms.{◌≡◌, ◌∙◌, ◌≤◌, ℕ, List, [], length, take, Bool, false, Option, Some, None, Ok, arith}
+use Rattle.sre_c.proofs.Terms.{sym, ap, subst, Ghosts, Whole, IsCode, Asked, walk, words_of, Request, end_of, code_of}
+use Rattle.sre_c.proofs.Terms.{asked_of, Status, No, Yes, StepLimit, Memory, NoCode, NoRoom, NotUtf8, FaultyTable}
+use Rattle.sre_c.proofs.Terms.{SreCode, SreAsked, SreWalked, table_in, asked_in, IsEnough, KeepsBudget, KeepBudget}
+use Rattle.sre_c.proofs.Terms.{IsWritten, IsSoFar, RowsKeep, WritesRows}
+use Rattle.std.proofs.Common.{min}
+use Rattle.sre_c.specs.Walked.{asked_next, IsUpTo, RowsLeave, LastLeaves, Walks}
+use Rattle.sre_c.specs.Rows.{LastKeeps}
 use Rattle.sre_c.proofs.Telling.{enough_of}
 
 module _ {S : Type 0} {text : Ghosts S} (first next : Request S text) (c : SreCode) (chars : List ℕ) (a : SreAsked)

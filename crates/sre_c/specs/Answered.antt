@@ -1,13 +1,7 @@
 -- What an export reports of a match.
 -- Public clauses rest on it.
-use Rattle.std.specs.Prelude.{ℕ, ◌≡◌, ◌<◌, ◌-◌, ◌^◌, List, length, slice_index, Bool, true, false, cond}
-use Rattle.std.specs.Prelude.{Option, Some, None, Ok}
-use Rattle.std.specs.Global.{Global}
-use Rattle.sre_model.specs.Tree.{Tree}
-use Rattle.sre_model.specs.Grammar.{Whole, IsCode}
-use Rattle.sre_model.specs.Marks.{mark_at}
-use Rattle.sre_model.specs.Found.{Asked, Match}
-use Rattle.sre_growth.specs.Refusal.{Refused}
+use Rattle.sre_c.specs.Terms.{ℕ, ◌≡◌, ◌<◌, ◌-◌, ◌^◌, List, length, slice_index, Bool, true, false, cond, Option, Some}
+use Rattle.sre_c.specs.Terms.{None, Ok, Global, Tree, Whole, IsCode, mark_at, Asked, Match, Refused}
 use Rattle.sre_c.specs.declared.status.Status.{Status}
 use Rattle.sre_c.specs.declared.status.Status.TheVariants.{No, Yes, StepLimit, Memory, NoCode, NoRoom}
 use Rattle.sre_c.specs.declared.status.Status.TheVariants.{NotUtf8, FaultyTable}

@@ -1,16 +1,11 @@
 -- What an export says of where a match may begin.
 -- Public clauses rest on it.
-use Rattle.std.specs.Prelude.{ℕ, ◌≡◌, ◌<◌, ◌||◌, nat_le, Bool, true, false, List, [], length, slice_index_or}
-use Rattle.std.specs.Prelude.{Some, None}
-use Rattle.std.specs.Global.{Global}
-use Rattle.sre_chars.specs.Tables.{Table}
+use Rattle.sre_c.specs.Terms.{ℕ, ◌≡◌, ◌<◌, ◌||◌, nat_le, Bool, true, false, List, [], length, slice_index_or, Some}
+use Rattle.sre_c.specs.Terms.{None, Global, Table, Tree, Whole, IsCode, Marks, Refused}
 use Rattle.sre_model.specs.Characters.{holds}
-use Rattle.sre_model.specs.Tree.{Tree, Test}
-use Rattle.sre_model.specs.Grammar.{Whole, IsCode}
-use Rattle.sre_model.specs.Marks.{Marks}
+use Rattle.sre_model.specs.Tree.{Test}
 use Rattle.sre_model.specs.Subject.{Subject, after}
 use Rattle.sre_model.specs.Ways.{ways}
-use Rattle.sre_growth.specs.Refusal.{Refused}
 use Rattle.sre_engine.specs.Beginnings.{BeginsAtLines, KnowsTest, KnowsLines, first_test, has_ascii}
 use Rattle.sre_c.specs.declared.status.Status.{Status}
 use Rattle.sre_c.specs.declared.status.Status.TheVariants.{No, Yes, StepLimit, Memory, NoCode, NoRoom}

@@ -1,10 +1,6 @@
 -- What an export says of a step bound.
 -- Public clauses rest on it.
-use Rattle.std.specs.Prelude.{ℕ, ◌≡◌, length}
-use Rattle.std.specs.Global.{Global}
-use Rattle.sre_model.specs.Tree.{Tree}
-use Rattle.sre_model.specs.Grammar.{Whole, IsCode, behind_block}
-use Rattle.sre_growth.specs.Refusal.{Refused}
+use Rattle.sre_c.specs.Terms.{ℕ, ◌≡◌, length, Global, Tree, Whole, IsCode, behind_block, Refused}
 use Rattle.sre_code.specs.StepBounds.{IsStepBound, HasNoStepBound}
 use Rattle.sre_c.specs.declared.status.Status.{Status}
 use Rattle.sre_c.specs.declared.status.Status.TheVariants.{No, Yes, StepLimit, Memory, NoCode, NoRoom}

@@ -1,12 +1,8 @@
 -- What is left of a call's steps.
 -- Public clauses rest on it.
-use Rattle.std.specs.Prelude.{ℕ, ◌≡◌, ◌≤◌, ◌+◌, ◌-◌, ◌*◌, ◌^◌, List, [], ◌∷◌, Bool, true, Option, Some, Result, Ok}
-use Rattle.std.specs.Global.{Global}
-use Rattle.sre_model.specs.Found.{Asked, Match, asked_after}
-use Rattle.sre_code.specs.Codes.{words_of}
+use Rattle.sre_c.specs.Terms.{ℕ, ◌≡◌, ◌≤◌, ◌+◌, ◌-◌, ◌*◌, ◌^◌, List, [], ◌∷◌, Bool, true, Option, Some, Result, Ok}
+use Rattle.sre_c.specs.Terms.{Global, Asked, Match, asked_after, words_of, SreError, KeepsToSteps}
 use Rattle.sre_code.specs.declared.code.Code.{Code}
-use Rattle.sre_engine.specs.declared.engine.state.SreError.{SreError}
-use Rattle.sre_engine.specs.Counts.{KeepsToSteps}
 
 -- the steps of a call without a limit
 abbrev pub no_limit : ℕ

@@ -1,14 +1,10 @@
 -- What a check leaves.
 -- Public clauses rest on it.
-use Rattle.std.specs.Prelude.{◌≡◌, ◌≢◌, ◌≤◌, true, false, length, Some, None}
-use Rattle.std.specs.Global.{Global}
+use Rattle.sre_c.specs.Terms.{◌≡◌, ◌≢◌, ◌≤◌, true, false, length, Some, None, Global, lists_fault, Tree, Whole, IsCode}
+use Rattle.sre_c.specs.Terms.{Refused, place_of}
 use Rattle.sre_chars.specs.declared.table.UniError.{UniError}
 use Rattle.sre_chars.specs.Errors.{uni_error_number}
-use Rattle.sre_chars.specs.Lists.{lists_fault}
-use Rattle.sre_model.specs.Tree.{Tree}
-use Rattle.sre_model.specs.Grammar.{Whole, IsCode}
-use Rattle.sre_growth.specs.Refusal.{Refused}
-use Rattle.sre_code.specs.Refusals.{refusal_number, place_of}
+use Rattle.sre_code.specs.Refusals.{refusal_number}
 use Rattle.sre_code.specs.declared.code.error.CodeError.{CodeError}
 use Rattle.sre_code.specs.declared.code.error.CodeError.TheVariants as code_error
 use Rattle.sre_c.specs.declared.status.Status.{Status}

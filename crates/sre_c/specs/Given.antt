@@ -1,12 +1,10 @@
 -- What a caller passes, in the terms of the specification.
 -- Public clauses rest on it.
-use Rattle.std.specs.Prelude.{ℕ, ◌≡◌, ◌<◌, ◌⊎◌, List, length, min, cond, Option}
+use Rattle.sre_c.specs.Terms.{ℕ, ◌≡◌, ◌<◌, ◌⊎◌, List, length, cond, Option, Table, Tree, Whole, behind_block, Asked}
+use Rattle.sre_c.specs.Terms.{Match, matched, found}
+use Rattle.std.specs.Prelude.{min}
 use Rattle.std.specs.Str.{chars, IsUtf8}
 use Rattle.sre_chars.specs.declared.constants.EmptyRule.TheVariants.{Never, NonBoundary}
-use Rattle.sre_chars.specs.Tables.{Table}
-use Rattle.sre_model.specs.Tree.{Tree}
-use Rattle.sre_model.specs.Grammar.{Whole, behind_block}
-use Rattle.sre_model.specs.Found.{Asked, Match, matched, found}
 use Rattle.sre_model.specs.Remembered.{IsRemembered, step_bound}
 use Rattle.sre_c.specs.declared.status.Status.{Status}
 use Rattle.sre_c.specs.declared.status.Status.TheVariants.{NotUtf8}

@@ -10,3 +10,4 @@ pub mod Rows
 pub mod Bounded
 pub mod Beginnings
 pub mod Firsts
+pub mod Terms

@@ -1,14 +1,10 @@
 -- What the engine answers a request, and what a status says of that.
 -- Definitions for the contracts inside this crate; what it makes public does not rest on it.
-use Rattle.std.specs.Prelude.{ℕ, ◌≡◌, ◌<◌, List, Bool, true, false, cond, Option, Some, None, Result, Ok, Err}
-use Rattle.std.specs.Prelude.{IfOk, IfSome, OnErr}
-use Rattle.std.specs.Global.{Global}
-use Rattle.sre_model.specs.Tree.{Tree}
-use Rattle.sre_model.specs.Grammar.{Whole}
-use Rattle.sre_model.specs.Found.{Asked, Match, matched, found}
-use Rattle.sre_growth.specs.Refusal.{Refused}
-use Rattle.sre_engine.specs.declared.engine.state.SreError.{SreError}
-use Rattle.sre_engine.specs.Answers.{Shown, answer_of, match_shown}
+use Rattle.sre_c.specs.Terms.{ℕ, ◌≡◌, ◌<◌, List, Bool, true, false, cond, Option, Some, None, Result, Ok, IfOk, IfSome}
+use Rattle.sre_c.specs.Terms.{OnErr, Global, Tree, Whole, Asked, Match, matched, found, Refused, SreError, Shown}
+use Rattle.sre_c.specs.Terms.{match_shown}
+use Rattle.std.specs.Prelude.{Err}
+use Rattle.sre_engine.specs.Answers.{answer_of}
 use Rattle.sre_c.specs.declared.status.Status.{Status}
 use Rattle.sre_c.specs.declared.status.Status.TheVariants.{No, Yes, StepLimit, Memory, NoCode, NoRoom}
 use Rattle.sre_c.specs.declared.status.Status.TheVariants.{NotUtf8, FaultyTable}

@@ -1,22 +1,14 @@
 -- How far an iteration of a request is written.
 -- Definitions for the contracts inside this crate; what it makes public does not rest on it.
-use Rattle.std.specs.Prelude.{ℕ, ◌≡◌, ◌≤◌, ◌<◌, ◌+◌, ◌*◌, ◌⊎◌, List, [], ◌∷◌, length, take, Bool, false, Option}
-use Rattle.std.specs.Prelude.{Some, None, Result, Ok, OnErr, slice_index}
-use Rattle.std.specs.Global.{Global}
+use Rattle.sre_c.specs.Terms.{ℕ, ◌≡◌, ◌≤◌, ◌<◌, ◌+◌, ◌*◌, ◌⊎◌, List, [], ◌∷◌, length, take, Bool, false, Option, Some}
+use Rattle.sre_c.specs.Terms.{None, Result, Ok, OnErr, slice_index, Global, Tree, Whole, Marks, Asked, Match, found}
+use Rattle.sre_c.specs.Terms.{walk, asked_after, Refused, words_of, start_of, end_of, code_of, asked_of, KeepsToSteps}
+use Rattle.sre_c.specs.Terms.{SreError, Shown, match_with}
 use Rattle.sre_chars.specs.declared.string.StrDrive.{Ghosts}
-use Rattle.sre_model.specs.Tree.{Tree}
-use Rattle.sre_model.specs.Grammar.{Whole}
-use Rattle.sre_model.specs.Marks.{Marks}
-use Rattle.sre_model.specs.Found.{Asked, Match, found, walk, asked_after}
-use Rattle.sre_growth.specs.Refusal.{Refused}
-use Rattle.sre_code.specs.Codes.{words_of}
-use Rattle.sre_engine.specs.Requests.{start_of, end_of, code_of, asked_of}
-use Rattle.sre_engine.specs.Counts.{AreEnough, KeepsToSteps, runs_of}
+use Rattle.sre_engine.specs.Counts.{AreEnough, runs_of}
 use Rattle.sre_request.specs.declared.request.Request.{Request}
-use Rattle.sre_engine.specs.declared.engine.state.SreError.{SreError}
-use Rattle.sre_engine.specs.Answers.{Shown}
 use Rattle.sre_engine.specs.Searches.{Stepped, given_up}
-use Rattle.sre_finder.specs.Spans.{match_with, GoesOnBehind}
+use Rattle.sre_finder.specs.Spans.{GoesOnBehind}
 use Rattle.sre_c.specs.declared.status.Status.{Status}
 use Rattle.sre_c.specs.declared.status.Status.TheVariants.{No, Yes, StepLimit, Memory, NoCode, NoRoom}
 use Rattle.sre_c.specs.declared.status.Status.TheVariants.{NotUtf8, FaultyTable}

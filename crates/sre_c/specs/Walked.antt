@@ -1,14 +1,10 @@
 -- What an export reports of an iteration.
 -- Public clauses rest on it.
-use Rattle.std.specs.Prelude.{ℕ, ◌≡◌, ◌<◌, ◌+◌, ◌-◌, ◌*◌, ◌^◌, ◌⊎◌, ◌==◌, if◌then◌else◌, ℤ, pos, negsuc}
-use Rattle.std.specs.Prelude.{List, [], ◌∷◌, ◌++◌, length, slice_index, take, Bool, false, Option, Some, None}
-use Rattle.std.specs.Prelude.{Ok}
-use Rattle.std.specs.Global.{Global}
-use Rattle.sre_model.specs.Tree.{Tree}
-use Rattle.sre_model.specs.Grammar.{Whole, IsCode}
-use Rattle.sre_model.specs.Marks.{mark_at}
-use Rattle.sre_model.specs.Found.{Asked, Match, walk}
-use Rattle.sre_growth.specs.Refusal.{Refused}
+use Rattle.sre_c.specs.Terms.{ℕ, ◌≡◌, ◌<◌, ◌+◌, ◌-◌, ◌*◌, ◌^◌, ◌⊎◌, List, [], ◌∷◌, length, slice_index, take, Bool}
+use Rattle.sre_c.specs.Terms.{false, Option, Some, None, Ok, Global, Tree, Whole, IsCode, mark_at, Asked, Match, walk}
+use Rattle.sre_c.specs.Terms.{Refused}
+use Rattle.std.specs.Prelude.{◌==◌, if◌then◌else◌, ℤ, pos, negsuc}
+use Rattle.std.specs.Prelude.{◌++◌}
 use Rattle.sre_c.specs.declared.status.Status.{Status}
 use Rattle.sre_c.specs.declared.status.Status.TheVariants.{No, Yes, StepLimit, Memory, NoCode, NoRoom}
 use Rattle.sre_c.specs.declared.status.Status.TheVariants.{NotUtf8, FaultyTable}

@@ -1,13 +1,8 @@
 //! The answer for a code, a request and a text of any type.
 
-ghost use Rattle.std.specs.Prelude.{◌≡◌, ◌<◌, ◌≤◌, ℕ, length, slice_index, slice_index_or, None, true, false, OnErr};
-ghost use Rattle.sre_growth.specs.Refusal.{Refused};
-ghost use Rattle.sre_model.specs.Grammar.{behind_block};
-ghost use Rattle.sre_engine.specs.FirstSets.{SetsOf};
-ghost use Rattle.sre_engine.specs.Codes.{words_of, uni_of};
-ghost use Rattle.sre_code.specs.Codes.{items_of};
-ghost use Rattle.sre_engine.specs.Requests.{asked_of, code_of};
-ghost use Rattle.sre_engine.specs.Answers.{match_shown};
+ghost use Rattle.sre_c.specs.Terms.{◌≡◌, ◌<◌, ◌≤◌, ℕ, length, slice_index, slice_index_or, None, true, false, OnErr};
+ghost use Rattle.sre_c.specs.Terms.{Refused, behind_block, SetsOf, uni_of, items_of, asked_of, code_of, match_shown};
+ghost use Rattle.sre_engine.specs.Codes.{words_of};
 ghost use Rattle.sre_c.specs.Known.{table_in};
 ghost use Rattle.sre_c.specs.Given.{asked_in};
 ghost use Rattle.sre_c.specs.Budgets.{no_limit};

@@ -1,11 +1,8 @@
 //! The check of a caller's bytecode.
 
-ghost use Rattle.std.specs.Prelude.{◌≡◌, ◌≢◌, IfOk, IfErr, OnOk};
-ghost use Rattle.sre_model.specs.Tree.{Tree};
-ghost use Rattle.sre_model.specs.Grammar.{Whole, IsCode};
-ghost use Rattle.sre_growth.specs.Refusal.{Refused};
-ghost use Rattle.sre_code.specs.Codes.{words_of, uni_of};
-ghost use Rattle.sre_code.specs.Refusals.{place_of};
+ghost use Rattle.sre_c.specs.Terms.{◌≡◌, ◌≢◌, IfOk, Tree, Whole, IsCode, Refused, words_of, place_of};
+ghost use Rattle.std.specs.Prelude.{IfErr, OnOk};
+ghost use Rattle.sre_code.specs.Codes.{uni_of};
 ghost use Rattle.sre_c.specs.Known.{table_in, hints_told, AreHints};
 ghost use Rattle.sre_c.specs.Checked.{CodeChecked};
 

@@ -1,13 +1,9 @@
 //! The iteration over spans, which writes them in rows, with captures if the rows have room for them.
 
-ghost use Rattle.std.specs.Prelude.{◌≡◌, ◌<◌, ◌≤◌, ◌+◌, ℕ, length, slice_index, true, false, IfOk, OnErr};
-ghost use Rattle.sre_growth.specs.Refusal.{Refused};
-ghost use Rattle.sre_model.specs.Marks.{Marks};
-ghost use Rattle.sre_code.specs.Codes.{items_of};
-ghost use Rattle.sre_engine.specs.FirstSets.{SetsOf};
-ghost use Rattle.sre_engine.specs.Requests.{string_of, start_of, code_of, stands_in};
+ghost use Rattle.sre_c.specs.Terms.{◌≡◌, ◌<◌, ◌≤◌, ◌+◌, ℕ, length, slice_index, true, false, IfOk, OnErr, Refused};
+ghost use Rattle.sre_c.specs.Terms.{Marks, items_of, SetsOf, string_of, start_of, code_of, stands_in, match_with};
 ghost use Rattle.sre_finder.specs.Finders.{EndStands};
-ghost use Rattle.sre_finder.specs.Spans.{match_with, FindsNone};
+ghost use Rattle.sre_finder.specs.Spans.{FindsNone};
 ghost use Rattle.sre_c.specs.Walked.{entry_of, IsRow};
 ghost use Rattle.sre_c.specs.Rows.{Writes, WritesSpan};
 

@@ -1,14 +1,12 @@
 -- A byte below 128 is a character by itself: a step past it goes one byte on, a step back one byte back.
-use Rattle.std.proofs.Common.{◌≡◌, ℕ, zero, suc, ◌+◌, ◌-◌, ◌/◌, ◌<◌, ◌≤◌, inl, inr, refl, ap, sym, ◌∙◌, arith}
-use Rattle.std.proofs.Common.{List, [], ◌∷◌, ◌++◌, length, take, drop, get_or, length-append}
-use Rattle.std.proofs.Math.Seq.{take-suc, drop-cons, get_or-append_seam}
-use Rattle.std.proofs.lemmas.List.{append_assoc, append-nil, get_or-take, length-drop, length-take-le}
-use Rattle.std.proofs.lemmas.Bool.{cases_lt, lt-ltb, le-ltb}
-use Rattle.std.proofs.lemmas.Str.{encode_ascii, encodes-append}
-use Rattle.std.specs.Str.{chars, IsUtf8}
-use lib.Utf8.{encodes, encode, next}
+use Rattle.sre_chars.proofs.Terms.{◌≡◌, ℕ, zero, suc, ◌+◌, ◌-◌, ◌/◌, ◌<◌, ◌≤◌, inl, inr, refl, ap, sym, ◌∙◌, arith}
+use Rattle.sre_chars.proofs.Terms.{List, [], ◌∷◌, ◌++◌, length, take, drop, get_or, length-append, take-suc, drop-cons}
+use Rattle.sre_chars.proofs.Terms.{append-nil, get_or-take, length-drop, length-take-le, cases_lt, lt-ltb, le-ltb}
+use Rattle.sre_chars.proofs.Terms.{encode_ascii, encodes-append, chars, IsUtf8, encodes, next, offset_of}
+use Rattle.std.proofs.Math.Seq.{get_or-append_seam}
+use Rattle.std.proofs.lemmas.List.{append_assoc}
+use lib.Utf8.{encode}
 use Rattle.sre_chars.proofs.TextPlaces.{offset_boundary, past_char, some_after, some_before, take_offset}
-use Rattle.sre_chars.specs.Texts.{offset_of}
 
 -- a byte begins where a character does, and one ends where a character does
 pub byte_after : (bs : List ℕ) (p : ℕ) → IsUtf8 bs → p < length (chars bs) → offset_of bs p < length bs

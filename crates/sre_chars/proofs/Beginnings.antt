@@ -1,19 +1,15 @@
 -- Where characters begin in bytes, and how many begin before a position.
-use Rattle.std.proofs.Common.{◌≡◌, ℕ, ◌+◌, ◌-◌, ◌/◌, ◌<◌, ◌≤◌, true, false, cond, inl, inr, refl, ap, sym, ◌∙◌, subst}
-use Rattle.std.proofs.Common.{arith}
-use Rattle.std.proofs.Common.{List, [], ◌∷◌, ◌++◌, length, take, drop, get_or, count_by, length-append}
-use Rattle.std.proofs.Math.Seq.{take-add}
+use Rattle.sre_chars.proofs.Terms.{◌≡◌, ℕ, ◌+◌, ◌-◌, ◌/◌, ◌<◌, ◌≤◌, true, false, inl, inr, refl, ap, sym, ◌∙◌, subst}
+use Rattle.sre_chars.proofs.Terms.{arith, List, [], ◌∷◌, ◌++◌, length, take, drop, get_or, count_by, length-append}
+use Rattle.sre_chars.proofs.Terms.{take-add, take-append_seam, cases_lt, lt-ltb, le-ltb, nat_tests, take-append-drop}
+use Rattle.sre_chars.proofs.Terms.{length-take-le, encodes-chars, chars, IsUtf8, IsCharBoundary, encodes, next}
+use Rattle.sre_chars.proofs.Terms.{begins_char, begun, offset_of}
+use Rattle.std.proofs.Common.{cond}
 use Rattle.std.proofs.lemmas.List.{take-take}
 use Rattle.std.proofs.lemmas.List.Sums.{sum_by-append, sum_by-take-drop, count_by_more_yes}
-use Rattle.std.proofs.Math.Seq.{take-append_seam}
-use Rattle.std.proofs.lemmas.Bool.{cases_lt, lt-ltb, le-ltb}
-use Rattle.std.proofs.lemmas.Bool.Decides.{nat_tests}
-use Rattle.std.proofs.lemmas.List.{take-append-drop, length-take-le}
-use Rattle.std.proofs.lemmas.Str.{chars-append, chars_from_encodes, encodes-chars, IsUtf8-take}
-use Rattle.std.specs.Str.{chars, IsUtf8, IsCharBoundary}
-use lib.Utf8.{encode, encodes, next}
+use Rattle.std.proofs.lemmas.Str.{chars-append, chars_from_encodes, IsUtf8-take}
+use lib.Utf8.{encode}
 use Rattle.sre_chars.proofs.TextPlaces.{length-chars_le, offset_boundary, take_offset}
-use Rattle.sre_chars.specs.Texts.{begins_char, begun, offset_of}
 
 -- a block more
 pub begun_block : (bs : List ℕ) (i n : ℕ) → begun bs (i + n) ≡ begun bs i + count_by begins_char (take n (drop i bs))

@@ -1,7 +1,6 @@
 -- Rows of the categories and of the case maps, which the definitions compute.
-use Rattle.std.proofs.Common.{◌≡◌, true, false, [], ◌∷◌, refl}
-use Rattle.sre_chars.specs.Tables.{Table, ascii_table, table_of, lower_ascii, upper_ascii, lower_of, upper_of}
-use Rattle.sre_chars.specs.Tables.{is_alphanumeric}
+use Rattle.sre_chars.proofs.Terms.{◌≡◌, true, false, [], ◌∷◌, refl, Table, table_of, is_alphanumeric}
+use Rattle.sre_chars.specs.Tables.{ascii_table, lower_ascii, upper_ascii, lower_of, upper_of}
 use Rattle.sre_chars.specs.Categories.{category}
 
 pub underscore_is_word : (t : Table) → category t 4 95 ≡ true

@@ -1,14 +1,11 @@
 -- Lists that grow at their end, by entries above all that they have, stay without a fault.
-use Rattle.std.proofs.Common.{◌≡◌, ℕ, ◌+◌, ◌<◌, ◌≤◌, ◌⊎◌, inl, inr, true, refl, arith}
-use Rattle.std.proofs.Common.{Option, Some, None, List, [], ◌∷◌, ◌++◌}
+use Rattle.sre_chars.proofs.Terms.{◌≡◌, ℕ, ◌+◌, ◌<◌, ◌≤◌, inl, inr, true, refl, arith, Option, Some, None, List, []}
+use Rattle.sre_chars.proofs.Terms.{◌∷◌, ◌++◌, nat_tests, is_scalar, last_of, entry_fault, list_fault, Listing, Map}
+use Rattle.sre_chars.proofs.Terms.{Ranges}
+use Rattle.std.proofs.Common.{◌⊎◌}
 use Rattle.std.specs.Option.{IfNone, IfSome}
-use Rattle.std.proofs.lemmas.Bool.Decides.{nat_tests}
 use Rattle.std.specs.Char.{IsScalar}
 use Rattle.std.proofs.Math.Utf8.{scalar_cases}
-use Rattle.sre_chars.specs.Tables.{is_scalar}
-use Rattle.sre_chars.specs.Errors.{last_of, entry_fault, list_fault}
-use Rattle.sre_chars.specs.declared.table.Listing.{Listing}
-use Rattle.sre_chars.specs.declared.table.Listing.TheVariants.{Map, Ranges}
 use Rattle.sre_chars.proofs.RisingLists.{both_none}
 
 -- the first number above those that a list takes up

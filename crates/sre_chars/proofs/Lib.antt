@@ -5,3 +5,4 @@ pub mod AsciiSteps
 pub mod Seeks
 pub mod Beginnings
 pub mod TextPlaces
+pub mod Terms

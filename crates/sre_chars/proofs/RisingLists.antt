@@ -1,16 +1,15 @@
 -- Lists without a fault rise, and so a character is looked up at the last entry that begins at it or below.
-use Rattle.std.proofs.Common.{◌≡◌, ℕ, zero, suc, ◌+◌, ◌==◌, ◌<◌, ◌≤◌, Bool, true, false, ◌&&◌, ◌||◌, if◌then◌else◌}
-use Rattle.std.proofs.Common.{Option, Some, None, unwrap_or, List, [], ◌∷◌, length, get_or, map, refl, arith}
-use Rattle.std.specs.Prelude.{nat_le, nat_lt}
+use Rattle.sre_chars.proofs.Terms.{◌≡◌, ℕ, zero, suc, ◌+◌, ◌<◌, ◌≤◌, true, false, Option, Some, None, List, [], ◌∷◌}
+use Rattle.sre_chars.proofs.Terms.{length, get_or, map, refl, arith, nat_le, IsNonDecreasingBy, nat_tests, Table}
+use Rattle.sre_chars.proofs.Terms.{is_scalar, is_alphanumeric, last_of, entry_fault, list_fault, Listing, Map, Ranges}
+use Rattle.std.proofs.Common.{◌==◌, Bool, ◌&&◌, ◌||◌, if◌then◌else◌}
+use Rattle.std.proofs.Common.{unwrap_or}
+use Rattle.std.specs.Prelude.{nat_lt}
 use Rattle.std.specs.Option.{option_or}
-use Rattle.std.specs.List.Sorted.{IsNonDecreasingBy}
-use Rattle.std.proofs.lemmas.Bool.Decides.{nat_tests}
 use Rattle.std.proofs.lemmas.List.{length-map}
 use Rattle.std.proofs.Math.ListN.{get_or-map}
-use Rattle.sre_chars.specs.Tables.{Table, is_scalar, is_between, is_in_ranges, is_alphanumeric, mapped, last_up_to}
-use Rattle.sre_chars.specs.Errors.{last_of, is_scalar_entry, entry_fault, list_fault, table_fault}
-use Rattle.sre_chars.specs.declared.table.Listing.{Listing}
-use Rattle.sre_chars.specs.declared.table.Listing.TheVariants.{Map, Ranges}
+use Rattle.sre_chars.specs.Tables.{is_between, is_in_ranges, mapped, last_up_to}
+use Rattle.sre_chars.specs.Errors.{is_scalar_entry, table_fault}
 
 -- two searches that both find nothing
 pub both_none : {T : Type 0} (a b : Option T) → option_or a b ≡ None → (a ≡ None) × (b ≡ None)

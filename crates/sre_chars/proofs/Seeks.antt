@@ -1,15 +1,14 @@
 -- A search for a character among bytes: an ASCII one is where its byte is, and no other character has that byte.
-use Rattle.std.proofs.Common.{◌≡◌, ◌≢◌, ℕ, suc, ◌+◌, ◌-◌, ◌<◌, ◌≤◌, inl, inr, refl, ap, sym, ◌∙◌, true, arith}
-use Rattle.std.proofs.Common.{List, ◌∷◌, ◌++◌, length, take, drop, get_or, count_by, length-append}
-use Rattle.std.proofs.Math.Seq.{take-add, drop-cons}
-use Rattle.std.proofs.lemmas.Bool.{cases_lt}
-use Rattle.std.proofs.lemmas.List.{get_or-drop, get_or-take, length-drop, length-take-le}
+use Rattle.sre_chars.proofs.Terms.{◌≡◌, ℕ, suc, ◌+◌, ◌-◌, ◌<◌, ◌≤◌, inl, inr, refl, ap, sym, ◌∙◌, true, arith, List}
+use Rattle.sre_chars.proofs.Terms.{◌∷◌, ◌++◌, length, take, drop, get_or, count_by, length-append, take-add, drop-cons}
+use Rattle.sre_chars.proofs.Terms.{cases_lt, get_or-take, length-drop, length-take-le, encode_ascii, encodes-append}
+use Rattle.sre_chars.proofs.Terms.{length-le-encodes, chars, IsUtf8, encodes, encode, begins_char, begun, offset_of}
+use Rattle.sre_chars.proofs.Terms.{NoneIs}
+use Rattle.std.proofs.Common.{◌≢◌}
+use Rattle.std.proofs.lemmas.List.{get_or-drop}
 use Rattle.std.proofs.lemmas.List.Sums.{count_by-le-length}
-use Rattle.std.proofs.lemmas.Str.{encode_ascii, encodes-append, length-le-encodes}
 use Rattle.std.proofs.lemmas.Str.{IsCharBoundary-before_ascii}
-use Rattle.std.specs.Str.{chars, IsUtf8}
-use lib.Utf8.{encodes, encode}
-use Rattle.sre_chars.specs.Texts.{begins_char, begun, offset_of, NoneIs, Sought}
+use Rattle.sre_chars.specs.Texts.{Sought}
 use Rattle.sre_chars.proofs.AsciiSteps.{ascii_after}
 use Rattle.sre_chars.proofs.Beginnings.{begun_block, begun_grows, place_at, place_in, some_begin}
 use Rattle.sre_chars.proofs.TextPlaces.{drop_offset, offset_boundary}

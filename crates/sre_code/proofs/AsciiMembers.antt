@@ -1,20 +1,15 @@
 -- The ASCII characters of a set, item by item.
-use Rattle.std.proofs.Common.{ℕ, ◌+◌, ◌≡◌, ◌<◌, Bool, true, false, not, cond, ◌&&◌, ◌||◌, nat_eq, nat_lt, List, refl}
-use Rattle.std.proofs.Common.{sym, ◌∙◌, ap, subst, slice_range, arith, Option, Some, None, IfSome}
-use Rattle.std.proofs.lemmas.Bool.Decides.{nat_tests}
-use Rattle.sre_code.specs.AsciiSet.{contains}
-use Rattle.sre_code.specs.declared.ascii_set.AsciiSet.{AsciiSet}
-use Rattle.sre_chars.specs.Numbers.{category_number}
-use Rattle.sre_chars.specs.Tables.{Table, is_between}
-use Rattle.sre_chars.specs.Categories.{category}
+use Rattle.sre_code.proofs.Terms.{ℕ, ◌+◌, ◌≡◌, ◌<◌, Bool, true, false, not, cond, ◌&&◌, ◌||◌, nat_eq, nat_lt, List}
+use Rattle.sre_code.proofs.Terms.{refl, sym, ◌∙◌, ap, subst, slice_range, arith, Option, Some, None, IfSome, nat_tests}
+use Rattle.sre_code.proofs.Terms.{contains, AsciiSet, category_number, Table, category, SreCatCode, SetItem, Charset}
+use Rattle.sre_code.proofs.Terms.{is_member, Word, Opcode, SetStands, HasSet, single_says, range_says, category_says}
+use Rattle.sre_code.proofs.Terms.{charset_says, AsciiLeft}
+use Rattle.sre_chars.specs.Tables.{is_between}
 use Rattle.sre_chars.specs.declared.constants.SreOpcode.TheVariants as opcode
-use Rattle.sre_chars.specs.declared.constants.SreCatCode.{SreCatCode}
-use Rattle.sre_model.specs.Tree.{SetItem, Charset}
-use Rattle.sre_model.specs.Characters.{item_holds, verdict, is_member}
-use Rattle.sre_model.specs.Grammar.{Word, Opcode}
-use Rattle.sre_model.specs.Standing.{SetStands, HasSet, ItemSays}
-use Rattle.sre_model.proofs.Members.{single_says, range_says, category_says, charset_says, negated, nothing_left}
-use Rattle.sre_code.specs.AsciiSets.{HoldsFor, AsciiLeft, AreTold}
+use Rattle.sre_model.specs.Characters.{item_holds, verdict}
+use Rattle.sre_model.specs.Standing.{ItemSays}
+use Rattle.sre_model.proofs.Members.{negated, nothing_left}
+use Rattle.sre_code.specs.AsciiSets.{HoldsFor, AreTold}
 
 -- an item that says what an ASCII set has
 says_so : (ws : List ℕ) (table : Table) (i c next : ℕ) (says has : Bool) → c < 128 → has ≡ (nat_lt c 128 && says)

@@ -1,8 +1,7 @@
 -- The sets of the categories, by computation over ASCII.
-use Rattle.std.proofs.Common.{◌≡◌, ℕ, Bool, true, not, ◌&&◌, nat_lt, refl, inl, inr}
-use Rattle.std.proofs.lemmas.Bool.{agree_below, agree_below_at, cases_lt, lt-ltb, le-ltb}
-use Rattle.sre_code.specs.AsciiSet.{contains}
-use Rattle.sre_code.specs.declared.ascii_set.AsciiSet.{AsciiSet}
+use Rattle.sre_code.proofs.Terms.{◌≡◌, ℕ, Bool, true, not, ◌&&◌, nat_lt, refl, inl, inr, cases_lt, lt-ltb, le-ltb}
+use Rattle.sre_code.proofs.Terms.{contains, AsciiSet}
+use Rattle.std.proofs.lemmas.Bool.{agree_below, agree_below_at}
 use Rattle.sre_code.proofs.Halves.{past_ascii}
 
 -- a set that agrees with a test in ASCII

@@ -1,16 +1,10 @@
 -- The tree of checked bytecode.
-use Rattle.std.proofs.Common.{ℕ, List, sym, subst}
-use Rattle.std.proofs.Math.Logic.{∥∥₁_map, ∥∥₁_elim}
+use Rattle.sre_code.proofs.Terms.{ℕ, List, sym, subst, ∥∥₁_map, Table, Tree, Whole, IsCode, WholeItems, Confirmed}
+use Rattle.sre_code.proofs.Terms.{Hints, words_of, kept_tree, whole_same}
+use Rattle.std.proofs.Math.Logic.{∥∥₁_elim}
 use Rattle.std.proofs.Props.{props}
-use Rattle.sre_chars.specs.Tables.{Table}
-use Rattle.sre_model.specs.Tree.{Tree}
-use Rattle.sre_model.specs.Grammar.{Whole, IsCode, WholeItems}
-use Rattle.sre_code.specs.Hinted.{Confirmed}
-use Rattle.sre_code.specs.declared.code.Hints.{Hints}
 use Rattle.sre_code.specs.declared.code.Code.{Code}
-use Rattle.sre_code.specs.Codes.{words_of, items_of, uni_of, hints_of}
-use Rattle.sre_model.proofs.Props.{kept_tree}
-use Rattle.sre_model.proofs.Unique.{whole_same}
+use Rattle.sre_code.specs.Codes.{items_of, uni_of, hints_of}
 use Rattle.sre_model.proofs.ClaimProps.{first_set_prop}
 use Rattle.sre_model.proofs.TreeOf.{tree_of, whole-read}
 

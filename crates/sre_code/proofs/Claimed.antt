@@ -1,21 +1,14 @@
 -- What the INFO block claims, by its words, and what is confirmed of it.
-use Rattle.std.proofs.Common.{ℕ, ◌+◌, ◌*◌, ◌-◌, ◌/◌, ◌%◌, ◌≡◌, ◌≢◌, ◌<◌, ◌≤◌, Bool, true, false, cond, nat_eq, nat_lt}
-use Rattle.std.proofs.Common.{nat_le, ◌&&◌, List, length, Option, Some, None, slice_range, refl, sym, ◌∙◌, ap, arith}
-use Rattle.std.proofs.lemmas.Bool.Decides.{nat_tests}
+use Rattle.sre_code.proofs.Terms.{ℕ, ◌+◌, ◌*◌, ◌-◌, ◌/◌, ◌%◌, ◌≡◌, ◌≢◌, ◌<◌, ◌≤◌, Bool, true, false, cond, nat_eq}
+use Rattle.sre_code.proofs.Terms.{nat_lt, nat_le, ◌&&◌, List, length, Option, Some, None, slice_range, refl, sym, ◌∙◌}
+use Rattle.sre_code.proofs.Terms.{ap, arith, nat_tests, Decides, Table, Tree, Empty, Then, word, skip, Reads}
+use Rattle.sre_code.proofs.Terms.{WholeItems, opcode_within, operands_past, reads_within, has_flag, are_overlaps}
+use Rattle.sre_code.proofs.Terms.{behind_literals, HasFirstSet, HasBlock, Ends, LeftAt, NoneLeft, LeftBehind, Confirmed}
 use Rattle.std.specs.Prelude.{is_some}
 use Rattle.sre_chars.specs.declared.constants.SreOpcode.TheVariants as opcode
-use Rattle.std.specs.Bool.{Decides}
-use Rattle.sre_chars.specs.Tables.{Table}
-use Rattle.sre_model.specs.Tree.{Tree, Empty, Then}
-use Rattle.sre_model.specs.Grammar.{word, skip, has_block, Reads, WholeItems}
-use Rattle.sre_model.proofs.Words.{opcode_within}
-use Rattle.sre_model.proofs.Places.{operands_past, reads_within}
-use Rattle.sre_model.specs.Claims.{has_flag, prefix_length, prefix_skip, prefix_words, overlap_words, has_prefix}
-use Rattle.sre_model.specs.Claims.{are_overlaps, behind_literals, behind_prefix, is_at_end, confirmed_width, is_literal}
-use Rattle.sre_model.specs.Claims.{HasFirstSet}
-use Rattle.sre_code.specs.Fronts.{HasBlock}
-use Rattle.sre_code.specs.Prefixes.{Ends, LeftAt, NoneLeft, LeftBehind}
-use Rattle.sre_code.specs.Hinted.{Confirmed}
+use Rattle.sre_model.specs.Grammar.{has_block}
+use Rattle.sre_model.specs.Claims.{prefix_length, prefix_skip, prefix_words, overlap_words, has_prefix}
+use Rattle.sre_model.specs.Claims.{behind_prefix, is_at_end, confirmed_width, is_literal}
 
 false_right : (x y : Bool) → y ≡ false → (x && y) ≡ false
 false_right true y e = e

@@ -1,19 +1,11 @@
 -- What closes parts is what the grammar says.
-use Rattle.std.proofs.Common.{ℕ, ◌+◌, ◌≡◌, ◌≢◌, false, List, length, refl, arith}
-use Rattle.sre_chars.specs.Numbers.{opcode_number}
-use Rattle.sre_chars.specs.declared.constants.SreOpcode.{SreOpcode}
+use Rattle.sre_code.proofs.Terms.{ℕ, ◌+◌, ◌≡◌, ◌≢◌, false, List, length, refl, arith, opcode_number, SreOpcode, Tree}
+use Rattle.sre_code.proofs.Terms.{Empty, Then, Opcode, item_opcode, Reads, IsFault, NoCode, Closes, Unclosed, Exactly}
+use Rattle.sre_code.proofs.Terms.{IsEnd, IsInside, CodeError, Past, same_opcode, opcode_within, role, no_item}
 use Rattle.sre_chars.specs.declared.constants.SreOpcode.TheVariants as opcode
-use Rattle.sre_model.specs.Tree.{Tree, Empty, Then}
-use Rattle.sre_model.specs.Grammar.{Opcode, item_opcode, Reads}
-use Rattle.sre_code.specs.Reading.{IsFault, NoCode}
-use Rattle.sre_code.specs.Steps.{Closes, Unclosed, Exactly, IsEnd, IsInside}
-use Rattle.sre_code.specs.declared.code.error.CodeError.{CodeError}
 use Rattle.sre_code.specs.declared.code.error.CodeError.TheVariants.{TrailingWords}
 use Rattle.sre_code.specs.declared.code.step.Part.TheVariants.{Whole}
-use Rattle.sre_code.specs.declared.code.step.Step.TheVariants.{Past}
-use Rattle.sre_model.proofs.Words.{same_opcode, opcode_within}
-use Rattle.sre_model.specs.Roles.{role}
-use Rattle.sre_model.proofs.Families.{no_item, is_item_role}
+use Rattle.sre_model.proofs.Families.{is_item_role}
 
 -- SUCCESS as the last word
 pub whole_inside : (ws : List ℕ) (i : ℕ) (o : SreOpcode) → Opcode ws i o → o ≢ opcode.SUCCESS → IsInside ws Whole i

@@ -1,22 +1,15 @@
 -- The number computed for a code is the one specified for its tree.
-use Rattle.std.proofs.Common.{ℕ, ◌+◌, ◌-◌, ◌*◌, ◌/◌, ◌^◌, ◌≡◌, ◌<◌, ◌≤◌, false, min, max}
-use Rattle.std.proofs.Common.{List, length, Option, Some, None, refl}
-use Rattle.std.proofs.Common.{sym, ap, ◌∙◌, subst, arith, IfSome}
-use Rattle.sre_model.specs.Tree.{Tree}
+use Rattle.sre_code.proofs.Terms.{ℕ, ◌+◌, ◌-◌, ◌*◌, ◌/◌, ◌^◌, ◌≡◌, ◌<◌, ◌≤◌, false, min, max, List, length, Option}
+use Rattle.sre_code.proofs.Terms.{Some, None, refl, sym, ap, ◌∙◌, subst, arith, IfSome, Tree, most_slots, nesting}
+use Rattle.sre_code.proofs.Terms.{cost_of, most_steps, refers, WholeItems, Whole, behind_block, CountedTold, room_by}
+use Rattle.sre_code.proofs.Terms.{cost_at, IsPrice, AreHeld, TreePriced, Prices}
 use Rattle.sre_model.specs.Found.{Asked}
-use Rattle.sre_model.specs.Slots.{most_slots}
 use Rattle.sre_model.specs.LooksBehind.{backs, longest_lookbehind}
-use Rattle.sre_model.specs.Nesting.{nesting}
-use Rattle.sre_model.specs.TreePrices.{cost_of, most_steps}
-use Rattle.sre_model.specs.References.{refers}
-use Rattle.sre_model.specs.Grammar.{WholeItems, Whole, behind_block}
 use Rattle.sre_model.specs.Remembered.{kept_positions, words_at_place, IsRemembered, sides, step_bound}
 use Rattle.sre_model.proofs.WiderWindows.{IsInside, remembered_inside, bound_inside}
 use Rattle.sre_code.specs.StepBounds.{IsWindow, IsWholeText, IsStepBound, HasNoStepBound, most_nested}
-use Rattle.sre_code.specs.Bounds.{IsCounted, CountedTold, BoundTold, NumberBy, AreWhole, bound_by, bound_of, room_by}
-use Rattle.sre_code.specs.Prices.{cost_at, IsPrice, AreHeld, TreePriced}
+use Rattle.sre_code.specs.Bounds.{IsCounted, BoundTold, NumberBy, AreWhole, bound_by, bound_of}
 use Rattle.sre_code.specs.declared.code.bounds.Counted.{Counted}
-use Rattle.sre_code.specs.declared.code.prices.Prices.{Prices}
 
 -- the bound as it is written, of positions from start to end
 abbrev written : Tree → ℕ → ℕ → ℕ

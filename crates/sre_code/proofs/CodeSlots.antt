@@ -1,15 +1,8 @@
 -- The counter states computed for a code are those of its tree.
-use Rattle.std.proofs.Common.{ℕ, ◌-◌, ◌^◌, ◌≡◌, true, false, List, length, cond}
-use Rattle.std.proofs.Common.{Option, Some, None, IfSome, sym, ap, ◌∙◌, subst, arith}
-use Rattle.std.proofs.lemmas.Bool.{true≢false}
-use Rattle.sre_model.specs.Tree.{Tree}
-use Rattle.sre_model.specs.Grammar.{Reads, WholeItems, Whole, behind_block}
-use Rattle.sre_model.specs.References.{refers}
-use Rattle.sre_code.specs.SlotScans.{AreTold}
-use Rattle.sre_code.specs.Summaries.{IsSummary}
+use Rattle.sre_code.proofs.Terms.{ℕ, ◌-◌, ◌^◌, ◌≡◌, true, false, List, length, cond, Option, Some, None, IfSome, sym}
+use Rattle.sre_code.proofs.Terms.{ap, ◌∙◌, subst, arith, true≢false, Tree, Reads, WholeItems, Whole, behind_block}
+use Rattle.sre_code.proofs.Terms.{refers, AreTold, IsSummary, CountedTold, Summary}
 use Rattle.sre_code.specs.MostSlots.{AreMostSlots, HasTooManySlots, SlotsTold}
-use Rattle.sre_code.specs.Bounds.{CountedTold}
-use Rattle.sre_code.specs.declared.code.summary.Summary.{Summary}
 
 module _ (t : Tree) (s : Summary) (is : IsSummary t s) where
   -- nothing is counted where the tree refers, or sets marks in regions that fork

@@ -1,28 +1,21 @@
 -- A step of the descent preserves what is left to read.
-use Rattle.std.proofs.Common.{ℕ, ◌+◌, ◌-◌, ◌≡◌, ◌≢◌, ◌<◌, List, [], ◌∷◌, ◌++◌, reverse, length, Result, Ok, Err, refl}
-use Rattle.std.proofs.Common.{sym, ◌∙◌, ap, subst, arith, length-append}
+use Rattle.sre_code.proofs.Terms.{ℕ, ◌+◌, ◌-◌, ◌≡◌, ◌≢◌, ◌<◌, List, [], ◌∷◌, length, Result, Ok, Err, refl, sym, ◌∙◌}
+use Rattle.sre_code.proofs.Terms.{ap, subst, arith, Tree, Empty, Then, Reads, WholeItems, AreItems, capped, width}
+use Rattle.sre_code.proofs.Terms.{item_width, IsFault, ItemAt, Closes, Exactly, Nowhere, IsEnd, IsInside, Leaves}
+use Rattle.sre_code.proofs.Terms.{Unclosed, StackRest, Same, work, Fails, WholeFrom, HasWhole, CodeError, Memory, Part}
+use Rattle.sre_code.proofs.Terms.{Step, Past, Opens, opcode_within, opcode_moved, reads_moved, width_held}
+use Rattle.std.proofs.Common.{◌++◌, reverse}
+use Rattle.std.proofs.Common.{length-append}
 use Rattle.std.proofs.lemmas.List.{reverse-append}
 use Rattle.sre_chars.specs.declared.constants.SreOpcode.TheVariants as opcode
-use Rattle.sre_model.specs.Tree.{Tree, Empty, Then}
-use Rattle.sre_model.specs.Grammar.{Reads, WholeItems, AreItems}
-use Rattle.sre_model.specs.Width.{capped, width, item_width}
 use Rattle.sre_code.specs.Refusals.{place_of}
-use Rattle.sre_code.specs.Reading.{IsFault}
-use Rattle.sre_code.specs.Steps.{ItemAt, Closes, Remains, next, Exactly, Nowhere, IsEnd, IsInside, Leaves, Unclosed}
-use Rattle.sre_code.specs.Descent.{opened, Rest, StackRest, After, Same, Never, work, Fails, Stacks, Pushes}
-use Rattle.sre_code.specs.Descent.{StepsOn, ReadsOn, WholeFrom, HasWhole}
-use Rattle.sre_code.specs.declared.code.error.CodeError.{CodeError}
-use Rattle.sre_code.specs.declared.code.error.CodeError.TheVariants.{Memory}
-use Rattle.sre_code.specs.declared.code.step.Part.{Part}
+use Rattle.sre_code.specs.Steps.{Remains, next}
+use Rattle.sre_code.specs.Descent.{opened, Rest, After, Never, Stacks, Pushes}
+use Rattle.sre_code.specs.Descent.{StepsOn, ReadsOn}
 use Rattle.sre_code.specs.declared.code.step.Part.TheVariants.{Whole}
 use Rattle.sre_code.specs.declared.code.step.Open.{Open}
 use Rattle.sre_code.specs.declared.code.step.Reached.{Reached}
-use Rattle.sre_code.specs.declared.code.step.Step.{Step}
-use Rattle.sre_code.specs.declared.code.step.Step.TheVariants.{Past, Opens}
 use Rattle.sre_growth.specs.Refusal.{Refused}
-use Rattle.sre_model.proofs.Words.{opcode_within, opcode_moved}
-use Rattle.sre_model.proofs.Places.{reads_moved}
-use Rattle.sre_model.proofs.Widths.{width_held}
 
 rest_moved : (ws : List ℕ) (i i2 d d2 W : ℕ) (fs fs2 : List Open) → i ≡ i2 → d ≡ d2 → fs ≡ fs2 → Rest ws i d fs W
     → Rest ws i2 d2 fs2 W

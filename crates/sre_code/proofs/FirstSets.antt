@@ -1,27 +1,17 @@
 -- What is computed of the first items of trees, by the code words there.
-use Rattle.std.proofs.Common.{ℕ, ◌+◌, ◌-◌, ◌/◌, ◌%◌, ◌≡◌, ◌≢◌, ◌<◌, ◌≤◌, ◌⊎◌, inl, inr, ⊎_elim, Bool, true, false}
-use Rattle.std.proofs.Common.{List, length, slice_range, refl, sym, ◌∙◌, ap, subst, arith}
-use Rattle.std.specs.Bool.{Decides}
-use Rattle.sre_chars.specs.Numbers.{opcode_number}
-use Rattle.sre_chars.specs.Tables.{Table}
-use Rattle.sre_chars.specs.declared.constants.SreOpcode.{SreOpcode}
+use Rattle.sre_code.proofs.Terms.{ℕ, ◌+◌, ◌-◌, ◌/◌, ◌%◌, ◌≡◌, ◌≢◌, ◌<◌, ◌≤◌, ◌⊎◌, inl, inr, ⊎_elim, Bool, true, false}
+use Rattle.sre_code.proofs.Terms.{List, length, slice_range, refl, sym, ◌∙◌, ap, subst, arith, Decides, opcode_number}
+use Rattle.sre_code.proofs.Terms.{Table, SreOpcode, Tree, Empty, Then, Item, One, Branch, Trees, Only, Or, Literal, In}
+use Rattle.sre_code.proofs.Terms.{Plain, SetItem, ToBranch, role, is_end, is_member, Word, word, skip, Opcode, Reads}
+use Rattle.sre_code.proofs.Terms.{ReadsItem, ReadsBranch, ReadsSet, WholeItems, item_opcode, SetStands, HasSet}
+use Rattle.sre_code.proofs.Terms.{behind_marks, HasFirstSet, has_flag, word_at, word_of, word_within, same_opcode}
+use Rattle.sre_code.proofs.Terms.{opcode_moved, opcode_within, set_within, alternative_long, is_branch, role_here}
+use Rattle.sre_code.proofs.Terms.{HasBlock, NoCode, IsSet, NoSet, Ends, MarksPassed}
 use Rattle.sre_chars.specs.declared.constants.SreOpcode.TheVariants as opcode
-use Rattle.sre_model.specs.Tree.{Tree, Empty, Then, Item, One, Branch, Trees, Only, Or, Literal, In, Plain}
-use Rattle.sre_model.specs.Tree.{SetItem}
-use Rattle.sre_model.specs.Roles.{ToBranch, role}
-use Rattle.sre_model.specs.FirstCharacters.{is_end}
-use Rattle.sre_model.specs.Characters.{is_member}
-use Rattle.sre_model.specs.Grammar.{Word, word, skip, Opcode, Reads, ReadsItem, ReadsBranch, ReadsSet, WholeItems}
-use Rattle.sre_model.specs.Grammar.{item_opcode}
-use Rattle.sre_model.specs.Standing.{AreWords, SetStands, HasSet}
-use Rattle.sre_model.specs.Claims.{behind_marks, TestIn, EachTestIn, FirstIn, HasFirstSet, has_flag}
-use Rattle.sre_model.proofs.Words.{word_at, word_of, word_within, word_moved, same_opcode, opcode_moved, opcode_within}
-use Rattle.sre_model.proofs.Places.{set_within, alternative_long}
-use Rattle.sre_model.proofs.Families.{is_branch, role_here}
+use Rattle.sre_model.specs.Standing.{AreWords}
+use Rattle.sre_model.specs.Claims.{TestIn, EachTestIn, FirstIn}
+use Rattle.sre_model.proofs.Words.{word_moved}
 use Rattle.sre_model.proofs.SetWords.{same_words_set, same_set_words}
-use Rattle.sre_code.specs.Fronts.{HasBlock}
-use Rattle.sre_code.specs.Reading.{NoCode, IsSet, NoSet}
-use Rattle.sre_code.specs.Prefixes.{Ends, MarksPassed}
 use Rattle.sre_code.specs.FirstSets.{Tells, TellsEach}
 use Rattle.sre_code.proofs.Prefixes.{literal_tree, not_at_end}
 use Rattle.sre_code.proofs.Claimed.{flag_set, flag_clear, by_one}

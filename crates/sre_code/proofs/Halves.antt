@@ -1,12 +1,8 @@
 -- What a set has, half by half.
-use Rattle.std.proofs.Common.{◌≡◌, ℕ, ◌+◌, ◌-◌, ◌*◌, ◌/◌, ◌%◌, ◌^◌, ◌<◌, ◌≤◌, Bool, false, not, ◌&&◌, ◌||◌}
-use Rattle.std.proofs.Common.{if◌then◌else◌, nat_eq, nat_lt, List, slice_index, bit_and, bit_or}
-use Rattle.std.proofs.Common.{refl, ap, sym, ◌∙◌, inl, inr, arith}
-use Rattle.std.specs.Int.{bit_at}
-use Rattle.std.proofs.lemmas.Bool.{cases_lt, lt-ltb, le-ltb}
-use Rattle.std.proofs.lemmas.Bool.Decides.{nat_tests}
+use Rattle.sre_code.proofs.Terms.{◌≡◌, ℕ, ◌+◌, ◌-◌, ◌*◌, ◌/◌, ◌%◌, ◌^◌, ◌<◌, ◌≤◌, Bool, false, not, ◌&&◌, ◌||◌}
+use Rattle.sre_code.proofs.Terms.{if◌then◌else◌, nat_eq, nat_lt, List, slice_index, bit_and, bit_or, refl, ap, sym, ◌∙◌}
+use Rattle.sre_code.proofs.Terms.{inl, inr, arith, bit_at, cases_lt, lt-ltb, le-ltb, nat_tests, AsciiSet}
 use Rattle.sre_code.specs.AsciiSet.{contains}
-use Rattle.sre_code.specs.declared.ascii_set.AsciiSet.{AsciiSet}
 use Rattle.sre_code.proofs.Bits.{set_in_either, set_in_not, set_in_first_alone, set_in_one, set_in_none, set_below}
 use Rattle.sre_code.proofs.Bits.{set_in_all}
 

@@ -1,15 +1,8 @@
 -- The address of the next instruction, by what the instruction before it is.
-use Rattle.std.proofs.Common.{ℕ, ◌+◌, ◌≡◌, ◌⊎◌, inl, inr, ⊎_elim, List, Some, None, refl, sym, ap, ◌∙◌}
-use Rattle.sre_chars.specs.Numbers.{opcode_number}
-use Rattle.sre_chars.specs.declared.constants.SreOpcode.{SreOpcode}
-use Rattle.sre_model.specs.Tree.{Test}
-use Rattle.sre_model.specs.Roles.{Role, ToTest, ToCheckGroup, role}
-use Rattle.sre_model.specs.Grammar.{Opcode, test_opcode}
-use Rattle.sre_model.proofs.Families.{HasRole, test_kind, test_role}
-use Rattle.sre_model.proofs.Words.{same_opcode}
-use Rattle.sre_model.proofs.Unique.{test_same}
-use Rattle.sre_code.specs.Reading.{ReadsTest, NoCode}
-use Rattle.sre_code.specs.Instructions.{own_words, Behind, NoneBehind}
+use Rattle.sre_code.proofs.Terms.{ℕ, ◌+◌, ◌≡◌, ◌⊎◌, inl, inr, ⊎_elim, List, Some, None, refl, sym, ap, ◌∙◌}
+use Rattle.sre_code.proofs.Terms.{opcode_number, SreOpcode, Test, Role, ToTest, ToCheckGroup, role, Opcode, test_opcode}
+use Rattle.sre_code.proofs.Terms.{HasRole, same_opcode, test_same, ReadsTest, NoCode, own_words, Behind, NoneBehind}
+use Rattle.sre_model.proofs.Families.{test_kind, test_role}
 
 test_has_none : (t : Test) → own_words (role (test_opcode t)) ≡ None
 test_has_none t = ap own_words (test_role t)

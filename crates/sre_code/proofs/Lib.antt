@@ -31,3 +31,4 @@ pub mod AsciiMembers
 pub mod Bits
 pub mod Halves
 pub mod CategorySets
+pub mod Terms

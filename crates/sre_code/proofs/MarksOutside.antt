@@ -1,17 +1,13 @@
 -- Where no MARK is among the code words of an atomic scope's body, no atomic scope of a tree sets a capture slot.
-use Rattle.std.proofs.Common.{ℕ, ◌+◌, ◌-◌, ◌≡◌, ◌<◌, ◌≤◌, Bool, false, ◌||◌, List, length, Some, refl, subst, arith}
-use Rattle.std.proofs.Common.{◌⊎◌, inl, inr, ⊎_elim}
-use Rattle.std.proofs.lemmas.Bool.{cases_lt}
-use Rattle.sre_chars.specs.declared.constants.SreOpcode.{SreOpcode}
+use Rattle.sre_code.proofs.Terms.{ℕ, ◌+◌, ◌-◌, ◌≡◌, ◌<◌, ◌≤◌, Bool, false, ◌||◌, List, length, Some, refl, subst, arith}
+use Rattle.sre_code.proofs.Terms.{◌⊎◌, inl, inr, ⊎_elim, cases_lt, SreOpcode, Tree, Empty, Then, Item, Fail, One, At}
+use Rattle.sre_code.proofs.Terms.{Mark, Branch, Loop, Run, PossessiveLoop, Atomic, Look, Reference, Exists, ExistsElse}
+use Rattle.sre_code.proofs.Terms.{Trees, Only, Or, Sign, Positive, Folding, of_tree, of_branch, of_item, by_marks}
+use Rattle.sre_code.proofs.Terms.{sets_mark, by_marked_regions, marks_in_regions, Opcode, word, skip, Reads, Operands}
+use Rattle.sre_code.proofs.Terms.{ReadsItem, ReadsBranch, WholeItems, look_opcode, role, reads_within, operands_past}
 use Rattle.sre_chars.specs.declared.constants.SreOpcode.TheVariants as opcode
-use Rattle.sre_model.specs.Tree.{Tree, Empty, Then, Item, Fail, One, At, Mark, Branch, Loop, Run, PossessiveLoop}
-use Rattle.sre_model.specs.Tree.{Atomic, Look, Reference, Exists, ExistsElse, Trees, Only, Or, Sign, Positive}
-use Rattle.sre_model.specs.Folding.{Folding, of_tree, of_parts, of_branch, of_item}
-use Rattle.sre_model.specs.MarksSet.{by_marks, sets_mark, by_marked_regions, marks_in_regions}
-use Rattle.sre_model.specs.Grammar.{Opcode, word, skip, Reads, Operands, ReadsItem, ReadsBranch, WholeItems}
-use Rattle.sre_model.specs.Grammar.{look_opcode}
-use Rattle.sre_model.specs.Roles.{role}
-use Rattle.sre_model.proofs.Places.{reads_within, operands_past, branch_past}
+use Rattle.sre_model.specs.Folding.{of_parts}
+use Rattle.sre_model.proofs.Places.{branch_past}
 use Rattle.sre_code.specs.RegionWords.{closing_place, RegionWord}
 
 -- a folding to what is not there, and what keeps an item from having it: a claim of words that holds of fewer words

@@ -1,19 +1,14 @@
 -- What is left of a tree after MARKs and literals, by the code words there.
-use Rattle.std.proofs.Common.{ℕ, ◌+◌, ◌-◌, ◌≡◌, ◌≢◌, ◌<◌, ◌≤◌, Bool, true, false, cond, nat_eq, List, ◌∷◌, length}
-use Rattle.std.proofs.Common.{Option, Some, None, slice_index, take, drop, refl, sym, ◌∙◌, ap, subst, arith}
+use Rattle.sre_code.proofs.Terms.{ℕ, ◌+◌, ◌-◌, ◌≡◌, ◌≢◌, ◌<◌, ◌≤◌, Bool, true, false, cond, nat_eq, List, ◌∷◌, length}
+use Rattle.sre_code.proofs.Terms.{Option, Some, None, slice_index, take, drop, refl, sym, ◌∙◌, ap, subst, arith}
+use Rattle.sre_code.proofs.Terms.{nat_tests, SreOpcode, Tree, Empty, Then, One, Mark, Literal, Plain, role, is_end}
+use Rattle.sre_code.proofs.Terms.{Word, word, Opcode, Reads, ReadsItem, behind_marks, behind_adjacent, behind_spread}
+use Rattle.sre_code.proofs.Terms.{behind_literals, word_there, word_at, word_of, word_within, same_opcode, opcode_moved}
+use Rattle.sre_code.proofs.Terms.{reads_moved, item_same, Ends, MarksPassed, LeftAt, NoneLeft, LeftBehind}
 use Rattle.std.proofs.lemmas.List.{at_drop_more, at_drop_all}
-use Rattle.std.proofs.lemmas.Bool.Decides.{nat_tests}
-use Rattle.sre_chars.specs.declared.constants.SreOpcode.{SreOpcode}
 use Rattle.sre_chars.specs.declared.constants.SreOpcode.TheVariants as opcode
-use Rattle.sre_model.specs.Tree.{Tree, Empty, Then, One, Mark, Literal, Plain}
-use Rattle.sre_model.specs.Roles.{role}
-use Rattle.sre_model.specs.FirstCharacters.{is_end}
-use Rattle.sre_model.specs.Grammar.{Word, word, Opcode, Reads, ReadsItem}
-use Rattle.sre_model.specs.Claims.{behind_marks, behind_adjacent, behind_spread, behind_literals, then_spread}
-use Rattle.sre_model.proofs.Words.{word_there, word_at, word_of, word_within, same_opcode, opcode_moved}
-use Rattle.sre_model.proofs.Places.{reads_moved}
-use Rattle.sre_model.proofs.Unique.{item_same}
-use Rattle.sre_code.specs.Prefixes.{Ends, IsLiteralAt, MarksPassed, LeftAt, NoneLeft, LeftBehind}
+use Rattle.sre_model.specs.Claims.{then_spread}
+use Rattle.sre_code.specs.Prefixes.{IsLiteralAt}
 
 -- Single words
 

@@ -1,29 +1,20 @@
 -- A scan of items, and of the alternatives of a branch, computes the prices of their trees.
-use Rattle.std.proofs.Common.{ℕ, ◌+◌, ◌-◌, ◌*◌, ◌≡◌, ◌<◌, ◌≤◌, ◌⊎◌, inl, inr, Bool, true, false, cond, max}
-use Rattle.std.proofs.Common.{List, length, Option, Some, None, refl, sym, ap, ◌∙◌, subst, arith}
-use Rattle.std.proofs.lemmas.Bool.{or_parts}
+use Rattle.sre_code.proofs.Terms.{ℕ, ◌+◌, ◌-◌, ◌*◌, ◌≡◌, ◌<◌, ◌≤◌, ◌⊎◌, inl, inr, Bool, true, false, cond, max, List}
+use Rattle.sre_code.proofs.Terms.{length, Option, Some, None, refl, sym, ap, ◌∙◌, subst, arith, or_parts, le-max_right}
+use Rattle.sre_code.proofs.Terms.{Tree, Empty, Then, Branch, Trees, Only, Or, SreOpcode, Word, word, skip, Opcode}
+use Rattle.sre_code.proofs.Terms.{Reads, ReadsBranch, role, of_item, of_branch, refers, by_references, nesting}
+use Rattle.sre_code.proofs.Terms.{loop_slots, steps_of, item_steps, cost_of, item_cost, most_steps, reads_within}
+use Rattle.sre_code.proofs.Terms.{operands_past, alternative_long, word_of, word_within, same_opcode, steps_at, cost_at}
+use Rattle.sre_code.proofs.Terms.{IsPrice, IsHeld, AreHeld, joined, straight_price, closed_price, scope_price}
+use Rattle.sre_code.proofs.Terms.{loop_price, possessive_price, TreePriced, BodyPriced, ItemPriced, kind_of, PricedBy}
+use Rattle.sre_code.proofs.Terms.{PricedAt, Price, Prices, PricedItem, Kind}
 use Rattle.std.proofs.lemmas.List.{get_or_past}
-use Rattle.std.proofs.Math.Nat.{le-max_left, le-max_right}
-use Rattle.sre_model.specs.Tree.{Tree, Empty, Then, Branch, Trees, Only, Or}
-use Rattle.sre_chars.specs.declared.constants.SreOpcode.{SreOpcode}
-use Rattle.sre_model.specs.Grammar.{Word, word, skip, Opcode, Reads, ReadsBranch}
-use Rattle.sre_model.specs.Roles.{role}
-use Rattle.sre_model.specs.Folding.{of_item, of_branch}
-use Rattle.sre_model.specs.References.{refers, by_references}
-use Rattle.sre_model.specs.Nesting.{nesting, by_nesting}
-use Rattle.sre_model.specs.Slots.{loop_slots}
-use Rattle.sre_model.specs.TreePrices.{steps_of, item_steps, branch_steps, cost_of, item_cost, branch_cost, most_steps}
-use Rattle.sre_model.proofs.Places.{reads_within, operands_past, alternative_long}
-use Rattle.sre_model.proofs.Words.{word_of, word_within, same_opcode}
-use Rattle.sre_code.specs.Prices.{steps_at, cost_at, IsPrice, IsHeld, AreHeld, joined, passed}
-use Rattle.sre_code.specs.Prices.{straight_price, closed_price, scope_price, loop_price, possessive_price}
-use Rattle.sre_code.specs.Prices.{with_alternative, TreePriced, ArePriced, BodyPriced, ItemPriced}
-use Rattle.sre_code.specs.Prices.{LoopPriced, PossessivePriced, ScopePriced, BranchPriced, kind_of}
-use Rattle.sre_code.specs.Prices.{PricedBy, PricedAt}
-use Rattle.sre_code.specs.declared.code.prices.Price.{Price}
-use Rattle.sre_code.specs.declared.code.prices.Prices.{Prices}
-use Rattle.sre_code.specs.declared.code.prices.PricedItem.{PricedItem}
-use Rattle.sre_code.specs.declared.code.prices.Kind.{Kind}
+use Rattle.std.proofs.Math.Nat.{le-max_left}
+use Rattle.sre_model.specs.Nesting.{by_nesting}
+use Rattle.sre_model.specs.TreePrices.{branch_steps, branch_cost}
+use Rattle.sre_code.specs.Prices.{passed}
+use Rattle.sre_code.specs.Prices.{with_alternative, ArePriced}
+use Rattle.sre_code.specs.Prices.{LoopPriced, PossessivePriced, ScopePriced, BranchPriced}
 use Rattle.sre_code.proofs.Saturating.{held_same}
 use Rattle.sre_code.proofs.ScanningLoops.{same_slots}
 use Rattle.sre_code.proofs.Prices.{joined_steps, joined_cost, scope_priced, loop_priced, possessive_priced}

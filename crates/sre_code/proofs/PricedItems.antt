@@ -1,26 +1,14 @@
 -- What is computed of items, one after the other, and of the alternatives of a branch, are the prices of their trees.
-use Rattle.std.proofs.Common.{ℕ, ◌+◌, ◌*◌, ◌^◌, ◌≡◌, ◌<◌, ◌≤◌, inl, Bool, true, false}
-use Rattle.std.proofs.Common.{List, Option, Some, None, refl, sym, ap, ◌∙◌, subst, arith}
-use Rattle.std.proofs.lemmas.Bool.{true≢false}
-use Rattle.sre_model.specs.Tree.{Tree, Item, Fail, One, At, Mark, Branch, Loop, Run, PossessiveLoop}
-use Rattle.sre_model.specs.Tree.{Atomic, Look, Sign, Test}
-use Rattle.sre_model.specs.Tree.{RunKind, GreedyRun, LazyRun, PossessiveRun}
-use Rattle.sre_model.specs.Grammar.{Operands, ReadsItem}
-use Rattle.sre_model.specs.Roles.{Role}
-use Rattle.sre_model.specs.Folding.{of_item}
-use Rattle.sre_model.specs.References.{refers, by_references}
-use Rattle.sre_model.specs.TreePrices.{item_steps, scan_price, item_cost}
-use Rattle.sre_model.proofs.Families.{HasRole, item_here, test_here}
-use Rattle.sre_code.specs.Saturating.{Held}
-use Rattle.sre_code.specs.Instructions.{own_words, Behind}
-use Rattle.sre_code.specs.Prices.{IsItemPrice, IsHeld}
-use Rattle.sre_code.specs.Prices.{straight_price, closed_price, run_ends, run_price}
-use Rattle.sre_code.specs.Prices.{ItemPriced}
+use Rattle.sre_code.proofs.Terms.{ℕ, ◌+◌, ◌*◌, ◌^◌, ◌≡◌, ◌<◌, ◌≤◌, inl, Bool, true, false, List, Option, Some, None}
+use Rattle.sre_code.proofs.Terms.{refl, sym, ap, ◌∙◌, subst, arith, true≢false, Tree, Item, Fail, One, At, Mark, Branch}
+use Rattle.sre_code.proofs.Terms.{Loop, Run, PossessiveLoop, Atomic, Look, Sign, Test, RunKind, GreedyRun, LazyRun}
+use Rattle.sre_code.proofs.Terms.{PossessiveRun, Operands, ReadsItem, Role, of_item, refers, by_references, item_steps}
+use Rattle.sre_code.proofs.Terms.{item_cost, HasRole, item_here, test_here, Held, own_words, Behind, IsItemPrice}
+use Rattle.sre_code.proofs.Terms.{IsHeld, straight_price, closed_price, run_price, ItemPriced, kind_of, PricedBy}
+use Rattle.sre_code.proofs.Terms.{PricedAt, Price, PricedItem, Kind}
+use Rattle.sre_model.specs.TreePrices.{scan_price}
+use Rattle.sre_code.specs.Prices.{run_ends}
 use Rattle.sre_code.specs.Prices.{StraightPriced, RunPriced}
-use Rattle.sre_code.specs.Prices.{kind_of, PricedBy, PricedAt}
-use Rattle.sre_code.specs.declared.code.prices.Price.{Price}
-use Rattle.sre_code.specs.declared.code.prices.PricedItem.{PricedItem}
-use Rattle.sre_code.specs.declared.code.prices.Kind.{Kind}
 use Rattle.sre_code.specs.declared.code.prices.Kind.TheVariants as kind
 use Rattle.sre_code.proofs.Saturating.{held_same}
 use Rattle.sre_code.proofs.Instructions.{role_behind, one_behind}

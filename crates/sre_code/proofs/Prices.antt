@@ -1,13 +1,8 @@
 -- Prices add up to what the specification says that trees cost.
-use Rattle.std.proofs.Common.{ℕ, ◌+◌, ◌*◌, ◌≡◌, Bool, true, false, ◌&&◌, cond, refl}
-use Rattle.std.proofs.Common.{arith}
-use Rattle.sre_model.specs.Tree.{Tree, Item, Fail, Loop, Run, PossessiveLoop, Atomic}
-use Rattle.sre_model.specs.Tree.{Order, Test, RunKind}
-use Rattle.sre_model.specs.Slots.{loop_slots}
-use Rattle.sre_model.specs.TreePrices.{steps_of, item_steps, cost_of, item_cost}
-use Rattle.sre_code.specs.Prices.{steps_at, cost_at, IsPrice, IsItemPrice, joined, straight_price, closed_price}
-use Rattle.sre_code.specs.Prices.{run_price, scope_price, loop_price, possessive_price}
-use Rattle.sre_code.specs.declared.code.prices.Price.{Price}
+use Rattle.sre_code.proofs.Terms.{ℕ, ◌+◌, ◌*◌, ◌≡◌, Bool, true, false, ◌&&◌, cond, refl, arith, Tree, Item, Fail, Loop}
+use Rattle.sre_code.proofs.Terms.{Run, PossessiveLoop, Atomic, Order, Test, RunKind, loop_slots, steps_of, item_steps}
+use Rattle.sre_code.proofs.Terms.{cost_of, item_cost, steps_at, cost_at, IsPrice, IsItemPrice, joined, straight_price}
+use Rattle.sre_code.proofs.Terms.{closed_price, run_price, scope_price, loop_price, possessive_price, Price}
 
 -- items, and others behind them
 steps_by : (m n b : ℕ) (p q : Bool) → m + cond p (n + cond q b 0) 0 ≡ m + cond p n 0 + cond (p && q) b 0

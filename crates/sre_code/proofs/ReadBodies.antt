@@ -1,22 +1,14 @@
 -- Bodies of loops: what the check reads of them is what the grammar says.
-use Rattle.std.proofs.Common.{ℕ, ◌+◌, ◌*◌, ◌≡◌, ◌≢◌, ◌<◌, ◌≤◌, List, length, refl, sym, ◌∙◌, ap, subst, arith}
-use Rattle.sre_chars.specs.Numbers.{opcode_number}
-use Rattle.sre_chars.specs.declared.constants.SreOpcode.{SreOpcode}
+use Rattle.sre_code.proofs.Terms.{ℕ, ◌+◌, ◌*◌, ◌≡◌, ◌≢◌, ◌<◌, ◌≤◌, List, length, refl, sym, ◌∙◌, ap, subst, arith}
+use Rattle.sre_code.proofs.Terms.{opcode_number, SreOpcode, Tree, Loop, Order, Word, Opcode, word, skip, until_opcode}
+use Rattle.sre_code.proofs.Terms.{Reads, capped, width, item_width, ToRepeat, NoCode, IsFault, ItemAt, Closes, Unclosed}
+use Rattle.sre_code.proofs.Terms.{Exactly, Nowhere, IsEnd, IsInside, CodeError, Part, Past, Opens, word_of, word_within}
+use Rattle.sre_code.proofs.Terms.{word_there, same_opcode, reads_nothing, width_held, role_here}
 use Rattle.sre_chars.specs.declared.constants.SreOpcode.TheVariants as opcode
-use Rattle.sre_model.specs.Tree.{Tree, Loop, Order, Greedy, Lazy}
-use Rattle.sre_model.specs.Grammar.{Word, Opcode, word, skip, until_opcode, Reads}
-use Rattle.sre_model.specs.Width.{capped, width, item_width}
-use Rattle.sre_model.specs.Roles.{ToRepeat}
-use Rattle.sre_code.specs.Reading.{NoCode, IsFault}
-use Rattle.sre_code.specs.Steps.{ItemAt, IsUntil, Closes, Unclosed, Exactly, Nowhere, IsEnd, IsInside}
-use Rattle.sre_code.specs.declared.code.error.CodeError.{CodeError}
-use Rattle.sre_code.specs.declared.code.step.Part.{Part}
+use Rattle.sre_model.specs.Tree.{Greedy, Lazy}
+use Rattle.sre_code.specs.Steps.{IsUntil}
 use Rattle.sre_code.specs.declared.code.step.Part.TheVariants.{Body}
-use Rattle.sre_code.specs.declared.code.step.Step.TheVariants.{Past, Opens}
-use Rattle.sre_model.proofs.Words.{word_of, word_within, word_there, same_opcode}
-use Rattle.sre_model.proofs.Places.{reads_nothing}
-use Rattle.sre_model.proofs.Widths.{width_held}
-use Rattle.sre_model.proofs.Families.{role_here, is_loop}
+use Rattle.sre_model.proofs.Families.{is_loop}
 
 -- the width of a body, as the descent adds it up
 body_width : (t : Tree) → capped (0 + width t) ≡ width t

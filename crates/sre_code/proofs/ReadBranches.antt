@@ -1,25 +1,17 @@
 -- Branches: what the check reads of them is what the grammar says.
-use Rattle.std.proofs.Common.{ℕ, ◌+◌, ◌-◌, ◌≡◌, ◌≢◌, ◌<◌, ◌≤◌, List, length, min, Result, Ok, Err, refl, sym}
-use Rattle.std.proofs.Common.{◌∙◌, ap, subst, inl, inr, arith}
-use Rattle.sre_chars.specs.Numbers.{opcode_number}
-use Rattle.sre_chars.specs.declared.constants.SreOpcode.{SreOpcode}
+use Rattle.sre_code.proofs.Terms.{ℕ, ◌+◌, ◌-◌, ◌≡◌, ◌≢◌, ◌<◌, ◌≤◌, List, length, min, Result, Ok, Err, refl, sym, ◌∙◌}
+use Rattle.sre_code.proofs.Terms.{ap, subst, inl, inr, arith, opcode_number, SreOpcode, Tree, Branch, Trees, Only, Or}
+use Rattle.sre_code.proofs.Terms.{Opcode, Word, word, skip, JumpsTo, Reads, ReadsBranch, capped, width, item_width}
+use Rattle.sre_code.proofs.Terms.{ToBranch, NoCode, ItemAt, Closes, Exactly, Nowhere, IsEnd, IsInside, Leaves}
+use Rattle.sre_code.proofs.Terms.{CodeError, Step, Past, Opens, word_of, word_within, word_past, word_at, same_opcode}
+use Rattle.sre_code.proofs.Terms.{reads_within, alternative_long, reads_nothing, width_held, role_here, is_branch}
 use Rattle.sre_chars.specs.declared.constants.SreOpcode.TheVariants as opcode
-use Rattle.sre_model.specs.Tree.{Tree, Branch, Trees, Only, Or}
-use Rattle.sre_model.specs.Grammar.{Opcode, Word, word, skip, JumpsTo, Reads, ReadsBranch}
-use Rattle.sre_model.specs.Width.{capped, width, item_width, least_width}
-use Rattle.sre_model.specs.Roles.{ToBranch}
-use Rattle.sre_code.specs.Reading.{NoCode}
-use Rattle.sre_code.specs.Steps.{ItemAt, Closes, Exactly, Nowhere, IsEnd, IsInside, Leaves, EndGives, MoreAt}
+use Rattle.sre_model.specs.Width.{least_width}
+use Rattle.sre_code.specs.Steps.{EndGives, MoreAt}
 use Rattle.sre_code.specs.Steps.{More, TreesAt, BoundsExactly, NoTrees}
-use Rattle.sre_code.specs.declared.code.error.CodeError.{CodeError}
 use Rattle.sre_code.specs.declared.code.step.Part.TheVariants.{Alternative}
 use Rattle.sre_code.specs.declared.code.step.Bounds.{Bounds}
-use Rattle.sre_code.specs.declared.code.step.Step.{Step}
-use Rattle.sre_code.specs.declared.code.step.Step.TheVariants.{Past, Opens}
-use Rattle.sre_model.proofs.Words.{word_of, word_within, word_past, word_at, same_opcode}
-use Rattle.sre_model.proofs.Places.{reads_within, alternative_long, reads_nothing}
-use Rattle.sre_model.proofs.Widths.{width_held, least_held}
-use Rattle.sre_model.proofs.Families.{role_here, is_branch}
+use Rattle.sre_model.proofs.Widths.{least_held}
 
 pub jump_moved : (ws : List ℕ) (k k2 j : ℕ) → k ≡ k2 → JumpsTo ws k j → JumpsTo ws k2 j
 jump_moved ws k k2 j e r = let P : ℕ → Type 0 = λ n. JumpsTo ws n j in subst P e r

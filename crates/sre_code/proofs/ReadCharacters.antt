@@ -1,21 +1,19 @@
 -- Tests of one character: what the check reads of them is what the grammar says.
-use Rattle.std.proofs.Common.{ℕ, ◌+◌, ◌-◌, ◌≡◌, ◌≢◌, ◌<◌, ◌≤◌, ◌⊎◌, inl, inr, List, [], length, Err, refl, sym, ◌∙◌, ap}
-use Rattle.std.proofs.Common.{subst, arith}
-use Rattle.sre_chars.specs.Numbers.{opcode_number, category_number}
-use Rattle.sre_chars.specs.declared.constants.SreOpcode.{SreOpcode}
+use Rattle.sre_code.proofs.Terms.{ℕ, ◌+◌, ◌-◌, ◌≡◌, ◌≢◌, ◌<◌, ◌≤◌, ◌⊎◌, inl, inr, List, [], length, Err, refl, sym, ◌∙◌}
+use Rattle.sre_code.proofs.Terms.{ap, subst, arith, opcode_number, category_number, SreOpcode, SreCatCode, Test}
+use Rattle.sre_code.proofs.Terms.{Literal, In, Fold, Plain, Ascii, Locale, Unicode, SetItem, Opcode, Word, word, skip}
+use Rattle.sre_code.proofs.Terms.{ReadsSet, NoCode, FoldedAt, ReadsTest, TestExactly, NoTest, IsSet, NoSet, word_within}
+use Rattle.sre_code.proofs.Terms.{word_there, word_past, opcode_within, opcode_moved, same_opcode, set_within}
+use Rattle.sre_code.proofs.Terms.{test_same, ToTest, role_here, test_here}
 use Rattle.sre_chars.specs.declared.constants.SreOpcode.TheVariants as opcode
-use Rattle.sre_chars.specs.declared.constants.SreCatCode.{SreCatCode}
-use Rattle.sre_model.specs.Tree.{Test, Any, AnyAll, InCategory, Literal, NotLiteral, In, Fold, Plain, Ascii, Locale}
-use Rattle.sre_model.specs.Tree.{Unicode, SetItem}
-use Rattle.sre_model.specs.Grammar.{Opcode, Word, word, skip, literal_opcode, not_literal_opcode, set_opcode, ReadsSet}
-use Rattle.sre_code.specs.Reading.{NoCode, FoldedAt, ReadsTest, TestExactly, NoTest, TestEnds, IsSet, NoSet}
+use Rattle.sre_model.specs.Tree.{Any, AnyAll, InCategory, NotLiteral}
+use Rattle.sre_model.specs.Grammar.{literal_opcode, not_literal_opcode, set_opcode}
+use Rattle.sre_code.specs.Reading.{TestEnds}
 use Rattle.sre_model.specs.Standing.{HasTest}
 use Rattle.sre_code.specs.declared.code.error.CodeError.TheVariants.{BadItem}
-use Rattle.sre_model.proofs.Words.{word_within, word_there, word_past, opcode_within, opcode_moved, same_opcode}
-use Rattle.sre_model.proofs.Places.{set_within, set_moved}
-use Rattle.sre_model.proofs.Unique.{test_same}
-use Rattle.sre_model.specs.Roles.{OfCategory, ToTest}
-use Rattle.sre_model.proofs.Families.{role_here, test_here, is_category, is_literal}
+use Rattle.sre_model.proofs.Places.{set_moved}
+use Rattle.sre_model.specs.Roles.{OfCategory}
+use Rattle.sre_model.proofs.Families.{is_category, is_literal}
 use Rattle.sre_model.proofs.Families.{is_not_literal, is_set}
 
 -- a test there is the one that is read, since one is at most

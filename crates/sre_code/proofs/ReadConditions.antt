@@ -1,22 +1,14 @@
 -- Conditionals: what the check reads of them is what the grammar says.
-use Rattle.std.proofs.Common.{ℕ, ◌+◌, ◌-◌, ◌≡◌, ◌≢◌, ◌<◌, ◌≤◌, List, length, min}
-use Rattle.std.proofs.Common.{⊎_elim, refl, sym, ◌∙◌, ap, inl, inr, arith}
-use Rattle.sre_chars.specs.Numbers.{opcode_number}
-use Rattle.sre_chars.specs.declared.constants.SreOpcode.{SreOpcode}
+use Rattle.sre_code.proofs.Terms.{ℕ, ◌+◌, ◌-◌, ◌≡◌, ◌≢◌, ◌<◌, ◌≤◌, List, length, min, ⊎_elim, refl, sym, ◌∙◌, ap, inl}
+use Rattle.sre_code.proofs.Terms.{inr, arith, opcode_number, SreOpcode, Tree, Exists, ExistsElse, Opcode, word, skip}
+use Rattle.sre_code.proofs.Terms.{JumpsTo, ReadsItem, capped, width, item_width, ToCheckGroup, NoCode, IsFault, ItemAt}
+use Rattle.sre_code.proofs.Terms.{Closes, Unclosed, Exactly, Nowhere, IsEnd, IsInside, CodeError, Past, Opens}
+use Rattle.sre_code.proofs.Terms.{word_past, word_there, same_opcode, reads_moved, reads_nothing, reads_within}
+use Rattle.sre_code.proofs.Terms.{width_held, role_here}
 use Rattle.sre_chars.specs.declared.constants.SreOpcode.TheVariants as opcode
-use Rattle.sre_model.specs.Tree.{Tree, Exists, ExistsElse}
-use Rattle.sre_model.specs.Grammar.{Opcode, word, skip, JumpsTo, ReadsItem}
-use Rattle.sre_model.specs.Width.{capped, width, item_width}
-use Rattle.sre_model.specs.Roles.{ToCheckGroup}
-use Rattle.sre_code.specs.Reading.{NoCode, IsFault}
-use Rattle.sre_code.specs.Steps.{ItemAt, Else, Closes, Unclosed, Exactly, Nowhere, IsEnd, IsInside}
-use Rattle.sre_code.specs.declared.code.error.CodeError.{CodeError}
+use Rattle.sre_code.specs.Steps.{Else}
 use Rattle.sre_code.specs.declared.code.step.Part.TheVariants.{There, Absent}
-use Rattle.sre_code.specs.declared.code.step.Step.TheVariants.{Past, Opens}
-use Rattle.sre_model.proofs.Words.{word_past, word_there, same_opcode}
-use Rattle.sre_model.proofs.Places.{reads_moved, reads_nothing, reads_within}
-use Rattle.sre_model.proofs.Widths.{width_held}
-use Rattle.sre_model.proofs.Families.{role_here, is_exists}
+use Rattle.sre_model.proofs.Families.{is_exists}
 use Rattle.sre_code.proofs.ReadBranches.{jump_moved}
 use Rattle.sre_code.proofs.ClosingParts.{no_first, none_first}
 

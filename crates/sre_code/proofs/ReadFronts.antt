@@ -1,17 +1,7 @@
 -- The INFO block at the front, and what a check says of bytecode whose items it has read.
-use Rattle.std.proofs.Common.{ℕ, ◌≡◌, ◌≢◌, List}
-use Rattle.std.proofs.Common.{drop, sym, subst}
-use Rattle.sre_chars.specs.Tables.{Table}
-use Rattle.sre_model.specs.Tree.{Tree}
-use Rattle.sre_model.specs.Grammar.{behind_block, Whole, WholeItems}
-use Rattle.sre_model.specs.Grammar.{IsCode}
+use Rattle.sre_code.proofs.Terms.{ℕ, ◌≡◌, ◌≢◌, List, drop, sym, subst, Table, Tree, behind_block, Whole, WholeItems}
+use Rattle.sre_code.proofs.Terms.{IsCode, width, HasWhole, WholeFrom, Fails, Confirmed, Hints, CodeError, Memory}
 use Rattle.sre_code.specs.Fronts.{Fronts}
-use Rattle.sre_model.specs.Width.{width}
-use Rattle.sre_code.specs.Descent.{HasWhole, WholeFrom, Fails}
-use Rattle.sre_code.specs.Hinted.{Confirmed}
-use Rattle.sre_code.specs.declared.code.Hints.{Hints}
-use Rattle.sre_code.specs.declared.code.error.CodeError.{CodeError}
-use Rattle.sre_code.specs.declared.code.error.CodeError.TheVariants.{Memory}
 use Rattle.sre_code.proofs.Descending.{descent_items, descent_refused}
 
 -- what follows of the items for all the words

@@ -1,22 +1,15 @@
 -- Items: what the check reads of them is what the grammar says.
-use Rattle.std.proofs.Common.{ℕ, ◌+◌, ◌≡◌, ◌≢◌, ◌<◌, ◌≤◌, List, length, refl, sym, ◌∙◌, ap, subst, arith}
-use Rattle.sre_chars.specs.Numbers.{opcode_number, at_number}
-use Rattle.sre_chars.specs.declared.constants.SreOpcode.{SreOpcode}
+use Rattle.sre_code.proofs.Terms.{ℕ, ◌+◌, ◌≡◌, ◌≢◌, ◌<◌, ◌≤◌, List, length, refl, sym, ◌∙◌, ap, subst, arith}
+use Rattle.sre_code.proofs.Terms.{opcode_number, at_number, SreOpcode, SreAtCode, Item, Fail, One, At, Mark, Branch}
+use Rattle.sre_code.proofs.Terms.{Run, Test, GreedyRun, LazyRun, Loop, PossessiveLoop, Atomic, Look, Positive, Negative}
+use Rattle.sre_code.proofs.Terms.{PossessiveRun, Reference, Exists, ExistsElse, Plain, Ascii, Locale, Unicode, Opcode}
+use Rattle.sre_code.proofs.Terms.{Word, word, item_opcode, ReadsItem, item_width, ToCheckPosition, ToMark, ToRefer}
+use Rattle.sre_code.proofs.Terms.{NoCode, FoldedAt, ReadsTest, TestExactly, NoTest, ItemAt, Exactly, Nowhere, Past}
+use Rattle.sre_code.proofs.Terms.{word_within, word_there, same_opcode, item_same, no_item, role_here}
 use Rattle.sre_chars.specs.declared.constants.SreOpcode.TheVariants as opcode
-use Rattle.sre_chars.specs.declared.constants.SreAtCode.{SreAtCode}
-use Rattle.sre_model.specs.Tree.{Item, Fail, One, At, Mark, Branch, Run, Test, GreedyRun, LazyRun, Loop, PossessiveLoop}
-use Rattle.sre_model.specs.Tree.{Atomic, Look, Positive, Negative, PossessiveRun, Reference, Exists, ExistsElse}
-use Rattle.sre_model.specs.Tree.{Plain, Ascii, Locale, Unicode}
-use Rattle.sre_model.specs.Grammar.{Opcode, Word, word, item_opcode, reference_opcode, ReadsItem}
-use Rattle.sre_model.specs.Width.{item_width}
-use Rattle.sre_model.specs.Roles.{ToCheckPosition, ToMark, ToRefer}
-use Rattle.sre_code.specs.Reading.{NoCode, FoldedAt, ReadsTest, TestExactly, NoTest}
-use Rattle.sre_code.specs.Steps.{ItemAt, OnlyTests, Exactly, Nowhere}
-use Rattle.sre_code.specs.declared.code.step.Step.TheVariants.{Past}
-use Rattle.sre_model.proofs.Words.{word_within, word_there, same_opcode}
-use Rattle.sre_model.proofs.Unique.{item_same}
-use Rattle.sre_model.proofs.Families.{is_at, is_mark, no_item, is_reference, reference_role}
-use Rattle.sre_model.proofs.Families.{role_here}
+use Rattle.sre_model.specs.Grammar.{reference_opcode}
+use Rattle.sre_code.specs.Steps.{OnlyTests}
+use Rattle.sre_model.proofs.Families.{is_at, is_mark, is_reference, reference_role}
 
 -- an item without a part
 pub past : (ws : List ℕ) (i p v : ℕ) (x : Item) → ReadsItem ws i p x → v ≡ item_width x

@@ -1,21 +1,14 @@
 -- Bodies of possessive loops, atomic groups and lookarounds: what the check reads of them is what the grammar says.
-use Rattle.std.proofs.Common.{ℕ, ◌+◌, ◌-◌, ◌*◌, ◌≡◌, ◌≢◌, ◌<◌, ◌≤◌, List, length, refl, sym, ◌∙◌, ap, subst, arith}
-use Rattle.sre_chars.specs.Numbers.{opcode_number}
-use Rattle.sre_chars.specs.declared.constants.SreOpcode.{SreOpcode}
+use Rattle.sre_code.proofs.Terms.{ℕ, ◌+◌, ◌-◌, ◌*◌, ◌≡◌, ◌≢◌, ◌<◌, ◌≤◌, List, length, refl, sym, ◌∙◌, ap, subst, arith}
+use Rattle.sre_code.proofs.Terms.{opcode_number, SreOpcode, Tree, PossessiveLoop, Atomic, Look, Positive, Negative}
+use Rattle.sre_code.proofs.Terms.{Opcode, word, skip, look_opcode, Reads, capped, width, item_width}
+use Rattle.sre_code.proofs.Terms.{ToRepeatPossessively, ToGroupAtomically, ToLook, NoCode, IsFault, ItemAt, Closes}
+use Rattle.sre_code.proofs.Terms.{Unclosed, Exactly, Nowhere, IsEnd, IsInside, CodeError, Past, Opens, word_there}
+use Rattle.sre_code.proofs.Terms.{opcode_within, same_opcode, reads_nothing, reads_within, width_held, role_here}
 use Rattle.sre_chars.specs.declared.constants.SreOpcode.TheVariants as opcode
-use Rattle.sre_model.specs.Tree.{Tree, PossessiveLoop, Atomic, Look, Positive, Negative}
-use Rattle.sre_model.specs.Grammar.{Opcode, word, skip, look_opcode, Reads}
-use Rattle.sre_model.specs.Width.{capped, width, item_width}
-use Rattle.sre_model.specs.Roles.{ToRepeatPossessively, ToGroupAtomically, ToLook}
-use Rattle.sre_code.specs.Reading.{NoCode, IsFault}
-use Rattle.sre_code.specs.Steps.{ItemAt, LookAt, Closes, Unclosed, Exactly, Nowhere, IsEnd, IsInside}
-use Rattle.sre_code.specs.declared.code.error.CodeError.{CodeError}
+use Rattle.sre_code.specs.Steps.{LookAt}
 use Rattle.sre_code.specs.declared.code.step.Part.TheVariants.{Region}
-use Rattle.sre_code.specs.declared.code.step.Step.TheVariants.{Past, Opens}
-use Rattle.sre_model.proofs.Words.{word_there, opcode_within, same_opcode}
-use Rattle.sre_model.proofs.Places.{reads_nothing, reads_within}
-use Rattle.sre_model.proofs.Widths.{width_held}
-use Rattle.sre_model.proofs.Families.{is_possessive, is_atomic, is_look, look_role, role_here}
+use Rattle.sre_model.proofs.Families.{is_possessive, is_atomic, is_look, look_role}
 use Rattle.sre_code.proofs.ReadBodies.{Looped, looped_exactly, looped_cut, looped_counts}
 
 -- SUCCESS behind a body

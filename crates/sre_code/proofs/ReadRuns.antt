@@ -1,17 +1,13 @@
 -- Single-character repeats: what the check reads of them is what the grammar says.
-use Rattle.std.proofs.Common.{ℕ, ◌+◌, ◌-◌, ◌≡◌, ◌≢◌, ◌<◌, ◌≤◌, List, length, subst, arith}
-use Rattle.sre_chars.specs.Numbers.{opcode_number}
-use Rattle.sre_chars.specs.declared.constants.SreOpcode.{SreOpcode}
+use Rattle.sre_code.proofs.Terms.{ℕ, ◌+◌, ◌-◌, ◌≡◌, ◌≢◌, ◌<◌, ◌≤◌, List, length, subst, arith, opcode_number, SreOpcode}
+use Rattle.sre_code.proofs.Terms.{Item, Run, Test, RunKind, GreedyRun, LazyRun, PossessiveRun, Opcode, word, skip}
+use Rattle.sre_code.proofs.Terms.{test_opcode, ReadsItem, ToRun, NoCode, ReadsTest, TestExactly, NoTest, ItemAt}
+use Rattle.sre_code.proofs.Terms.{Exactly, Nowhere, Past, word_of, word_within, word_there, opcode_moved, same_opcode}
+use Rattle.sre_code.proofs.Terms.{test_past, HasRole, role_here}
 use Rattle.sre_chars.specs.declared.constants.SreOpcode.TheVariants as opcode
-use Rattle.sre_model.specs.Tree.{Item, Run, Test, RunKind, GreedyRun, LazyRun, PossessiveRun}
-use Rattle.sre_model.specs.Grammar.{Opcode, word, skip, run_opcode, test_opcode, TestOperands, ReadsItem}
-use Rattle.sre_model.specs.Roles.{ToRun}
-use Rattle.sre_code.specs.Reading.{NoCode, ReadsTest, TestExactly, NoTest}
-use Rattle.sre_code.specs.Steps.{RunAt, ItemAt, Exactly, Nowhere}
-use Rattle.sre_code.specs.declared.code.step.Step.TheVariants.{Past}
-use Rattle.sre_model.proofs.Words.{word_of, word_within, word_there, opcode_moved, same_opcode}
-use Rattle.sre_model.proofs.Places.{test_past}
-use Rattle.sre_model.proofs.Families.{item_role, role_at, run_role, HasRole, role_here}
+use Rattle.sre_model.specs.Grammar.{run_opcode, TestOperands}
+use Rattle.sre_code.specs.Steps.{RunAt}
+use Rattle.sre_model.proofs.Families.{item_role, role_at, run_role}
 use Rattle.sre_code.proofs.ReadItems.{past}
 
 -- what is read of an item there

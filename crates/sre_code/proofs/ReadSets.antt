@@ -1,18 +1,15 @@
 -- Sets: what the check reads of them is what the grammar says.
-use Rattle.std.proofs.Common.{ℕ, ◌+◌, ◌*◌, ◌≡◌, ◌≢◌, ◌<◌, ◌≤◌, ◌⊎◌, inl, inr, List, [], ◌∷◌, length, slice_range, Err}
-use Rattle.std.proofs.Common.{refl, sym, subst, arith}
+use Rattle.sre_code.proofs.Terms.{ℕ, ◌+◌, ◌*◌, ◌≡◌, ◌≢◌, ◌<◌, ◌≤◌, ◌⊎◌, inl, inr, List, [], ◌∷◌, length, slice_range}
+use Rattle.sre_code.proofs.Terms.{Err, refl, sym, subst, arith, opcode_number, category_number, SreOpcode, SreCatCode}
+use Rattle.sre_code.proofs.Terms.{SetItem, Charset, Opcode, Word, word, ReadsSet, NoCode, IsSet, NoSet, SameSets}
+use Rattle.sre_code.proofs.Terms.{word_within, word_there, opcode_within, set_within}
 use Rattle.std.specs.List.{flat_map}
-use Rattle.sre_chars.specs.Numbers.{opcode_number, category_number}
-use Rattle.sre_chars.specs.declared.constants.SreOpcode.{SreOpcode}
 use Rattle.sre_chars.specs.declared.constants.SreOpcode.TheVariants as opcode
-use Rattle.sre_chars.specs.declared.constants.SreCatCode.{SreCatCode}
-use Rattle.sre_model.specs.Tree.{SetItem, Single, Range, RangeUniIgnore, Category, Charset, BigCharset, Negate}
-use Rattle.sre_model.specs.Grammar.{Opcode, Word, word, ReadsSet, BlocksBelow, bytes_of}
-use Rattle.sre_code.specs.Reading.{NoCode, SetAt, SetItemExactly, NoSetItem, IsSet, NoSet, SameSets, SetItemEnds}
+use Rattle.sre_model.specs.Tree.{Single, Range, RangeUniIgnore, Category, BigCharset, Negate}
+use Rattle.sre_model.specs.Grammar.{BlocksBelow, bytes_of}
+use Rattle.sre_code.specs.Reading.{SetAt, SetItemExactly, NoSetItem, SetItemEnds}
 use Rattle.sre_code.specs.declared.code.error.CodeError.TheVariants.{BadSet}
-use Rattle.sre_model.proofs.Words.{word_within, word_there, opcode_within}
 use Rattle.sre_model.proofs.SetItems.{set_item_opcode, first, begins, unlike, set_item_by, parted, category_at}
-use Rattle.sre_model.proofs.Places.{set_within}
 
 -- what is left behind an item, by its opcode
 left : (o : SreOpcode) (ws : List ℕ) (i j : ℕ) → Opcode ws i o → i < j → SetAt ws i j

@@ -1,9 +1,7 @@
 -- What reading a single word returns.
-use Rattle.std.proofs.Common.{ℕ, ◌≡◌, ◌<◌, ◌≤◌, List, length, sym, ◌∙◌, arith}
-use Rattle.sre_chars.specs.Numbers.{opcode_number, at_number, category_number}
-use Rattle.sre_model.specs.Grammar.{Word, word}
-use Rattle.sre_code.specs.Reading.{NoCode}
-use Rattle.sre_model.proofs.Words.{word_of, word_at, word_within, opcode_low, at_low, category_low}
+use Rattle.sre_code.proofs.Terms.{ℕ, ◌≡◌, ◌<◌, ◌≤◌, List, length, sym, ◌∙◌, arith, opcode_number, at_number}
+use Rattle.sre_code.proofs.Terms.{category_number, Word, word, NoCode, word_of, word_at, word_within}
+use Rattle.sre_model.proofs.Words.{opcode_low, at_low, category_low}
 
 pub number_there : (ws : List ℕ) (i v n : ℕ) → i < length ws → v ≡ word ws i → n ≡ v → Word ws i n
 number_there ws i v n there e same = word_at ws i n there (sym e ∙ sym same)

@@ -1,10 +1,7 @@
 -- Numbers that saturate at 64 bits, and what they come to.
-use Rattle.std.proofs.Common.{ℕ, ◌+◌, ◌-◌, ◌*◌, ◌/◌, ◌^◌, ◌≡◌, ◌<◌, ◌≤◌, ◌⊎◌, inl, inr, max, min, sym, ap, ◌∙◌, arith}
-use Rattle.std.proofs.Common.{nat_le}
-use Rattle.std.proofs.Math.Nat.{mul-le-mul_left, mul-le-mul_right}
-use Rattle.std.proofs.lemmas.Bool.Decides.{nat_tests}
-use Rattle.sre_code.specs.Bounds.{room_by}
-use Rattle.sre_code.specs.Saturating.{Held}
+use Rattle.sre_code.proofs.Terms.{ℕ, ◌+◌, ◌-◌, ◌*◌, ◌/◌, ◌^◌, ◌≡◌, ◌<◌, ◌≤◌, ◌⊎◌, inl, inr, max, min, sym, ap, ◌∙◌}
+use Rattle.sre_code.proofs.Terms.{arith, nat_le, mul-le-mul_left, nat_tests, room_by, Held}
+use Rattle.std.proofs.Math.Nat.{mul-le-mul_right}
 
 pub held_same : (x : ℕ) → x < 2 ^ 64 → Held x x
 held_same x lt = record { is = omega arith }

@@ -1,24 +1,16 @@
 -- A scan from instruction to instruction, past each loop and into other bodies, computes how many counter states items
 -- have, or that they have too many.
-use Rattle.std.proofs.Common.{ℕ, ◌+◌, ◌*◌, ◌/◌, ◌≡◌, ◌<◌, ◌≤◌, inl, ⊎_elim, Bool, true, false, List, Option, Some, None}
-use Rattle.std.proofs.Common.{◌||◌, max, refl, sym, ap, ◌∙◌, subst, arith}
-use Rattle.std.proofs.lemmas.Bool.{true≢false, or_parts, cases_lt}
+use Rattle.sre_code.proofs.Terms.{ℕ, ◌+◌, ◌*◌, ◌/◌, ◌≡◌, ◌<◌, ◌≤◌, inl, ⊎_elim, Bool, true, false, List, Option, Some}
+use Rattle.sre_code.proofs.Terms.{None, ◌||◌, max, refl, sym, ap, ◌∙◌, subst, arith, true≢false, or_parts, cases_lt}
+use Rattle.sre_code.proofs.Terms.{le-max_right, mul-le-mul_left, opcode_number, Tree, Empty, Then, refers}
+use Rattle.sre_code.proofs.Terms.{by_references, of_item, of_branch, loop_slots, most_slots, Role, ToCheckGroup, ToMark}
+use Rattle.sre_code.proofs.Terms.{ToBranch, ToGroupAtomically, ToRefer, ToRepeat, ToRepeatPossessively, Word, word}
+use Rattle.sre_code.proofs.Terms.{skip, Reads, HasRole, test_here, test_past, word_of, NoCode, own_words, Behind}
+use Rattle.sre_code.proofs.Terms.{AreTold, ToldAt}
 use Rattle.std.proofs.lemmas.Nat.{le-div}
-use Rattle.std.proofs.Math.Nat.{le-max_right, div-mul-le_self, mul-le-mul_left}
-use Rattle.sre_chars.specs.Numbers.{opcode_number}
-use Rattle.sre_model.specs.Tree.{Tree, Empty, Then}
-use Rattle.sre_model.specs.References.{refers, by_references}
-use Rattle.sre_model.specs.Folding.{of_item, of_branch}
-use Rattle.sre_model.specs.Slots.{loop_slots, most_slots, by_slots}
-use Rattle.sre_model.specs.Roles.{Role, ToCheckGroup, ToMark, ToBranch, ToGroupAtomically, ToRefer}
-use Rattle.sre_model.specs.Roles.{ToRepeat, ToRepeatPossessively}
-use Rattle.sre_model.specs.Grammar.{Word, word, skip, Reads}
-use Rattle.sre_model.proofs.Families.{HasRole, test_here}
-use Rattle.sre_model.proofs.Places.{test_past}
-use Rattle.sre_model.proofs.Words.{word_of}
-use Rattle.sre_code.specs.Reading.{NoCode}
-use Rattle.sre_code.specs.Instructions.{own_words, Behind}
-use Rattle.sre_code.specs.SlotScans.{AreTold, LoopTold, OtherTold, kind_of, ToldBy, ToldAt}
+use Rattle.std.proofs.Math.Nat.{div-mul-le_self}
+use Rattle.sre_model.specs.Slots.{by_slots}
+use Rattle.sre_code.specs.SlotScans.{LoopTold, OtherTold, kind_of, ToldBy}
 use Rattle.sre_code.specs.declared.code.slots.Kind.{Kind}
 use Rattle.sre_code.specs.declared.code.slots.Kind.TheVariants as kind
 use Rattle.sre_code.specs.declared.code.slots.Passed.{Passed}

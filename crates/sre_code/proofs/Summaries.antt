@@ -1,25 +1,19 @@
 -- A scan from instruction to instruction, into each body, computes a summary of the tree.
-use Rattle.std.proofs.Common.{ℕ, ◌+◌, ◌-◌, ◌^◌, ◌≡◌, ◌<◌, ◌≤◌, Bool, true, false, ◌||◌, nat_lt, min, max, List, length}
-use Rattle.std.proofs.Common.{Some, inl, refl, sym, ap, ◌∙◌, arith}
+use Rattle.sre_code.proofs.Terms.{ℕ, ◌+◌, ◌-◌, ◌^◌, ◌≡◌, ◌<◌, ◌≤◌, Bool, true, false, ◌||◌, nat_lt, min, max, List}
+use Rattle.sre_code.proofs.Terms.{length, Some, inl, refl, sym, ap, ◌∙◌, arith, true≢false, le-ltb, lt-ltb, SreOpcode}
+use Rattle.sre_code.proofs.Terms.{Tree, Empty, Then, Item, Trees, Atomic, Look, Folding, of_tree, of_item, of_branch}
+use Rattle.sre_code.proofs.Terms.{word, skip, Opcode, WholeItems, Role, ToMark, ToBranch, ToRun, ToRepeat}
+use Rattle.sre_code.proofs.Terms.{ToRepeatPossessively, ToGroupAtomically, ToLook, ToRefer, ToCheckGroup, role, refers}
+use Rattle.sre_code.proofs.Terms.{by_references, sets_mark, by_marks, marks_in_regions, by_marked_regions, HasRole}
+use Rattle.sre_code.proofs.Terms.{test_here, test_past, same_opcode, word_of, own_words, Behind, NoneBehind, IsSummary}
+use Rattle.sre_code.proofs.Terms.{Summary}
 use Rattle.std.proofs.Math.Bool.{or-true, or-false}
-use Rattle.std.proofs.lemmas.Bool.{true≢false, or_right, le-ltb, lt-ltb}
-use Rattle.sre_chars.specs.declared.constants.SreOpcode.{SreOpcode}
-use Rattle.sre_model.specs.Tree.{Tree, Empty, Then, Item, Trees, Atomic, Look}
-use Rattle.sre_model.specs.Folding.{Folding, of_tree, of_item, of_branch}
-use Rattle.sre_model.specs.Grammar.{word, skip, Opcode, WholeItems}
-use Rattle.sre_model.specs.Roles.{Role, ToMark, ToBranch, ToRun, ToRepeat, ToRepeatPossessively}
-use Rattle.sre_model.specs.Roles.{ToGroupAtomically, ToLook, ToRefer, ToCheckGroup, role}
-use Rattle.sre_model.specs.References.{refers, by_references, no_group, asked_from, by_groups}
+use Rattle.std.proofs.lemmas.Bool.{or_right}
+use Rattle.sre_model.specs.References.{no_group, asked_from, by_groups}
 use Rattle.sre_model.specs.References.{by_last_groups}
 use Rattle.sre_model.specs.LooksBehind.{by_backs, by_longest}
-use Rattle.sre_model.specs.MarksSet.{sets_mark, by_marks, marks_in_regions, by_marked_regions}
 use Rattle.sre_model.specs.Regions.{forks, by_forks, has_forked_region, by_forked_regions}
-use Rattle.sre_model.proofs.Families.{HasRole, test_here}
-use Rattle.sre_model.proofs.Places.{test_past}
-use Rattle.sre_model.proofs.Words.{same_opcode, word_of}
-use Rattle.sre_code.specs.Instructions.{own_words, Behind, NoneBehind}
-use Rattle.sre_code.specs.Summaries.{forking, noted, IsSummary}
-use Rattle.sre_code.specs.declared.code.summary.Summary.{Summary}
+use Rattle.sre_code.specs.Summaries.{forking, noted}
 use Rattle.sre_code.proofs.Instructions.{behind_test, behind_role, role_behind, none_behind}
 use Rattle.sre_code.proofs.Walking as walk
 use Rattle.sre_code.proofs.Walking.{Scanner, Instructions, Onto}

@@ -1,18 +1,16 @@
 -- Scans from instruction to instruction, and what such a scan has behind a part of a tree, by what it had before.
-use Rattle.std.proofs.Common.{ℕ, zero, suc, ◌+◌, ◌-◌, ◌≡◌, ◌<◌, ◌≤◌, ◌⊎◌, inl, inr, ⊎_elim, Option, Some, None, List}
-use Rattle.std.proofs.Common.{refl, sym, subst, arith}
+use Rattle.sre_code.proofs.Terms.{ℕ, zero, suc, ◌+◌, ◌-◌, ◌≡◌, ◌<◌, ◌≤◌, ◌⊎◌, inl, inr, ⊎_elim, Option, Some, None}
+use Rattle.sre_code.proofs.Terms.{List, refl, sym, subst, arith, SreAtCode, Tree, Empty, Then, Item, Fail, One, At}
+use Rattle.sre_code.proofs.Terms.{Mark, Branch, Loop, Run, PossessiveLoop, Atomic, Look, Reference, Exists, ExistsElse}
+use Rattle.sre_code.proofs.Terms.{Trees, Only, Or, Test, Fold, Order, RunKind, Sign, Role, ToCheckPosition, ToMark}
+use Rattle.sre_code.proofs.Terms.{ToBranch, ToRun, ToRepeat, ToRepeatPossessively, ToGroupAtomically, ToLook, ToRefer}
+use Rattle.sre_code.proofs.Terms.{ToCheckGroup, HasRole, role_here, item_here, Word, skip, Opcode, until_opcode}
+use Rattle.sre_code.proofs.Terms.{Operands, Reads, ReadsItem, ReadsBranch, test_past, reads_within, operands_past}
+use Rattle.sre_code.proofs.Terms.{alternative_long, ReadsTest, own_words}
 use Rattle.sre_chars.specs.declared.constants.SreOpcode.TheVariants as opcode
-use Rattle.sre_chars.specs.declared.constants.SreAtCode.{SreAtCode}
-use Rattle.sre_model.specs.Tree.{Tree, Empty, Then, Item, Fail, One, At, Mark, Branch, Loop, Run, PossessiveLoop}
-use Rattle.sre_model.specs.Tree.{Atomic, Look, Reference, Exists, ExistsElse, Trees, Only, Or, Test, Fold, Order}
-use Rattle.sre_model.specs.Tree.{RunKind, Sign}
-use Rattle.sre_model.specs.Roles.{Role, ToFail, ToEnd, ToCheckPosition, ToMark, ToBranch, ToJump, ToRun, ToRepeat}
-use Rattle.sre_model.specs.Roles.{ToLoop, ToRepeatPossessively, ToGroupAtomically, ToLook, ToRefer, ToCheckGroup}
-use Rattle.sre_model.proofs.Families.{HasRole, role_here, item_here, until_role}
-use Rattle.sre_model.specs.Grammar.{Word, skip, Opcode, until_opcode, Operands, Reads, ReadsItem, ReadsBranch}
-use Rattle.sre_model.proofs.Places.{test_past, reads_within, operands_past, alternative_long}
-use Rattle.sre_code.specs.Reading.{ReadsTest}
-use Rattle.sre_code.specs.Instructions.{own_words}
+use Rattle.sre_model.specs.Roles.{ToFail, ToEnd, ToJump}
+use Rattle.sre_model.specs.Roles.{ToLoop}
+use Rattle.sre_model.proofs.Families.{until_role}
 
 -- a scan of words up to a place, and what it tells of a part of a tree, by the part's value
 pub record Scanner (M V : Type 0) : Type 1 where

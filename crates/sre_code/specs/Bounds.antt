@@ -1,11 +1,7 @@
 -- The step bound as it is computed: by its parts, and where it takes more than 64 bits.
 -- Definitions for the check's contracts; what sre_engine makes public does not rest on it.
-use Rattle.std.specs.Prelude.{ℕ, ◌+◌, ◌*◌, ◌/◌, ◌^◌, ◌≡◌, ◌<◌, ◌≤◌, true, false, max, Option, Some, None}
-use Rattle.sre_model.specs.Tree.{Tree}
-use Rattle.sre_model.specs.References.{refers}
-use Rattle.sre_model.specs.Regions.{has_forked_region}
-use Rattle.sre_model.specs.MarksSet.{marks_in_regions}
-use Rattle.sre_model.specs.Slots.{most_slots}
+use Rattle.sre_code.specs.Terms.{ℕ, ◌+◌, ◌*◌, ◌/◌, ◌^◌, ◌≡◌, ◌<◌, ◌≤◌, true, false, max, Option, Some, None, Tree}
+use Rattle.sre_code.specs.Terms.{refers, has_forked_region, marks_in_regions, most_slots}
 use Rattle.sre_model.specs.Remembered.{sides}
 use Rattle.sre_code.specs.Prices.{cost_at}
 use Rattle.sre_code.specs.StepBounds.{IsStepBound, HasNoStepBound}

@@ -1,8 +1,6 @@
 -- What a code shows.
 -- Public clauses rest on it.
-use Rattle.std.specs.Prelude.{ℕ, List}
-use Rattle.sre_chars.specs.Tables.{Table}
-use Rattle.sre_model.specs.Grammar.{behind_block}
+use Rattle.sre_code.specs.Terms.{ℕ, List, Table, behind_block}
 use Rattle.sre_code.specs.declared.code.Hints.{Hints}
 use Rattle.sre_code.specs.declared.code.Code.{Code}
 

@@ -1,14 +1,11 @@
 -- The descent of the check into the bytecode, with a stack of open parts.
 -- Definitions for the check's contracts; what sre_engine makes public does not rest on it.
-use Rattle.std.specs.Prelude.{ℕ, ◌+◌, ◌-◌, ◌*◌, ◌≡◌, ◌≢◌, ◌<◌, ◌≤◌, List, [], ◌∷◌, ◌++◌, reverse, length}
-use Rattle.std.specs.Prelude.{Result, Ok, Err}
+use Rattle.sre_code.specs.Terms.{ℕ, ◌+◌, ◌-◌, ◌*◌, ◌≡◌, ◌≢◌, ◌<◌, ◌≤◌, List, length, Result, Ok, Err, Tree, Opcode}
+use Rattle.sre_code.specs.Terms.{Reads, capped, width, Refused}
+use Rattle.std.specs.Prelude.{[], ◌∷◌, ◌++◌, reverse}
 use Rattle.sre_chars.specs.declared.constants.SreOpcode.TheVariants as opcode
-use Rattle.sre_model.specs.Tree.{Tree}
-use Rattle.sre_model.specs.Grammar.{Opcode, Reads}
-use Rattle.sre_model.specs.Width.{capped, width}
 use Rattle.sre_code.specs.Refusals.{place_of}
 use Rattle.sre_code.specs.Steps.{Finishes}
-use Rattle.sre_growth.specs.Refusal.{Refused}
 use Rattle.sre_code.specs.declared.code.error.CodeError.{CodeError}
 use Rattle.sre_code.specs.declared.code.error.CodeError.TheVariants.{Memory}
 use Rattle.sre_code.specs.declared.code.step.Open.{Open}

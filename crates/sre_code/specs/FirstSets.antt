@@ -1,15 +1,9 @@
 -- What is computed of the first items of trees.
 -- Definitions for the check's contracts; what sre_engine makes public does not rest on it.
-use Rattle.std.specs.Prelude.{ℕ, ◌-◌, ◌≡◌, ◌≤◌, Bool, true, List, length, Option}
-use Rattle.std.specs.Bool.{Decides}
-use Rattle.sre_chars.specs.declared.constants.SreOpcode.{SreOpcode}
-use Rattle.sre_model.specs.Tree.{Tree, Trees, SetItem}
-use Rattle.sre_model.specs.Standing.{SetStands, HasSet}
+use Rattle.sre_code.specs.Terms.{ℕ, ◌-◌, ◌≡◌, ◌≤◌, Bool, true, List, length, Option, Decides, SreOpcode, Tree, Trees}
+use Rattle.sre_code.specs.Terms.{SetItem, SetStands, HasSet, role, is_end, Opcode, Reads, ReadsBranch}
 use Rattle.sre_code.specs.declared.ascii_set.AsciiSet.{AsciiSet}
 use Rattle.sre_code.specs.AsciiSets.{AreTold}
-use Rattle.sre_model.specs.Roles.{role}
-use Rattle.sre_model.specs.FirstCharacters.{is_end}
-use Rattle.sre_model.specs.Grammar.{Opcode, Reads, ReadsBranch}
 
 -- the items of the set of a block that ends at `end`
 abbrev pub IsSetUpTo : ℕ → List ℕ → List SetItem → Type 0

@@ -1,9 +1,7 @@
 -- What is known of a code.
 -- Public clauses rest on it.
-use Rattle.std.specs.Prelude.{◌≡◌, ◌↔◌, IsTrue, ℕ, List}
-use Rattle.sre_chars.specs.Tables.{Table}
-use Rattle.sre_model.specs.Tree.{Tree}
-use Rattle.sre_model.specs.Claims.{confirmed_width, confirmed_prefix, is_literal, HasFirstSet}
+use Rattle.sre_code.specs.Terms.{◌≡◌, ◌↔◌, IsTrue, ℕ, List, Table, Tree, confirmed_width, is_literal, HasFirstSet}
+use Rattle.sre_model.specs.Claims.{confirmed_prefix}
 use Rattle.sre_code.specs.declared.code.Hints.{Hints}
 
 -- each hint is there exactly where the tree confirms it; a set's members are those by the code's table

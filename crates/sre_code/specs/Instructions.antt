@@ -1,11 +1,10 @@
 -- Instructions: where the next one is, bodies included.
 -- Definitions for the check's contracts; what sre_engine makes public does not rest on it.
-use Rattle.std.specs.Prelude.{ℕ, ◌+◌, ◌≡◌, ◌<◌, ◌⊎◌, List, Option, Some, None}
-use Rattle.sre_chars.specs.declared.constants.SreOpcode.{SreOpcode}
-use Rattle.sre_model.specs.Tree.{Test}
-use Rattle.sre_model.specs.Grammar.{Opcode}
-use Rattle.sre_model.specs.Roles.{Role, ToFail, ToEnd, ToCheckPosition, ToMark, ToBranch, ToJump, ToRun, ToRepeat}
-use Rattle.sre_model.specs.Roles.{ToLoop, ToRepeatPossessively, ToGroupAtomically, ToLook, ToRefer, role}
+use Rattle.sre_code.specs.Terms.{ℕ, ◌+◌, ◌≡◌, ◌<◌, ◌⊎◌, List, Option, Some, None, SreOpcode, Test, Opcode, Role, ToFail}
+use Rattle.sre_code.specs.Terms.{ToMark, ToBranch, ToRun, ToRepeat, ToRepeatPossessively, ToGroupAtomically, ToLook}
+use Rattle.sre_code.specs.Terms.{ToRefer, role}
+use Rattle.sre_model.specs.Roles.{ToEnd, ToCheckPosition, ToJump}
+use Rattle.sre_model.specs.Roles.{ToLoop}
 use Rattle.sre_code.specs.Reading.{ReadsTest}
 
 -- how many words an instruction has before its body or what is behind it: with a BRANCH and a JUMP goes the length word

@@ -20,3 +20,4 @@ pub mod Steps
 pub mod Descent
 pub mod Codes
 pub mod Owned
+pub mod Terms

@@ -1,7 +1,6 @@
 -- What an owned code shows.
 -- Public clauses rest on it.
-use Rattle.std.specs.Prelude.{ℕ, List}
-use Rattle.sre_chars.specs.Tables.{Table}
+use Rattle.sre_code.specs.Terms.{ℕ, List, Table}
 use Rattle.sre_code.specs.declared.owned.OwnedCode.{OwnedCode}
 
 -- the words

@@ -1,13 +1,8 @@
 -- What is left of the items after MARKs and after a prefix.
 -- Definitions for the check's contracts; what sre_engine makes public does not rest on it.
-use Rattle.std.specs.Prelude.{ℕ, ◌+◌, ◌-◌, ◌≡◌, ◌≤◌, true, List, length, Option, Some, None}
-use Rattle.sre_chars.specs.declared.constants.SreOpcode.{SreOpcode}
+use Rattle.sre_code.specs.Terms.{ℕ, ◌+◌, ◌-◌, ◌≡◌, ◌≤◌, true, List, length, Option, Some, None, SreOpcode, Tree, role}
+use Rattle.sre_code.specs.Terms.{is_end, Word, Opcode, Reads, behind_marks}
 use Rattle.sre_chars.specs.declared.constants.SreOpcode.TheVariants as opcode
-use Rattle.sre_model.specs.Tree.{Tree}
-use Rattle.sre_model.specs.Roles.{role}
-use Rattle.sre_model.specs.FirstCharacters.{is_end}
-use Rattle.sre_model.specs.Grammar.{Word, Opcode, Reads}
-use Rattle.sre_model.specs.Claims.{behind_marks}
 
 -- the items end where the last word is, with SUCCESS
 abbrev pub Ends : List ℕ → Type 0

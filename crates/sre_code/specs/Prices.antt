@@ -1,18 +1,16 @@
 -- Prices of items as they are computed: the steps and costs they come to, whatever follows and whatever loops are
 -- around them.
 -- Definitions for the check's contracts; what sre_engine makes public does not rest on it.
-use Rattle.std.specs.Prelude.{ℕ, ◌+◌, ◌-◌, ◌*◌, ◌^◌, ◌≡◌, ◌<◌, ◌≤◌, Bool, true, false, ◌&&◌, cond, max, List}
-use Rattle.std.specs.Prelude.{Option, Some, None}
-use Rattle.sre_chars.specs.declared.constants.SreOpcode.{SreOpcode}
-use Rattle.sre_model.specs.Tree.{Tree, Item, Branch, Loop, PossessiveLoop, Atomic, Trees, Order}
-use Rattle.sre_model.specs.Grammar.{Word, skip, Opcode, Operands, Reads, ReadsBranch}
-use Rattle.sre_model.specs.Roles.{Role, ToFail, ToRun, ToBranch, ToRepeat, ToRepeatPossessively, ToGroupAtomically}
-use Rattle.sre_model.specs.Roles.{ToLook, role}
+use Rattle.sre_code.specs.Terms.{ℕ, ◌+◌, ◌-◌, ◌*◌, ◌^◌, ◌≡◌, ◌<◌, ◌≤◌, Bool, true, false, ◌&&◌, cond, max, List, Option}
+use Rattle.sre_code.specs.Terms.{Some, None, SreOpcode, Tree, Item, Loop, Trees, Order, Word, skip, Opcode, Operands}
+use Rattle.sre_code.specs.Terms.{Reads, ReadsBranch, Role, ToFail, ToRun, ToBranch, ToRepeat, ToRepeatPossessively}
+use Rattle.sre_code.specs.Terms.{ToGroupAtomically, ToLook, role, refers, nesting, scan_price}
+use Rattle.sre_model.specs.Tree.{Branch, PossessiveLoop, Atomic}
 use Rattle.sre_model.specs.Tree.{PossessiveRun}
-use Rattle.sre_model.specs.References.{refers, by_references}
+use Rattle.sre_model.specs.References.{by_references}
 use Rattle.sre_model.specs.Folding.{of_item}
-use Rattle.sre_model.specs.Nesting.{nesting, by_nesting}
-use Rattle.sre_model.specs.TreePrices.{steps_of, item_steps, other_ends, scan_price, cost_of, item_cost, most_steps}
+use Rattle.sre_model.specs.Nesting.{by_nesting}
+use Rattle.sre_model.specs.TreePrices.{steps_of, item_steps, other_ends, cost_of, item_cost, most_steps}
 use Rattle.sre_code.specs.Saturating.{Held}
 use Rattle.sre_code.specs.Instructions.{Behind, NoneBehind}
 use Rattle.sre_code.specs.declared.code.prices.Price.{Price}

@@ -1,9 +1,7 @@
 -- How many steps suffice for a code, in each range of a text of so many characters.
 -- Public clauses rest on it.
-use Rattle.std.specs.Prelude.{ℕ, ◌+◌, ◌^◌, ◌≡◌, ◌<◌, ◌≤◌}
-use Rattle.sre_model.specs.Tree.{Tree}
+use Rattle.sre_code.specs.Terms.{ℕ, ◌+◌, ◌^◌, ◌≡◌, ◌<◌, ◌≤◌, Tree, nesting}
 use Rattle.sre_model.specs.Found.{Asked}
-use Rattle.sre_model.specs.Nesting.{nesting}
 use Rattle.sre_model.specs.Remembered.{IsRemembered, step_bound}
 
 -- a range of a text of at most so many characters

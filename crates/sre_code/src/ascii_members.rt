@@ -2,13 +2,9 @@
 //!
 //! Most characters are ASCII. For these a test of one bit replaces a loop over the set's items.
 
-ghost use Rattle.std.specs.Prelude.{◌≡◌, ℕ, ◌+◌, ◌<◌, ◌≤◌, ◌&&◌, ◌||◌, List, length, slice_range, IfSome};
+ghost use Rattle.sre_code.specs.Terms.{◌≡◌, ℕ, ◌+◌, ◌<◌, ◌≤◌, ◌&&◌, ◌||◌, List, length, slice_range, IfSome, Table};
+ghost use Rattle.sre_code.specs.Terms.{SetItem, Charset, item_holds, is_member, Opcode, SetStands, HasSet};
 ghost use Rattle.sre_code.specs.AsciiSet.{contains};
-ghost use Rattle.sre_chars.specs.Tables.{Table};
-ghost use Rattle.sre_model.specs.Tree.{SetItem, Charset};
-ghost use Rattle.sre_model.specs.Characters.{item_holds, is_member};
-ghost use Rattle.sre_model.specs.Grammar.{Opcode};
-ghost use Rattle.sre_model.specs.Standing.{SetStands, HasSet};
 ghost use Rattle.sre_code.specs.AsciiSets.{HoldsFor};
 
 use crate::ascii_set::AsciiSet;

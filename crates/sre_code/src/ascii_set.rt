@@ -3,12 +3,9 @@
 //! A membership test is a shift and a mask, instead of a loop over a set's items. The definition `contains` in `specs/`
 //! says which characters a set has, and each contract uses it. No set has a character past ASCII.
 
-ghost use Rattle.std.specs.Prelude.{◌≡◌, ◌<◌, ◌/◌, ◌%◌, ◌^◌, ◌&&◌, ◌||◌, ℕ, false, not, nat_eq, nat_lt};
-ghost use Rattle.std.specs.Prelude.{slice_index, if◌then◌else◌};
-ghost use Rattle.std.specs.Int.{bit_at};
-ghost use Rattle.sre_chars.specs.Tables.{Table, is_between};
-ghost use Rattle.sre_chars.specs.Categories.{category};
-ghost use Rattle.sre_chars.specs.Numbers.{category_number};
+ghost use Rattle.sre_code.specs.Terms.{◌≡◌, ◌<◌, ◌/◌, ◌%◌, ◌^◌, ◌&&◌, ◌||◌, ℕ, false, nat_eq, nat_lt, slice_index};
+ghost use Rattle.sre_code.specs.Terms.{if◌then◌else◌, bit_at, Table, is_between, category, category_number};
+ghost use Rattle.std.specs.Prelude.{not};
 ghost use Rattle.sre_code.specs.AsciiSet.{contains};
 
 use sre_chars::constants::SreCatCode;

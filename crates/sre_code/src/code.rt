@@ -7,19 +7,16 @@
 //! the least width of a match. A scan without a stack then computes [`Code::refers`], [`Code::asked_from`] and
 //! [`Code::longest_lookbehind`]. At last the claims of the INFO block are compared with the first items.
 
-ghost use Rattle.std.specs.Prelude.{◌≡◌, ◌≢◌, ◌≤◌, ◌-◌, ◌^◌, false, length, IfOk, IfErr, OnOk, IfSome, None, min};
-ghost use Rattle.sre_model.specs.Tree.{Tree};
-ghost use Rattle.sre_model.specs.Grammar.{Whole};
+ghost use Rattle.sre_code.specs.Terms.{◌≡◌, ◌≢◌, ◌≤◌, ◌-◌, ◌^◌, false, length, IfOk, IfErr, OnOk, IfSome, None, min};
+ghost use Rattle.sre_code.specs.Terms.{Tree, Whole, marks_in_regions, IsCode, behind_block, Refused};
 ghost use Rattle.sre_model.specs.References as references;
 ghost use Rattle.sre_model.specs.LooksBehind as looks_behind;
-ghost use Rattle.sre_model.specs.MarksSet.{marks_in_regions};
 ghost use Rattle.sre_code.specs.Hinted.{Confirmed};
 ghost use Rattle.sre_code.specs.Summaries.{IsSummary};
-ghost use Rattle.sre_model.specs.Grammar.{AreItems, IsCode, HasOneTree, behind_block};
+ghost use Rattle.sre_model.specs.Grammar.{AreItems, HasOneTree};
 ghost use Rattle.sre_code.specs.Refusals.{place_of};
 ghost use Rattle.sre_code.specs.StepBounds.{IsStepBound, HasNoStepBound};
 ghost use Rattle.sre_code.specs.MostSlots.{AreMostSlots, HasTooManySlots};
-ghost use Rattle.sre_growth.specs.Refusal.{Refused};
 
 mod block;
 pub(crate) mod borders;

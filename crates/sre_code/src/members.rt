@@ -3,16 +3,13 @@
 //! A set is items, then FAILURE. The first item that holds for a character decides, and each NEGATE before it inverts
 //! the result. For each kind of item a function returns whether it holds, and the address of the next one.
 
-ghost use Rattle.std.specs.Prelude.{◌≡◌, ℕ, ◌+◌, ◌*◌, ◌/◌, ◌%◌, ◌^◌, ◌<◌, ◌≤◌, ◌≢◌, List, length, nat_eq, slice_index};
-ghost use Rattle.std.specs.Prelude.{slice_range};
+ghost use Rattle.sre_code.specs.Terms.{◌≡◌, ℕ, ◌+◌, ◌*◌, ◌/◌, ◌%◌, ◌^◌, ◌<◌, ◌≤◌, ◌≢◌, List, length, nat_eq};
+ghost use Rattle.sre_code.specs.Terms.{slice_index, slice_range, category_number, category, Table, is_between, SetItem};
+ghost use Rattle.sre_code.specs.Terms.{Charset, item_holds, is_member, Opcode, word, BlocksBelow, SetStands, HasSet};
+ghost use Rattle.sre_code.specs.Terms.{ItemSays};
 ghost use Rattle.std.specs.List.{flat_map};
-ghost use Rattle.sre_chars.specs.Numbers.{category_number};
-ghost use Rattle.sre_chars.specs.Categories.{category};
-ghost use Rattle.sre_chars.specs.Tables.{Table, is_between};
-ghost use Rattle.sre_model.specs.Tree.{SetItem, RangeUniIgnore, Charset, BigCharset};
-ghost use Rattle.sre_model.specs.Characters.{item_holds, is_member};
-ghost use Rattle.sre_model.specs.Grammar.{Opcode, word, bytes_of, BlocksBelow};
-ghost use Rattle.sre_model.specs.Standing.{SetStands, HasSet, ItemSays};
+ghost use Rattle.sre_model.specs.Tree.{RangeUniIgnore, BigCharset};
+ghost use Rattle.sre_model.specs.Grammar.{bytes_of};
 
 use crate::ascii_set::AsciiSet;
 use crate::operands::{category_code, operand, word};

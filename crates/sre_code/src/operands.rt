@@ -1,8 +1,6 @@
 //! Operands of checked bytecode, which a proof knows to exist.
 
-ghost use Rattle.std.specs.Prelude.{◌≡◌, ◌+◌, ◌<◌, ◌^◌, length};
-ghost use Rattle.sre_chars.specs.Numbers.{category_number};
-ghost use Rattle.sre_model.specs.Grammar.{Word, word};
+ghost use Rattle.sre_code.specs.Terms.{◌≡◌, ◌+◌, ◌<◌, ◌^◌, length, category_number, Word, word};
 ghost use Rattle.sre_model.specs.Standing.{AreWords, HasCategory};
 
 use sre_chars::constants::SreCatCode;

@@ -1,13 +1,10 @@
 //! A code that owns its bytecode and tables, and lends a [`Code`].
 
-ghost use Rattle.std.specs.Prelude.{◌≡◌, ◌≢◌, ◌≤◌, false, length, IfOk, IfErr, OnOk};
-ghost use Rattle.sre_model.specs.Tree.{Tree};
-ghost use Rattle.sre_model.specs.Grammar.{Whole, IsCode};
+ghost use Rattle.sre_code.specs.Terms.{◌≡◌, ◌≢◌, ◌≤◌, false, length, IfOk, IfErr, OnOk, Tree, Whole, IsCode, Refused};
 ghost use Rattle.sre_model.specs.References as references;
 ghost use Rattle.sre_model.specs.LooksBehind as looks_behind;
 ghost use Rattle.sre_code.specs.Hinted.{Confirmed};
 ghost use Rattle.sre_code.specs.Refusals.{place_of};
-ghost use Rattle.sre_growth.specs.Refusal.{Refused};
 
 use crate::code::{Code, CodeError, Hints};
 use sre_chars::string::UniTable;

@@ -1,29 +1,18 @@
 -- What a pattern that covers a code implies for its matches.
-use Rattle.std.proofs.Common.{◌≡◌, ◌≤◌, ◌<◌, ◌+◌, ℕ, List, [], length, Option, Some, None, IfSome, refl, ap, sym}
-use Rattle.std.proofs.Common.{subst, ◌∙◌, arith}
-use Rattle.regex_hir.specs.Re.{Re}
+use Rattle.sre_finder.proofs.Terms.{◌≡◌, ◌≤◌, ◌<◌, ◌+◌, ℕ, List, [], length, Some, None, refl, ap, sym, subst, ◌∙◌}
+use Rattle.sre_finder.proofs.Terms.{arith, Re, meaning, Hir, Tree, WholeItems, no_marks, ways, Asked, subject_of}
+use Rattle.sre_finder.proofs.Terms.{at_start, first_accepted, words_of, uni_of, Code, ExactTree, view_of, Encoding}
+use Rattle.sre_finder.proofs.Terms.{NoneLeft, NoneUpTo, NoneBetween, SeenAs, Covering, Filters, EndStands}
+use Rattle.sre_finder.proofs.Terms.{NoneLeftOfAny, Suits}
+use Rattle.std.proofs.Common.{Option, IfSome}
 use Rattle.regex_hir.specs.Matches.{Matches}
-use Rattle.regex_hir.specs.Meaning.{meaning}
-use Rattle.regex_hir.specs.declared.hir.Hir.{Hir}
 use Rattle.sre_chars.specs.Tables.{Table}
 use Rattle.sre_chars.specs.declared.string.StringCursor.{StringCursor}
-use Rattle.sre_model.specs.Tree.{Tree}
-use Rattle.sre_model.specs.Grammar.{WholeItems, behind_block}
-use Rattle.sre_model.specs.Marks.{no_marks}
-use Rattle.sre_model.specs.Ways.{ways}
-use Rattle.sre_model.specs.Found.{Asked, subject_of, at_start, first_accepted}
-use Rattle.sre_code.specs.Codes.{words_of, items_of, uni_of}
-use Rattle.sre_code.specs.declared.code.Code.{Code}
+use Rattle.sre_model.specs.Grammar.{behind_block}
+use Rattle.sre_code.specs.Codes.{items_of}
 use Rattle.sre_patterns.specs.Covers.{CoversStart}
-use Rattle.sre_patterns.specs.Exact.{ExactTree}
-use Rattle.sre_patterns.specs.Patterns.{view_of}
-use Rattle.sre_patterns.specs.declared.encoding.Encoding.{Encoding}
-use Rattle.sre_automata.specs.Told.{NoneLeft, NoneUpTo}
-use Rattle.sre_engine.specs.Starts.{NoneBetween}
 use Rattle.sre_engine.specs.FirstSets.{SetsOf}
-use Rattle.sre_finder.specs.Views.{SeenAs}
-use Rattle.sre_finder.specs.Finders.{Covering, CoveringAny, Filters, SamePatterns, EndStands, NoneLeftOfAny}
-use Rattle.sre_finder.specs.Kepts.{Suits}
+use Rattle.sre_finder.specs.Finders.{CoveringAny, SamePatterns}
 use Rattle.sre_finder.specs.declared.kept.Kept.{Kept}
 use Rattle.sre_finder.specs.declared.prefilter.Prefilter.{Prefilter}
 use Rattle.sre_finder.specs.Spans.{ExactlyAny}

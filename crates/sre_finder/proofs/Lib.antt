@@ -1,3 +1,4 @@
 pub mod Places
 pub mod Covered
 pub mod Spans
+pub mod Terms

@@ -1,41 +1,33 @@
 -- What DFAs with the first matches of a code report of its spans, and how an iteration continues after a span.
-use Rattle.std.proofs.Common.{◌≡◌, ◌≤◌, ◌<◌, ℕ, zero, suc, List, [], ◌∷◌, Bool, true, false, not, ◌&&◌, ◌||◌, cond}
-use Rattle.std.proofs.Common.{nat_eq, Some, None, refl, ap, ap₂, sym, ◌∙◌, subst, arith, inl, inr}
+use Rattle.sre_finder.proofs.Terms.{◌≡◌, ◌≤◌, ◌<◌, ℕ, List, [], false, ◌&&◌, nat_eq, Some, None, refl, ap, ap₂, sym}
+use Rattle.sre_finder.proofs.Terms.{◌∙◌, subst, arith, inl, inr, cases_lt, Re, meaning, Hir, Tree, Whole, WholeItems}
+use Rattle.sre_finder.proofs.Terms.{no_marks, ways, Asked, subject_of, first_accepted, at_start, found, words_of}
+use Rattle.sre_finder.proofs.Terms.{items_of, uni_of, hints_of, code_tree, Code, start_of, code_of, must_advance_of}
+use Rattle.sre_finder.proofs.Terms.{asked_of, answer_of, ExactTree, view_of, Encoding, IsBetween, SeenAs, match_with}
+use Rattle.sre_finder.proofs.Terms.{Exactly, FindsSpan, GoesOnBehind}
+use Rattle.std.proofs.Common.{zero, suc, ◌∷◌, Bool, true, not, ◌||◌, cond}
 use Rattle.std.specs.List.{AllByRecursion}
-use Rattle.std.proofs.lemmas.Bool.{cases_lt}
 use Rattle.std.proofs.lemmas.Bool.Decides.{nat_tests}
-use Rattle.regex_hir.specs.Re.{Re}
 use Rattle.regex_hir.specs.Matches.{IsMinLen}
-use Rattle.regex_hir.specs.Meaning.{meaning}
-use Rattle.regex_hir.specs.declared.hir.Hir.{Hir}
 use Rattle.regex_hir.specs.Find as bytes
 use Rattle.sre_chars.specs.declared.string.StrDrive.{Ghosts}
-use Rattle.sre_model.specs.Tree.{Tree}
-use Rattle.sre_model.specs.Grammar.{Whole, WholeItems, IsCode}
-use Rattle.sre_model.specs.Marks.{Marks, no_marks}
-use Rattle.sre_model.specs.Ways.{Way, ways}
-use Rattle.sre_model.specs.Found.{Asked, Match, subject_of, is_accepted, first_accepted, at_start, found, asked_after}
+use Rattle.sre_model.specs.Grammar.{IsCode}
+use Rattle.sre_model.specs.Marks.{Marks}
+use Rattle.sre_model.specs.Ways.{Way}
+use Rattle.sre_model.specs.Found.{Match, is_accepted, asked_after}
 use Rattle.sre_model.specs.Found.{walk}
 use Rattle.sre_model.specs.WalkBounds.{most_matches}
 use Rattle.sre_model.proofs.Bounds.{Between, ways-bounded}
 use Rattle.sre_model.proofs.FoundLaws.{either, Either, found-least, least-found}
 use Rattle.sre_model.proofs.WalkLaws.{walk-next, walk-end, most_matches-falls}
-use Rattle.sre_code.specs.Codes.{words_of, items_of, uni_of, hints_of}
-use Rattle.sre_code.proofs.Checked.{code_tree}
-use Rattle.sre_code.specs.declared.code.Code.{Code}
 use Rattle.sre_request.specs.declared.request.Request.{Request}
-use Rattle.sre_request.specs.Requests.{start_of, code_of, must_advance_of, asked_of, stands_in}
-use Rattle.sre_engine.specs.Answers.{Shown, match_shown, answer_of}
+use Rattle.sre_request.specs.Requests.{stands_in}
+use Rattle.sre_engine.specs.Answers.{Shown, match_shown}
 use Rattle.sre_engine.specs.Walks.{StepsTo, GoesOn}
 use Rattle.sre_engine.specs.Searches.{WalksOn}
-use Rattle.sre_patterns.specs.Exact.{ExactTree}
 use Rattle.sre_patterns.proofs.FirstFound.{FoundAt, found_by, none-found_by}
 use Rattle.sre_patterns.proofs.SidesSeen.{rises}
-use Rattle.sre_patterns.specs.Patterns.{view_of}
-use Rattle.sre_patterns.specs.declared.encoding.Encoding.{Encoding}
-use Rattle.sre_automata.specs.Told.{IsBetween}
-use Rattle.sre_finder.specs.Views.{SeenAs}
-use Rattle.sre_finder.specs.Spans.{match_with, Exactly, FindsSpan, GoesOnBehind, ShowsStep}
+use Rattle.sre_finder.specs.Spans.{ShowsStep}
 
 -- a pattern whose matches read so many bytes reads one, where these are some
 pub reads_one : (re : Re) (n : ℕ) → IsMinLen re n → (n ≡ 0 → ⊥) → IsMinLen re 1

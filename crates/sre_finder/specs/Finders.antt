@@ -1,18 +1,9 @@
 -- What a finder knows of its code.
 -- Definitions for the contracts of this crate.
-use Rattle.std.specs.Prelude.{◌≡◌, ⊤, ℕ, List, Option, Some, None}
-use Rattle.regex_hir.specs.Re.{Re}
-use Rattle.regex_hir.specs.Meaning.{meaning}
-use Rattle.regex_hir.specs.declared.hir.Hir.{Hir}
-use Rattle.sre_chars.specs.declared.string.StringCursor.{StringCursor}
-use Rattle.sre_model.specs.Tree.{Tree}
-use Rattle.sre_model.specs.Grammar.{WholeItems}
-use Rattle.sre_code.specs.Codes.{items_of, uni_of}
-use Rattle.sre_code.specs.declared.code.Code.{Code}
+use Rattle.sre_finder.specs.Terms.{◌≡◌, ⊤, ℕ, List, Option, Some, None, Re, meaning, Hir, StringCursor, Tree}
+use Rattle.sre_finder.specs.Terms.{WholeItems, items_of, uni_of, Code, view_of, Encoding}
 use Rattle.sre_patterns.specs.Covers.{CoversStart}
-use Rattle.sre_patterns.specs.Patterns.{view_of}
 use Rattle.sre_automata.specs.Told.{NoneLeft}
-use Rattle.sre_patterns.specs.declared.encoding.Encoding.{Encoding}
 use Rattle.sre_finder.specs.declared.prefilter.Prefilter.{Prefilter}
 
 -- a pattern covers each start of a code's tree

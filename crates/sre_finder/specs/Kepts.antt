@@ -1,13 +1,7 @@
 -- What is kept of a finder suits a code.
 -- Definitions for the contracts of this crate.
-use Rattle.std.specs.Prelude.{◌≡◌, ℕ, List, IfSome}
-use Rattle.sre_chars.specs.Tables.{Table}
-use Rattle.sre_model.specs.Grammar.{behind_block}
-use Rattle.sre_code.specs.Codes.{words_of, uni_of}
-use Rattle.sre_code.specs.declared.code.Code.{Code}
-use Rattle.sre_patterns.specs.declared.encoding.Encoding.{Encoding}
-use Rattle.sre_patterns.specs.declared.encoding.Encoding.TheVariants.{Bytes, Ascii, Utf8}
-use Rattle.sre_engine.specs.FirstSets.{SetsOf}
+use Rattle.sre_finder.specs.Terms.{◌≡◌, ℕ, List, IfSome, Table, behind_block, words_of, uni_of, Code, Encoding, Bytes}
+use Rattle.sre_finder.specs.Terms.{Ascii, Utf8, SetsOf}
 use Rattle.sre_finder.specs.Finders.{CoveringAny}
 use Rattle.sre_finder.specs.Spans.{ExactlyAny}
 use Rattle.sre_finder.specs.declared.kept.Kept.{Kept}

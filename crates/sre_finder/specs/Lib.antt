@@ -4,3 +4,4 @@ pub mod Spans
 pub mod FinderIters
 pub mod Kepts
 pub mod SpanIters
+pub mod Terms

@@ -1,19 +1,11 @@
 -- What an iteration over spans shows, and what its next item is.
 -- Definitions for the contracts of this crate.
-use Rattle.std.specs.Prelude.{◌≡◌, ◌+◌, ℕ, Bool, true, false, cond, List, [], ◌∷◌, Option, Some, None, Result, Ok, Err}
-use Rattle.sre_chars.specs.declared.string.StrDrive.{Ghosts}
-use Rattle.sre_model.specs.Tree.{Tree}
-use Rattle.sre_model.specs.Grammar.{Whole}
-use Rattle.sre_model.specs.Marks.{Marks}
-use Rattle.sre_model.specs.Found.{Asked, Match, found, walk}
-use Rattle.sre_model.specs.WalkBounds.{most_matches}
-use Rattle.sre_code.specs.Codes.{words_of}
-use Rattle.sre_request.specs.declared.request.Request.{Request}
-use Rattle.sre_request.specs.Requests.{code_of, asked_of}
-use Rattle.sre_patterns.specs.declared.encoding.Encoding.{Encoding}
-use Rattle.sre_growth.specs.Refusal.{Refused}
+use Rattle.sre_finder.specs.Terms.{◌≡◌, ℕ, true, false, List, Option, Some, None, Ghosts, Tree, Whole, Marks, Match}
+use Rattle.sre_finder.specs.Terms.{found, walk, most_matches, words_of, Request, code_of, asked_of, Encoding, Refused}
+use Rattle.sre_finder.specs.Terms.{Shown, MayTakeMemory}
+use Rattle.std.specs.Prelude.{◌+◌, Bool, cond, [], ◌∷◌, Result, Ok, Err}
+use Rattle.sre_model.specs.Found.{Asked}
 use Rattle.sre_engine.specs.declared.engine.state.SreError.{SreError}
-use Rattle.sre_engine.specs.Answers.{Shown, MayTakeMemory}
 use Rattle.sre_finder.specs.declared.span_iter.Span.{Span}
 use Rattle.sre_finder.specs.declared.span_iter.SpanIter.{SpanIter}
 use Rattle.sre_finder.specs.Spans.{match_with, GoesOnBehind}

@@ -1,24 +1,11 @@
 -- The spans of an iteration's matches, and what a finder of spans knows of its code.
 -- Definitions for the contracts of this crate.
-use Rattle.std.specs.Prelude.{◌≡◌, ◌≤◌, ⊤, ℕ, nat_eq, Option, Some, None}
-use Rattle.regex_hir.specs.Re.{Re}
+use Rattle.sre_finder.specs.Terms.{◌≡◌, ◌≤◌, ⊤, ℕ, nat_eq, Option, Some, None, Re, meaning, Hir, Ghosts, StringCursor}
+use Rattle.sre_finder.specs.Terms.{Tree, Whole, WholeItems, Marks, Match, found, words_of, items_of, uni_of, Code}
+use Rattle.sre_finder.specs.Terms.{Request, string_of, start_of, end_of, code_of, asked_of, stands_in, Shown}
+use Rattle.sre_finder.specs.Terms.{match_shown, view_of, Encoding}
 use Rattle.regex_hir.specs.Matches.{IsMinLen}
-use Rattle.regex_hir.specs.Meaning.{meaning}
-use Rattle.regex_hir.specs.declared.hir.Hir.{Hir}
-use Rattle.sre_chars.specs.declared.string.StrDrive.{Ghosts}
-use Rattle.sre_chars.specs.declared.string.StringCursor.{StringCursor}
-use Rattle.sre_model.specs.Tree.{Tree}
-use Rattle.sre_model.specs.Grammar.{Whole, WholeItems}
-use Rattle.sre_model.specs.Marks.{Marks}
-use Rattle.sre_model.specs.Found.{Match, found}
-use Rattle.sre_code.specs.Codes.{words_of, items_of, uni_of}
-use Rattle.sre_code.specs.declared.code.Code.{Code}
-use Rattle.sre_request.specs.declared.request.Request.{Request}
-use Rattle.sre_request.specs.Requests.{string_of, start_of, end_of, code_of, asked_of, stands_in}
-use Rattle.sre_engine.specs.Answers.{Shown, match_shown}
 use Rattle.sre_patterns.specs.Exact.{ExactTree}
-use Rattle.sre_patterns.specs.Patterns.{view_of}
-use Rattle.sre_patterns.specs.declared.encoding.Encoding.{Encoding}
 use Rattle.sre_finder.specs.declared.span_finder.Known.{Known}
 use Rattle.sre_finder.specs.declared.span_finder.Known.TheVariants as known
 

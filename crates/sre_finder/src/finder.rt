@@ -1,19 +1,13 @@
 //! [`Finder`]: a code with its prefilter.
 
-ghost use Rattle.std.specs.Prelude.{◌≡◌, ◌≤◌, map, IfOk, OnErr, None};
+ghost use Rattle.sre_finder.specs.Terms.{◌≡◌, ◌≤◌, IfOk, OnErr, None, Refused, Tree, Whole, no_marks, walk};
+ghost use Rattle.sre_finder.specs.Terms.{most_matches, words_of, start_of, code_of, asked_of, MayTakeMemory};
+ghost use Rattle.sre_finder.specs.Terms.{KeepsToSteps, runs_of, Answered, AnsweredWithin};
+ghost use Rattle.std.specs.Prelude.{map};
 ghost use Rattle.std.specs.Vec.{vec_len};
-ghost use Rattle.sre_growth.specs.Refusal.{Refused};
-ghost use Rattle.sre_model.specs.Tree.{Tree};
-ghost use Rattle.sre_model.specs.Grammar.{Whole};
-ghost use Rattle.sre_model.specs.Marks.{no_marks};
-ghost use Rattle.sre_model.specs.Found.{walk};
-ghost use Rattle.sre_model.specs.WalkBounds.{most_matches, AreInOrder};
-ghost use Rattle.sre_code.specs.Codes.{words_of};
-ghost use Rattle.sre_request.specs.Requests.{start_of, code_of, asked_of};
-ghost use Rattle.sre_engine.specs.Answers.{MayTakeMemory};
-ghost use Rattle.sre_engine.specs.Counts.{CountsOfWalk, KeepsToSteps, runs_of};
-ghost use Rattle.sre_engine.specs.Searches.{Answered, RunsOnceAnchored};
-ghost use Rattle.sre_engine.specs.Within.{AnsweredWithin};
+ghost use Rattle.sre_model.specs.WalkBounds.{AreInOrder};
+ghost use Rattle.sre_engine.specs.Counts.{CountsOfWalk};
+ghost use Rattle.sre_engine.specs.Searches.{RunsOnceAnchored};
 ghost use Rattle.sre_engine.specs.Listed.{match_of};
 ghost use Rattle.sre_finder.specs.Finders.{EndStands};
 

@@ -1,10 +1,7 @@
 //! What a pattern keeps from text to text, without the code that it borrows.
 
-ghost use Rattle.std.specs.Prelude.{◌≡◌, ℕ, List, None, IfSome};
-ghost use Rattle.sre_chars.specs.Tables.{Table};
-ghost use Rattle.sre_model.specs.Grammar.{behind_block};
-ghost use Rattle.sre_code.specs.Codes.{words_of, uni_of};
-ghost use Rattle.sre_engine.specs.FirstSets.{SetsOf, no_sets};
+ghost use Rattle.sre_finder.specs.Terms.{◌≡◌, ℕ, List, None, IfSome, Table, behind_block, words_of, uni_of, SetsOf};
+ghost use Rattle.sre_engine.specs.FirstSets.{no_sets};
 ghost use Rattle.sre_finder.specs.Kepts.{Suits, encoding_beside};
 
 use crate::pace::{Alone, Debt, FEW_CHARACTERS, Reads};

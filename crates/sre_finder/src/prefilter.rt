@@ -2,12 +2,8 @@
 //!
 //! It searches for a byte pattern that covers the code: first for a required literal, then by DFAs.
 
-ghost use Rattle.std.specs.Prelude.{◌≡◌, ◌≤◌, length, IfSome, true, None};
-ghost use Rattle.sre_model.specs.Tree.{Tree};
-ghost use Rattle.sre_model.specs.Grammar.{Whole};
-ghost use Rattle.sre_code.specs.Codes.{words_of};
-ghost use Rattle.sre_request.specs.Requests.{string_of, end_of, code_of, asked_of};
-ghost use Rattle.regex_hir.specs.Meaning.{meaning};
+ghost use Rattle.sre_finder.specs.Terms.{◌≡◌, ◌≤◌, length, IfSome, true, None, Tree, Whole, words_of, string_of};
+ghost use Rattle.sre_finder.specs.Terms.{end_of, code_of, asked_of, meaning};
 ghost use Rattle.sre_automata.specs.Told.{Tells};
 ghost use Rattle.sre_request.specs.Runs.{run_of, Standing};
 ghost use Rattle.sre_engine.specs.Starts.{NoneUntil, StartFrom};

@@ -1,19 +1,9 @@
 //! The search by a finder of spans, and the run of the machine that shows a span's match.
 
-ghost use Rattle.std.specs.Prelude.{◌≡◌, ◌≤◌, ℕ, List, true, false, IfOk, IfSome, OnErr, None};
-ghost use Rattle.sre_chars.specs.Tables.{Table};
-ghost use Rattle.sre_growth.specs.Refusal.{Refused};
-ghost use Rattle.sre_model.specs.Tree.{Tree};
-ghost use Rattle.sre_model.specs.Grammar.{Whole};
-ghost use Rattle.sre_model.specs.Marks.{no_marks};
-ghost use Rattle.sre_model.specs.Found.{found};
-ghost use Rattle.sre_code.specs.Codes.{items_of, words_of, uni_of};
-ghost use Rattle.sre_engine.specs.FirstSets.{SetsOf};
-ghost use Rattle.sre_request.specs.Requests.{string_of, start_of, end_of, code_of, asked_of, stands_in};
-ghost use Rattle.sre_engine.specs.Answers.{answer_of};
-ghost use Rattle.sre_engine.specs.Counts.{KeepsToSteps, runs_of};
-ghost use Rattle.sre_engine.specs.Searches.{Answered};
-ghost use Rattle.sre_engine.specs.Within.{AnsweredWithin};
+ghost use Rattle.sre_finder.specs.Terms.{◌≡◌, ◌≤◌, ℕ, List, true, false, IfOk, IfSome, OnErr, None, Table, Refused};
+ghost use Rattle.sre_finder.specs.Terms.{Tree, Whole, no_marks, found, items_of, words_of, uni_of, SetsOf, string_of};
+ghost use Rattle.sre_finder.specs.Terms.{start_of, end_of, code_of, asked_of, stands_in, answer_of, KeepsToSteps};
+ghost use Rattle.sre_finder.specs.Terms.{runs_of, Answered, AnsweredWithin};
 ghost use Rattle.sre_finder.specs.Finders.{EndStands};
 ghost use Rattle.sre_finder.specs.Kepts.{Suits};
 ghost use Rattle.sre_finder.specs.Spans.{StepsFrom, ShowsStep, FindsNone};

@@ -1,15 +1,9 @@
 //! The iterator over the spans of all matches.
 
-ghost use Rattle.std.specs.Prelude.{◌≡◌, ◌≤◌, ◌<◌, ◌&&◌, nat_eq, true, false, Some, IfOk, IfSome, OnErr};
-ghost use Rattle.sre_growth.specs.Refusal.{Refused};
-ghost use Rattle.sre_model.specs.Tree.{Tree};
-ghost use Rattle.sre_model.specs.Grammar.{Whole};
-ghost use Rattle.sre_model.specs.Marks.{no_marks};
-ghost use Rattle.sre_model.specs.Found.{found};
-ghost use Rattle.sre_code.specs.Codes.{items_of, words_of};
-ghost use Rattle.sre_request.specs.Requests.{string_of, start_of, end_of, code_of, asked_of, stands_in};
-ghost use Rattle.sre_engine.specs.Answers.{answer_of, match_shown};
-ghost use Rattle.sre_engine.specs.FirstSets.{SetsOf};
+ghost use Rattle.sre_finder.specs.Terms.{◌≡◌, ◌≤◌, ◌<◌, nat_eq, true, false, Some, IfOk, IfSome, OnErr, Refused, Tree};
+ghost use Rattle.sre_finder.specs.Terms.{Whole, no_marks, found, items_of, words_of, string_of, start_of, end_of};
+ghost use Rattle.sre_finder.specs.Terms.{code_of, asked_of, stands_in, answer_of, match_shown, SetsOf};
+ghost use Rattle.std.specs.Prelude.{◌&&◌};
 ghost use Rattle.sre_engine.specs.OneSetsOf.{one_sets_of};
 ghost use Rattle.sre_finder.specs.Finders.{EndStands};
 

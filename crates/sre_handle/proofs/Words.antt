@@ -1,13 +1,11 @@
 -- The machine values of a pointer and of a struct whose one data field is a pointer. Assumes `Logic`.
-use Rattle.std.proofs.Common.{◌≡◌, ◌&&◌, true, refl, subst, lit<, T, List, [], ◌∷◌, ◌++◌}
+use Rattle.sre_handle.proofs.Terms.{◌≡◌, refl, subst, T, List, [], ◌∷◌, ◌++◌, ty_ptr, Val, ent, emp, RattleType, Is}
+use Rattle.sre_handle.proofs.Terms.{Ptr, RawPtr, null_ptr, ptr_val}
+use Rattle.std.proofs.Common.{◌&&◌, true, lit<}
 use seplogic.Ra.Ura.{Ura}
-use mir.Syntax.{ty_ptr}
-use mir.Val.{Val, vstruct, vcons, vnil, of_list, has_ty, WT}
-use base.Logic.{ent, emp}
+use mir.Val.{vstruct, vcons, vnil, of_list, has_ty, WT}
 use types.Logic.{Logic, sem}
-use denote.RattleType.{RattleType}
-use denote.Laws.{Is}
-use denote.RawPtr.{Ptr, RawPtr, block_ptr, null_ptr, ptr_val}
+use denote.RawPtr.{block_ptr}
 use denote.Shadow.{makes_shadow}
 use denote.Struct.Struct.{Struct}
 use Rattle.std.proofs.cell.Inside.{Good}

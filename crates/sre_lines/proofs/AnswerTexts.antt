@@ -1,6 +1,5 @@
 -- Answers that are written part by part.
-use Rattle.std.proofs.Common.{ℕ, ◌≡◌, ◌∙◌, List, ◌++◌, Result, Ok, Err, ap, sym, append_assoc}
-use Rattle.std.specs.Prelude.{OnOk, codes}
+use Rattle.sre_lines.proofs.Terms.{ℕ, ◌≡◌, ◌∙◌, List, ◌++◌, Result, Ok, Err, ap, sym, append_assoc, OnOk, codes}
 
 one_by_one : (xs a b c : List ℕ) → xs ++ (a ++ b ++ c) ≡ xs ++ a ++ b ++ c
 one_by_one xs a b c = sym (append_assoc xs (a ++ b) c) ∙ ap (λ l. l ++ c) (sym (append_assoc xs a b))

@@ -1,33 +1,22 @@
 -- Why a line is no case: what is known of the fields that are read.
-use Rattle.std.proofs.Common.{◌≡◌, ◌≢◌, ◌==◌, ◌+◌, ◌*◌, ◌/◌, ◌%◌, ◌^◌, ◌≤◌, ◌<◌, ℕ, List, [], ◌∷◌, ◌++◌, map}
-use Rattle.std.proofs.Common.{true, false, Option, Some, None, length, get_or, refl, sym, ap, subst, ◌∙◌, arith}
-use Rattle.std.proofs.Common.{append_assoc}
-use Rattle.std.specs.Prelude.{All, Contains, IfSome, IfNone, codes}
-use Rattle.std.specs.Fmt.{decimal, digit_glyph}
-use Rattle.std.specs.Int.{IsInRange}
-use Rattle.std.specs.Str.Parse.{IsNumeral, digits_value}
-use Rattle.std.proofs.lemmas.Bool.{eqb-true}
+use Rattle.sre_lines.proofs.Terms.{◌≡◌, ◌≢◌, ◌==◌, ◌+◌, ◌*◌, ◌/◌, ◌%◌, ◌^◌, ◌≤◌, ◌<◌, ℕ, List, [], ◌∷◌, ◌++◌, map, true}
+use Rattle.sre_lines.proofs.Terms.{false, Option, Some, None, length, get_or, refl, sym, ap, subst, ◌∙◌, arith}
+use Rattle.sre_lines.proofs.Terms.{append_assoc, All, Contains, IfSome, IfNone, codes, decimal, digit_glyph, IsInRange}
+use Rattle.sre_lines.proofs.Terms.{IsNumeral, digits_value, eqb-true, All-nil, All-head, All-tail, All-push}
+use Rattle.sre_lines.proofs.Terms.{decimal-digits_value, IsNumeralModel, numerals_by_value, Check, Finding, Subject}
+use Rattle.sre_lines.proofs.Terms.{TextForm, Bytes, Utf8, Verb, Span, verb_text, form_text, hex_text, bytes_text}
+use Rattle.sre_lines.proofs.Terms.{words_text, AreWords, window_text, flags_text, subject_text, IsSubject, IsNoCase}
+use Rattle.sre_lines.proofs.Terms.{parts_at, IsCauseOf, IsHexDigit, IsWords, IsBytes, IsPlace, IsWindowField}
+use Rattle.sre_lines.proofs.Terms.{IsFlagsField}
 use Rattle.std.proofs.lemmas.List.{map-append}
-use Rattle.std.proofs.lemmas.List.Elements.{All-nil, All-cons, All-head, All-tail, All-push}
-use Rattle.std.proofs.lemmas.Fmt.{decimal-digits_value}
-use Rattle.std.proofs.lemmas.Str.Parse.{IsNumeralModel, numerals_by_value}
-use Rattle.sre_lines.specs.declared.line.Case.TheVariants.{Check, Find}
-use Rattle.sre_lines.specs.declared.line.Finding.{Finding}
-use Rattle.sre_lines.specs.declared.line.Subject.{Subject}
-use Rattle.sre_lines.specs.declared.line.TextForm.{TextForm}
-use Rattle.sre_lines.specs.declared.line.TextForm.TheVariants.{Bytes, Utf8}
-use Rattle.sre_lines.specs.declared.line.Verb.{Verb}
+use Rattle.std.proofs.lemmas.List.Elements.{All-cons}
+use Rattle.sre_lines.specs.declared.line.Case.TheVariants.{Find}
 use Rattle.sre_lines.specs.declared.line.Verb.TheVariants.{Check as Verb-Check, Find as Verb-Find}
-use Rattle.sre_lines.specs.declared.line.Window.TheVariants.{Span}
 use Rattle.sre_lines.specs.declared.cause.Cause.{Cause}
 use Rattle.sre_lines.specs.declared.cause.Cause.TheVariants.{FieldMissing, FieldTooMany, NotUtf8}
 use Rattle.sre_lines.specs.declared.cause.NumberFault.{NumberFault}
-use Rattle.sre_lines.specs.Fields.{verb_text, form_text, hex_text, bytes_text, words_text, AreWords, window_text}
-use Rattle.sre_lines.specs.Fields.{flags_text, subject_text, IsSubject}
-use Rattle.sre_lines.specs.Lines.{IsNoCase}
-use Rattle.sre_lines.specs.Causes.{parts_at, fields_of, field_count, IsCause, IsCauseOf, IsNoSubject, IsHexDigit}
-use Rattle.sre_lines.specs.Causes.{IsWord, IsWords, IsWordsFault, IsNumberFault, IsBytes, HasEnds, IsPlace}
-use Rattle.sre_lines.specs.Causes.{IsWindowField, IsFlagsField}
+use Rattle.sre_lines.specs.Causes.{fields_of, field_count, IsCause, IsNoSubject}
+use Rattle.sre_lines.specs.Causes.{IsWord, IsWordsFault, IsNumberFault, HasEnds}
 use Rattle.sre_lines.proofs.Cuts.{cut_once, uncut}
 use Rattle.sre_lines.proofs.Parted.{first_part_at, only_part_at}
 use Rattle.sre_lines.proofs.Lines.{form_lacks}

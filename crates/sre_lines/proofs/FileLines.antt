@@ -1,19 +1,11 @@
 -- The lines of a file, answered one after the other.
-use Rattle.std.proofs.Common.{◌≡◌, ◌+◌, ◌≤◌, ℕ, suc, List, [], ◌∷◌, ◌++◌, Option, Some, None}
-use Rattle.std.proofs.Common.{Result, Ok, Err, length, refl, sym, ap, ◌∙◌, arith, inr}
-use Rattle.std.proofs.Common.{append_assoc, length-append}
-use Rattle.std.proofs.lemmas.List.{append-nil}
-use Rattle.std.specs.Prelude.{Contains, OnOk, OnErr, IfErr, codes}
-use Rattle.std.specs.Io.KnownBytes.{Appends}
-use Rattle.sre_chars.specs.Tables.{Table}
-use Rattle.sre_lines.specs.declared.line.Case.{Case}
-use Rattle.sre_lines.specs.declared.cases.CaseFault.{CaseFault}
-use Rattle.sre_lines.specs.declared.cases.Detail.{Detail}
-use Rattle.sre_lines.specs.declared.cases.CaseFault.TheVariants.{NotACase, OutputFailed}
-use Rattle.sre_lines.specs.Fields.{case_text, IsCase}
+use Rattle.sre_lines.proofs.Terms.{◌≡◌, ◌+◌, ◌≤◌, ℕ, suc, List, [], ◌∷◌, ◌++◌, Option, Some, None, Result, Ok, Err}
+use Rattle.sre_lines.proofs.Terms.{length, refl, sym, ap, ◌∙◌, arith, inr, append_assoc, length-append, append-nil}
+use Rattle.sre_lines.proofs.Terms.{Contains, OnOk, OnErr, IfErr, codes, Appends, Table, Case, CaseFault, Detail}
+use Rattle.sre_lines.proofs.Terms.{NotACase, OutputFailed, case_text, IsCase, lines_of, IsAnswered, AreAnswered}
+use Rattle.sre_lines.proofs.Terms.{Answered, IsNoCase, IsBegun, StopsAt}
 use Rattle.sre_lines.specs.Cases.{IsAnswer}
 use Rattle.sre_lines.proofs.Parted.{first_part_at, only_part_at}
-use Rattle.sre_lines.specs.Lines.{lines_of, IsAnswered, AreAnswered, Answered, IsNoCase, IsBegun, StopsAt}
 
 -- what follows of an answer follows where it is there, and of a fault likewise
 pub where_ok : {U E : Type 0} {A B : Type 0} (r : Result U E) → (A → B) → OnOk r A → OnOk r B

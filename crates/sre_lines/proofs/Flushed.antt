@@ -1,17 +1,11 @@
 -- A flush that fails after the answers.
-use Rattle.std.proofs.Common.{◌≡◌, ◌==◌, ◌<◌, ◌≢◌, ◌∙◌, ℕ, List, [], ◌∷◌, ◌++◌, Option, Some, None, Result, Ok, Err}
-use Rattle.std.proofs.Common.{length, refl, sym, ap, subst, arith, inl, inr, append_assoc}
-use Rattle.std.specs.Prelude.{IfErr, OnOk}
-use Rattle.std.specs.Io.KnownBytes.{Appends, Keeps}
-use Rattle.std.proofs.KnownBytes.{Appends-kept}
-use Rattle.std.proofs.lemmas.List.{append-nil}
-use Rattle.std.proofs.lemmas.List.Splits.{length-slice_split}
-use Rattle.sre_chars.specs.Tables.{Table}
-use Rattle.sre_lines.specs.declared.cases.Detail.{Detail}
-use Rattle.sre_lines.specs.declared.cases.CaseFault.{CaseFault}
-use Rattle.sre_lines.specs.declared.cases.CaseFault.TheVariants.{Usage, CannotRead, NotATable, NotACase, NoMemory}
-use Rattle.sre_lines.specs.declared.cases.CaseFault.TheVariants.{OutputFailed}
-use Rattle.sre_lines.specs.Lines.{lines_of, IsAnswered, AreAnswered, Answered, IsBegun, StopsAt}
+use Rattle.sre_lines.proofs.Terms.{◌≡◌, ◌==◌, ◌<◌, ◌≢◌, ◌∙◌, ℕ, List, [], ◌∷◌, ◌++◌, Option, Some, None, Result, Ok}
+use Rattle.sre_lines.proofs.Terms.{Err, length, refl, sym, ap, subst, arith, inl, inr, append_assoc, IfErr, OnOk}
+use Rattle.sre_lines.proofs.Terms.{Appends, Appends-kept, append-nil, length-slice_split, Table, Detail, CaseFault}
+use Rattle.sre_lines.proofs.Terms.{NotATable, NotACase, NoMemory, OutputFailed, lines_of, IsAnswered, AreAnswered}
+use Rattle.sre_lines.proofs.Terms.{Answered, IsBegun, StopsAt}
+use Rattle.std.specs.Io.KnownBytes.{Keeps}
+use Rattle.sre_lines.specs.declared.cases.CaseFault.TheVariants.{Usage, CannotRead}
 
 -- the last of some lines
 record Last (detail : Detail) (table : Table) (lines : List (List ℕ)) (out : List ℕ) : Type 0 where

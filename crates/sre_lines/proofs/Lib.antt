@@ -13,3 +13,4 @@ pub mod Parted
 pub mod LineAt
 pub mod TableFiles
 pub mod TableFaults
+pub mod Terms

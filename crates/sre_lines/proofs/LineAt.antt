@@ -1,8 +1,6 @@
 -- The line of a number in a file.
-use Rattle.std.proofs.Common.{◌≡◌, ◌+◌, ◌≤◌, ℕ, List, [], ◌∷◌, ◌++◌, length, refl, sym, ap, ◌∙◌, arith}
-use Rattle.std.proofs.Common.{append_assoc, length-append}
-use Rattle.std.specs.Prelude.{Contains}
-use Rattle.sre_lines.specs.Lines.{lines_of, IsLineAt}
+use Rattle.sre_lines.proofs.Terms.{◌≡◌, ◌+◌, ◌≤◌, ℕ, List, [], ◌∷◌, ◌++◌, length, refl, sym, ap, ◌∙◌, arith}
+use Rattle.sre_lines.proofs.Terms.{append_assoc, length-append, Contains, lines_of, IsLineAt}
 use Rattle.sre_lines.proofs.Parted.{first_part_at, only_part_at}
 
 -- the line of a number begins what is left

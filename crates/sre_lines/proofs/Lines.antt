@@ -1,23 +1,17 @@
 -- Lines cut at their spaces.
-use Rattle.std.proofs.Common.{◌≡◌, ◌≢◌, ℕ, ◌/◌, ◌%◌, ◌<◌, ◌^◌, false, List, [], ◌∷◌, ◌++◌, length, get_or, zero, suc}
-use Rattle.std.proofs.Common.{arith, refl, sym, ap, subst, ◌∙◌, inl, inr}
-use Rattle.std.specs.Prelude.{All, Contains, codes}
-use Rattle.std.specs.Fmt.{decimal, digit_glyph}
-use Rattle.std.proofs.lemmas.Bool.Decides.{nat_tests}
-use Rattle.std.proofs.lemmas.List.Elements.{All-head, All-tail, Contains-append_cases}
-use Rattle.sre_lines.specs.declared.line.TextForm.{TextForm}
-use Rattle.sre_lines.specs.declared.line.TextForm.TheVariants.{Bytes, Utf8}
-use Rattle.sre_lines.specs.declared.line.Subject.{Subject}
+use Rattle.sre_lines.proofs.Terms.{◌≡◌, ◌≢◌, ℕ, ◌/◌, ◌%◌, ◌<◌, ◌^◌, false, List, [], ◌∷◌, ◌++◌, length, get_or, zero}
+use Rattle.sre_lines.proofs.Terms.{suc, arith, refl, sym, ap, subst, ◌∙◌, inl, inr, All, Contains, codes, decimal}
+use Rattle.sre_lines.proofs.Terms.{digit_glyph, nat_tests, All-head, All-tail, TextForm, Bytes, Utf8, Subject, Span}
+use Rattle.sre_lines.proofs.Terms.{hex_text, words_text, window_text, flags_text, form_text, bytes_text, IsText}
+use Rattle.sre_lines.proofs.Terms.{IsSubject, IsCase, subject_text, AreWords, verb_text, case_text, Case, Check, Verb}
+use Rattle.sre_lines.proofs.Terms.{Finding}
+use Rattle.std.proofs.lemmas.List.Elements.{Contains-append_cases}
 use Rattle.sre_lines.specs.declared.line.Window.{Window}
-use Rattle.sre_lines.specs.declared.line.Window.TheVariants.{Whole, Span}
-use Rattle.sre_lines.specs.Fields.{hex_text, words_text, window_text, IsWindow, flags_text, form_text, bytes_text}
-use Rattle.sre_lines.specs.Fields.{IsText, IsSubject, IsCase, subject_text, AreWords, verb_text, verb, fields_text}
-use Rattle.sre_lines.specs.Fields.{case_text}
-use Rattle.sre_lines.specs.declared.line.Case.{Case}
-use Rattle.sre_lines.specs.declared.line.Case.TheVariants.{Check, Find}
-use Rattle.sre_lines.specs.declared.line.Verb.{Verb}
+use Rattle.sre_lines.specs.declared.line.Window.TheVariants.{Whole}
+use Rattle.sre_lines.specs.Fields.{IsWindow}
+use Rattle.sre_lines.specs.Fields.{verb, fields_text}
+use Rattle.sre_lines.specs.declared.line.Case.TheVariants.{Find}
 use Rattle.sre_lines.specs.declared.line.Verb.TheVariants.{Check as Verb-Check, Find as Verb-Find}
-use Rattle.sre_lines.specs.declared.line.Finding.{Finding}
 use Rattle.sre_lines.specs.declared.line.Finding.TheVariants.{Match, Search, Walk}
 use Rattle.sre_lines.proofs.Cuts.{cut_once, uncut}
 use Rattle.sre_lines.proofs.Numbers.{decimal_lacks}

@@ -1,18 +1,16 @@
 -- What `parse` reads of digits that begin as a number.
-use Rattle.std.proofs.Common.{◌≡◌, ◌≢◌, ℕ, ◌^◌, ◌<◌, List, length, get_or, Result, Ok, Err, arith, refl, sym, subst}
-use Rattle.std.proofs.Common.{zero, suc, lit<, ◌≤◌, ◌∙◌}
-use Rattle.std.specs.Prelude.{Contains}
-use Rattle.std.proofs.lemmas.List.{get_or_default}
-use Rattle.std.specs.Fmt.{decimal}
+use Rattle.sre_lines.proofs.Terms.{◌≡◌, ◌≢◌, ℕ, ◌^◌, ◌<◌, List, length, get_or, Result, Ok, Err, arith, refl, sym}
+use Rattle.sre_lines.proofs.Terms.{subst, zero, suc, ◌≤◌, ◌∙◌, Contains, get_or_default, decimal, digits_value}
+use Rattle.sre_lines.proofs.Terms.{IsInRange, decimal-digits_value, decimal_injective, IsNumeralModel}
+use Rattle.sre_lines.proofs.Terms.{numerals_by_value, BeginsAsNumber}
+use Rattle.std.proofs.Common.{lit<}
 use Rattle.std.specs.Str.{IsUtf8}
-use Rattle.std.specs.Str.Parse.{ParsesUnsigned, AllDigits, digits_value}
-use Rattle.std.specs.Int.{IsInRange}
+use Rattle.std.specs.Str.Parse.{ParsesUnsigned, AllDigits}
 use Rattle.std.proofs.lemmas.Fmt.{decimal_digit, decimal_nonempty, first_decimal, digits_decimal}
-use Rattle.std.proofs.lemmas.Fmt.{decimal-digits_value, decimal_injective, parse-decimal, IsAscii-decimal}
-use Rattle.std.proofs.lemmas.Str.Parse.{IsNumeralModel, numerals_by_value, tells_digits, parse_plain, digit_at}
+use Rattle.std.proofs.lemmas.Fmt.{parse-decimal, IsAscii-decimal}
+use Rattle.std.proofs.lemmas.Str.Parse.{tells_digits, parse_plain, digit_at}
 use Rattle.std.proofs.lemmas.Str.Parse.{not_in_digits}
 use Rattle.std.proofs.lemmas.Str.{IsUtf8-from_ascii}
-use Rattle.sre_lines.specs.Fields.{BeginsAsNumber}
 
 own : IsNumeralModel (AllDigits 10) (digits_value 10)
 own = numerals_by_value (AllDigits 10) tells_digits

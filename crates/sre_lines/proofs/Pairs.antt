@@ -1,12 +1,8 @@
 -- Bytes and their pairs of hexadecimal digits.
-use Rattle.std.proofs.Common.{◌≡◌, ◌≢◌, ℕ, ◌+◌, ◌*◌, ◌/◌, ◌%◌, ◌<◌, false, List, [], ◌∷◌, ◌++◌, length, get_or, take}
-use Rattle.std.proofs.Common.{zero, suc, arith, refl, sym, ap, ◌∙◌, append_assoc, add-one}
-use Rattle.std.specs.Prelude.{All}
-use Rattle.std.proofs.lemmas.Bool.Decides.{nat_tests}
-use Rattle.std.proofs.lemmas.List.Elements.{All-get_or, All-head, All-tail}
-use Rattle.std.specs.Fmt.{digit_glyph}
-use Rattle.std.proofs.Math.Seq.{take-suc}
-use Rattle.sre_lines.specs.Fields.{hex_text}
+use Rattle.sre_lines.proofs.Terms.{◌≡◌, ◌≢◌, ℕ, ◌+◌, ◌*◌, ◌/◌, ◌%◌, ◌<◌, false, List, [], ◌∷◌, ◌++◌, length, get_or}
+use Rattle.sre_lines.proofs.Terms.{take, zero, suc, arith, refl, sym, ap, ◌∙◌, append_assoc, add-one, All, nat_tests}
+use Rattle.sre_lines.proofs.Terms.{All-head, All-tail, digit_glyph, take-suc, hex_text}
+use Rattle.std.proofs.lemmas.List.Elements.{All-get_or}
 
 hex_text-append : (bs cs : List ℕ) → hex_text (bs ++ cs) ≡ hex_text bs ++ hex_text cs
 hex_text-append [] cs = refl

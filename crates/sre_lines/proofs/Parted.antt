@@ -1,11 +1,8 @@
 -- A list between bytes: its first part, or the only one.
-use Rattle.std.proofs.Common.{◌≡◌, ◌==◌, ◌<◌, ℕ, List, [], ◌∷◌, ◌++◌, Bool, true, false, length, get_or, refl, sym, ◌∙◌}
-use Rattle.std.proofs.Common.{arith, rules}
-use Rattle.std.specs.Prelude.{All, Contains}
-use Rattle.std.proofs.lemmas.Bool.{eqb-true}
-use Rattle.std.proofs.lemmas.List.{get_or_default}
-use Rattle.std.proofs.lemmas.List.Splits.{slice_split_at, slice_split_none, length-slice_split}
-use Rattle.sre_lines.specs.Causes.{parts_at}
+use Rattle.sre_lines.proofs.Terms.{◌≡◌, ◌==◌, ◌<◌, ℕ, List, [], ◌∷◌, ◌++◌, Bool, true, false, length, get_or, refl, sym}
+use Rattle.sre_lines.proofs.Terms.{◌∙◌, arith, rules, All, Contains, eqb-true, get_or_default, length-slice_split}
+use Rattle.sre_lines.proofs.Terms.{parts_at}
+use Rattle.std.proofs.lemmas.List.Splits.{slice_split_at, slice_split_none}
 
 not_true : (b : Bool) → ¬ (b ≡ true) → b ≡ false
 not_true true other = absurd (other refl)

@@ -1,17 +1,12 @@
 -- Pieces that are written one after the other: where a write fails, a part of them all was written.
-use Rattle.std.proofs.Common.{ℕ, ◌≡◌, ◌∙◌, List, ◌++◌, Option, Some, None, Result, Ok, Err}
-use Rattle.std.proofs.Common.{sym, ap, subst, append_assoc, inl, inr}
-use Rattle.std.specs.Prelude.{OnOk, OnErr, IfOk, Vec, String, string_bytes}
+use Rattle.sre_lines.proofs.Terms.{ℕ, ◌≡◌, ◌∙◌, List, ◌++◌, Option, Some, None, Result, Ok, Err, sym, ap, subst}
+use Rattle.sre_lines.proofs.Terms.{append_assoc, inl, inr, OnOk, OnErr, Appends, Appends-trans, AppendsPart, Table}
+use Rattle.sre_lines.proofs.Terms.{CaseFault, Detail}
+use Rattle.std.specs.Prelude.{IfOk, Vec, String, string_bytes}
 use Rattle.std.specs.Global.{Global}
-use Rattle.std.specs.Io.KnownBytes.{Appends}
-use Rattle.std.proofs.KnownBytes.{Appends-trans}
-use Rattle.sre_lines.specs.Output.{AppendsPart}
-use Rattle.sre_chars.specs.Tables.{Table}
 use Rattle.sre_lines.specs.Answers.{fault_text}
 use Rattle.sre_lines.specs.Program.{Reading, AnswersFile, IsEndOf, FileRun, end_of, Tells}
 use Rattle.sre_lines.specs.Program.{TellsFault, IsTablelessEnd, IsTableFault, IsTableless, IsTable, CallRun}
-use Rattle.sre_lines.specs.declared.cases.CaseFault.{CaseFault}
-use Rattle.sre_lines.specs.declared.cases.Detail.{Detail}
 use Rattle.sre_lines.specs.declared.program.Ending.{Ending}
 use Rattle.sre_lines.specs.declared.program.Ending.TheVariants.{AllAnswered, Told, Untold}
 use Rattle.sre_lines.specs.declared.program.Call.{Call}

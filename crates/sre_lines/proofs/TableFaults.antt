@@ -1,11 +1,9 @@
 -- No fault of a table's lists is the want of memory.
-use Rattle.std.proofs.Common.{◌≡◌, ◌≢◌, ◌∙◌, ◌+◌, ℕ, List, [], ◌∷◌, Bool, true, false, Option, Some, None, Result, Err}
-use Rattle.std.proofs.Common.{ap, refl, rules}
+use Rattle.sre_lines.proofs.Terms.{◌≡◌, ◌≢◌, ◌∙◌, ◌+◌, ℕ, List, [], ◌∷◌, Bool, true, false, Option, Some, None, Result}
+use Rattle.sre_lines.proofs.Terms.{Err, ap, refl, rules, table_fault, Table, lists_fault, table_with}
 use Rattle.std.specs.Prelude.{if◌then◌else◌, not, nat_lt, ◌||◌}
 use Rattle.std.specs.Option.{option_or}
-use Rattle.sre_chars.specs.Errors.{entry_fault, list_fault, table_fault, is_scalar_entry, last_of}
-use Rattle.sre_chars.specs.Tables.{Table}
-use Rattle.sre_chars.specs.Lists.{lists_fault, table_with}
+use Rattle.sre_chars.specs.Errors.{entry_fault, list_fault, is_scalar_entry, last_of}
 use Rattle.sre_chars.specs.declared.table.UniError.{UniError}
 use Rattle.sre_chars.specs.declared.table.UniError.TheVariants.{Memory, Unsorted, AsciiEntry, NotScalar}
 use Rattle.sre_lines.specs.declared.table.TableFault.{TableFault}

@@ -1,16 +1,13 @@
 -- A table's file, list by list.
-use Rattle.std.proofs.Common.{◌≡◌, ◌≢◌, ◌+◌, ◌*◌, ◌%◌, ◌<◌, ◌^◌, ℕ, suc, List, [], ◌∷◌, ◌++◌, length, get_or, take}
-use Rattle.std.proofs.Common.{refl, sym, ap, ap₂, ◌∙◌, arith, append_assoc, add-one}
-use Rattle.std.proofs.Common.{Option, Some, None, Bor}
-use Rattle.std.specs.Prelude.{codes, IfSome, IfNone}
+use Rattle.sre_lines.proofs.Terms.{◌≡◌, ◌≢◌, ◌+◌, ◌*◌, ◌%◌, ◌<◌, ◌^◌, ℕ, suc, List, [], ◌∷◌, ◌++◌, length, get_or, take}
+use Rattle.sre_lines.proofs.Terms.{refl, sym, ap, ◌∙◌, arith, append_assoc, add-one, Option, Some, None, codes, IfSome}
+use Rattle.sre_lines.proofs.Terms.{IfNone, decimal, decimal_injective, All-head, All-tail, take-suc, words_text}
+use Rattle.sre_lines.proofs.Terms.{AreWords, numbers_of}
+use Rattle.std.proofs.Common.{ap₂}
+use Rattle.std.proofs.Common.{Bor}
 use Rattle.std.specs.Option.{MatchOption}
-use Rattle.std.specs.Fmt.{decimal}
-use Rattle.std.proofs.lemmas.Fmt.{decimal_injective}
 use Rattle.std.proofs.lemmas.List.{append_cancel_left}
-use Rattle.std.proofs.lemmas.List.Elements.{All-head, All-tail}
-use Rattle.std.proofs.Math.Seq.{take-suc}
-use Rattle.sre_lines.specs.Fields.{words_text, AreWords}
-use Rattle.sre_lines.specs.TableFiles.{numbers_of, list_text, LacksList, LeavesList}
+use Rattle.sre_lines.specs.TableFiles.{list_text, LacksList, LeavesList}
 use Rattle.sre_lines.proofs.Cuts.{cut_once, uncut}
 use Rattle.sre_lines.proofs.Words.{numbers_text}
 use Rattle.sre_lines.proofs.Lines.{Lacks, lacks_cons, lacks_nil, number_lacks, words_lack}

@@ -1,8 +1,6 @@
 -- An iteration's text, as it is written: what is there and what is still to come make the whole.
-use Rattle.std.proofs.Common.{◌≡◌, ◌∙◌, ℕ, List, ◌∷◌, ◌++◌, Bool, true, false, refl, sym, ap}
-use Rattle.std.proofs.Common.{append_assoc}
-use Rattle.sre_engine.specs.Tree.{Tree}
-use Rattle.sre_engine.specs.Grammar.{Whole}
+use Rattle.sre_lines.proofs.Terms.{◌≡◌, ◌∙◌, ℕ, List, ◌∷◌, ◌++◌, Bool, true, false, refl, sym, ap, append_assoc, Tree}
+use Rattle.sre_lines.proofs.Terms.{Whole}
 use Rattle.sre_engine.specs.Marks.{Marks, no_marks}
 use Rattle.sre_engine.specs.Found.{Match}
 use Rattle.sre_finder.specs.Spans.{match_with}

@@ -1,11 +1,8 @@
 -- Words read one after the other from numbers divided by commas.
-use Rattle.std.proofs.Common.{◌≡◌, ◌≢◌, ℕ, ◌<◌, ◌^◌, List, [], ◌∷◌, ◌++◌, map, arith, sym, ◌∙◌, append_assoc}
-use Rattle.std.proofs.Common.{Result, Ok, Err}
-use Rattle.std.specs.Prelude.{Contains, OnOk, codes}
-use Rattle.std.specs.Fmt.{decimal}
+use Rattle.sre_lines.proofs.Terms.{◌≡◌, ◌≢◌, ℕ, ◌<◌, ◌^◌, List, [], ◌∷◌, ◌++◌, map, arith, sym, ◌∙◌, append_assoc}
+use Rattle.sre_lines.proofs.Terms.{Result, Ok, Err, Contains, OnOk, codes, decimal, All-head, All-tail, All-push}
+use Rattle.sre_lines.proofs.Terms.{words_text, AreWords}
 use Rattle.std.specs.List.{join_with_byte}
-use Rattle.std.proofs.lemmas.List.Elements.{All-head, All-tail, All-push}
-use Rattle.sre_lines.specs.Fields.{words_text, AreWords}
 use Rattle.sre_lines.proofs.Cuts.{cut_once, uncut}
 use Rattle.sre_lines.proofs.Numbers.{decimal_lacks}
 

@@ -1,13 +1,8 @@
 -- What answers and faults are written as.
-use Rattle.std.specs.Prelude.{ℕ, ◌≤◌, Bool, true, false, Option, Some, None, List, [], ◌∷◌, ◌++◌, codes}
-use Rattle.std.specs.Fmt.{decimal}
-use Rattle.std.specs.List.{flat_map}
-use Rattle.sre_growth.specs.Refusal.{Refused}
-use Rattle.sre_chars.specs.declared.table.UniError.{UniError}
+use Rattle.sre_lines.specs.Terms.{ℕ, ◌≤◌, Bool, true, false, Option, Some, None, List, [], ◌∷◌, ◌++◌, codes, decimal}
+use Rattle.sre_lines.specs.Terms.{flat_map, Refused, UniError, place_of, CodeError, Memory}
 use Rattle.sre_chars.specs.declared.table.UniError.TheVariants.{Memory as No-Memory, Unsorted, AsciiEntry, NotScalar}
-use Rattle.sre_engine.specs.Refusals.{place_of}
-use Rattle.sre_code.specs.declared.code.error.CodeError.{CodeError}
-use Rattle.sre_code.specs.declared.code.error.CodeError.TheVariants.{Memory, Truncated, UnknownOpcode, UnknownAt}
+use Rattle.sre_code.specs.declared.code.error.CodeError.TheVariants.{Truncated, UnknownOpcode, UnknownAt}
 use Rattle.sre_code.specs.declared.code.error.CodeError.TheVariants.{UnknownCategory, BadSkip, BadCounts, BadItem}
 use Rattle.sre_code.specs.declared.code.error.CodeError.TheVariants.{BadSet, BadInfo, TrailingWords}
 use Rattle.sre_lines.specs.declared.cases.CaseFault.{CaseFault}

@@ -1,19 +1,13 @@
 -- What a case requests, and how it is answered.
-use Rattle.std.specs.Prelude.{ℕ, ◌≡◌, ◌≢◌, ◌≤◌, ◌⊎◌, ◌++◌, Bool, true, false, List, [], ◌∷◌, length, min}
-use Rattle.std.specs.Prelude.{Option, Some, None}
-use Rattle.std.specs.Prelude.{codes}
-use Rattle.std.specs.Fmt.{decimal, signed_decimal}
-use Rattle.std.specs.List.{flat_map}
+use Rattle.sre_lines.specs.Terms.{ℕ, ◌≡◌, ◌≢◌, ◌≤◌, ◌⊎◌, ◌++◌, Bool, true, false, List, [], ◌∷◌, length, Option, Some}
+use Rattle.sre_lines.specs.Terms.{None, codes, decimal, signed_decimal, flat_map, Table, Tree, Whole, found, walk}
+use Rattle.sre_lines.specs.Terms.{place_of, CodeError, Memory}
+use Rattle.std.specs.Prelude.{min}
 use Rattle.std.specs.Str.{chars}
-use Rattle.sre_chars.specs.Tables.{Table}
-use Rattle.sre_engine.specs.Tree.{Tree}
-use Rattle.sre_engine.specs.Grammar.{Whole, IsCode}
+use Rattle.sre_engine.specs.Grammar.{IsCode}
 use Rattle.sre_engine.specs.Hinted.{Confirmed}
-use Rattle.sre_engine.specs.Found.{Asked, Match, matched, found, walk}
+use Rattle.sre_engine.specs.Found.{Asked, Match, matched}
 use Rattle.sre_engine.specs.Hints.{Hints}
-use Rattle.sre_engine.specs.Refusals.{place_of}
-use Rattle.sre_code.specs.declared.code.error.CodeError.{CodeError}
-use Rattle.sre_code.specs.declared.code.error.CodeError.TheVariants.{Memory}
 use Rattle.sre_lines.specs.declared.cases.Detail.{Detail}
 use Rattle.sre_lines.specs.declared.cases.Detail.TheVariants.{Plain, Explained}
 use Rattle.sre_lines.specs.declared.line.Case.{Case}

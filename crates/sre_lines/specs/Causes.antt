@@ -1,10 +1,8 @@
 -- Why a line is no case, and how that is reported.
-use Rattle.std.specs.Prelude.{ℕ, ◌≡◌, ◌≢◌, ◌==◌, ◌%◌, ◌^◌, ◌<◌, ◌≤◌, ◌⊎◌, List, [], ◌∷◌, ◌++◌, map, codes}
-use Rattle.std.specs.Prelude.{length, slice_index, All, Contains, false}
-use Rattle.std.specs.Fmt.{decimal, digit_glyph}
-use Rattle.std.specs.List.{slice_split}
-use Rattle.std.specs.Str.{IsUtf8}
-use Rattle.std.specs.Str.Parse.{IsNumeral, digits_value}
+use Rattle.sre_lines.specs.Terms.{ℕ, ◌≡◌, ◌≢◌, ◌==◌, ◌%◌, ◌^◌, ◌<◌, ◌≤◌, ◌⊎◌, List, [], ◌∷◌, ◌++◌, map, codes, length}
+use Rattle.sre_lines.specs.Terms.{slice_index, All, Contains, false, decimal, digit_glyph, slice_split, IsUtf8}
+use Rattle.sre_lines.specs.Terms.{IsNumeral}
+use Rattle.std.specs.Str.Parse.{digits_value}
 use Rattle.sre_lines.specs.declared.cause.Cause.{Cause}
 use Rattle.sre_lines.specs.declared.cause.Cause.TheVariants.{UnknownCommand, FieldMissing, FieldTooMany, Words, Text}
 use Rattle.sre_lines.specs.declared.cause.Cause.TheVariants.{NotUtf8, Window as At-Window, Flags as At-Flags}

@@ -6,3 +6,4 @@ pub mod Lines
 pub mod Output
 pub mod Program
 pub mod TableFiles
+pub mod Terms

@@ -1,8 +1,6 @@
 -- The lines of a file of cases, and what is written for them.
-use Rattle.std.specs.Prelude.{ℕ, ◌≡◌, ◌≢◌, ◌==◌, ◌+◌, ◌⊎◌, Option, List, [], ◌∷◌, ◌++◌, length, slice_index}
-use Rattle.std.specs.List.{slice_split}
-use Rattle.std.specs.Io.KnownBytes.{Appends}
-use Rattle.sre_chars.specs.Tables.{Table}
+use Rattle.sre_lines.specs.Terms.{ℕ, ◌≡◌, ◌≢◌, ◌==◌, ◌+◌, ◌⊎◌, Option, List, [], ◌∷◌, ◌++◌, length, slice_index}
+use Rattle.sre_lines.specs.Terms.{slice_split, Appends, Table}
 use Rattle.sre_lines.specs.declared.line.Case.{Case}
 use Rattle.sre_lines.specs.declared.cases.Detail.{Detail}
 use Rattle.sre_lines.specs.declared.cases.CaseFault.{CaseFault}

@@ -1,17 +1,13 @@
 -- What the program is given, and how it ends.
-use Rattle.std.specs.Prelude.{ℕ, ◌≡◌, ◌≢◌, ◌⊎◌, ◌++◌, ◌∷◌, [], List, Option, None, Some, Result, Ok, Err}
-use Rattle.std.specs.Prelude.{String, Vec, string_bytes}
-use Rattle.std.specs.Prelude.{codes}
+use Rattle.sre_lines.specs.Terms.{ℕ, ◌≡◌, ◌≢◌, ◌⊎◌, ◌++◌, ◌∷◌, [], List, Option, None, Some, Ok, Err, string_bytes}
+use Rattle.sre_lines.specs.Terms.{codes, into_iter_items, Appends, Table, ascii_table, lists_fault, UniError, Refused}
+use Rattle.std.specs.Prelude.{Result}
+use Rattle.std.specs.Prelude.{String, Vec}
 use Rattle.std.specs.Global.{Global}
-use Rattle.std.specs.Vec.Iter.{into_iter_items}
-use Rattle.std.specs.Io.KnownBytes.{Appends}
 use Rattle.std.specs.IoError.{error_kind}
 use Rattle.std.specs.declared.vec.IntoIter.{IntoIter}
 use Rattle.std.specs.declared.io.Error.{Error}
 use Rattle.std.specs.declared.io.ErrorKind.TheVariants.{OutOfMemory, NotFound, PermissionDenied, IsADirectory}
-use Rattle.sre_chars.specs.Tables.{Table, ascii_table}
-use Rattle.sre_chars.specs.Lists.{lists_fault}
-use Rattle.sre_chars.specs.declared.table.UniError.{UniError}
 use Rattle.sre_lines.specs.declared.cases.CaseFault.{CaseFault}
 use Rattle.sre_lines.specs.declared.cases.CaseFault.TheVariants.{Usage, CannotRead, NotATable, NotACase, NoMemory}
 use Rattle.sre_lines.specs.declared.cases.CaseFault.TheVariants.{OutputFailed}
@@ -22,7 +18,6 @@ use Rattle.sre_lines.specs.declared.program.Call.{Call}
 use Rattle.sre_lines.specs.declared.program.Ending.{Ending}
 use Rattle.sre_lines.specs.declared.program.Ending.TheVariants.{AllAnswered, Told, Untold}
 use Rattle.sre_lines.specs.Answers.{fault_text, uni_text, IsFaultOfCases}
-use Rattle.sre_growth.specs.Refusal.{Refused}
 use Rattle.sre_lines.specs.TableFiles.{table_text, IsNoTable}
 use Rattle.sre_lines.specs.Causes.{IsCause, cause_text}
 use Rattle.sre_lines.specs.Lines.{lines_of, Answered, StopsAt, IsLineAt}

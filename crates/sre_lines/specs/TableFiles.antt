@@ -1,6 +1,5 @@
 -- What a table is written as in a file.
-use Rattle.std.specs.Prelude.{ℕ, ◌≡◌, ◌≢◌, List, [], ◌∷◌, ◌++◌, codes}
-use Rattle.sre_chars.specs.Tables.{Table}
+use Rattle.sre_lines.specs.Terms.{ℕ, ◌≡◌, ◌≢◌, List, [], ◌∷◌, ◌++◌, codes, Table}
 use Rattle.sre_lines.specs.Fields.{words_text, AreWords}
 
 -- the numbers of pairs, one after the other

@@ -1,8 +1,6 @@
 //! The texts of answers.
 
-ghost use Rattle.std.specs.Prelude.{◌≡◌, ◌++◌, codes, OnOk, string_bytes};
-ghost use Rattle.std.specs.Fmt.{decimal, signed_decimal};
-ghost use Rattle.sre_engine.specs.Refusals.{place_of};
+ghost use Rattle.sre_lines.specs.Terms.{◌≡◌, ◌++◌, codes, OnOk, string_bytes, decimal, signed_decimal, place_of};
 ghost use Rattle.sre_lines.specs.Answers.{hints_text, marks_text, number_text, yes_no_text};
 ghost use Rattle.sre_lines.specs.Answers.{refusal_name, refusal_text};
 

@@ -1,16 +1,10 @@
 //! Answers the cases of a file.
 
-ghost use Rattle.std.specs.Prelude.{◌≡◌, ◌≢◌, ◌≤◌, ◌++◌, ◌∷◌, [], ℕ, List, IfErr, OnErr, OnOk, codes, length};
-ghost use Rattle.std.specs.Prelude.{string_bytes};
-ghost use Rattle.std.specs.Fmt.{decimal};
-ghost use Rattle.std.specs.Io.KnownBytes.{Appends};
+ghost use Rattle.sre_lines.specs.Terms.{◌≡◌, ◌≢◌, ◌≤◌, ◌++◌, ◌∷◌, [], ℕ, List, IfErr, OnErr, OnOk, codes, length};
+ghost use Rattle.sre_lines.specs.Terms.{string_bytes, decimal, Appends, ascii_table, Tree, Whole, words_of, asked_of};
+ghost use Rattle.sre_lines.specs.Terms.{code_of, place_of};
 ghost use Rattle.sre_lines.specs.Answers.{fault_text, IsFaultOfCases};
-ghost use Rattle.sre_chars.specs.Tables.{ascii_table};
-ghost use Rattle.sre_engine.specs.Tree.{Tree};
-ghost use Rattle.sre_engine.specs.Grammar.{Whole};
-ghost use Rattle.sre_engine.specs.Codes.{words_of, uni_of};
-ghost use Rattle.sre_engine.specs.Requests.{asked_of, code_of};
-ghost use Rattle.sre_engine.specs.Refusals.{place_of};
+ghost use Rattle.sre_engine.specs.Codes.{uni_of};
 ghost use Rattle.sre_lines.specs.Cases.{IsAnswer, IsAnswerOf, IsRefusal, asked, found_text};
 ghost use Rattle.sre_lines.specs.Fields.{IsCase};
 ghost use Rattle.sre_lines.specs.Lines.{lines_of, Answered, IsNoCase, IsBegun, StopsAt};

@@ -1,7 +1,6 @@
 //! Writes that can fail midway.
 
-ghost use Rattle.std.specs.Prelude.{◌++◌, OnErr, OnOk};
-ghost use Rattle.std.specs.Io.KnownBytes.{Appends};
+ghost use Rattle.sre_lines.specs.Terms.{◌++◌, OnErr, OnOk, Appends};
 ghost use Rattle.sre_lines.specs.Output.{AppendsPart};
 
 use std::io::{self, Write};

@@ -1,17 +1,14 @@
 //! The program: arguments, files, outputs and status.
 
-ghost use Rattle.std.specs.Prelude.{◌≡◌, ◌≢◌, ◌++◌, ◌∷◌, [], ℕ, List, Some, Ok, Err, IfOk, IfErr, OnOk, codes};
+ghost use Rattle.sre_lines.specs.Terms.{◌≡◌, ◌≢◌, ◌++◌, ◌∷◌, [], ℕ, List, Some, Ok, Err, IfOk, IfErr, OnOk, codes};
+ghost use Rattle.sre_lines.specs.Terms.{into_iter_items, Appends, Table, lists_fault};
 ghost use Rattle.std.specs.Fn.{FnReturnsAt};
-ghost use Rattle.std.specs.Vec.Iter.{into_iter_items};
 ghost use Rattle.std.specs.Io.Buffered.{writer_contents, writer_buffer};
-ghost use Rattle.std.specs.Io.KnownBytes.{Appends};
 ghost use Rattle.std.specs.Process.{exit_status};
 ghost use Rattle.sre_lines.specs.Answers.{fault_text, uni_text, IsFaultOfCases};
 ghost use Rattle.sre_lines.specs.Lines.{lines_of, Answered, StopsAt, IsNoCaseAt};
 ghost use Rattle.sre_lines.specs.Output.{AppendsPart};
 ghost use Rattle.sre_lines.specs.Program.{IsFaultOf, IsCall, IsCallOf, IsEnd, IsUnreadEnd, IsEndOf, FileRun};
-ghost use Rattle.sre_chars.specs.Tables.{Table};
-ghost use Rattle.sre_chars.specs.Lists.{lists_fault};
 ghost use Rattle.sre_lines.specs.Program.{TellsFault, IsTableEnd, IsTableless, CallRun, end_of, status_of, ProgramRun};
 ghost use Rattle.sre_lines.specs.TableFiles.{table_text, IsNoTable};
 

@@ -1,16 +1,12 @@
 -- The FIRST set of an instruction, by its opcode, where the words are as the computation reads them.
 -- The list by which branches skip alternatives rests on this; nothing else here does.
-use Rattle.std.proofs.Common.{◌≡◌, ℕ, ◌+◌, ◌⊎◌, inl, inr, Bool, List, refl, sym, subst}
+use Rattle.sre_machine.proofs.Terms.{◌≡◌, ℕ, ◌+◌, ◌⊎◌, inl, inr, Bool, List, refl, sym, subst, SreOpcode, Any}
+use Rattle.sre_machine.proofs.Terms.{InCategory, Literal, NotLiteral, Plain, Ascii, Unicode, Order, Word, Opcode, skip}
+use Rattle.sre_machine.proofs.Terms.{until_opcode, role, HasTest, Instruction, AdmitsOnly}
 use Rattle.sre_chars.specs.Numbers.{category_number}
 use Rattle.sre_chars.specs.declared.constants.SreCatCode.{SreCatCode}
-use Rattle.sre_chars.specs.declared.constants.SreOpcode.{SreOpcode}
 use Rattle.sre_chars.specs.declared.constants.SreOpcode.TheVariants as opcode
-use Rattle.sre_model.specs.Tree.{Any, InCategory, Literal, NotLiteral, Plain, Ascii, Unicode, Order}
-use Rattle.sre_model.specs.Grammar.{Word, Opcode, skip, until_opcode}
-use Rattle.sre_model.specs.Roles.{role}
-use Rattle.sre_model.specs.Standing.{HasTest}
-use Rattle.sre_turns.specs.declared.Point.TheVariants.{Instruction}
-use Rattle.sre_turns.specs.Admitting.{AdmitsOnly, TestsOnly, RepeatsOnly, RunsOnly, LeadsOnly}
+use Rattle.sre_turns.specs.Admitting.{TestsOnly, RepeatsOnly, RunsOnly, LeadsOnly}
 use Rattle.sre_turns.proofs.analyses.Admitting.{leads_admit}
 
 -- a test stands where its opcode and its operand do

@@ -1,15 +1,10 @@
 -- The groups after opcodes that read them end before the capture slot that a scan of the bytecode returns.
-use Rattle.std.proofs.Common.{◌≡◌, ℕ, ◌+◌, ◌-◌, ◌*◌, ◌<◌, ◌≤◌, ◌⊎◌, inl, inr, Bool, true, false, List, length}
-use Rattle.std.proofs.Common.{sym, ◌∙◌, ap, subst, arith}
-use Rattle.std.proofs.lemmas.Bool.{cases_lt}
+use Rattle.sre_machine.proofs.Terms.{◌≡◌, ℕ, ◌+◌, ◌-◌, ◌*◌, ◌<◌, ◌≤◌, ◌⊎◌, inl, inr, Bool, true, false, List, length}
+use Rattle.sre_machine.proofs.Terms.{sym, ◌∙◌, ap, subst, arith, cases_lt, SreOpcode, word, role, AreWords, word_of}
+use Rattle.sre_machine.proofs.Terms.{Asks, Named, Covers}
 use Rattle.sre_chars.specs.Numbers.{opcode_number}
-use Rattle.sre_chars.specs.declared.constants.SreOpcode.{SreOpcode}
-use Rattle.sre_model.specs.Grammar.{word}
-use Rattle.sre_model.specs.Roles.{role}
-use Rattle.sre_model.specs.Standing.{AreWords}
-use Rattle.sre_model.proofs.Words.{same_number, word_of, word_within}
-use Rattle.sre_turns.specs.MovesAtReferences.{Asks, Named, asks}
-use Rattle.sre_machine.specs.Memos.{Covers}
+use Rattle.sre_model.proofs.Words.{same_number, word_within}
+use Rattle.sre_turns.specs.MovesAtReferences.{asks}
 
 -- the groups behind the words up to a place
 pub record CoversTo (ws : List ℕ) (n end : ℕ) : Type 0 where

@@ -1,19 +1,17 @@
 -- Live captures at an instruction, by its opcode, where the words are as the computation reads them.
 -- The list of live captures by address rests on this; nothing else here does.
-use Rattle.std.proofs.Common.{◌≡◌, ℕ, ◌+◌, ◌*◌, ◌⊎◌, inl, inr, List, refl, sym, ◌∙◌, ap, subst, arith}
-use Rattle.sre_chars.specs.declared.constants.SreOpcode.{SreOpcode}
+use Rattle.sre_machine.proofs.Terms.{◌≡◌, ℕ, ◌+◌, ◌*◌, ◌⊎◌, inl, inr, List, refl, sym, ◌∙◌, ap, subst, arith, SreOpcode}
+use Rattle.sre_machine.proofs.Terms.{Test, Any, InCategory, Literal, NotLiteral, Plain, Ascii, Unicode, Word, Opcode}
+use Rattle.sre_machine.proofs.Terms.{word, skip, role, AreWords, word_of, MarkRange, Lies, Within, AsksAt}
+use Rattle.sre_machine.proofs.Terms.{AlternativesAsk, AskedMarks, AskedPlace, range_of, any_marks, asks_of, AreMarks}
+use Rattle.sre_machine.proofs.Terms.{HaveAll, InstructionAsks}
 use Rattle.sre_chars.specs.declared.constants.SreOpcode.TheVariants as opcode
-use Rattle.sre_model.specs.Tree.{Test, Any, AnyAll, InCategory, Literal, NotLiteral, In, Plain, Ascii, Locale, Unicode}
-use Rattle.sre_model.specs.Grammar.{Word, Opcode, word, skip, test_opcode, TestOperands}
-use Rattle.sre_model.specs.Roles.{role}
-use Rattle.sre_model.specs.Standing.{AreWords}
-use Rattle.sre_model.proofs.Words.{word_of, same_opcode}
-use Rattle.sre_turns.specs.AskedPlaces.{MarkRange, Lies, Within, GroupLies, MarkLeads, GroupAsked, TestLeads, AsksAt}
-use Rattle.sre_turns.specs.AskedPlaces.{AlternativesAsk}
+use Rattle.sre_model.specs.Tree.{AnyAll, In, Locale}
+use Rattle.sre_model.specs.Grammar.{test_opcode, TestOperands}
+use Rattle.sre_model.proofs.Words.{same_opcode}
+use Rattle.sre_turns.specs.AskedPlaces.{GroupLies, MarkLeads, GroupAsked, TestLeads}
 use Rattle.sre_turns.proofs.analyses.AskedPlaces.{whole_asks}
-use Rattle.sre_machine.specs.declared.asked_places.AskedMarks.{AskedMarks}
-use Rattle.sre_machine.specs.declared.asked_places.AskedPlace.{AskedPlace}
-use Rattle.sre_machine.specs.AskedLists.{range_of, any_marks, asks_of, AreMarks, HaveAll, LetGo, InstructionAsks}
+use Rattle.sre_machine.specs.AskedLists.{LetGo}
 
 -- marks that have all of others have what those do
 pub all_had : (marks others : AskedMarks) (r : MarkRange) → HaveAll marks (range_of others) → HaveAll others r

@@ -1,17 +1,15 @@
 -- A list of the captures that may be live at each address stays right where one more address is filled in.
 -- The list of live captures by address rests on this; nothing else here does.
-use Rattle.std.proofs.Common.{◌≡◌, ℕ, zero, suc, ◌<◌, ◌≤◌, ◌⊎◌, inl, inr, List, [], ◌∷◌, ◌++◌, Option, Some, None}
-use Rattle.std.proofs.Common.{Bool, true}
-use Rattle.std.proofs.Common.{length, slice_get, slice_set, refl, sym, ◌∙◌, ap, subst, arith}
-use Rattle.sre_model.specs.Roles.{role}
-use Rattle.sre_model.specs.Standing.{AreWords}
-use Rattle.sre_turns.specs.AskedPlaces.{AreIdle, Lies, MarkRange, Within, PlacesAsk, AsksAt, AlternativesAsk}
+use Rattle.sre_machine.proofs.Terms.{◌≡◌, ℕ, ◌<◌, ◌≤◌, ◌⊎◌, inl, inr, List, [], ◌∷◌, ◌++◌, Option, Some, None, Bool}
+use Rattle.sre_machine.proofs.Terms.{true, length, slice_get, refl, sym, ◌∙◌, ap, subst, arith, role, AreWords, AreIdle}
+use Rattle.sre_machine.proofs.Terms.{Lies, MarkRange, Within, AsksAt, AlternativesAsk, AskedMarks, AskedPlace, range_of}
+use Rattle.sre_machine.proofs.Terms.{any_marks, asks_for_any, told_or_any, asks_of, AllAsked, AreMarks, HaveAll}
+use Rattle.sre_machine.proofs.Terms.{InstructionAsks}
+use Rattle.std.proofs.Common.{zero, suc}
+use Rattle.std.proofs.Common.{slice_set}
+use Rattle.sre_turns.specs.AskedPlaces.{PlacesAsk}
 use Rattle.sre_turns.proofs.memoization.SameComes.{are_idle}
 use Rattle.sre_turns.proofs.analyses.AskedPlaces.{IsNarrower, IsSameBut, one_place_told, told_everywhere}
-use Rattle.sre_machine.specs.declared.asked_places.AskedMarks.{AskedMarks}
-use Rattle.sre_machine.specs.declared.asked_places.AskedPlace.{AskedPlace}
-use Rattle.sre_machine.specs.AskedLists.{range_of, any_marks, asks_for_any, told_or_any, asks_of, AllAsked, AreMarks}
-use Rattle.sre_machine.specs.AskedLists.{HaveAll, InstructionAsks}
 use Rattle.sre_machine.proofs.AskedHere.{named_groups}
 
 -- nothing is told yet of the places before one

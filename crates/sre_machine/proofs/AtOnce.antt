@@ -1,23 +1,11 @@
 -- A point that is executed is paid, though a possessive repeat goes over its characters at once inside an atomic scope
 -- whose ends are not memoized: such a code has no step bound.
-use Rattle.std.proofs.Common.{◌≡◌, ◌≢◌, ◌⊎◌, inl, inr, List, refl, sym, ◌∙◌}
-use Rattle.std.proofs.lemmas.Bool.{true≢false}
-use Rattle.sre_chars.specs.declared.string.StrDrive.{Ghosts}
-use Rattle.sre_chars.specs.declared.string.StringCursor.{StringCursor}
-use Rattle.sre_model.specs.Ways.{Way}
-use Rattle.sre_turns.specs.Board.{BoardValue}
-use Rattle.sre_turns.specs.Limits.{Limit}
-use Rattle.sre_turns.specs.Machine.{Arrives, Goes, spot}
-use Rattle.sre_turns.specs.declared.Point.{Point}
-use Rattle.sre_turns.proofs.bound.Faring.{run_code}
-use Rattle.sre_turns.proofs.bound.HereMoves.{here_forked}
-use Rattle.sre_request.specs.declared.request.Request.{Request}
-use Rattle.sre_request.specs.Runs.{run_of}
-use Rattle.sre_machine.specs.Memos.{MemoValue}
-use Rattle.sre_machine.specs.Paying.{Pays}
-use Rattle.sre_machine.specs.Turns.{IsKeeping, RunsOnAt, RunsAtOnce, TriesOn}
+use Rattle.sre_machine.proofs.Terms.{◌≡◌, ◌≢◌, ◌⊎◌, inl, inr, List, refl, sym, ◌∙◌, true≢false, Ghosts, StringCursor}
+use Rattle.sre_machine.proofs.Terms.{Way, BoardValue, Limit, Arrives, Goes, spot, Point, run_code, here_forked, Request}
+use Rattle.sre_machine.proofs.Terms.{run_of, MemoValue, Pays, RunsOnAt, TriesOn, Unmarked}
+use Rattle.sre_machine.specs.Turns.{IsKeeping, RunsAtOnce}
 use Rattle.sre_machine.specs.declared.trying.Keeping.{Keeping}
-use Rattle.sre_machine.specs.declared.trying.Keeping.TheVariants.{Nothing, Unmarked, Idle, Marked}
+use Rattle.sre_machine.specs.declared.trying.Keeping.TheVariants.{Nothing, Idle, Marked}
 use Rattle.sre_machine.proofs.Opening.{forks_here, run_forks}
 use Rattle.sre_machine.proofs.Paying.{pays_left}
 

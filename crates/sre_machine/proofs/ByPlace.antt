@@ -1,15 +1,13 @@
 -- Lists by address: what an entry says of sets.
 -- The list by which branches skip alternatives rests on this; nothing else here does.
-use Rattle.std.proofs.Common.{◌≡◌, ℕ, ◌+◌, Bool, true, false, not, cond, ◌&&◌, ◌||◌, nat_lt, List, [], ◌∷◌, Some}
-use Rattle.std.proofs.Common.{refl, sym, ap, ◌∙◌, arith}
-use Rattle.std.proofs.lemmas.Bool.Decides.{nat_tests}
+use Rattle.sre_machine.proofs.Terms.{◌≡◌, ℕ, ◌+◌, Bool, true, false, not, ◌&&◌, ◌||◌, nat_lt, List, [], ◌∷◌, Some, refl}
+use Rattle.sre_machine.proofs.Terms.{sym, ap, ◌∙◌, arith, nat_tests, Opcode, contains}
+use Rattle.std.proofs.Common.{cond}
 use Rattle.sre_chars.specs.Tables.{Table}
 use Rattle.sre_chars.specs.declared.constants.SreOpcode.TheVariants as opcode
 use Rattle.sre_model.specs.Tree.{SetItem, Single, Range, RangeUniIgnore, Category, Charset, BigCharset, Negate}
 use Rattle.sre_model.specs.Characters.{item_holds, verdict, is_member}
-use Rattle.sre_model.specs.Grammar.{Opcode}
 use Rattle.sre_model.proofs.Members.{negated, nothing_left}
-use Rattle.sre_code.specs.AsciiSet.{contains}
 use Rattle.sre_code.specs.declared.ascii_set.AsciiSet.{AsciiSet}
 use Rattle.sre_code.specs.AsciiSets.{HoldsFor, AreTold}
 

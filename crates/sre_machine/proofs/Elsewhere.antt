@@ -1,14 +1,11 @@
 -- A position code that does not hold fails.
-use Rattle.std.proofs.Common.{◌≡◌, ℕ, ◌+◌, false, refl}
+use Rattle.sre_machine.proofs.Terms.{◌≡◌, ℕ, ◌+◌, false, refl, Word, Opcode, Run, Refuses, run_nothing}
 use Rattle.sre_chars.specs.Numbers.{at_number}
 use Rattle.sre_chars.specs.declared.constants.SreAtCode.{SreAtCode}
 use Rattle.sre_chars.specs.declared.constants.SreOpcode.TheVariants as opcode
-use Rattle.sre_model.specs.Grammar.{Word, Opcode}
 use Rattle.sre_model.specs.Roles.{ToCheckPosition}
-use Rattle.sre_model.specs.Runs.{Run}
 use Rattle.sre_model.specs.Subject.{holds_at}
-use Rattle.sre_turns.specs.Machine.{Refuses}
-use Rattle.sre_turns.proofs.semantics.Moving.{at_instruction, run_nothing}
+use Rattle.sre_turns.proofs.semantics.Moving.{at_instruction}
 
 pub at_refuses : (r : Run) (i p : ℕ) (a : SreAtCode) → Opcode r.words i opcode.AT → Word r.words (i + 1) (at_number a)
     → holds_at r.subject a p ≡ false → Refuses r i p

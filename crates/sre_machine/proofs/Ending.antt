@@ -1,30 +1,18 @@
 -- The body of an atomic scope ends: what is tried inside is tried no more, and an end is memoized for the bit that was
 -- taken in.
-use Rattle.std.proofs.Common.{◌≡◌, ℕ, inl, inr, true, false, List, [], ◌∷◌, ◌++◌, drop}
-use Rattle.std.proofs.Common.{length, map, refl, sym, ap, ◌∙◌, subst, arith}
-use Rattle.std.specs.List.{AllByRecursion}
-use Rattle.sre_chars.specs.declared.string.StrDrive.{Ghosts}
-use Rattle.sre_chars.specs.declared.string.StringCursor.{StringCursor}
-use Rattle.sre_model.specs.Regions.{has_forked_region}
-use Rattle.sre_model.specs.Ways.{Way}
-use Rattle.sre_turns.specs.Attempts.{Attempt}
-use Rattle.sre_turns.specs.Board.{BoardValue}
-use Rattle.sre_turns.specs.Fruit.{is_inside}
-use Rattle.sre_turns.specs.Limits.{Limit, open_attempts, without_open}
-use Rattle.sre_turns.specs.Machine.{Ends, Later}
-use Rattle.sre_turns.specs.Moves.{Spot}
+use Rattle.sre_machine.proofs.Terms.{◌≡◌, ℕ, inl, inr, true, false, List, [], ◌∷◌, ◌++◌, drop, length, refl, sym, ap}
+use Rattle.sre_machine.proofs.Terms.{◌∙◌, subst, arith, AllByRecursion, Ghosts, StringCursor, has_forked_region, Way}
+use Rattle.sre_machine.proofs.Terms.{Attempt, BoardValue, is_inside, Limit, Later, Spot, Next, no_reference, Request}
+use Rattle.sre_machine.proofs.Terms.{run_of, MemoValue, Holds, Holding, Pays, Remembering, rows_from, KeepsBodyEnd}
+use Rattle.sre_machine.proofs.Terms.{Proceeds}
+use Rattle.std.proofs.Common.{map}
+use Rattle.sre_turns.specs.Limits.{open_attempts, without_open}
+use Rattle.sre_turns.specs.Machine.{Ends}
 use Rattle.sre_turns.specs.OpenMarks.{open_spots}
-use Rattle.sre_turns.specs.declared.Next.{Next}
 use Rattle.sre_turns.proofs.bound.FaringInRegions.{opened_first}
-use Rattle.sre_turns.proofs.memoization.Hopeless.{no_reference}
 use Rattle.sre_board.specs.Accounts.{BitOf, IsEnded, StaysEnded}
 use Rattle.sre_board.proofs.AccountLaws.{account_ends, account_same_ends}
 use Rattle.sre_board.proofs.EndsTold.{bit_numbered}
-use Rattle.sre_request.specs.declared.request.Request.{Request}
-use Rattle.sre_request.specs.Runs.{run_of}
-use Rattle.sre_machine.specs.Memos.{MemoValue}
-use Rattle.sre_machine.specs.Paying.{Holds, Holding, Pays, Remembering, rows_from}
-use Rattle.sre_machine.specs.Turns.{KeepsBodyEnd, Proceeds}
 use Rattle.sre_machine.proofs.Paying.{grants_nothing, pays_unless}
 
 -- what holds of all of two lists holds of those of the second

@@ -1,38 +1,28 @@
 -- Repeats without a greatest count, while failures are memoized.
-use Rattle.std.proofs.Common.{◌≡◌, ◌⊎◌, inl, inr, ℕ, ◌+◌, ◌-◌, ◌<◌, ◌≤◌, true, false, List, ◌∷◌, Option, Some, None}
-use Rattle.std.proofs.Common.{refl, sym, subst, arith}
+use Rattle.sre_machine.proofs.Terms.{◌≡◌, ◌⊎◌, inl, inr, ℕ, ◌+◌, ◌-◌, ◌<◌, ◌≤◌, true, false, List, ◌∷◌, Option, Some}
+use Rattle.sre_machine.proofs.Terms.{None, refl, sym, subst, arith, Ghosts, StringCursor, Word, Opcode, word, Run}
+use Rattle.sre_machine.proofs.Terms.{HasTest, passes, Test, Way, unlimited, word_there, BoardValue, Else, Limit, Runs}
+use Rattle.sre_machine.proofs.Terms.{Tries, HasRun, Later, Refuses, spot, spot_at, Instruction, both_first}
+use Rattle.sre_machine.proofs.Terms.{both_wait_there, operands_within, run_there, Request, end_of, run_of, OpcodeAt}
+use Rattle.sre_machine.proofs.Terms.{AreOperands, NotTakenAt, RunOperands}
 use Rattle.sre_chars.specs.declared.constants.SreOpcode.TheVariants as opcode
-use Rattle.sre_chars.specs.declared.string.StrDrive.{Ghosts}
-use Rattle.sre_chars.specs.declared.string.StringCursor.{StringCursor}
-use Rattle.sre_model.specs.Grammar.{Word, Opcode, run_opcode, word}
-use Rattle.sre_model.specs.Runs.{Run}
-use Rattle.sre_model.specs.Standing.{HasTest, TestStands}
-use Rattle.sre_model.specs.Subject.{passes}
-use Rattle.sre_model.specs.Tree.{RunKind, Test}
-use Rattle.sre_model.specs.Ways.{Way, unlimited, run_length}
+use Rattle.sre_model.specs.Grammar.{run_opcode}
+use Rattle.sre_model.specs.Standing.{TestStands}
+use Rattle.sre_model.specs.Tree.{RunKind}
+use Rattle.sre_model.specs.Ways.{run_length}
 use Rattle.sre_model.proofs.Longest.{run_inside, run_at_most}
-use Rattle.sre_model.proofs.Words.{word_there}
-use Rattle.sre_turns.specs.Board.{BoardValue, Else}
-use Rattle.sre_turns.specs.Limits.{Limit}
-use Rattle.sre_turns.specs.Machine.{Runs, Tries, GoesBoth, HasRun, Later, Refuses, spot}
-use Rattle.sre_turns.specs.Moves.{spot_at}
+use Rattle.sre_turns.specs.Machine.{GoesBoth}
 use Rattle.sre_turns.specs.RunEnds.{RunsOn}
 use Rattle.sre_turns.specs.declared.Next.TheVariants as next
-use Rattle.sre_turns.specs.declared.Point.TheVariants.{Instruction}
-use Rattle.sre_turns.proofs.semantics.Moving.{both_first, both_second}
+use Rattle.sre_turns.proofs.semantics.Moving.{both_second}
 use Rattle.sre_turns.proofs.semantics.RunEnds.{run_next, passed, pass_last}
 use Rattle.sre_turns.proofs.semantics.LazyRunEnds.{lazy_next}
 use Rattle.sre_turns.proofs.semantics.NextRuns.{greedy_both, greedy_only, greedy_short, lazy_both, lazy_only}
 use Rattle.sre_turns.proofs.semantics.NextRuns.{lazy_short}
-use Rattle.sre_turns.proofs.semantics.NextRuns.{both_wait_there, possessive_on, possessive_only, possessive_short}
-use Rattle.sre_turns.proofs.semantics.StepsInRuns.{operands_within, run_there}
-use Rattle.sre_request.specs.declared.request.Request.{Request}
-use Rattle.sre_request.specs.Requests.{end_of}
-use Rattle.sre_request.specs.Runs.{run_of, OpcodeAt, Standing}
-use Rattle.sre_machine.specs.Runs.{AreOperands}
+use Rattle.sre_turns.proofs.semantics.NextRuns.{possessive_on, possessive_only, possessive_short}
+use Rattle.sre_request.specs.Runs.{Standing}
 use Rattle.sre_machine.specs.Turns.{At}
-use Rattle.sre_machine.specs.EndlessRuns.{AllTaken, HasOtherEnds, LacksLeast, EndsFirst, NotTakenAt, TakenAt}
-use Rattle.sre_machine.specs.declared.run_operands.RunOperands.{RunOperands}
+use Rattle.sre_machine.specs.EndlessRuns.{AllTaken, HasOtherEnds, LacksLeast, EndsFirst, TakenAt}
 
 -- a run of which no greatest count stands there is one
 pub endless_there : (r : Run) (kind : RunKind) (i n : ℕ) (c : StringCursor) → Opcode r.words i (run_opcode kind)

@@ -1,38 +1,16 @@
 -- Instructions and possessive loops that are known to fail, and those that are tried.
-use Rattle.std.proofs.Common.{◌≡◌, ℕ, Bool, true, false, List, ◌∷◌, Result, Ok, Err, IfOk, refl, subst, sym}
-use Rattle.std.proofs.Common.{◌∙◌, ◌<◌, ◌≤◌, ◌+◌, ◌*◌, min, arith}
-use Rattle.std.proofs.lemmas.Bool.{true≢false}
-use Rattle.sre_chars.specs.declared.string.StrDrive.{Ghosts}
-use Rattle.sre_chars.specs.declared.string.StringCursor.{StringCursor}
-use Rattle.sre_model.specs.Runs.{Run}
-use Rattle.sre_model.specs.Marks.{Marks, no_marks}
-use Rattle.sre_model.specs.Ways.{Way}
-use Rattle.sre_turns.specs.Board.{BoardValue, Trying}
-use Rattle.sre_turns.specs.Machine.{IsAt, Arrives, Goes}
-use Rattle.sre_turns.specs.Limits.{Limit, raised}
+use Rattle.sre_machine.proofs.Terms.{◌≡◌, ℕ, Bool, true, false, List, ◌∷◌, Result, Ok, Err, IfOk, refl, subst, sym, ◌∙◌}
+use Rattle.sre_machine.proofs.Terms.{◌<◌, ◌≤◌, ◌+◌, ◌*◌, min, arith, true≢false, Ghosts, StringCursor, Run, Marks}
+use Rattle.sre_machine.proofs.Terms.{no_marks, Way, BoardValue, Trying, IsAt, Arrives, Goes, Limit, raised, Next}
+use Rattle.sre_machine.proofs.Terms.{Instruction, Point, Tree, Whole, refers, tree_of, HasReference, Asks, words_of}
+use Rattle.sre_machine.proofs.Terms.{items_of, Code, whole_of, whole_items, Request, code_of, run_of, GivesUp, GoesOn}
+use Rattle.sre_machine.proofs.Terms.{TriesOn, LeavesOrStays, EndsThere, RunsOnAt, scan_at, Pays, is_inside, spot_at}
+use Rattle.sre_machine.proofs.Terms.{Kept, Remembers, MemoValue}
 use Rattle.sre_turns.specs.declared.Next.TheVariants as next
-use Rattle.sre_turns.specs.declared.Next.{Next}
-use Rattle.sre_turns.specs.declared.Point.TheVariants.{Instruction}
-use Rattle.sre_turns.specs.declared.Point.{Point}
-use Rattle.sre_model.specs.Tree.{Tree}
-use Rattle.sre_model.specs.Grammar.{Whole}
-use Rattle.sre_model.specs.References.{refers, asked_from, asked_to, no_group}
-use Rattle.sre_model.proofs.TreeOf.{tree_of}
-use Rattle.sre_turns.specs.MovesAtReferences.{HasReference, Asks}
-use Rattle.sre_code.specs.Codes.{words_of, items_of}
-use Rattle.sre_code.specs.declared.code.Code.{Code}
-use Rattle.sre_code.proofs.Checked.{whole_of, whole_items}
-use Rattle.sre_request.specs.declared.request.Request.{Request}
-use Rattle.sre_request.specs.Requests.{code_of}
-use Rattle.sre_request.specs.Runs.{run_of}
-use Rattle.sre_machine.specs.Turns.{TurnAt, TurnOnce, Takes, GivesUp, GoesOn, TriesOn, StaysAt, LeavesOrStays, Fails}
-use Rattle.sre_machine.specs.Turns.{EndsThere, RunsOnAt, scan_at}
-use Rattle.sre_machine.specs.Paying.{Pays}
-use Rattle.sre_turns.specs.Fruit.{is_inside}
-use Rattle.sre_turns.specs.Moves.{spot_at}
-use Rattle.sre_board.specs.Failures.{Kept, HoldsOneMore, Remembers}
+use Rattle.sre_model.specs.References.{asked_from, asked_to, no_group}
+use Rattle.sre_machine.specs.Turns.{TurnAt, TurnOnce, Takes, StaysAt, Fails}
+use Rattle.sre_board.specs.Failures.{HoldsOneMore}
 use Rattle.sre_board.proofs.Remembering.{remembers_more}
-use Rattle.sre_machine.specs.Memos.{MemoValue}
 use Rattle.sre_machine.proofs.Paying.{grants_nothing, pays_nothing, pays_less}
 use Rattle.sre_turns.proofs.memoization.BodyEnds.{end_taken}
 

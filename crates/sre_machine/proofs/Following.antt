@@ -1,39 +1,22 @@
 -- Steps one after the other: what they cost at most, where all credits that are granted are paid.
-use Rattle.std.proofs.Common.{◌/◌, ◌≡◌, ℕ, ◌+◌, ◌*◌, ◌≤◌, ◌⊎◌, inl, inr, true}
-use Rattle.std.proofs.Common.{false, Bool, List, [], Result, Ok, Err, IfOk}
-use Rattle.std.proofs.Common.{refl, sym, ap, ◌∙◌, subst, arith}
+use Rattle.sre_machine.proofs.Terms.{◌≡◌, ℕ, ◌+◌, ◌*◌, ◌≤◌, ◌⊎◌, inl, inr, true, false, Bool, List, [], Result, Ok, Err}
+use Rattle.sre_machine.proofs.Terms.{IfOk, refl, sym, ap, ◌∙◌, subst, arith, true≢false, Refused, Ghosts, StringCursor}
+use Rattle.sre_machine.proofs.Terms.{Tree, Way, Run, BoardValue, bare, Limit, Grants, earlier, raised, Stands, spot}
+use Rattle.sre_machine.proofs.Terms.{outcomes, Next, Instruction, Again, run_code, Request, start_of, end_of, code_of}
+use Rattle.sre_machine.proofs.Terms.{asked_of, words_of, Code, whole_items, Whole, refers, run_of, MemoValue, Recalls}
+use Rattle.sre_machine.proofs.Terms.{left_of, Pays, Remembering, rows_from, TurnsSoFar, first_limit, no_marks}
+use Rattle.sre_machine.proofs.Terms.{behind_items, AreWords, tree_of, Proceeds}
+use Rattle.std.proofs.Common.{◌/◌}
 use Rattle.std.proofs.Common.{mul-le-mul, add-mul, one-mul, max}
-use Rattle.std.proofs.lemmas.Bool.{true≢false}
-use Rattle.sre_growth.specs.Refusal.{Refused}
-use Rattle.sre_chars.specs.declared.string.StrDrive.{Ghosts}
-use Rattle.sre_chars.specs.declared.string.StringCursor.{StringCursor}
-use Rattle.sre_model.specs.Tree.{Tree}
-use Rattle.sre_model.specs.Ways.{Way}
-use Rattle.sre_model.specs.Runs.{Run}
-use Rattle.sre_turns.specs.Board.{BoardValue, bare}
-use Rattle.sre_turns.specs.Limits.{Limit, Grants, earlier, raised}
-use Rattle.sre_turns.specs.Machine.{Stands, spot, outcomes}
 use Rattle.sre_turns.specs.Settled.{Counted}
-use Rattle.sre_turns.specs.declared.Next.{Next}
 use Rattle.sre_turns.specs.declared.Next.TheVariants as next
-use Rattle.sre_turns.specs.declared.Point.TheVariants.{Instruction, Again}
-use Rattle.sre_turns.proofs.bound.Faring.{run_code}
 use Rattle.sre_board.specs.Accounts.{most_paid}
 use Rattle.sre_board.specs.Failures.{kept_of}
 use Rattle.sre_board.proofs.AccountLaws.{account_few, account_none}
-use Rattle.sre_request.specs.declared.request.Request.{Request}
-use Rattle.sre_request.specs.Requests.{start_of, end_of, code_of, asked_of}
-use Rattle.sre_code.specs.Codes.{words_of}
-use Rattle.sre_code.specs.declared.code.Code.{Code}
-use Rattle.sre_code.proofs.Checked.{whole_items}
-use Rattle.sre_model.specs.Grammar.{Whole}
-use Rattle.sre_model.specs.References.{refers}
 use Rattle.sre_model.specs.LooksBehind.{longest_lookbehind}
-use Rattle.sre_request.specs.Runs.{run_of}
-use Rattle.sre_machine.specs.Memos.{MemoValue, Recalls, KeepsEndsOf, KeepsFrom}
-use Rattle.sre_machine.specs.Allowances.{is_limited, left_of}
-use Rattle.sre_machine.specs.Paying.{Pays, Remembering, rows_from, Within, Stops, Settles, Waited}
-use Rattle.sre_machine.specs.Spending.{TurnsSoFar}
+use Rattle.sre_machine.specs.Memos.{KeepsEndsOf, KeepsFrom}
+use Rattle.sre_machine.specs.Allowances.{is_limited}
+use Rattle.sre_machine.specs.Paying.{Within, Stops, Settles, Waited}
 use Rattle.sre_machine.specs.declared.allowance.Allowance.{Allowance}
 use Rattle.sre_turns.specs.Prices.{steps}
 use Rattle.sre_model.specs.TreePrices.{most_steps}
@@ -41,14 +24,10 @@ use Rattle.sre_model.specs.TurnBounds.{most_each}
 use Rattle.sre_model.proofs.TurnBounds.{turn_spent}
 use Rattle.sre_machine.specs.Paying.{HoldsBits, run_cost, each_of, RunStops, RunSettles, AnewStops}
 use Rattle.sre_machine.specs.Paying.{AnewSettles}
-use Rattle.sre_turns.proofs.semantics.Start.{first_limit, started, behind_has}
+use Rattle.sre_turns.proofs.semantics.Start.{started, behind_has}
 use Rattle.sre_turns.proofs.bound.SettledMoves.{settled_behind}
-use Rattle.sre_model.specs.Marks.{no_marks}
-use Rattle.sre_model.specs.Prefixes.{behind_items, ReadsBehind}
+use Rattle.sre_model.specs.Prefixes.{ReadsBehind}
 use Rattle.sre_model.specs.Grammar.{WholeItems}
-use Rattle.sre_model.specs.Standing.{AreWords}
-use Rattle.sre_model.proofs.TreeOf.{tree_of}
-use Rattle.sre_machine.specs.Turns.{Proceeds}
 use Rattle.sre_machine.proofs.Taken.{proceeds_taken}
 use Rattle.sre_machine.proofs.Paying.{unless_refused, pays_nothing, pays_then, pays_raised, pays_less, held}
 

@@ -1,8 +1,6 @@
 -- A run that stops without an answer finds nothing.
-use Rattle.std.proofs.Common.{Result, Ok, Err, IfOk, Option, Bool}
+use Rattle.sre_machine.proofs.Terms.{Result, Ok, Err, IfOk, Option, Bool, StringCursor, found_of}
 use Rattle.std.specs.Result.{IsErrAnd}
-use Rattle.sre_chars.specs.declared.string.StringCursor.{StringCursor}
-use Rattle.sre_machine.specs.Spending.{found_of}
 
 -- of what is given up nothing is found
 pub never_found : {E : Type 0} (P : E → Type 0) (Q : Option StringCursor → Type 0) (r : Result Bool E)

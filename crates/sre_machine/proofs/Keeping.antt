@@ -1,29 +1,17 @@
 -- A failed configuration is memoized: the bit that was taken in for it is set.
-use Rattle.std.proofs.Common.{◌≡◌, ℕ, inr, List, [], ◌∷◌, drop, length, sym, ap, ◌∙◌, subst}
-use Rattle.std.proofs.Common.{arith}
+use Rattle.sre_machine.proofs.Terms.{◌≡◌, ℕ, inr, List, [], ◌∷◌, drop, length, sym, ap, ◌∙◌, subst, arith, Ghosts}
+use Rattle.sre_machine.proofs.Terms.{StringCursor, Way, BoardValue, Trying, Attempt, Limit, attempt, without_tried}
+use Rattle.sre_machine.proofs.Terms.{Backs, spot, is_inside, spot_at, Point, Kept, HasBit, Request, end_of, run_of}
+use Rattle.sre_machine.proofs.Terms.{MemoValue, Holds, HoldsTried, Pays, rows_from}
 use Rattle.std.proofs.lemmas.List.{append-nil}
-use Rattle.sre_chars.specs.declared.string.StrDrive.{Ghosts}
-use Rattle.sre_chars.specs.declared.string.StringCursor.{StringCursor}
-use Rattle.sre_model.specs.Ways.{Way}
-use Rattle.sre_turns.specs.Board.{BoardValue, Trying}
-use Rattle.sre_turns.specs.Attempts.{Attempt}
-use Rattle.sre_turns.specs.Limits.{Limit, attempt, tried_spots, without_tried}
-use Rattle.sre_turns.specs.Machine.{Backs, spot}
+use Rattle.sre_turns.specs.Limits.{tried_spots}
 use Rattle.sre_turns.proofs.bound.Faring.{newest_tried}
-use Rattle.sre_turns.specs.Fruit.{is_inside}
-use Rattle.sre_turns.specs.Moves.{spot_at}
 use Rattle.sre_turns.specs.Nested.{most_slots}
-use Rattle.sre_turns.specs.declared.Point.{Point}
 use Rattle.sre_board.specs.Accounts.{BitsOf}
-use Rattle.sre_board.specs.Failures.{Kept, HasBit, KeepsSpot, Roomy, RowsStay}
+use Rattle.sre_board.specs.Failures.{KeepsSpot, Roomy, RowsStay}
 use Rattle.sre_board.proofs.AccountLaws.{account_closes, no_new_row}
 use Rattle.sre_board.proofs.RowsAdded.{rows_stay}
 use Rattle.sre_board.specs.declared.failures.Row.{Row}
-use Rattle.sre_request.specs.declared.request.Request.{Request}
-use Rattle.sre_request.specs.Requests.{end_of}
-use Rattle.sre_request.specs.Runs.{run_of}
-use Rattle.sre_machine.specs.Memos.{MemoValue}
-use Rattle.sre_machine.specs.Paying.{Holds, HoldsTried, Pays, rows_from}
 
 -- the first that is tried has a bit
 first_bit : (k : Kept) (ws : List ℕ) (x : Attempt) (xs : List Attempt) (bs : List ℕ) → BitsOf k ws (x ∷ xs) bs

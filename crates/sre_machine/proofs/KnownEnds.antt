@@ -1,19 +1,10 @@
 -- An end that a memo returns for a point is where the body ends from there.
-use Rattle.std.proofs.Common.{◌≡◌, ℕ, true, List, Option, Some, None, IfSome}
-use Rattle.sre_chars.specs.declared.string.StrDrive.{Ghosts}
-use Rattle.sre_chars.specs.declared.string.StringCursor.{StringCursor}
-use Rattle.sre_turns.specs.Board.{BoardValue}
-use Rattle.sre_turns.specs.Fruit.{is_inside}
-use Rattle.sre_turns.specs.Machine.{spot}
-use Rattle.sre_turns.specs.Moves.{spot_at}
-use Rattle.sre_turns.specs.declared.Point.{Point}
+use Rattle.sre_machine.proofs.Terms.{◌≡◌, ℕ, true, List, Option, Some, None, IfSome, Ghosts, StringCursor, BoardValue}
+use Rattle.sre_machine.proofs.Terms.{is_inside, spot, spot_at, Point, TellsEnd, Request, run_of, MemoValue, Recalls}
+use Rattle.sre_machine.proofs.Terms.{EndsThere, NoEndTold}
 use Rattle.sre_board.specs.Failures.{Laid}
-use Rattle.sre_board.specs.Ends.{TellsEnd}
 use Rattle.sre_board.proofs.EndsKept.{end_told}
-use Rattle.sre_request.specs.declared.request.Request.{Request}
-use Rattle.sre_request.specs.Runs.{run_of}
-use Rattle.sre_machine.specs.Memos.{MemoValue, Recalls}
-use Rattle.sre_machine.specs.Turns.{UnaskedMarks, EndsThere, NoEndTold}
+use Rattle.sre_machine.specs.Turns.{UnaskedMarks}
 
 pub known_there : {S : Type 0} {text : Ghosts S} (r : Request S text) (point : Point) (position : ℕ)
     (cursor : StringCursor) (b : BoardValue) (m : MemoValue) (ws : List ℕ) → ws ≡ (run_of r).words

@@ -1,28 +1,14 @@
 -- The ends that are left of a lazy repeat once failures are memoized: the next of them, and the same repeat later on.
-use Rattle.std.proofs.Common.{◌≡◌, ℕ, ◌+◌, ◌≤◌, true, List, ◌∷◌, refl, sym, subst, arith}
-use Rattle.sre_chars.specs.declared.string.StrDrive.{Ghosts}
-use Rattle.sre_chars.specs.declared.string.StringCursor.{StringCursor}
+use Rattle.sre_machine.proofs.Terms.{◌≡◌, ℕ, ◌+◌, ◌≤◌, true, List, ◌∷◌, refl, sym, subst, arith, Ghosts, StringCursor}
+use Rattle.sre_machine.proofs.Terms.{Word, word, HasTest, passes, Way, unlimited, word_there, BoardValue, Else, Limit}
+use Rattle.sre_machine.proofs.Terms.{Goes, Later, SkipsBoth, spot, Instruction, Longer, both_first, run_nothing}
+use Rattle.sre_machine.proofs.Terms.{both_wait_there, longer_past, operands_within, Request, run_of, OpcodeAt}
+use Rattle.sre_machine.proofs.Terms.{AreOperands, NotTakenAt, RunOperands}
 use Rattle.sre_chars.specs.declared.constants.SreOpcode.TheVariants as opcode
-use Rattle.sre_model.specs.Grammar.{Word, word}
-use Rattle.sre_model.specs.Standing.{HasTest}
-use Rattle.sre_model.specs.Subject.{passes}
-use Rattle.sre_model.specs.Ways.{Way, unlimited}
-use Rattle.sre_model.proofs.Words.{word_there}
-use Rattle.sre_turns.specs.Board.{BoardValue, Else}
-use Rattle.sre_turns.specs.Limits.{Limit}
-use Rattle.sre_turns.specs.Machine.{Goes, Later, SkipsBoth, spot}
 use Rattle.sre_turns.specs.declared.Next.TheVariants as next
-use Rattle.sre_turns.specs.declared.Point.TheVariants.{Instruction, Longer}
 use Rattle.sre_turns.proofs.semantics.LaterRuns.{later_goes}
 use Rattle.sre_turns.proofs.semantics.LazyRunEnds.{longer_stops}
-use Rattle.sre_turns.proofs.semantics.Moving.{both_first, run_nothing}
-use Rattle.sre_turns.proofs.semantics.NextRuns.{both_wait_there}
-use Rattle.sre_turns.proofs.semantics.StepsInRuns.{longer_past, operands_within}
-use Rattle.sre_request.specs.declared.request.Request.{Request}
-use Rattle.sre_request.specs.Runs.{run_of, OpcodeAt}
-use Rattle.sre_machine.specs.Runs.{AreOperands}
-use Rattle.sre_machine.specs.EndlessRuns.{BeginsLater, NotTakenAt}
-use Rattle.sre_machine.specs.declared.run_operands.RunOperands.{RunOperands}
+use Rattle.sre_machine.specs.EndlessRuns.{BeginsLater}
 
 module _ {S : Type 0} {text : Ghosts S} (r : Request S text) (place count : ℕ) (o : RunOperands)
     (read : AreOperands r place o) (w : OpcodeAt r place opcode.MIN_REPEAT_ONE)

@@ -23,3 +23,4 @@ pub mod AdmittedHere
 pub mod AskedHere
 pub mod AskedLists
 pub mod ToldBodies
+pub mod Terms

@@ -1,12 +1,7 @@
 -- The innermost loop, as the operands of its REPEAT are read.
-use Rattle.std.proofs.Common.{◌≡◌, ℕ, ◌+◌, ◌≤◌, true, List, ◌∷◌, drop}
-use Rattle.sre_model.specs.Grammar.{Word, Opcode, until_opcode}
-use Rattle.sre_model.specs.Runs.{Run}
-use Rattle.sre_model.specs.Tree.{Order}
-use Rattle.sre_model.specs.Ways.{may_repeat, unlimited}
-use Rattle.sre_turns.specs.Board.{BoardValue}
-use Rattle.sre_turns.specs.Strides.{MayRepeat}
-use Rattle.sre_turns.specs.declared.Frame.{Frame}
+use Rattle.sre_machine.proofs.Terms.{◌≡◌, ℕ, ◌+◌, ◌≤◌, true, List, ◌∷◌, drop, Word, Opcode, until_opcode, Run, Order}
+use Rattle.sre_machine.proofs.Terms.{unlimited, BoardValue, MayRepeat, Frame}
+use Rattle.sre_model.specs.Ways.{may_repeat}
 use Rattle.sre_turns.proofs.semantics.StepsInLoops.{InLoop}
 use Rattle.sre_turns.proofs.semantics.StepsInPossessiveLoops.{InPossessiveLoop}
 

@@ -1,27 +1,14 @@
 -- The machine passes a marker of what was tried as it backtracks: it takes what is saved below, nothing is granted, and
 -- what was tried there has failed.
-use Rattle.std.proofs.Common.{◌≡◌, ◌≤◌, Bool, true, List, ◌∷◌, ap, ◌∙◌}
-use Rattle.sre_chars.specs.declared.string.StrDrive.{Ghosts}
-use Rattle.sre_chars.specs.declared.string.StringCursor.{StringCursor}
-use Rattle.sre_model.specs.Marks.{Marks}
-use Rattle.sre_model.specs.Runs.{Run}
-use Rattle.sre_model.specs.Ways.{Way}
-use Rattle.sre_turns.specs.Board.{BoardValue, Trying, choice}
-use Rattle.sre_turns.specs.Fruit.{is_inside}
-use Rattle.sre_turns.specs.Limits.{Limit, attempt, earlier, without_tried}
-use Rattle.sre_turns.specs.Machine.{IsBack, Backs, Goes, Advances, Later, spot}
-use Rattle.sre_turns.specs.declared.Next.{Next}
-use Rattle.sre_turns.specs.declared.Point.{Point}
+use Rattle.sre_machine.proofs.Terms.{◌≡◌, ◌≤◌, Bool, true, List, ◌∷◌, ap, ◌∙◌, Ghosts, StringCursor, Marks, Run, Way}
+use Rattle.sre_machine.proofs.Terms.{BoardValue, Trying, is_inside, Limit, attempt, earlier, without_tried, Backs, Goes}
+use Rattle.sre_machine.proofs.Terms.{Advances, Later, spot, Next, Point, asked_by_stop, later_again, Request, asked_of}
+use Rattle.sre_machine.proofs.Terms.{run_of, MemoValue, Recalls, HoldsTried, GoesBack}
+use Rattle.sre_turns.specs.Board.{choice}
+use Rattle.sre_turns.specs.Machine.{IsBack}
 use Rattle.sre_turns.specs.Hopeless.{Hopeless, MarksServe}
-use Rattle.sre_turns.proofs.memoization.Hopeless.{asked_by_stop}
 use Rattle.sre_turns.proofs.memoization.Trying.{tried_waits, tried_hopeless}
-use Rattle.sre_turns.proofs.semantics.GoingBack.{later_again}
-use Rattle.sre_request.specs.declared.request.Request.{Request}
-use Rattle.sre_request.specs.Requests.{asked_of}
-use Rattle.sre_request.specs.Runs.{run_of}
-use Rattle.sre_machine.specs.Memos.{MemoValue, Recalls}
-use Rattle.sre_machine.specs.Paying.{HoldsTried}
-use Rattle.sre_machine.specs.Turns.{GoesBack, Retreats}
+use Rattle.sre_machine.specs.Turns.{Retreats}
 use Rattle.sre_machine.proofs.Keeping.{pays_kept}
 use Rattle.sre_machine.proofs.Paying.{pays_then}
 

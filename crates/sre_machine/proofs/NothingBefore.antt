@@ -1,14 +1,10 @@
 -- What rules out a point: the next character is not in the FIRST set of its address.
-use Rattle.std.proofs.Common.{◌≡◌, ◌<◌, ℕ, Bool, true, nat_lt, List, length, Some, slice_index_or, sym, ap, ◌∙◌}
-use Rattle.std.proofs.Common.{arith}
-use Rattle.std.proofs.lemmas.Bool.Decides.{nat_tests}
-use Rattle.sre_model.specs.Runs.{Run}
-use Rattle.sre_model.specs.Subject.{char_at}
-use Rattle.sre_turns.specs.Admitting.{IsOutside, AdmitsOnly}
+use Rattle.sre_machine.proofs.Terms.{◌≡◌, ◌<◌, ℕ, Bool, true, nat_lt, List, length, Some, slice_index_or, sym, ap, ◌∙◌}
+use Rattle.sre_machine.proofs.Terms.{arith, nat_tests, Run, char_at, AdmitsOnly, Point, AllAdmitted}
+use Rattle.sre_turns.specs.Admitting.{IsOutside}
 use Rattle.sre_turns.specs.Machine.{Exhausted}
-use Rattle.sre_turns.specs.declared.Point.{Point}
 use Rattle.sre_board.proofs.ChainLaws.{get_some}
-use Rattle.sre_request.specs.Admitting.{IsAdmitted, AllAdmitted}
+use Rattle.sre_request.specs.Admitting.{IsAdmitted}
 use Rattle.sre_request.specs.declared.admitted.Admitted.{Admitted}
 
 -- what a list tells of a place that it has

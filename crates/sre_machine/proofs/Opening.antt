@@ -1,55 +1,35 @@
 -- An instruction that may branch, or a possessive loop, is tried: it is paid by a bit that the memo takes in, unless an
 -- allocation failed.
-use Rattle.std.proofs.Common.{◌≡◌, ℕ, ◌+◌, ◌-◌, ◌*◌, ◌<◌, ◌≤◌, ◌⊎◌, inl, inr, Bool, true, false, List, ◌∷◌}
-use Rattle.std.proofs.Common.{length, Some, refl, sym}
-use Rattle.std.proofs.Common.{subst, ap, ◌∙◌, arith}
-use Rattle.std.specs.List.{AllByRecursion}
-use Rattle.std.proofs.lemmas.Bool.{true≢false}
-use Rattle.sre_chars.specs.declared.constants.SreOpcode.{SreOpcode}
+use Rattle.sre_machine.proofs.Terms.{◌≡◌, ℕ, ◌+◌, ◌-◌, ◌*◌, ◌<◌, ◌≤◌, ◌⊎◌, inl, inr, Bool, true, false, List, ◌∷◌}
+use Rattle.sre_machine.proofs.Terms.{length, Some, refl, sym, subst, ap, ◌∙◌, arith, AllByRecursion, true≢false}
+use Rattle.sre_machine.proofs.Terms.{SreOpcode, Ghosts, StringCursor, Refused, backs, has_forked_region, Run, Way}
+use Rattle.sre_machine.proofs.Terms.{BoardValue, Trying, is_inside, Attempt, Limit, Grants, attempt, raised, Runs}
+use Rattle.sre_machine.proofs.Terms.{Arrives, Goes, Tries, spot, Spot, Instruction, Again, Point, run_code, here_forked}
+use Rattle.sre_machine.proofs.Terms.{RefersToGroups, ForksThere, NoEndTold, RunsOnAt, scan_at, toll, no_reference}
+use Rattle.sre_machine.proofs.Terms.{arrived_at, HasReference, HasBit, right_stays, Request, start_of, end_of, run_of}
+use Rattle.sre_machine.proofs.Terms.{MemoValue, RecallsOf, Pays, Remembering, Holds, Holding, rows_from}
 use Rattle.sre_chars.specs.declared.constants.SreOpcode.TheVariants as opcode
-use Rattle.sre_chars.specs.declared.string.StrDrive.{Ghosts}
-use Rattle.sre_chars.specs.declared.string.StringCursor.{StringCursor}
-use Rattle.sre_growth.specs.Refusal.{Refused}
-use Rattle.sre_model.specs.LooksBehind.{backs}
-use Rattle.sre_model.specs.Regions.{has_forked_region}
-use Rattle.sre_model.specs.Runs.{Run}
-use Rattle.sre_model.specs.Ways.{Way}
 use Rattle.sre_turns.specs.Alike.{Alike}
-use Rattle.sre_turns.specs.Board.{BoardValue, Trying}
-use Rattle.sre_turns.specs.Fruit.{is_inside}
-use Rattle.sre_turns.specs.Attempts.{Attempt}
-use Rattle.sre_turns.specs.Limits.{Limit, Grants, CodeAt, attempt, raised, with_tried, FaresAt}
-use Rattle.sre_turns.specs.Machine.{Runs, Arrives, Goes, Tries, spot}
-use Rattle.sre_turns.specs.Moves.{Spot}
+use Rattle.sre_turns.specs.Limits.{CodeAt, with_tried, FaresAt}
 use Rattle.sre_turns.specs.Nested.{repeats, place_of}
 use Rattle.sre_turns.specs.Settled.{SettledIn}
-use Rattle.sre_turns.specs.declared.Point.TheVariants.{Instruction, Again}
-use Rattle.sre_turns.specs.declared.Point.{Point}
-use Rattle.sre_turns.proofs.bound.Faring.{run_code}
-use Rattle.sre_turns.proofs.bound.HereMoves.{here_settled, here_forked}
+use Rattle.sre_turns.proofs.bound.HereMoves.{here_settled}
 use Rattle.sre_turns.proofs.memoization.Straight.{StraightPoint, forks_never}
-use Rattle.sre_machine.specs.Turns.{RefersToGroups, ForksThere, NoEndTold, BringsNoTolls, RunsOnAt, scan_at}
+use Rattle.sre_machine.specs.Turns.{BringsNoTolls}
 use Rattle.sre_turns.proofs.bound.GrantedTolls.{toll_few, split_few, no_toll, no_scan}
-use Rattle.sre_turns.specs.Prices.{price_of, toll, split_toll, scan_toll}
-use Rattle.sre_turns.proofs.memoization.Hopeless.{no_reference}
-use Rattle.sre_turns.proofs.semantics.Moving.{arrived_at, arrived_once}
+use Rattle.sre_turns.specs.Prices.{price_of, split_toll, scan_toll}
+use Rattle.sre_turns.proofs.semantics.Moving.{arrived_once}
 use Rattle.sre_turns.proofs.memoization.OpenMarks.{none_tried}
 use Rattle.sre_turns.proofs.semantics.StepsInPossessiveLoops.{again_place}
-use Rattle.sre_turns.specs.MovesAtReferences.{HasReference}
 use Rattle.sre_turns.proofs.memoization.Trying.{trying_goes, trying_tries}
 use Rattle.sre_model.proofs.Words.{opcode_within}
 use Rattle.sre_board.specs.Accounts.{toll_at}
 use Rattle.sre_board.specs.Ends.{HoldsEnd}
-use Rattle.sre_board.specs.Failures.{Entry, HasBit, IsOpen}
+use Rattle.sre_board.specs.Failures.{Entry, IsOpen}
 use Rattle.sre_board.proofs.AccountLaws.{account_opens}
-use Rattle.sre_board.proofs.EndsKept.{right_stays}
 use Rattle.sre_board.proofs.EndsTold.{end_told_before, no_end_outside}
 use Rattle.sre_board.proofs.Prepared.{account_prepared, bit_prepared}
-use Rattle.sre_request.specs.declared.request.Request.{Request}
-use Rattle.sre_request.specs.Requests.{start_of, end_of}
-use Rattle.sre_request.specs.Runs.{run_of}
-use Rattle.sre_machine.specs.Memos.{MemoValue, MakesRoom, RecallsOf}
-use Rattle.sre_machine.specs.Paying.{Pays, Remembering, Holds, Holding, rows_from}
+use Rattle.sre_machine.specs.Memos.{MakesRoom}
 use Rattle.sre_machine.proofs.Paying.{pays_refused, pays_unless, pays_nothing, pays_left}
 
 -- failures are memoized still, or an allocation failed

@@ -1,15 +1,7 @@
 -- Credits that are paid one after the other.
-use Rattle.std.proofs.Common.{◌≡◌, ℕ, ◌≤◌, ◌⊎◌, inl, inr, Bool, true, false, List, refl, sym, ◌∙◌, arith}
-use Rattle.sre_chars.specs.declared.string.StrDrive.{Ghosts}
-use Rattle.sre_growth.specs.Refusal.{Refused}
-use Rattle.sre_turns.specs.Limits.{Limit, Grants, raised}
-use Rattle.sre_turns.specs.Attempts.{Attempt}
-use Rattle.sre_turns.specs.MovesAtReferences.{HasReference}
-use Rattle.sre_turns.proofs.memoization.Hopeless.{no_reference}
-use Rattle.sre_request.specs.declared.request.Request.{Request}
-use Rattle.sre_request.specs.Runs.{run_of}
-use Rattle.sre_machine.specs.Memos.{MemoValue, EndsStay}
-use Rattle.sre_machine.specs.Paying.{Holds, Pays, Remembering}
+use Rattle.sre_machine.proofs.Terms.{◌≡◌, ℕ, ◌≤◌, ◌⊎◌, inl, inr, Bool, true, false, List, refl, sym, ◌∙◌, arith, Ghosts}
+use Rattle.sre_machine.proofs.Terms.{Refused, Limit, Grants, raised, Attempt, HasReference, no_reference, Request}
+use Rattle.sre_machine.proofs.Terms.{run_of, MemoValue, EndsStay, Holds, Pays, Remembering}
 
 -- what comes of a fact, unless an allocation failed
 pub unless_refused : {R A B : Type 0} → R ⊎ A → (A → R ⊎ B) → R ⊎ B

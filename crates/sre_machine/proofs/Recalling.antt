@@ -1,15 +1,13 @@
 -- Memoized configurations are hopeless, and memoized ends are right.
-use Rattle.std.proofs.Common.{◌≡◌, ℕ, ◌+◌, ◌*◌, ◌<◌, ◌⊎◌, inl, inr, List, Bool, true, refl, sym, ◌∙◌, subst}
-use Rattle.sre_model.specs.Marks.{no_marks}
-use Rattle.sre_model.specs.Runs.{Run}
-use Rattle.sre_turns.specs.AskedPlaces.{AreIdle}
+use Rattle.sre_machine.proofs.Terms.{◌≡◌, ℕ, ◌+◌, ◌*◌, ◌<◌, ◌⊎◌, inl, inr, List, Bool, true, refl, sym, ◌∙◌, subst}
+use Rattle.sre_machine.proofs.Terms.{no_marks, Run, AreIdle, Asks, Kept, HoldsNoMore, Remembers, right_stays}
+use Rattle.sre_machine.proofs.Terms.{remembers_still, MemoValue, Covers, Recalls, EndsStay}
 use Rattle.sre_turns.specs.Bodies.{MarklessRegions}
-use Rattle.sre_turns.specs.MovesAtReferences.{Asks}
 use Rattle.sre_board.specs.Ends.{EndsTable, EndsRight, HoldsNoEnd}
-use Rattle.sre_board.specs.Failures.{Kept, HoldsNone, HoldsNoMore, BitsStay, Grows, Remembers}
-use Rattle.sre_board.proofs.EndsKept.{right_none, right_stays}
-use Rattle.sre_board.proofs.Remembering.{remembers_none, remembers_still}
-use Rattle.sre_machine.specs.Memos.{MarkedValue, MemoValue, Covers, Recalled, Recalls, MarkedStays, EndsStay}
+use Rattle.sre_board.specs.Failures.{HoldsNone, BitsStay, Grows}
+use Rattle.sre_board.proofs.EndsKept.{right_none}
+use Rattle.sre_board.proofs.Remembering.{remembers_none}
+use Rattle.sre_machine.specs.Memos.{MarkedValue, Recalled, MarkedStays}
 use Rattle.sre_machine.proofs.AskedGroups.{covers_told}
 
 -- nothing is kept

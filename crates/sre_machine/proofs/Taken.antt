@@ -1,18 +1,8 @@
 -- A step that was taken, as the machine's loop counts it.
-use Rattle.std.proofs.Common.{◌≡◌, ℕ, ◌+◌, ◌-◌, ◌≤◌, List, subst, arith}
-use Rattle.sre_chars.specs.declared.string.StringCursor.{StringCursor}
-use Rattle.sre_model.specs.Runs.{Run}
-use Rattle.sre_model.specs.Ways.{Way}
-use Rattle.sre_turns.specs.Board.{BoardValue}
-use Rattle.sre_turns.specs.Limits.{Limit, raised}
-use Rattle.sre_turns.specs.Machine.{spot, Stands, Later, StandsWithin, Advances, Arrives}
-use Rattle.sre_turns.specs.Prices.{toll}
+use Rattle.sre_machine.proofs.Terms.{◌≡◌, ℕ, ◌+◌, ◌-◌, ◌≤◌, List, subst, arith, StringCursor, Run, Way, BoardValue}
+use Rattle.sre_machine.proofs.Terms.{Limit, raised, spot, Stands, Later, StandsWithin, Advances, Arrives, toll, Next}
+use Rattle.sre_machine.proofs.Terms.{Point, Proceeds, run_code, arrived_at}
 use Rattle.sre_turns.specs.Lying.{repeats}
-use Rattle.sre_turns.specs.declared.Next.{Next}
-use Rattle.sre_turns.specs.declared.Point.{Point}
-use Rattle.sre_machine.specs.Turns.{Proceeds}
-use Rattle.sre_turns.proofs.bound.Faring.{run_code}
-use Rattle.sre_turns.proofs.semantics.Moving.{arrived_at}
 
 module _ (r : Run) (all : List Way) (limit turned counted : ℕ) (old new : BoardValue) (n : Next)
     (one : counted ≡ turned + 1) where

@@ -1,25 +1,13 @@
 -- A point is left or tried, by what is known of it.
-use Rattle.std.proofs.Common.{◌≡◌, ◌⊎◌, inl, List, ℕ, Bool, true, false, sym, ◌∙◌, subst}
-use Rattle.std.proofs.lemmas.Bool.{true≢false}
-use Rattle.sre_chars.specs.declared.string.StrDrive.{Ghosts}
-use Rattle.sre_chars.specs.declared.string.StringCursor.{StringCursor}
-use Rattle.sre_model.specs.Marks.{no_marks}
-use Rattle.sre_turns.specs.Board.{BoardValue}
-use Rattle.sre_turns.specs.Fruit.{is_inside}
-use Rattle.sre_turns.specs.Machine.{spot}
-use Rattle.sre_turns.specs.Moves.{spot_at}
-use Rattle.sre_turns.specs.declared.Point.{Point}
+use Rattle.sre_machine.proofs.Terms.{◌≡◌, ◌⊎◌, inl, List, ℕ, Bool, true, false, sym, ◌∙◌, subst, true≢false, Ghosts}
+use Rattle.sre_machine.proofs.Terms.{StringCursor, no_marks, BoardValue, is_inside, spot, spot_at, Point, Refused}
+use Rattle.sre_machine.proofs.Terms.{HoldsNoMore, remembers_still, Request, run_of, MemoValue, RecallsOf}
+use Rattle.sre_machine.proofs.Terms.{RefersToGroups, ForksThere, NoEndTold, GivesUp, GoesOn, TriesOn, LeavesOrStays}
 use Rattle.sre_turns.proofs.memoization.Trying.{hopeless_left}
-use Rattle.sre_growth.specs.Refusal.{Refused}
-use Rattle.sre_board.specs.Failures.{HoldsNoMore, Tells}
+use Rattle.sre_board.specs.Failures.{Tells}
 use Rattle.sre_board.specs.declared.failures.Known.{Known}
 use Rattle.sre_board.specs.declared.failures.Known.TheVariants.{Failed, Open, NoBit}
-use Rattle.sre_board.proofs.Remembering.{remembers_still}
-use Rattle.sre_request.specs.declared.request.Request.{Request}
-use Rattle.sre_request.specs.Runs.{run_of}
-use Rattle.sre_machine.specs.Memos.{MemoValue, RecallsOf}
-use Rattle.sre_machine.specs.Turns.{RefersToGroups, AlikeMarks, ServesThere, ForksThere, NoEndTold, TriesKnown}
-use Rattle.sre_machine.specs.Turns.{GivesUp, GoesOn, TriesOn, LeavesOrStays}
+use Rattle.sre_machine.specs.Turns.{AlikeMarks, ServesThere, TriesKnown}
 use Rattle.sre_machine.proofs.Failing.{stays_tried}
 use Rattle.sre_machine.proofs.Opening.{PreparedAt, pays_prepared, goes_untried, tries_untried, goes_tried, tries_tried}
 use Rattle.sre_machine.proofs.Opening.{goes_marked, tries_marked}

@@ -1,17 +1,12 @@
 -- A literal that occurs nowhere in the rest of the range fails.
-use Rattle.std.proofs.Common.{◌≡◌, ◌≢◌, ◌⊎◌, inl, inr, ℕ, ◌+◌, ◌<◌, ◌≤◌, true, false, Bool, nat_eq, List, Option, Some}
-use Rattle.std.proofs.Common.{None, IfSome, refl, subst, arith}
-use Rattle.std.proofs.lemmas.Bool.{cases_lt}
-use Rattle.std.proofs.lemmas.Bool.Decides.{nat_tests}
+use Rattle.sre_machine.proofs.Terms.{◌≡◌, ◌≢◌, ◌⊎◌, inl, inr, ℕ, ◌+◌, ◌<◌, ◌≤◌, true, false, Bool, List, Option, Some}
+use Rattle.sre_machine.proofs.Terms.{None, IfSome, refl, subst, arith, cases_lt, nat_tests, Literal, Plain, passes}
+use Rattle.sre_machine.proofs.Terms.{char_at, Word, Opcode, Run, Refuses, DemandsAny, literal_demands}
+use Rattle.std.proofs.Common.{nat_eq}
 use Rattle.sre_chars.specs.Texts.{NoneIs, Sought}
 use Rattle.sre_chars.specs.declared.constants.SreOpcode.TheVariants as opcode
-use Rattle.sre_model.specs.Tree.{Literal, Plain}
-use Rattle.sre_model.specs.Subject.{Subject, passes, char_at}
-use Rattle.sre_model.specs.Grammar.{Word, Opcode}
-use Rattle.sre_model.specs.Runs.{Run}
+use Rattle.sre_model.specs.Subject.{Subject}
 use Rattle.sre_model.proofs.Passing.{read_passes, past_end}
-use Rattle.sre_turns.specs.Machine.{Refuses, DemandsAny}
-use Rattle.sre_turns.proofs.semantics.StepsAtItems.{literal_demands}
 
 -- a literal that no character is does not pass
 none_passes : (s : Subject) (v from q : ℕ) → NoneIs s.text v from s.end → from ≤ q

@@ -1,9 +1,6 @@
 -- What a list says of each address: which captures may be live from there on.
 -- Definitions for the machine's contracts; what sre_engine makes public does not rest on it.
-use Rattle.std.specs.Prelude.{ℕ, ◌-◌, ◌^◌, ◌≡◌, ◌⊎◌, List, Option, None, Some, slice_get}
-use Rattle.sre_chars.specs.declared.constants.SreOpcode.{SreOpcode}
-use Rattle.sre_model.specs.Grammar.{Opcode}
-use Rattle.sre_model.specs.Roles.{role}
+use Rattle.sre_machine.specs.Terms.{ℕ, ◌-◌, ◌^◌, ◌≡◌, ◌⊎◌, List, Option, None, Some, slice_get, SreOpcode, Opcode, role}
 use Rattle.sre_turns.specs.AskedPlaces.{MarkRange, Lies, Within, PlacesAsk, AsksAt, AskedByPlace}
 use Rattle.sre_machine.specs.declared.asked_places.AskedMarks.{AskedMarks}
 use Rattle.sre_machine.specs.declared.asked_places.AskedPlace.{AskedPlace}

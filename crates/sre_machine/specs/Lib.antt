@@ -8,3 +8,4 @@ pub mod EndlessRuns
 pub mod Spending
 pub mod ByPlace
 pub mod AskedLists
+pub mod Terms

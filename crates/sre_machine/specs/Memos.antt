@@ -1,25 +1,14 @@
 -- What a memo has: the failures and the body ends that are memoized, and how long the search goes on without.
-use Rattle.std.specs.Prelude.{ℕ, ◌+◌, ◌-◌, ◌*◌, ◌^◌, ◌<◌, ◌≤◌, ◌≡◌, Bool, true, false, List, []}
-use Rattle.std.specs.Prelude.{Option, Some, None, negsuc}
-use Rattle.sre_chars.specs.declared.string.StrDrive.{Ghosts}
-use Rattle.sre_model.specs.Tree.{Tree}
-use Rattle.sre_model.specs.Grammar.{WholeItems}
+use Rattle.sre_machine.specs.Terms.{ℕ, ◌+◌, ◌-◌, ◌*◌, ◌^◌, ◌<◌, ◌≤◌, ◌≡◌, Bool, true, false, List, [], Option, Some}
+use Rattle.sre_machine.specs.Terms.{None, Ghosts, Tree, WholeItems, Marks, no_marks, marks_in_regions, Run, Asks}
+use Rattle.sre_machine.specs.Terms.{Request, start_of, run_of, AreIdle, MarklessRegions, Point, EndsTable, Kept, Laid}
+use Rattle.sre_machine.specs.Terms.{HoldsNone, kept_of}
+use Rattle.std.specs.Prelude.{negsuc}
 use Rattle.sre_model.specs.LooksBehind.{backs}
 use Rattle.sre_model.specs.References.{refers}
-use Rattle.sre_model.specs.Marks.{Marks, no_marks}
-use Rattle.sre_model.specs.MarksSet.{marks_in_regions}
-use Rattle.sre_model.specs.Runs.{Run}
-use Rattle.sre_turns.specs.MovesAtReferences.{Asks}
-use Rattle.sre_request.specs.declared.request.Request.{Request}
-use Rattle.sre_request.specs.Requests.{start_of}
-use Rattle.sre_request.specs.Runs.{run_of}
-use Rattle.sre_turns.specs.AskedPlaces.{AreIdle}
-use Rattle.sre_turns.specs.Bodies.{MarklessRegions}
 use Rattle.sre_turns.specs.Nested.{place_under}
-use Rattle.sre_turns.specs.declared.Point.{Point}
-use Rattle.sre_board.specs.Ends.{EndsTable, EndsRight, HoldsNoEnd}
-use Rattle.sre_board.specs.Failures.{Kept, Remembers, Grows, Laid, HasSlots, Roomy, NewRow, Capacity, HasRow}
-use Rattle.sre_board.specs.Failures.{HoldsNone, kept_of}
+use Rattle.sre_board.specs.Ends.{EndsRight, HoldsNoEnd}
+use Rattle.sre_board.specs.Failures.{Remembers, Grows, HasSlots, Roomy, NewRow, Capacity, HasRow}
 
 -- failures, the marks under which they were kept, behind which mark none is asked for, and from which places on none is
 pub record MarkedValue : Type 0 where

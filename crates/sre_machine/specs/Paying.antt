@@ -2,30 +2,16 @@
 -- that the memo takes in, each of which pays for all ends of a repeat with a greatest count. And what steps cost before
 -- that: each is one of those for which the memo waits.
 -- Definitions for the machine's contracts; what sre_engine makes public does not rest on it.
-use Rattle.std.specs.Prelude.{ℕ, ◌+◌, ◌-◌, ◌*◌, ◌/◌, ◌≤◌, ◌≡◌, ◌⊎◌, ⊤, List, [], ◌∷◌, min, Bool, true, false}
-use Rattle.std.specs.Prelude.{Option}
+use Rattle.sre_machine.specs.Terms.{ℕ, ◌+◌, ◌-◌, ◌*◌, ◌≤◌, ◌≡◌, ◌⊎◌, ⊤, List, [], ◌∷◌, Bool, true, false, Option}
+use Rattle.sre_machine.specs.Terms.{Ghosts, StringCursor, Refused, Run, Limit, Counted, Way, marks_in_regions}
+use Rattle.sre_machine.specs.Terms.{BoardValue, Stands, Next, EndsTable, Kept, Request, start_of, end_of, run_of}
+use Rattle.std.specs.Prelude.{◌/◌, min}
 use Rattle.std.specs.List.{AllByRecursion}
-use Rattle.sre_chars.specs.declared.string.StrDrive.{Ghosts}
-use Rattle.sre_chars.specs.declared.string.StringCursor.{StringCursor}
-use Rattle.sre_growth.specs.Refusal.{Refused}
-use Rattle.sre_model.specs.Runs.{Run}
-use Rattle.sre_turns.specs.Limits.{Limit}
 use Rattle.sre_model.specs.TreePrices.{most_steps}
-use Rattle.sre_turns.specs.Settled.{Counted}
-use Rattle.sre_model.specs.Ways.{Way}
 use Rattle.sre_model.specs.LooksBehind.{longest_lookbehind}
-use Rattle.sre_model.specs.MarksSet.{marks_in_regions}
 use Rattle.sre_model.specs.Regions.{has_forked_region}
-use Rattle.sre_turns.specs.Board.{BoardValue}
-use Rattle.sre_turns.specs.Machine.{Stands}
 use Rattle.sre_turns.specs.Attempts.{Attempt}
-use Rattle.sre_turns.specs.declared.Next.{Next}
 use Rattle.sre_board.specs.Accounts.{Account, Room, most_paid}
-use Rattle.sre_board.specs.Ends.{EndsTable}
-use Rattle.sre_board.specs.Failures.{Kept}
-use Rattle.sre_request.specs.declared.request.Request.{Request}
-use Rattle.sre_request.specs.Requests.{start_of, end_of}
-use Rattle.sre_request.specs.Runs.{run_of}
 use Rattle.sre_machine.specs.Memos.{MemoValue, first_kept}
 use Rattle.sre_machine.specs.declared.turns.Decision.{Decision}
 use Rattle.sre_machine.specs.declared.turns.Decision.TheVariants.{Decided, Opened}

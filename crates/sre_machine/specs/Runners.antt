@@ -1,20 +1,10 @@
 -- What a runner has, and what an attempt of it preserves, counts and costs.
 -- Definitions for the contracts inside these crates; what sre_engine makes public does not rest on it.
-use Rattle.std.specs.Prelude.{⊤, ℕ, ◌+◌, ◌-◌, ◌*◌, ◌^◌, ◌≡◌, ◌<◌, ◌≤◌, Bool, true, false, Option, None, Some}
-use Rattle.std.specs.Prelude.{Result, Ok, Err, IfOk}
+use Rattle.sre_machine.specs.Terms.{⊤, ℕ, ◌+◌, ◌-◌, ◌*◌, ◌^◌, ◌≡◌, ◌<◌, ◌≤◌, Bool, true, false, Option, None, Some}
+use Rattle.sre_machine.specs.Terms.{Result, Ok, Err, IfOk, Ghosts, StringCursor, Tree, WholeItems, no_marks}
+use Rattle.sre_machine.specs.Terms.{behind_items, ReadsBehind, turns_of, most_each, BoardValue, bare, Decides, outcomes}
+use Rattle.sre_machine.specs.Terms.{Request, asked_of, end_of, run_of, Standing}
 use Rattle.std.specs.declared.alloc.Allocator.{Ghosts as Memory}
-use Rattle.sre_chars.specs.declared.string.StrDrive.{Ghosts}
-use Rattle.sre_chars.specs.declared.string.StringCursor.{StringCursor}
-use Rattle.sre_model.specs.Tree.{Tree}
-use Rattle.sre_model.specs.Grammar.{WholeItems}
-use Rattle.sre_model.specs.Marks.{no_marks}
-use Rattle.sre_model.specs.Prefixes.{behind_items, ReadsBehind}
-use Rattle.sre_model.specs.TurnBounds.{turns_of, most_each}
-use Rattle.sre_turns.specs.Board.{BoardValue, bare}
-use Rattle.sre_turns.specs.Machine.{Decides, outcomes}
-use Rattle.sre_request.specs.declared.request.Request.{Request}
-use Rattle.sre_request.specs.Requests.{asked_of, end_of}
-use Rattle.sre_request.specs.Runs.{run_of, Standing}
 use Rattle.sre_machine.specs.Allowances.{is_limited, left_of}
 use Rattle.sre_machine.specs.Memos.{MemoValue, Recalls}
 use Rattle.sre_machine.specs.Paying.{RunStops, RunSettles}

@@ -1,23 +1,10 @@
 -- What steps take off those that are left, and what a run of them costs.
 -- Definitions for the machine's contracts; what sre_engine makes public does not rest on it.
-use Rattle.std.specs.Prelude.{ℕ, ◌+◌, ◌-◌, ◌*◌, ◌≡◌, ◌≤◌, ◌⊎◌, Bool, true, false, Option, None, Some, List}
-use Rattle.std.specs.Prelude.{Result, Ok, Err, IfOk, IfErr}
+use Rattle.sre_machine.specs.Terms.{ℕ, ◌+◌, ◌-◌, ◌*◌, ◌≡◌, ◌≤◌, ◌⊎◌, Bool, true, false, Option, None, Some, List}
+use Rattle.sre_machine.specs.Terms.{Result, Ok, Err, IfOk, IfErr, Ghosts, StringCursor, Refused, Tree, Way, WholeItems}
+use Rattle.sre_machine.specs.Terms.{behind_items, turns_of, most_each, BoardValue, Limit, raised, Decides, Stands}
+use Rattle.sre_machine.specs.Terms.{StandsWithin, outcomes, Next, Request, asked_of, run_of}
 use Rattle.std.specs.declared.alloc.Allocator.{Ghosts as Memory}
-use Rattle.sre_chars.specs.declared.string.StrDrive.{Ghosts}
-use Rattle.sre_chars.specs.declared.string.StringCursor.{StringCursor}
-use Rattle.sre_growth.specs.Refusal.{Refused}
-use Rattle.sre_model.specs.Tree.{Tree}
-use Rattle.sre_model.specs.Ways.{Way}
-use Rattle.sre_model.specs.Grammar.{WholeItems}
-use Rattle.sre_model.specs.Prefixes.{behind_items}
-use Rattle.sre_model.specs.TurnBounds.{turns_of, most_each}
-use Rattle.sre_turns.specs.Board.{BoardValue}
-use Rattle.sre_turns.specs.Limits.{Limit, raised}
-use Rattle.sre_turns.specs.Machine.{Decides, Stands, StandsWithin, outcomes}
-use Rattle.sre_turns.specs.declared.Next.{Next}
-use Rattle.sre_request.specs.declared.request.Request.{Request}
-use Rattle.sre_request.specs.Requests.{asked_of}
-use Rattle.sre_request.specs.Runs.{run_of}
 use Rattle.sre_machine.specs.Allowances.{is_limited, left_of}
 use Rattle.sre_machine.specs.Memos.{MemoValue, Recalls}
 use Rattle.sre_machine.specs.Paying.{Settles, RunStops, RunSettles, AnewStops, AnewSettles, IfDecided}

@@ -1,44 +1,30 @@
 -- Where the machine is, and what an instruction's step preserves.
 -- Definitions for the machine's contracts; what sre_engine makes public does not rest on it.
-use Rattle.std.specs.Prelude.{⊤, ℕ, ◌≡◌, ◌≢◌, Bool, true, false, List, [], ◌∷◌, Option}
-use Rattle.sre_chars.specs.declared.constants.SreOpcode.{SreOpcode}
-use Rattle.sre_chars.specs.declared.string.StrDrive.{Ghosts}
-use Rattle.sre_chars.specs.declared.string.StringCursor.{StringCursor}
-use Rattle.sre_model.specs.Marks.{Marks, no_marks}
-use Rattle.sre_growth.specs.Refusal.{Refused}
-use Rattle.sre_model.specs.Runs.{Run}
-use Rattle.sre_turns.specs.Board.{BoardValue, Trying}
+use Rattle.sre_machine.specs.Terms.{⊤, ℕ, ◌≡◌, ◌≢◌, Bool, true, false, List, [], ◌∷◌, Option, SreOpcode, Ghosts}
+use Rattle.sre_machine.specs.Terms.{StringCursor, Marks, no_marks, Refused, Run, BoardValue, is_inside, spot_at}
+use Rattle.sre_machine.specs.Terms.{Counted, Way, IsBack, StandsWithin, spot, RunsOn, Limit, raised, Next, Point}
+use Rattle.sre_machine.specs.Terms.{Instruction, Again, TellsEnd, KeepsOpenEnds, HoldsOpenEnds, Request, run_of}
+use Rattle.sre_turns.specs.Board.{Trying}
 use Rattle.sre_turns.specs.Asked as marks
 use Rattle.sre_turns.specs.Asked.{MarksAlike}
-use Rattle.sre_turns.specs.Fruit.{is_inside}
 use Rattle.sre_turns.specs.AskedPlaces.{MarksIdle}
 use Rattle.sre_turns.specs.Hopeless.{Hopeless, MarksServe}
-use Rattle.sre_turns.specs.Moves.{spot_at}
 use Rattle.sre_turns.specs.MovesAtReferences.{HasReference}
-use Rattle.sre_turns.specs.Settled.{Counted}
 use Rattle.sre_turns.specs.Straight.{ForksAt}
-use Rattle.sre_model.specs.Ways.{Way}
-use Rattle.sre_turns.specs.Machine.{HasRun, IsAt, IsBack, StandsWithin, Goes, Tries, Arrives, Backs, Advances}
+use Rattle.sre_turns.specs.Machine.{HasRun, IsAt, Goes, Tries, Arrives, Backs, Advances}
 use Rattle.sre_turns.specs.Machine.{Later}
 use Rattle.sre_turns.specs.BodyEnds.{EndsAt}
-use Rattle.sre_turns.specs.Machine.{Ends, spot}
+use Rattle.sre_turns.specs.Machine.{Ends}
 use Rattle.sre_turns.specs.Machine.{Refuses, DemandsAny, Continues, SkipsBoth, IsRead}
-use Rattle.sre_turns.specs.RunEnds.{RunsOn}
-use Rattle.sre_turns.specs.Limits.{Limit, Grants, CodeAt, has_toll, raised}
+use Rattle.sre_turns.specs.Limits.{Grants, CodeAt, has_toll}
 use Rattle.sre_turns.specs.Prices.{scan_toll}
 use Rattle.sre_turns.specs.declared.Next.TheVariants as next
-use Rattle.sre_turns.specs.declared.Next.{Next}
-use Rattle.sre_turns.specs.declared.Point.{Point}
-use Rattle.sre_turns.specs.declared.Point.TheVariants.{Instruction, Again}
-use Rattle.sre_board.specs.Ends.{TellsEnd, KeepsOpenEnds, HoldsOpenEnds}
 use Rattle.sre_board.specs.declared.failures.Known.{Known}
 use Rattle.sre_board.specs.declared.failures.Known.TheVariants.{Failed, Open, NoBit}
-use Rattle.sre_request.specs.declared.request.Request.{Request}
 use Rattle.sre_machine.specs.Memos.{MemoValue, Recalls}
 use Rattle.sre_machine.specs.Paying.{Pays, Within}
 use Rattle.sre_machine.specs.declared.trying.Keeping.{Keeping}
 use Rattle.sre_machine.specs.declared.trying.Keeping.TheVariants.{Nothing, Unmarked, Idle, Marked}
-use Rattle.sre_request.specs.Runs.{run_of}
 
 -- the machine is at a point, with a cursor at its position; at an instruction
 abbrev pub AtPoint : {S : Type 0} {text : Ghosts S} → Request S text → Point → StringCursor → Type 0

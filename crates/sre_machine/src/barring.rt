@@ -1,13 +1,8 @@
 //! Points that must fail, by the next character and the FIRST sets that the request carries. An empty list excludes
 //! nothing.
 
-ghost use Rattle.std.specs.Prelude.{◌≡◌, true};
-ghost use Rattle.sre_code.specs.AsciiSet.{contains};
+ghost use Rattle.sre_machine.specs.Terms.{◌≡◌, true, contains, Alternatives, Exhausted, run_of, character_at};
 ghost use Rattle.sre_turns.specs.Admitting.{IsOutside};
-ghost use Rattle.sre_turns.specs.declared.Point.TheVariants.{Alternatives};
-ghost use Rattle.sre_turns.specs.Machine.{Exhausted};
-ghost use Rattle.sre_request.specs.Runs.{run_of};
-ghost use Rattle.sre_request.specs.Reads.{character_at};
 ghost use Rattle.sre_machine.specs.Turns.{RefusesAt};
 
 use sre_chars::string::{StrDrive, StringCursor};

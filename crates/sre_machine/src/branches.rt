@@ -7,18 +7,11 @@
 //! If the request carries FIRST sets, an ASCII character is looked up there. Then the words of an alternative are read
 //! only if it may match.
 
-ghost use Rattle.std.specs.Prelude.{◌≡◌, ℕ, ◌+◌, ◌<◌, ◌^◌, true, false, IfOk, IfSome, MatchOption};
-ghost use Rattle.sre_model.specs.Tree.{Test};
-ghost use Rattle.sre_model.specs.Grammar.{word};
-ghost use Rattle.sre_turns.specs.declared.Point.TheVariants.{Instruction, Alternatives};
-ghost use Rattle.sre_turns.specs.declared.Point.{Point};
-ghost use Rattle.sre_turns.specs.Machine.{Chooses, Exhausted};
+ghost use Rattle.sre_machine.specs.Terms.{◌≡◌, ℕ, ◌+◌, ◌<◌, ◌^◌, true, false, IfOk, IfSome, MatchOption, Test, word};
+ghost use Rattle.sre_machine.specs.Terms.{Instruction, Alternatives, Point, Chooses, Exhausted, begins_test, end_of};
+ghost use Rattle.sre_machine.specs.Terms.{run_of, OpcodeAt, TestAt, TestStandsAt, test_takes, character_at};
 ghost use Rattle.sre_turns.specs.Strides.{YieldsTo};
-ghost use Rattle.sre_model.specs.Roles.{begins_test};
-ghost use Rattle.sre_request.specs.Requests.{end_of};
-ghost use Rattle.sre_request.specs.Runs.{run_of, OpcodeAt, TestAt};
 ghost use Rattle.sre_machine.specs.Turns.{At, Turn, AtPoint, ContinuesTo, ReadAt, RefusesAt, TurnAt};
-ghost use Rattle.sre_request.specs.Reads.{TestStandsAt, test_takes, character_at};
 
 use crate::barring::{bars, bars_alternatives};
 use crate::machine::{choose, opcode};

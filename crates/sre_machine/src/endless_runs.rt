@@ -4,11 +4,8 @@
 //! Of a possessive one they are those of the later repeat alone, if there is one. So the machine continues at that
 //! later repeat, which is looked up and tried like any instruction. Each end is tried once, wherever the repeat began.
 
-ghost use Rattle.std.specs.Prelude.{None, ◌≡◌, ◌+◌, ◌-◌, ◌^◌, ◌<◌, ◌≤◌, MatchOption, IfOk, true, false};
-ghost use Rattle.sre_model.specs.Ways.{unlimited};
-ghost use Rattle.sre_turns.specs.declared.Point.TheVariants.{Longer};
-ghost use Rattle.sre_request.specs.Requests.{end_of};
-ghost use Rattle.sre_request.specs.Runs.{OpcodeAt, Standing, TestAt};
+ghost use Rattle.sre_machine.specs.Terms.{None, ◌≡◌, ◌+◌, ◌-◌, ◌^◌, ◌<◌, ◌≤◌, MatchOption, IfOk, true, false};
+ghost use Rattle.sre_machine.specs.Terms.{unlimited, Longer, end_of, OpcodeAt, Standing, TestAt};
 ghost use Rattle.sre_machine.specs.Turns.{At, TurnOnce, AtPoint, TurnAt};
 ghost use Rattle.sre_machine.specs.EndlessRuns.{TakenAt, NotTakenAt, LacksLeast, EndsFirst, BeginsLater, IsEndlessRun};
 ghost use Rattle.sre_machine.specs.EndlessRuns.{HasOtherEnds};

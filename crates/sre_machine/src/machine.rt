@@ -4,15 +4,9 @@
 //! The contract of each opcode's function says that the accepted outcomes of the run stay the same, with one step less.
 //! Choices wait on the backtrack stack. A choice that is known to fail is not pushed.
 
-ghost use Rattle.std.specs.Prelude.{◌≡◌, ℕ, ◌+◌, ◌^◌, ◌<◌, IfOk, MatchOption, true};
-ghost use Rattle.sre_turns.specs.Board.{BoardValue};
-ghost use Rattle.sre_turns.specs.declared.Point.TheVariants.{Instruction, Longer};
-ghost use Rattle.sre_turns.specs.declared.Point.{Point};
-ghost use Rattle.sre_turns.specs.Machine.{IsBack, Chooses};
-ghost use Rattle.sre_model.specs.Roles.{begins_test};
-ghost use Rattle.sre_model.specs.Tree.{Test};
-ghost use Rattle.sre_request.specs.Runs.{run_of, OpcodeAt, TestAt, Standing};
-ghost use Rattle.sre_request.specs.Reads.{TestStandsAt, test_takes};
+ghost use Rattle.sre_machine.specs.Terms.{◌≡◌, ℕ, ◌+◌, ◌^◌, ◌<◌, IfOk, MatchOption, true, BoardValue, Instruction};
+ghost use Rattle.sre_machine.specs.Terms.{Longer, Point, IsBack, Chooses, begins_test, Test, run_of, OpcodeAt, TestAt};
+ghost use Rattle.sre_machine.specs.Terms.{Standing, TestStandsAt, test_takes};
 ghost use Rattle.sre_machine.specs.Memos.{RecallsOf};
 ghost use Rattle.sre_machine.specs.Turns.{At, AtPoint, AtOnBoard, Turn, TurnAt, DemandedAt, RefusesAt};
 ghost use Rattle.sre_machine.specs.Turns.{Retreats, Finishes};

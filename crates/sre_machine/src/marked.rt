@@ -7,19 +7,12 @@
 //! Nor do slots make a difference at an address where none is live. A search lists such addresses once, when it first
 //! meets other captures.
 
-ghost use Rattle.std.specs.Prelude.{[], ℕ, ◌≡◌, ◌⊎◌, ◌+◌, ◌-◌, ◌*◌, ◌^◌, ◌<◌, ◌≤◌, IfOk, None, slice_index_or};
-ghost use Rattle.std.specs.Prelude.{true, false};
-ghost use Rattle.sre_model.specs.Marks.{mark_at};
+ghost use Rattle.sre_machine.specs.Terms.{[], ℕ, ◌≡◌, ◌⊎◌, ◌+◌, ◌-◌, ◌*◌, ◌^◌, ◌<◌, ◌≤◌, IfOk, None, slice_index_or};
+ghost use Rattle.sre_machine.specs.Terms.{true, false, mark_at, SreOpcode, role, Asks, AreIdle, SaysOf, is_inside};
+ghost use Rattle.sre_machine.specs.Terms.{spot_at, HoldsNone, HoldsNoMore, HoldsOneMore, Tells, items_of};
 ghost use Rattle.sre_chars.specs.Numbers.{opcode_number};
-ghost use Rattle.sre_chars.specs.declared.constants.SreOpcode.{SreOpcode};
-ghost use Rattle.sre_model.specs.Roles.{role};
-ghost use Rattle.sre_turns.specs.MovesAtReferences.{Asks, Named, asks};
+ghost use Rattle.sre_turns.specs.MovesAtReferences.{Named, asks};
 ghost use Rattle.sre_machine.specs.Memos.{MarkedStays};
-ghost use Rattle.sre_turns.specs.AskedPlaces.{AreIdle, SaysOf};
-ghost use Rattle.sre_turns.specs.Fruit.{is_inside};
-ghost use Rattle.sre_turns.specs.Moves.{spot_at};
-ghost use Rattle.sre_board.specs.Failures.{HoldsNone, HoldsNoMore, HoldsOneMore, Tells};
-ghost use Rattle.sre_code.specs.Codes.{items_of};
 
 use crate::asked_places::{AskedPlace, list_idle, says_of};
 use sre_board::{Board, Failures, Known};

@@ -6,18 +6,13 @@
 //! search with a step limit counts its steps instead, and its memo opens after 32 for each position. The current run
 //! then continues with the memo, but restarts if it has a step limit.
 
-ghost use Rattle.std.specs.Prelude.{[], ◌≡◌, ◌⊎◌, ◌+◌, ◌-◌, ◌*◌, ◌≤◌, IfSome, IfNone, true, false};
-ghost use Rattle.sre_turns.specs.Fruit.{is_inside};
-ghost use Rattle.sre_turns.specs.Moves.{spot_at};
-ghost use Rattle.sre_growth.specs.Refusal.{Refused};
-ghost use Rattle.sre_board.specs.Failures.{HoldsNone, Tells, Laid, KeepsSpot, kept_of};
+ghost use Rattle.sre_machine.specs.Terms.{[], ◌≡◌, ◌⊎◌, ◌+◌, ◌-◌, ◌*◌, ◌≤◌, IfSome, IfNone, true, false, is_inside};
+ghost use Rattle.sre_machine.specs.Terms.{spot_at, Refused, HoldsNone, Tells, Laid, kept_of, TellsEnd, HoldsOpenMore};
+ghost use Rattle.sre_machine.specs.Terms.{KeepsOpenEnds, HoldsOpenEnds, StringCursor, MarklessRegions, run_of};
+ghost use Rattle.sre_machine.specs.Terms.{start_of, end_of};
+ghost use Rattle.sre_board.specs.Failures.{KeepsSpot};
 ghost use Rattle.sre_machine.specs.Memos.{MakesRoom, RecallsOf, EndsStay, IsBlankMemo, KeepsEndsOf, KeepsFrom};
-ghost use Rattle.sre_board.specs.Ends.{TellsEnd, HoldsOpenMore, KeepsOpenEnds, HoldsOpenEnds};
-ghost use Rattle.sre_chars.specs.declared.string.StringCursor.{StringCursor};
-ghost use Rattle.sre_turns.specs.Bodies.{MarklessRegions};
-ghost use Rattle.sre_request.specs.Runs.{run_of};
 ghost use Rattle.sre_turns.specs.Nested.{repeats};
-ghost use Rattle.sre_request.specs.Requests.{start_of, end_of};
 
 use crate::marked::Marked;
 use sre_board::{Board, Ends, Failures, Known};

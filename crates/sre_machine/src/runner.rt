@@ -1,13 +1,7 @@
 //! A runner: the memory in which the machine runs, and the number of its runs.
 
-ghost use Rattle.std.specs.Prelude.{◌≡◌, ◌≤◌, ◌+◌, ◌*◌, ◌^◌, ◌<◌, IfErr, false};
-ghost use Rattle.sre_model.specs.Tree.{Tree};
-ghost use Rattle.sre_model.specs.Grammar.{WholeItems};
-ghost use Rattle.sre_model.specs.Marks.{no_marks};
-ghost use Rattle.sre_model.specs.Prefixes.{ReadsBehind};
-ghost use Rattle.sre_turns.specs.Board.{bare};
-ghost use Rattle.sre_request.specs.Requests.{start_of, end_of};
-ghost use Rattle.sre_request.specs.Runs.{run_of, Standing};
+ghost use Rattle.sre_machine.specs.Terms.{◌≡◌, ◌≤◌, ◌+◌, ◌*◌, ◌^◌, ◌<◌, IfErr, false, Tree, WholeItems, no_marks};
+ghost use Rattle.sre_machine.specs.Terms.{ReadsBehind, bare, start_of, end_of, run_of, Standing};
 ghost use Rattle.sre_machine.specs.Allowances.{Halted, is_limited};
 ghost use Rattle.sre_machine.specs.Memos.{Recalls, Begins, RecallsOf};
 ghost use Rattle.sre_machine.specs.Runners.{IsReady, MayRun, Began, AttemptDecides, ClearsUnfound, AttemptCosts};

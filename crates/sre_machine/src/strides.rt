@@ -4,15 +4,9 @@
 //! character. That alternative is a single test, and the loop's end must fail there. So there is nothing to save, and
 //! the frame is written once, after all of them. Each counts as a body that began.
 
-ghost use Rattle.std.specs.Prelude.{◌≡◌, ◌+◌, ◌<◌, ◌≤◌, Some, IfSome};
-ghost use Rattle.sre_model.specs.Grammar.{Word};
-ghost use Rattle.sre_model.specs.Ways.{unlimited};
-ghost use Rattle.sre_turns.specs.MovesInLoops.{next_frame};
-ghost use Rattle.sre_code.specs.AsciiSet.{contains};
-ghost use Rattle.sre_turns.specs.Strides.{EndsBody, MayRepeat, Strides, TellsBodies};
-ghost use Rattle.sre_turns.specs.declared.Point.TheVariants.{Alternatives};
-ghost use Rattle.sre_request.specs.Requests.{end_of};
-ghost use Rattle.sre_request.specs.Runs.{run_of, OpcodeAt};
+ghost use Rattle.sre_machine.specs.Terms.{◌≡◌, ◌+◌, ◌<◌, ◌≤◌, Some, IfSome, Word, unlimited, next_frame, contains};
+ghost use Rattle.sre_machine.specs.Terms.{MayRepeat, TellsBodies, Alternatives, end_of, run_of, OpcodeAt};
+ghost use Rattle.sre_turns.specs.Strides.{EndsBody, Strides};
 ghost use Rattle.sre_machine.specs.Turns.{AtPoint, DemandedAt};
 
 use crate::branches::only_alternative;

@@ -3,13 +3,9 @@
 //! In a long batch one set decides the next characters, instead of the alternatives. It has the characters with which
 //! exactly one alternative begins, which is a single test.
 
-ghost use Rattle.std.specs.Prelude.{◌≡◌, ◌⊎◌, ◌+◌, ℕ, true, false, IfSome};
-ghost use Rattle.sre_model.specs.Grammar.{Word, Opcode};
-ghost use Rattle.sre_model.specs.Roles.{begins_test};
-ghost use Rattle.sre_code.specs.AsciiSet.{contains};
-ghost use Rattle.sre_turns.specs.Strides.{TellsBodies, TellsTest};
-ghost use Rattle.sre_turns.specs.declared.Point.TheVariants.{Alternatives};
-ghost use Rattle.sre_request.specs.Runs.{run_of, OpcodeAt};
+ghost use Rattle.sre_machine.specs.Terms.{◌≡◌, ◌⊎◌, ◌+◌, ℕ, true, false, IfSome, Word, Opcode, begins_test, contains};
+ghost use Rattle.sre_machine.specs.Terms.{TellsBodies, Alternatives, run_of, OpcodeAt};
+ghost use Rattle.sre_turns.specs.Strides.{TellsTest};
 ghost use Rattle.sre_machine.specs.Turns.{At, AtPoint};
 
 use crate::machine::opcode;

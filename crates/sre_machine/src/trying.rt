@@ -1,23 +1,18 @@
 //! The steps of a run with an open memo: failures are memoized, and at a memoized failure the machine backtracks at
 //! once.
 
-ghost use Rattle.std.specs.Prelude.{ℕ, ◌≡◌, ◌≢◌, ◌⊎◌, IfOk, true, false};
-ghost use Rattle.sre_model.specs.Marks.{Marks, no_marks};
+ghost use Rattle.sre_machine.specs.Terms.{ℕ, ◌≡◌, ◌≢◌, ◌⊎◌, IfOk, true, false, Marks, no_marks, Instruction, Again};
+ghost use Rattle.sre_machine.specs.Terms.{is_inside, spot, run_of, Refused};
 ghost use Rattle.sre_machine.specs.Paying.{HoldsTried};
-ghost use Rattle.sre_turns.specs.declared.Point.TheVariants.{Instruction, Again};
 ghost use Rattle.sre_turns.specs.Board.{MayBeTried};
-ghost use Rattle.sre_turns.specs.Fruit.{is_inside};
-ghost use Rattle.sre_turns.specs.Machine.{spot};
 ghost use Rattle.sre_turns.specs.Asked.{Unmarked};
 ghost use Rattle.sre_machine.specs.Memos.{RecallsOf};
-ghost use Rattle.sre_request.specs.Runs.{run_of};
 ghost use Rattle.sre_machine.specs.EndlessRuns.{IsEndlessRun};
 ghost use Rattle.sre_machine.specs.Turns.{At, AtPoint, AtOnBoard, Fails, Takes, TriesOn, IsKeeping, LeavesOrStays};
 ghost use Rattle.sre_machine.specs.Turns.{RefersToGroups, UnaskedMarks, AlikeMarks, ForksThere};
 ghost use Rattle.sre_machine.specs.Turns.{ServesThere, IdleThere};
 ghost use Rattle.sre_machine.specs.Turns.{BringsNoTolls, NoEndTold, RunsOnAt, RunsAtOnce, TriesKnown};
 ghost use Rattle.sre_turns.specs.Limits.{attempt};
-ghost use Rattle.sre_growth.specs.Refusal.{Refused};
 
 use crate::body_ends::known_end;
 use crate::endless_runs::{endless_run, is_better_at_once, is_endless_run};

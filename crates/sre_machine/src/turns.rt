@@ -1,16 +1,13 @@
 //! The machine's loops: steps until the run is decided.
 
-ghost use Rattle.std.specs.Prelude.{◌≡◌, ◌≢◌, ℕ, ◌+◌, ◌-◌, ◌*◌, ◌^◌, ◌<◌, ◌≤◌, [], List, IfOk, IfErr, true, false};
-ghost use Rattle.sre_model.specs.Ways.{Way};
-ghost use Rattle.sre_model.specs.TurnBounds.{most_each};
-ghost use Rattle.sre_turns.specs.Machine.{SaysAccepted, Decides};
+ghost use Rattle.sre_machine.specs.Terms.{◌≡◌, ◌≢◌, ℕ, ◌+◌, ◌-◌, ◌*◌, ◌^◌, ◌<◌, ◌≤◌, [], List, IfOk, IfErr, true};
+ghost use Rattle.sre_machine.specs.Terms.{false, Way, most_each, Decides, asked_of, run_of};
+ghost use Rattle.sre_turns.specs.Machine.{SaysAccepted};
 ghost use Rattle.sre_machine.specs.Allowances.{is_limited, left_of};
 ghost use Rattle.sre_machine.specs.Memos.{RecallsOf};
 ghost use Rattle.sre_machine.specs.Paying.{Remembering, each_of, Stops};
 ghost use Rattle.sre_machine.specs.Turns.{WithinTurns};
 ghost use Rattle.sre_machine.specs.Spending.{TurnsDecide, Spends, TurnsCost, end_if, decision_of, told_of};
-ghost use Rattle.sre_request.specs.Requests.{asked_of};
-ghost use Rattle.sre_request.specs.Runs.{run_of};
 
 use crate::allowance::Allowance;
 use crate::body_ends::keep_ends;

@@ -4,9 +4,7 @@
 //! searched only after repeats have failed over much of the text, as at each step of an iteration of `[a-z]*b|a` over
 //! letters a.
 
-ghost use Rattle.std.specs.Prelude.{◌≡◌, ℕ, ◌<◌, ◌≤◌, true, length};
-ghost use Rattle.sre_model.specs.Grammar.{Opcode};
-ghost use Rattle.sre_request.specs.Runs.{Standing, TestAt};
+ghost use Rattle.sre_machine.specs.Terms.{◌≡◌, ℕ, ◌<◌, ◌≤◌, true, length, Opcode, Standing, TestAt};
 ghost use Rattle.sre_machine.specs.Turns.{RefusesAt, DemandedAt};
 
 use crate::set_members::word_at;

@@ -1,16 +1,15 @@
 -- A law of the specification's combinators: match paths stay along a relation between positions, and stop at the same
 -- positions under equivalent captures, if those of the bodies do.
-use Rattle.std.proofs.Common.{◌≡◌, ℕ, zero, suc, ◌+◌, ◌-◌, ◌<◌, ◌≤◌, max, Bool, true, false, cond, ◌&&◌, ◌||◌, nat_le}
-use Rattle.std.proofs.Common.{nat_lt, nat_eq, List, [], ◌∷◌, ◌++◌, Option, Some, None, map, refl, subst, arith}
-use Rattle.std.specs.List.{flat_map, AllByRecursion}
-use Rattle.std.proofs.lemmas.Bool.{leb-true, and_parts}
-use Rattle.std.proofs.lemmas.Bool.Decides.{nat_tests}
-use Rattle.sre_model.specs.Tree.{Order, Greedy, Lazy, RunKind, GreedyRun, LazyRun, PossessiveRun, Sign, Positive}
-use Rattle.sre_model.specs.Tree.{Negative, Test, Fold}
-use Rattle.sre_model.specs.Marks.{Marks, group}
-use Rattle.sre_model.specs.Subject.{Subject, passes, same_folded}
-use Rattle.sre_model.specs.Ways.{Way, Body, first, here, unlimited, run_length, most_from, longest_run, rising, falling}
-use Rattle.sre_model.specs.Ways.{counts, run_ways, within, ordered, may_repeat, more, least, loop_ways, possessive_more}
+use Rattle.sre_model.proofs.Terms.{◌≡◌, ℕ, zero, suc, ◌+◌, ◌-◌, ◌<◌, ◌≤◌, max, Bool, true, false, cond, ◌&&◌, ◌||◌}
+use Rattle.sre_model.proofs.Terms.{nat_le, nat_lt, nat_eq, List, [], ◌∷◌, ◌++◌, Option, Some, None, map, refl, subst}
+use Rattle.sre_model.proofs.Terms.{arith, flat_map, AllByRecursion, and_parts, nat_tests, Order, Greedy, Lazy, RunKind}
+use Rattle.sre_model.proofs.Terms.{GreedyRun, LazyRun, PossessiveRun, Sign, Positive, Negative, Test, Fold, Marks}
+use Rattle.sre_model.proofs.Terms.{group, Subject, passes, Way, Body, first, here, unlimited, run_length, most_from}
+use Rattle.sre_model.proofs.Terms.{longest_run, rising, falling, counts, run_ways, within, ordered, may_repeat, more}
+use Rattle.sre_model.proofs.Terms.{least, loop_ways}
+use Rattle.std.proofs.lemmas.Bool.{leb-true}
+use Rattle.sre_model.specs.Subject.{same_folded}
+use Rattle.sre_model.specs.Ways.{possessive_more}
 use Rattle.sre_model.specs.Ways.{possessive_ways, look_ways, reference_ways}
 use Rattle.sre_model.specs.Loops.{or_here}
 

@@ -1,17 +1,12 @@
 -- Each match path ends between its position and the range's end, and is at least as long as the tree's least width.
-use Rattle.std.proofs.Common.{◌≡◌, ℕ, zero, suc, ◌+◌, ◌*◌, ◌<◌, ◌≤◌, Bool, true, false, ◌&&◌, ◌||◌, true≢false, nat_le}
-use Rattle.std.proofs.Common.{List, refl, sym, ap, arith}
-use Rattle.std.specs.List.{AllByRecursion}
-use Rattle.std.proofs.lemmas.Bool.Decides.{nat_tests}
-use Rattle.std.proofs.Math.Nat.{mul-le-mul_right}
-use Rattle.sre_model.specs.Tree.{Tree, Empty, Then, Item, Fail, One, At, Mark, Branch, Loop, Run, PossessiveLoop}
-use Rattle.sre_model.specs.Tree.{Atomic, Look, Reference, Exists, ExistsElse, Trees, Only, Or, Test}
-use Rattle.sre_model.specs.Marks.{Marks, set_mark, group}
-use Rattle.sre_model.specs.References.{refers, by_references}
-use Rattle.sre_model.specs.Folding.{of_item, of_branch}
-use Rattle.sre_model.specs.Subject.{Subject, passes, holds_at}
-use Rattle.sre_model.specs.Ways.{Way, Body, here, most_from, longest_run, within, ways, item_ways, branch_ways}
-use Rattle.sre_model.specs.Width.{width, item_width, least_width}
+use Rattle.sre_model.proofs.Terms.{◌≡◌, ℕ, zero, suc, ◌+◌, ◌*◌, ◌<◌, ◌≤◌, Bool, true, false, ◌&&◌, ◌||◌, true≢false}
+use Rattle.sre_model.proofs.Terms.{nat_le, List, refl, sym, ap, arith, AllByRecursion, nat_tests, mul-le-mul_right}
+use Rattle.sre_model.proofs.Terms.{Tree, Empty, Then, Item, Fail, One, At, Mark, Branch, Loop, Run, PossessiveLoop}
+use Rattle.sre_model.proofs.Terms.{Atomic, Look, Reference, Exists, ExistsElse, Trees, Only, Or, Test, Marks, set_mark}
+use Rattle.sre_model.proofs.Terms.{group, refers, by_references, of_item, of_branch, Subject, passes, holds_at, Way}
+use Rattle.sre_model.proofs.Terms.{Body, here, most_from, longest_run, within, ways, item_ways, width, least_width}
+use Rattle.sre_model.specs.Ways.{branch_ways}
+use Rattle.sre_model.specs.Width.{item_width}
 use Rattle.sre_model.proofs.Each.{each-weaken, filter-each, each-filter}
 use Rattle.sre_model.proofs.Along.{Times, Counted, Goes, none, pair, each_way, weaken, by_cond, by_first, goes-then}
 use Rattle.sre_model.proofs.Along.{goes-or, goes-present, goes-look, goes-loop, goes-possessive, run_rounds, goes-run}

@@ -1,12 +1,9 @@
 -- A FIRST set is confirmed in one way.
-use Rattle.std.proofs.Common.{ℕ, ◌-◌, ◌≡◌, true, false, List}
-use Rattle.std.proofs.Props.{props}
-use mathlib.Core.HLevel.{is_prop→PathP}
-use Rattle.sre_chars.specs.Tables.{Table}
+use Rattle.sre_model.proofs.Terms.{ℕ, ◌-◌, ◌≡◌, true, false, List, props, is_prop→PathP, Table, Tree, Empty, Then, One}
+use Rattle.sre_model.proofs.Terms.{Branch, Trees, Only, Or, Literal, In, Plain, SetItem, skip, Opcode, ReadsSet}
+use Rattle.sre_model.proofs.Terms.{HasFirstSet}
 use Rattle.sre_chars.specs.declared.constants.SreOpcode.TheVariants as opcode
-use Rattle.sre_model.specs.Tree.{Tree, Empty, Then, One, Branch, Trees, Only, Or, Literal, In, Plain, SetItem}
-use Rattle.sre_model.specs.Grammar.{skip, Opcode, ReadsSet}
-use Rattle.sre_model.specs.Claims.{has_flag, behind_marks, TestIn, EachTestIn, FirstIn, HasFirstSet}
+use Rattle.sre_model.specs.Claims.{has_flag, behind_marks, TestIn, EachTestIn, FirstIn}
 use Rattle.sre_model.proofs.Unique.{set_same}
 use Rattle.sre_model.proofs.Props.{set_prop}
 

@@ -1,9 +1,6 @@
 -- What a word is that was read as a code.
-use Rattle.std.proofs.Common.{ℕ, ◌≡◌, ◌<◌, ◌≤◌, List, length, sym, subst, arith}
-use Rattle.sre_chars.specs.Numbers.{opcode_number, category_number}
-use Rattle.sre_chars.specs.declared.constants.SreOpcode.{SreOpcode}
-use Rattle.sre_model.specs.Grammar.{Word, Opcode}
-use Rattle.sre_model.specs.Standing.{HasCategory}
+use Rattle.sre_model.proofs.Terms.{ℕ, ◌≡◌, ◌<◌, ◌≤◌, List, length, sym, subst, arith, opcode_number, category_number}
+use Rattle.sre_model.proofs.Terms.{SreOpcode, Word, Opcode, HasCategory}
 use Rattle.sre_model.proofs.Words.{opcode_low, category_low, same_word, word_within}
 
 pub word_known : (ws : List ℕ) (i v n : ℕ) → Word ws i v → n ≡ v → Word ws i n

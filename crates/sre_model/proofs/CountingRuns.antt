@@ -1,16 +1,9 @@
 -- What a single-character repeat comes to.
-use Rattle.std.proofs.Common.{ℕ, zero, suc, ◌+◌, ◌-◌, ◌≡◌, ◌<◌, ◌≤◌, Bool, true, false, not, refl, sym, ◌∙◌, ap}
-use Rattle.std.proofs.Common.{arith, inl, inr}
+use Rattle.sre_model.proofs.Terms.{ℕ, zero, suc, ◌+◌, ◌-◌, ◌≡◌, ◌<◌, ◌≤◌, Bool, true, false, not, refl, sym, ◌∙◌, ap}
+use Rattle.sre_model.proofs.Terms.{arith, inl, inr, cases_lt, nat_tests, StringCursor, Test, holds, Subject, char_at}
+use Rattle.sre_model.proofs.Terms.{passes, most_from, run_length, TestStands}
 use mathlib.Core.Bool.{beq}
-use Rattle.std.proofs.lemmas.Bool.{cases_lt}
-use Rattle.std.proofs.lemmas.Bool.Decides.{nat_tests}
-use Rattle.sre_chars.specs.declared.string.StringCursor.{StringCursor}
-use Rattle.sre_model.specs.Tree.{Test}
-use Rattle.sre_model.specs.Characters.{holds}
-use Rattle.sre_model.specs.Subject.{Subject, char_at, passes}
-use Rattle.sre_model.specs.Ways.{most_from, run_length}
 use Rattle.sre_model.specs.Runs.{Run}
-use Rattle.sre_model.specs.Standing.{TestStands}
 use Rattle.sre_model.specs.CountedRuns.{Counted, Ended}
 use Rattle.sre_model.proofs.Passing.{read_passes, stands_at_own}
 

@@ -1,11 +1,8 @@
 -- An INFO block that is cut off: the rest has none, and is a code of the same tree.
-use Rattle.std.proofs.Common.{◌≡◌, ℕ, ◌-◌, Bool, true, false, List, length, zero, suc, ◌<◌, refl, sym}
-use Rattle.std.proofs.Common.{subst, arith}
-use Rattle.std.proofs.lemmas.Bool.Decides.{nat_tests}
+use Rattle.sre_model.proofs.Terms.{◌≡◌, ℕ, ◌-◌, Bool, true, false, List, length, zero, suc, ◌<◌, refl, sym, subst}
+use Rattle.sre_model.proofs.Terms.{arith, nat_tests, Tree, Empty, Then, word, Opcode, Reads, WholeItems, has_block}
+use Rattle.sre_model.proofs.Terms.{behind_block, fits_block, Whole}
 use Rattle.sre_chars.specs.declared.constants.SreOpcode.TheVariants as opcode
-use Rattle.sre_model.specs.Tree.{Tree, Empty, Then}
-use Rattle.sre_model.specs.Grammar.{word, Opcode, Reads, WholeItems, has_block, behind_block, fits_block}
-use Rattle.sre_model.specs.Grammar.{Whole}
 use Rattle.sre_model.proofs.Words.{word_of, word_at, word_past}
 use Rattle.sre_model.proofs.Families.{no_item}
 

@@ -1,8 +1,7 @@
 -- Facts that hold of each element of a list.
-use Rattle.std.proofs.Common.{◌≡◌, Bool, true, false, cond, List, [], ◌∷◌, ◌++◌, map, refl, ap, ◌∙◌}
-use Rattle.std.specs.List.{flat_map, filter, AllByRecursion}
+use Rattle.sre_model.proofs.Terms.{◌≡◌, Bool, true, false, cond, List, [], ◌∷◌, ◌++◌, map, refl, ap, ◌∙◌, flat_map}
+use Rattle.sre_model.proofs.Terms.{filter, AllByRecursion, first}
 use Rattle.std.proofs.lemmas.Grind.{flat_map-append}
-use Rattle.sre_model.specs.Ways.{first}
 
 -- of a list after another
 pub each-append : {X : Type 0} (P : X → Type 0) (xs ys : List X) → AllByRecursion P xs → AllByRecursion P ys

@@ -1,20 +1,18 @@
 -- What an item or a test is, by its opcode.
-use Rattle.std.proofs.Common.{ℕ, ◌≡◌, ◌⊎◌, Bool, true, false, List, refl, sym, ◌∙◌, ap, subst, inl, inr}
+use Rattle.sre_model.proofs.Terms.{ℕ, ◌≡◌, ◌⊎◌, Bool, true, false, List, refl, sym, ◌∙◌, ap, subst, inl, inr, SreOpcode}
+use Rattle.sre_model.proofs.Terms.{SreAtCode, SreCatCode, Tree, Item, Fail, One, At, Mark, Branch, Loop, Run}
+use Rattle.sre_model.proofs.Terms.{PossessiveLoop, Atomic, Look, Reference, Exists, ExistsElse, Trees, Test, Any}
+use Rattle.sre_model.proofs.Terms.{AnyAll, InCategory, Literal, NotLiteral, In, Order, RunKind, GreedyRun, Sign}
+use Rattle.sre_model.proofs.Terms.{Positive, Fold, Plain, SetItem, Greedy, TestKind, Role, ToTest, ToCheckPosition}
+use Rattle.sre_model.proofs.Terms.{ToMark, ToBranch, ToRun, ToRepeat, ToRepeatPossessively, ToGroupAtomically, ToLook}
+use Rattle.sre_model.proofs.Terms.{role, begins_test, Opcode, test_opcode, until_opcode, reference_opcode, item_opcode}
+use Rattle.sre_model.proofs.Terms.{ReadsItem, TestOperands}
 use Rattle.std.proofs.lemmas.Bool.{true≢false}
-use Rattle.sre_chars.specs.declared.constants.SreOpcode.{SreOpcode}
-use Rattle.sre_chars.specs.declared.constants.SreAtCode.{SreAtCode}
-use Rattle.sre_chars.specs.declared.constants.SreCatCode.{SreCatCode}
-use Rattle.sre_model.specs.Tree.{Tree, Item, Fail, One, At, Mark, Branch, Loop, Run, PossessiveLoop, Atomic, Look}
-use Rattle.sre_model.specs.Tree.{Reference, Exists, ExistsElse, Trees, Test, Any, AnyAll, InCategory, Literal}
-use Rattle.sre_model.specs.Tree.{NotLiteral, In, Order, RunKind, GreedyRun, Sign, Positive}
-use Rattle.sre_model.specs.Tree.{Fold, Plain, SetItem, Greedy}
-use Rattle.sre_model.specs.Roles.{TestKind, OfAny, OfAnyAll, OfCategory, OfLiteral, OfNotLiteral, OfSet, Role, ToFail}
-use Rattle.sre_model.specs.Roles.{ToEnd, ToTest, ToCheckPosition, ToMark, ToBranch, ToJump, ToRun, ToRepeat, ToLoop}
-use Rattle.sre_model.specs.Roles.{ToRepeatPossessively, ToGroupAtomically, ToLook, ToRefer, ToCheckGroup, ToNothing}
-use Rattle.sre_model.specs.Roles.{role, is_test_role}
-use Rattle.sre_model.specs.Roles.{begins_test}
-use Rattle.sre_model.specs.Grammar.{Opcode, test_opcode, run_opcode, until_opcode, look_opcode, reference_opcode}
-use Rattle.sre_model.specs.Grammar.{item_opcode, ReadsItem, TestOperands}
+use Rattle.sre_model.specs.Roles.{OfAny, OfAnyAll, OfCategory, OfLiteral, OfNotLiteral, OfSet, ToFail}
+use Rattle.sre_model.specs.Roles.{ToEnd, ToJump, ToLoop}
+use Rattle.sre_model.specs.Roles.{ToRefer, ToCheckGroup, ToNothing}
+use Rattle.sre_model.specs.Roles.{is_test_role}
+use Rattle.sre_model.specs.Grammar.{run_opcode, look_opcode}
 use Rattle.sre_model.proofs.Words.{same_opcode}
 
 -- the roles of opcodes that a parameter of a tree picks

@@ -1,28 +1,16 @@
 -- Where the first code words leave no match path.
-use Rattle.std.proofs.Common.{◌≡◌, ℕ, zero, suc, ◌+◌, ◌-◌, ◌<◌, Bool, true, false, cond, List, [], length, nat_lt}
-use Rattle.std.proofs.Common.{nat_le, ◌⊎◌, inl, inr, refl, sym, ap, ◌∙◌, subst, arith, true≢false}
-use Rattle.std.specs.List.{flat_map}
-use Rattle.std.proofs.lemmas.Bool.{cases_lt}
-use Rattle.std.proofs.lemmas.Bool.Decides.{nat_tests}
-use Rattle.sre_chars.specs.Numbers.{at_number}
-use Rattle.sre_chars.specs.declared.constants.SreOpcode.{SreOpcode}
+use Rattle.sre_model.proofs.Terms.{◌≡◌, ℕ, zero, suc, ◌+◌, ◌-◌, ◌<◌, Bool, true, false, cond, List, [], length, nat_lt}
+use Rattle.sre_model.proofs.Terms.{nat_le, ◌⊎◌, inl, inr, refl, sym, ap, ◌∙◌, subst, arith, true≢false, flat_map}
+use Rattle.sre_model.proofs.Terms.{cases_lt, nat_tests, at_number, SreOpcode, SreAtCode, Tree, Empty, Then, Item, One}
+use Rattle.sre_model.proofs.Terms.{At, Mark, Branch, Loop, Run, PossessiveLoop, Atomic, Look, Test, Trees, Only, Or}
+use Rattle.sre_model.proofs.Terms.{RunKind, GreedyRun, LazyRun, PossessiveRun, Positive, Marks, set_mark, Subject}
+use Rattle.sre_model.proofs.Terms.{passes, holds_at, Word, Opcode, skip, item_opcode, until_opcode, Reads, ReadsBranch}
+use Rattle.sre_model.proofs.Terms.{Operands, ReadsItem, WholeItems, Role, ToTest, role, ToCheckPosition, ToMark}
+use Rattle.sre_model.proofs.Terms.{ToBranch, ToRun, ToRepeat, ToRepeatPossessively, ToGroupAtomically, ToLook, TestKind}
+use Rattle.sre_model.proofs.Terms.{begins_test, Way, Body, first, here, most_from, longest_run, run_ways, within, least}
+use Rattle.sre_model.proofs.Terms.{ways, item_ways, HasTest, is_end, TreeStands}
 use Rattle.sre_chars.specs.declared.constants.SreOpcode.TheVariants as opcode
-use Rattle.sre_chars.specs.declared.constants.SreAtCode.{SreAtCode}
-use Rattle.sre_model.specs.Tree.{Tree, Empty, Then, Item, One, At, Mark, Branch, Loop, Run, PossessiveLoop, Atomic}
-use Rattle.sre_model.specs.Tree.{Look, Test}
-use Rattle.sre_model.specs.Tree.{Trees, Only, Or, RunKind, GreedyRun, LazyRun, PossessiveRun}
-use Rattle.sre_model.specs.Tree.{Positive}
-use Rattle.sre_model.specs.Marks.{Marks, set_mark}
-use Rattle.sre_model.specs.Subject.{Subject, passes, holds_at}
-use Rattle.sre_model.specs.Grammar.{Word, Opcode, skip, item_opcode, until_opcode}
-use Rattle.sre_model.specs.Grammar.{Reads, ReadsBranch, Operands, ReadsItem, WholeItems}
-use Rattle.sre_model.specs.Roles.{Role, ToTest, role, ToCheckPosition, ToMark, ToBranch, ToRun, ToRepeat}
-use Rattle.sre_model.specs.Roles.{ToRepeatPossessively}
-use Rattle.sre_model.specs.Roles.{ToGroupAtomically, ToLook, TestKind, begins_test}
-use Rattle.sre_model.specs.Ways.{Way, Body, first, here, most_from, longest_run, run_ways, within, least, ways}
-use Rattle.sre_model.specs.Ways.{item_ways}
-use Rattle.sre_model.specs.Standing.{HasTest}
-use Rattle.sre_model.specs.FirstCharacters.{NoWay, NoneOf, NotPassed, is_end, TreeStands, HasTree, HasAlternatives}
+use Rattle.sre_model.specs.FirstCharacters.{NoWay, NoneOf, NotPassed, HasTree, HasAlternatives}
 use Rattle.sre_model.specs.FirstCharacters.{Leads}
 use Rattle.sre_model.proofs.Words.{same_word, same_opcode, same_at, word_within, opcode_within}
 use Rattle.sre_model.proofs.Longest.{run_none}

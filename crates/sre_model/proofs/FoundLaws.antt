@@ -1,12 +1,9 @@
 -- The match that is found is that of the least start, and lies in the range.
-use Rattle.std.proofs.Common.{◌≡◌, ◌≤◌, ◌<◌, ◌+◌, ◌-◌, ℕ, zero, suc, List, [], ◌∷◌, Bool, true, false, cond}
-use Rattle.std.proofs.Common.{nat_lt, nat_eq, Option, Some, None, refl, sym, ap, ◌∙◌, subst, arith, ◌⊎◌, inl, inr}
-use Rattle.std.specs.List.{filter}
-use Rattle.std.proofs.lemmas.Bool.Decides.{nat_tests}
-use Rattle.sre_model.specs.Tree.{Tree}
-use Rattle.sre_model.specs.Marks.{no_marks}
-use Rattle.sre_model.specs.Ways.{Way, ways}
-use Rattle.sre_model.specs.Found.{Asked, Match, subject_of, is_accepted, first_accepted, at_start, found_from, found}
+use Rattle.sre_model.proofs.Terms.{◌≡◌, ◌≤◌, ◌<◌, ◌+◌, ◌-◌, ℕ, zero, suc, List, [], ◌∷◌, Bool, true, false, cond}
+use Rattle.sre_model.proofs.Terms.{nat_lt, nat_eq, Option, Some, None, refl, sym, ap, ◌∙◌, subst, arith, ◌⊎◌, inl, inr}
+use Rattle.sre_model.proofs.Terms.{filter, nat_tests, Tree, no_marks, Way, ways, Asked, Match, subject_of, is_accepted}
+use Rattle.sre_model.proofs.Terms.{first_accepted, at_start, found}
+use Rattle.sre_model.specs.Found.{found_from}
 use Rattle.sre_model.proofs.Bounds.{EachBetween, ways-bounded}
 
 -- the way that a match ends

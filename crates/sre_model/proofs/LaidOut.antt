@@ -1,19 +1,16 @@
 -- The code words of a tree, at an address, are read as that tree.
-use Rattle.std.proofs.Common.{ℕ, ◌+◌, ◌*◌, ◌-◌, ◌/◌, ◌≡◌, ◌<◌, List, [], ◌∷◌, ◌++◌, length, slice_range, slice_index}
-use Rattle.std.proofs.Common.{refl, sym, ◌∙◌, ap, subst, arith, length-append}
-use Rattle.std.specs.List.{flat_map}
-use Rattle.sre_chars.specs.Numbers.{opcode_number, at_number, category_number}
+use Rattle.sre_model.proofs.Terms.{ℕ, ◌+◌, ◌*◌, ◌-◌, ◌/◌, ◌≡◌, ◌<◌, List, [], ◌∷◌, ◌++◌, length, slice_range}
+use Rattle.sre_model.proofs.Terms.{slice_index, refl, sym, ◌∙◌, ap, subst, arith, length-append, flat_map}
+use Rattle.sre_model.proofs.Terms.{opcode_number, at_number, category_number, Tree, Empty, Then, Item, Fail, One, At}
+use Rattle.sre_model.proofs.Terms.{Mark, Branch, Loop, Run, PossessiveLoop, Atomic, Look, Reference, Exists, ExistsElse}
+use Rattle.sre_model.proofs.Terms.{Trees, Only, Or, Test, Any, AnyAll, InCategory, Literal, NotLiteral, In, SetItem}
+use Rattle.sre_model.proofs.Terms.{Single, Range, RangeUniIgnore, Category, Charset, BigCharset, Negate, Word, word}
+use Rattle.sre_model.proofs.Terms.{skip, bytes_of, BytesBelow, BlocksBelow, ReadsSet, TestOperands, until_opcode}
+use Rattle.sre_model.proofs.Terms.{JumpsTo, Reads, Operands, ReadsBranch, packed, set_words, test_words, tree_words}
+use Rattle.sre_model.proofs.Terms.{branch_words, item_words, LawfulTree}
 use Rattle.sre_chars.specs.declared.constants.SreOpcode.TheVariants as opcode
-use Rattle.sre_model.specs.Tree.{Tree, Empty, Then, Item, Fail, One, At, Mark, Branch, Loop, Run, PossessiveLoop}
-use Rattle.sre_model.specs.Tree.{Atomic, Look, Reference, Exists, ExistsElse, Trees, Only, Or, Test, Any, AnyAll}
-use Rattle.sre_model.specs.Tree.{InCategory, Literal, NotLiteral, In, SetItem, Single, Range, RangeUniIgnore, Category}
-use Rattle.sre_model.specs.Tree.{Charset, BigCharset, Negate}
-use Rattle.sre_model.specs.Grammar.{Word, word, skip, bytes_of, BytesBelow, BlocksBelow, ReadsSet, TestOperands}
-use Rattle.sre_model.specs.Grammar.{until_opcode, JumpsTo, Reads, Operands, ReadsBranch}
 use Rattle.sre_model.proofs.Words.{word_moved, word_of}
-use Rattle.sre_model.specs.Written.{packed, set_words, test_words}
-use Rattle.sre_model.specs.Written.{tree_words, branch_words, item_words}
-use Rattle.sre_model.specs.Lawful.{LawfulSet, LawfulTest, LawfulTree, LawfulItem, LawfulTrees}
+use Rattle.sre_model.specs.Lawful.{LawfulSet, LawfulTest, LawfulItem, LawfulTrees}
 use Rattle.sre_model.proofs.StandingWords.{Stands, stands_moved, stands_front, stands_behind, stands_range}
 use Rattle.sre_model.proofs.Packing.{packed_back, packed_long, packed_below}
 

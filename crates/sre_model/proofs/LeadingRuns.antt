@@ -1,16 +1,12 @@
 -- Starts inside the repeat that a tree begins with have no match where the repeat's own start has none.
-use Rattle.std.proofs.Common.{◌≡◌, ◌≤◌, ◌<◌, ◌+◌, ◌-◌, ℕ, zero, suc, List, [], ◌∷◌, ◌++◌, Bool, true, false}
-use Rattle.std.proofs.Common.{map, nat_le, nat_lt, Option, Some, None, refl, sym, ap, subst, arith}
-use Rattle.std.specs.List.{flat_map, AllByRecursion}
-use Rattle.std.proofs.lemmas.Bool.Decides.{nat_tests}
+use Rattle.sre_model.proofs.Terms.{◌≡◌, ◌≤◌, ◌<◌, ◌+◌, ◌-◌, ℕ, zero, suc, List, [], ◌∷◌, ◌++◌, Bool, true, false, map}
+use Rattle.sre_model.proofs.Terms.{nat_le, nat_lt, Option, Some, None, refl, sym, ap, subst, arith, flat_map}
+use Rattle.sre_model.proofs.Terms.{AllByRecursion, nat_tests, Tree, Then, One, Mark, Run, Test, RunKind, GreedyRun}
+use Rattle.sre_model.proofs.Terms.{LazyRun, PossessiveRun, Marks, no_marks, set_mark, refers, Subject, passes, Way}
+use Rattle.sre_model.proofs.Terms.{unlimited, run_length, longest_run, rising, falling, counts, ways, Asked, Match}
+use Rattle.sre_model.proofs.Terms.{subject_of, is_accepted, first_accepted, at_start, RunLeads}
 use Rattle.std.proofs.lemmas.List.{append-nil}
-use Rattle.sre_model.specs.Tree.{Tree, Then, One, Mark, Run, Test, RunKind, GreedyRun, LazyRun, PossessiveRun}
-use Rattle.sre_model.specs.Marks.{Marks, no_marks, set_mark}
-use Rattle.sre_model.specs.References.{refers}
-use Rattle.sre_model.specs.Subject.{Subject, passes}
-use Rattle.sre_model.specs.Ways.{Way, unlimited, run_length, longest_run, rising, falling, counts, ways}
-use Rattle.sre_model.specs.Found.{Asked, Match, subject_of, is_accepted, first_accepted, at_start}
-use Rattle.sre_model.specs.LeadingRuns.{front_passes, front_length, NoneEnds, RunLeads}
+use Rattle.sre_model.specs.LeadingRuns.{front_passes, front_length, NoneEnds}
 use Rattle.sre_model.proofs.Each.{each-flat_map, each-map}
 use Rattle.sre_model.proofs.MarksApart.{SameStops, ways-apart}
 use Rattle.sre_model.proofs.Along.{IsCount, counts_each}

@@ -1,19 +1,12 @@
 -- Which code words begin with a repeat.
-use Rattle.std.proofs.Common.{◌≡◌, ℕ, ◌+◌, ◌-◌, ◌<◌, ◌⊎◌, inl, inr, List, length, Option, Some, None, refl, false}
-use Rattle.std.proofs.Common.{sym, ap, ◌∙◌, subst, arith, true}
+use Rattle.sre_model.proofs.Terms.{◌≡◌, ℕ, ◌+◌, ◌-◌, ◌<◌, ◌⊎◌, inl, inr, List, length, Option, Some, None, refl, false}
+use Rattle.sre_model.proofs.Terms.{sym, ap, ◌∙◌, subst, arith, true, SreOpcode, Tree, Then, Item, One, Mark, Run, Test}
+use Rattle.sre_model.proofs.Terms.{RunKind, GreedyRun, LazyRun, PossessiveRun, refers, by_references, of_item}
+use Rattle.sre_model.proofs.Terms.{unlimited, Word, Opcode, Reads, ReadsItem, WholeItems, Role, role, ToRun}
+use Rattle.sre_model.proofs.Terms.{begins_test, ToTest, ToMark, TestStands, HasTest, RunLeads, TreeStands, is_end}
 use Rattle.std.proofs.lemmas.Bool.{or_parts}
-use Rattle.sre_chars.specs.declared.constants.SreOpcode.{SreOpcode}
 use Rattle.sre_chars.specs.declared.constants.SreOpcode.TheVariants as opcode
-use Rattle.sre_model.specs.Tree.{Tree, Then, Item, One, Mark, Run, Test, RunKind, GreedyRun, LazyRun}
-use Rattle.sre_model.specs.Tree.{PossessiveRun}
-use Rattle.sre_model.specs.References.{refers, by_references}
-use Rattle.sre_model.specs.Folding.{of_item}
-use Rattle.sre_model.specs.Ways.{unlimited}
-use Rattle.sre_model.specs.Grammar.{Word, Opcode, Reads, ReadsItem, WholeItems}
-use Rattle.sre_model.specs.Roles.{Role, role, ToRun, begins_test, ToTest, ToMark}
-use Rattle.sre_model.specs.Standing.{TestStands, HasTest}
-use Rattle.sre_model.specs.LeadingRuns.{RunLeads, FrontStands, RunStands}
-use Rattle.sre_model.specs.FirstCharacters.{TreeStands, is_end}
+use Rattle.sre_model.specs.LeadingRuns.{FrontStands, RunStands}
 use Rattle.sre_model.proofs.Words.{same_word, word_within}
 use Rattle.sre_model.proofs.FirstCharacters.{Begins, begins, tree_within}
 use Rattle.sre_model.proofs.Families.{HasRole, is_one, is_mark, is_run, role_here, some_test}

@@ -39,3 +39,4 @@ mod HintRows
 pub mod Passing
 pub mod TurnBounds
 pub mod WiderWindows
+pub mod Terms

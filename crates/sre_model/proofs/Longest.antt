@@ -1,10 +1,7 @@
 -- The longest run of a test, by the tests at each of its characters.
-use Rattle.std.proofs.Common.{ℕ, zero, suc, ◌+◌, ◌-◌, ◌≡◌, ◌<◌, ◌≤◌, ◌⊎◌, inl, inr, Bool, true, false, cond, ◌&&◌, ◌||◌}
-use Rattle.std.proofs.Common.{nat_eq, nat_lt, refl, ◌∙◌, arith}
-use Rattle.std.proofs.lemmas.Bool.Decides.{nat_tests}
-use Rattle.sre_model.specs.Tree.{Test}
-use Rattle.sre_model.specs.Subject.{Subject, passes}
-use Rattle.sre_model.specs.Ways.{unlimited, run_length, most_from, longest_run}
+use Rattle.sre_model.proofs.Terms.{ℕ, zero, suc, ◌+◌, ◌-◌, ◌≡◌, ◌<◌, ◌≤◌, ◌⊎◌, inl, inr, Bool, true, false, cond, ◌&&◌}
+use Rattle.sre_model.proofs.Terms.{◌||◌, nat_eq, nat_lt, refl, ◌∙◌, arith, nat_tests, Test, Subject, passes, unlimited}
+use Rattle.sre_model.proofs.Terms.{run_length, most_from, longest_run}
 use Rattle.sre_model.proofs.Passing.{past_end}
 use Rattle.sre_model.proofs.Along.{run_rounds}
 use Rattle.sre_model.proofs.Bounds.{passes-below}

@@ -1,12 +1,8 @@
 -- The cases of a loop: below the least count, and from it on.
-use Rattle.std.proofs.Common.{◌≡◌, ℕ, zero, suc, ◌+◌, ◌-◌, ◌<◌, ◌≤◌, max, Bool, true, false, cond, nat_lt, List, []}
-use Rattle.std.proofs.Common.{◌∷◌, Option, Some, None, refl, sym, ap, ◌∙◌, arith}
-use Rattle.std.specs.List.{flat_map}
-use Rattle.std.proofs.lemmas.Bool.Decides.{nat_tests}
-use Rattle.sre_model.specs.Tree.{Order, Greedy, Lazy}
-use Rattle.sre_model.specs.Marks.{Marks}
-use Rattle.sre_model.specs.Subject.{Subject}
-use Rattle.sre_model.specs.Ways.{Way, Body, here, within, ordered, may_repeat, more, least, loop_ways}
+use Rattle.sre_model.proofs.Terms.{◌≡◌, ℕ, zero, suc, ◌+◌, ◌-◌, ◌<◌, ◌≤◌, max, Bool, true, false, cond, nat_lt, List}
+use Rattle.sre_model.proofs.Terms.{[], ◌∷◌, Option, Some, None, refl, sym, ap, ◌∙◌, arith, flat_map, nat_tests, Order}
+use Rattle.sre_model.proofs.Terms.{Greedy, Lazy, Marks, Subject, Way, Body, here, within, ordered, may_repeat, more}
+use Rattle.sre_model.proofs.Terms.{least, loop_ways}
 use Rattle.sre_model.specs.Loops.{followed, loop_from}
 use Rattle.sre_model.proofs.Each.{flat_map_each}
 use Rattle.sre_model.proofs.Bounds.{Between, EachBetween, Bounded, within-each, within-all}

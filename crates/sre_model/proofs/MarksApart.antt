@@ -1,10 +1,6 @@
 -- A tree without back-references and conditionals: where its match paths stop does not depend on prior captures.
-use Rattle.std.proofs.Common.{◌≡◌, ℕ, false, List, [], ◌∷◌, refl, sym, ◌∙◌, true≢false}
-use Rattle.sre_model.specs.Tree.{Tree}
-use Rattle.sre_model.specs.References.{refers}
-use Rattle.sre_model.specs.Marks.{Marks}
-use Rattle.sre_model.specs.Subject.{Subject}
-use Rattle.sre_model.specs.Ways.{Way, ways}
+use Rattle.sre_model.proofs.Terms.{◌≡◌, ℕ, false, List, [], ◌∷◌, refl, sym, ◌∙◌, true≢false, Tree, refers, Marks}
+use Rattle.sre_model.proofs.Terms.{Subject, Way, ways}
 use Rattle.sre_model.proofs.Along.{Alike, none, pair}
 use Rattle.sre_model.proofs.Bounds.{tree_goes}
 

@@ -1,17 +1,14 @@
 -- What each item of a set decides, and what is left of the set after it.
-use Rattle.std.proofs.Common.{ℕ, ◌+◌, ◌*◌, ◌≡◌, ◌≢◌, ◌<◌, Bool, true, false, not, cond, nat_eq, List, [], ◌∷◌, length}
-use Rattle.std.proofs.Common.{slice_range, refl, sym, ◌∙◌, ap, arith}
-use Rattle.std.specs.List.{flat_map}
-use Rattle.sre_chars.specs.Numbers.{category_number}
-use Rattle.sre_chars.specs.Tables.{Table, is_between}
+use Rattle.sre_model.proofs.Terms.{ℕ, ◌+◌, ◌*◌, ◌≡◌, ◌≢◌, ◌<◌, Bool, true, false, not, cond, nat_eq, List, [], ◌∷◌}
+use Rattle.sre_model.proofs.Terms.{length, slice_range, refl, sym, ◌∙◌, ap, arith, flat_map, category_number, Table}
+use Rattle.sre_model.proofs.Terms.{SreOpcode, SreCatCode, SetItem, RangeUniIgnore, Charset, BigCharset, Negate, Word}
+use Rattle.sre_model.proofs.Terms.{Opcode, word, bytes_of, BlocksBelow, ReadsSet, HasCategory, SetStands, HasSet}
+use Rattle.sre_model.proofs.Terms.{ItemSays}
+use Rattle.sre_chars.specs.Tables.{is_between}
 use Rattle.sre_chars.specs.Categories.{category}
-use Rattle.sre_chars.specs.declared.constants.SreOpcode.{SreOpcode}
 use Rattle.sre_chars.specs.declared.constants.SreOpcode.TheVariants as opcode
-use Rattle.sre_chars.specs.declared.constants.SreCatCode.{SreCatCode}
-use Rattle.sre_model.specs.Tree.{SetItem, RangeUniIgnore, Charset, BigCharset, Negate}
 use Rattle.sre_model.specs.Characters.{item_holds, verdict, is_member}
-use Rattle.sre_model.specs.Grammar.{Word, Opcode, word, bytes_of, BlocksBelow, ReadsSet}
-use Rattle.sre_model.specs.Standing.{HasCategory, SetStands, HasSet, ItemSays, VerdictLeft}
+use Rattle.sre_model.specs.Standing.{VerdictLeft}
 use Rattle.sre_model.proofs.Words.{word_of, same_opcode, opcode_within, opcode_moved}
 use Rattle.sre_model.proofs.Places.{set_within}
 use Rattle.sre_model.proofs.SetItems.{set_item_opcode, first, begins, set_item_by, item_past, parted, category_at}

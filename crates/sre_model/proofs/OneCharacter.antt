@@ -1,12 +1,9 @@
 -- Which opcodes begin a test of one character.
-use Rattle.std.proofs.Common.{ℕ, ◌+◌, ◌≡◌, ◌≢◌, ◌⊎◌, ◌-◌, Bool, List, sym, subst, arith}
-use Rattle.sre_chars.specs.Tables.{Table}
-use Rattle.sre_model.specs.Characters.{holds}
-use Rattle.sre_chars.specs.declared.constants.SreOpcode.{SreOpcode}
+use Rattle.sre_model.proofs.Terms.{ℕ, ◌+◌, ◌≡◌, ◌≢◌, ◌⊎◌, ◌-◌, Bool, List, sym, subst, arith, Table, holds, SreOpcode}
+use Rattle.sre_model.proofs.Terms.{Test, Any, AnyAll, InCategory, Literal, NotLiteral, In, Plain, Ascii, Locale}
+use Rattle.sre_model.proofs.Terms.{Unicode, Word, Opcode, test_opcode, TestOperands, SetStands, HasSet, ItemSays}
+use Rattle.sre_model.proofs.Terms.{TestStands, HasTest}
 use Rattle.sre_chars.specs.declared.constants.SreOpcode.TheVariants as opcode
-use Rattle.sre_model.specs.Tree.{Test, Any, AnyAll, InCategory, Literal, NotLiteral, In, Plain, Ascii, Locale, Unicode}
-use Rattle.sre_model.specs.Grammar.{Word, Opcode, test_opcode, TestOperands}
-use Rattle.sre_model.specs.Standing.{SetStands, HasSet, ItemSays, TestStands, HasTest}
 use Rattle.sre_model.proofs.Words.{word_of, same_opcode}
 use Rattle.sre_model.proofs.Members.{one_item_member}
 

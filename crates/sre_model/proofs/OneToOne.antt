@@ -1,13 +1,8 @@
 -- The code words of a tree are a code of that tree, and no others without an INFO block are.
-use Rattle.std.proofs.Common.{ℕ, ◌+◌, ◌-◌, ◌≡◌, ◌<◌, false, List, [], ◌∷◌, length, subst, arith}
-use Rattle.std.proofs.Common.{length-append}
-use Rattle.sre_chars.specs.Numbers.{opcode_number}
+use Rattle.sre_model.proofs.Terms.{ℕ, ◌+◌, ◌-◌, ◌≡◌, ◌<◌, false, List, [], ◌∷◌, length, subst, arith, length-append}
+use Rattle.sre_model.proofs.Terms.{opcode_number, Tree, has_block, WholeItems, Whole, AreWords, LawfulTree, tree_words}
+use Rattle.sre_model.proofs.Terms.{code_words}
 use Rattle.sre_chars.specs.declared.constants.SreOpcode.TheVariants as opcode
-use Rattle.sre_model.specs.Tree.{Tree}
-use Rattle.sre_model.specs.Grammar.{has_block, WholeItems, Whole}
-use Rattle.sre_model.specs.Standing.{AreWords}
-use Rattle.sre_model.specs.Lawful.{LawfulTree}
-use Rattle.sre_model.specs.Written.{tree_words, code_words}
 use Rattle.sre_model.proofs.Words.{opcode_within}
 use Rattle.sre_model.proofs.CutOff.{none_behind}
 use Rattle.sre_model.proofs.StandingWords.{stands_whole, stands_front, stands_all}

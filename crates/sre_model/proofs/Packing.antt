@@ -1,9 +1,6 @@
 -- Block numbers, packed four to a word.
-use Rattle.std.proofs.Common.{ℕ, zero, suc, ◌+◌, ◌*◌, ◌/◌, ◌%◌, ◌≡◌, ◌<◌, List, [], ◌∷◌, ◌++◌, length, slice_index}
-use Rattle.std.proofs.Common.{refl, ◌∙◌, ap, arith}
-use Rattle.std.specs.List.{flat_map}
-use Rattle.sre_model.specs.Grammar.{bytes_of, BytesBelow}
-use Rattle.sre_model.specs.Written.{packed}
+use Rattle.sre_model.proofs.Terms.{ℕ, zero, suc, ◌+◌, ◌*◌, ◌/◌, ◌%◌, ◌≡◌, ◌<◌, List, [], ◌∷◌, ◌++◌, length, slice_index}
+use Rattle.sre_model.proofs.Terms.{refl, ◌∙◌, ap, arith, flat_map, bytes_of, BytesBelow, packed}
 use Rattle.sre_model.specs.Lawful.{NumbersBelow}
 
 -- those behind the first four

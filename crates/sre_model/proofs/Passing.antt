@@ -1,10 +1,7 @@
 -- Which characters a test passes, in terms of a text that is read.
-use Rattle.std.proofs.Common.{◌≡◌, ℕ, ◌<◌, ◌≤◌, Bool, true, false, nat_lt, nat_eq, refl, sym, ap, ◌∙◌, subst, arith}
-use Rattle.std.proofs.lemmas.Bool.Decides.{nat_tests}
-use Rattle.sre_chars.specs.declared.string.StringCursor.{StringCursor}
-use Rattle.sre_model.specs.Tree.{Test, Literal, Plain}
-use Rattle.sre_model.specs.Characters.{holds}
-use Rattle.sre_model.specs.Subject.{Subject, passes, char_at}
+use Rattle.sre_model.proofs.Terms.{◌≡◌, ℕ, ◌<◌, ◌≤◌, Bool, true, false, nat_lt, nat_eq, refl, sym, ap, ◌∙◌, subst}
+use Rattle.sre_model.proofs.Terms.{arith, nat_tests, StringCursor, Test, Literal, Plain, holds, Subject, passes}
+use Rattle.sre_model.proofs.Terms.{char_at}
 
 -- a character that is read before the window's end decides
 pub read_passes : (s : Subject) (t : Test) (p c : ℕ) (b : Bool) → p < s.end → c ≡ char_at s p → b ≡ holds s.table t c

@@ -1,10 +1,8 @@
 -- Where readings end.
-use Rattle.std.proofs.Common.{ℕ, ◌+◌, ◌*◌, ◌-◌, ◌≡◌, ◌<◌, ◌≤◌, List, [], ◌∷◌, length, refl, subst, arith}
-use Rattle.sre_model.specs.Tree.{Tree, Empty, Then, Item, One, Branch}
-use Rattle.sre_model.specs.Tree.{ExistsElse, Trees, Only, Or, Test, Any}
-use Rattle.sre_model.specs.Tree.{SetItem, Single, Range, RangeUniIgnore, Category}
-use Rattle.sre_model.specs.Tree.{Charset, BigCharset, Negate}
-use Rattle.sre_model.specs.Grammar.{word, skip, Reads, ReadsBranch, ReadsSet, Operands, TestOperands}
+use Rattle.sre_model.proofs.Terms.{ℕ, ◌+◌, ◌*◌, ◌-◌, ◌≡◌, ◌<◌, ◌≤◌, List, [], ◌∷◌, length, refl, subst, arith, Tree}
+use Rattle.sre_model.proofs.Terms.{Empty, Then, Item, One, Branch, ExistsElse, Trees, Only, Or, Test, Any, SetItem}
+use Rattle.sre_model.proofs.Terms.{Single, Range, RangeUniIgnore, Category, Charset, BigCharset, Negate, word, skip}
+use Rattle.sre_model.proofs.Terms.{Reads, ReadsBranch, ReadsSet, Operands, TestOperands}
 
 -- each item of a set has a word at least
 set_long : (ws : List ℕ) (i j : ℕ) (s : List SetItem) → ReadsSet ws i j s → i + length s ≤ j

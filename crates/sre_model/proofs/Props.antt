@@ -1,13 +1,10 @@
 -- A tree is related in one way.
-use Rattle.std.proofs.Common.{ℕ, ◌+◌, ◌*◌, ◌-◌, ◌≡◌, List, [], ◌∷◌, length}
-use Rattle.std.proofs.Props.{props}
-use mathlib.Core.HLevel.{is_prop→PathP}
+use Rattle.sre_model.proofs.Terms.{ℕ, ◌+◌, ◌*◌, ◌-◌, ◌≡◌, List, [], ◌∷◌, length, props, is_prop→PathP, Tree, Empty}
+use Rattle.sre_model.proofs.Terms.{Then, Item, One, Branch, Loop, Run, PossessiveLoop, Atomic, Look, Exists, ExistsElse}
+use Rattle.sre_model.proofs.Terms.{Trees, Only, Or, Test, In, SetItem, Single, Range, RangeUniIgnore, Category, Charset}
+use Rattle.sre_model.proofs.Terms.{BigCharset, Negate, word, skip, Reads, ReadsItem, ReadsBranch, TestOperands}
+use Rattle.sre_model.proofs.Terms.{ReadsSet, Whole, WholeItems, behind_block}
 use Rattle.std.proofs.Math.Logic.{∥∥₁_elim}
-use Rattle.sre_model.specs.Tree.{Tree, Empty, Then, Item, One, Branch, Loop, Run, PossessiveLoop}
-use Rattle.sre_model.specs.Tree.{Atomic, Look, Exists, ExistsElse, Trees, Only, Or, Test, In, SetItem}
-use Rattle.sre_model.specs.Tree.{Single, Range, RangeUniIgnore, Category, Charset, BigCharset, Negate}
-use Rattle.sre_model.specs.Grammar.{word, skip, Reads, ReadsItem, ReadsBranch, TestOperands, ReadsSet, Whole}
-use Rattle.sre_model.specs.Grammar.{WholeItems, behind_block}
 use Rattle.sre_model.specs.Grammar.{IsCode}
 use Rattle.sre_model.proofs.Unique.{item_same, whole_same}
 

@@ -1,20 +1,17 @@
 -- What is read as a tree are that tree's code words.
-use Rattle.std.proofs.Common.{ℕ, ◌+◌, ◌*◌, ◌-◌, ◌/◌, ◌≡◌, ◌<◌, ◌≤◌, List, [], ◌∷◌, ◌++◌, length, slice_range}
-use Rattle.std.proofs.Common.{slice_index}
-use Rattle.std.proofs.Common.{refl, sym, ◌∙◌, ap, subst, arith, length-append}
-use Rattle.sre_chars.specs.Numbers.{opcode_number, category_number}
+use Rattle.sre_model.proofs.Terms.{ℕ, ◌+◌, ◌*◌, ◌-◌, ◌/◌, ◌≡◌, ◌<◌, ◌≤◌, List, [], ◌∷◌, ◌++◌, length, slice_range}
+use Rattle.sre_model.proofs.Terms.{slice_index, refl, sym, ◌∙◌, ap, subst, arith, length-append, opcode_number}
+use Rattle.sre_model.proofs.Terms.{category_number, Tree, Empty, Then, Item, Fail, One, At, Mark, Branch, Loop, Run}
+use Rattle.sre_model.proofs.Terms.{PossessiveLoop, Atomic, Look, Reference, Exists, ExistsElse, Trees, Only, Or, Test}
+use Rattle.sre_model.proofs.Terms.{Any, AnyAll, InCategory, Literal, NotLiteral, In, SetItem, Single, Range}
+use Rattle.sre_model.proofs.Terms.{RangeUniIgnore, Category, Charset, BigCharset, Negate, Word, word, skip, Opcode}
+use Rattle.sre_model.proofs.Terms.{ReadsSet, TestOperands, test_opcode, item_opcode, JumpsTo, Reads, Operands}
+use Rattle.sre_model.proofs.Terms.{ReadsBranch, AreWords, packed, set_words, test_words, tree_words, branch_words}
+use Rattle.sre_model.proofs.Terms.{item_words}
 use Rattle.sre_chars.specs.declared.constants.SreOpcode.TheVariants as opcode
-use Rattle.sre_model.specs.Tree.{Tree, Empty, Then, Item, Fail, One, At, Mark, Branch, Loop, Run, PossessiveLoop}
-use Rattle.sre_model.specs.Tree.{Atomic, Look, Reference, Exists, ExistsElse, Trees, Only, Or, Test, Any, AnyAll}
-use Rattle.sre_model.specs.Tree.{InCategory, Literal, NotLiteral, In, SetItem, Single, Range, RangeUniIgnore, Category}
-use Rattle.sre_model.specs.Tree.{Charset, BigCharset, Negate}
-use Rattle.sre_model.specs.Grammar.{Word, word, skip, Opcode, ReadsSet, TestOperands, test_opcode, item_opcode}
-use Rattle.sre_model.specs.Grammar.{JumpsTo, Reads, Operands, ReadsBranch}
-use Rattle.sre_model.specs.Standing.{AreWords}
 use Rattle.sre_model.proofs.Words.{word_moved, word_there, word_at, word_within, opcode_within}
 use Rattle.sre_model.proofs.Places.{set_within, test_past, reads_within, branch_past}
-use Rattle.sre_model.specs.Written.{packed, set_words, test_words, repeated, alternative}
-use Rattle.sre_model.specs.Written.{tree_words, branch_words, item_words}
+use Rattle.sre_model.specs.Written.{repeated, alternative}
 use Rattle.sre_model.proofs.StandingWords.{Stands, stands_moved, stands_joined, stands_word, range_stands}
 use Rattle.sre_model.proofs.StandingWords.{range_long, part_at}
 use Rattle.sre_model.proofs.Packing.{packed_again}

@@ -1,12 +1,9 @@
 -- Worked rows of writing bytecode, by computation.
-use Rattle.std.proofs.Common.{refl, ◌≡◌, [], ◌∷◌, ◌++◌, replicate}
-use Rattle.sre_model.specs.Tree.{Empty, One, Mark, Branch, Loop, Run, PossessiveLoop, Atomic, Look}
-use Rattle.sre_model.specs.Tree.{Exists, ExistsElse, Only, Or, Any, Literal, In, Single}
-use Rattle.sre_model.specs.Tree.{Range, Charset, BigCharset, Negate, Plain}
-use Rattle.sre_model.specs.Tree.{Greedy, GreedyRun, Negative}
-use Rattle.sre_model.specs.Ways.{unlimited}
-use Rattle.sre_model.specs.Shown.{items, is_a, a, b, c}
-use Rattle.sre_model.specs.Written.{code_words}
+use Rattle.sre_model.proofs.Terms.{refl, ◌≡◌, [], ◌∷◌, ◌++◌, Empty, One, Mark, Branch, Loop, Run, PossessiveLoop}
+use Rattle.sre_model.proofs.Terms.{Atomic, Look, Exists, ExistsElse, Only, Or, Any, Literal, In, Single, Range, Charset}
+use Rattle.sre_model.proofs.Terms.{BigCharset, Negate, Plain, Greedy, GreedyRun, Negative, unlimited, items, is_a, a, b}
+use Rattle.sre_model.proofs.Terms.{c, code_words}
+use Rattle.std.proofs.Common.{replicate}
 
 letter : code_words (items (a ∷ [])) ≡ 16 ∷ 97 ∷ 1 ∷ []
 letter = refl

@@ -1,13 +1,11 @@
 -- What an item of a set is, by its opcode: what is read of it, and what is left behind it.
-use Rattle.std.proofs.Common.{ℕ, ◌+◌, ◌*◌, ◌≡◌, ◌≢◌, ◌<◌, List, [], ◌∷◌, slice_index_or, slice_range}
-use Rattle.std.proofs.Common.{flat_map, refl, ap, ◌∙◌, arith}
-use Rattle.sre_chars.specs.Numbers.{opcode_number, category_number}
-use Rattle.sre_chars.specs.declared.constants.SreOpcode.{SreOpcode}
+use Rattle.sre_model.proofs.Terms.{ℕ, ◌+◌, ◌*◌, ◌≡◌, ◌≢◌, ◌<◌, List, [], ◌∷◌, slice_index_or, slice_range, refl, ap}
+use Rattle.sre_model.proofs.Terms.{◌∙◌, arith, opcode_number, category_number, SreOpcode, SreCatCode, SetItem, Single}
+use Rattle.sre_model.proofs.Terms.{Range, RangeUniIgnore, Category, Charset, BigCharset, Negate, Word, word, Opcode}
+use Rattle.sre_model.proofs.Terms.{bytes_of, ReadsSet}
+use Rattle.std.proofs.Common.{flat_map}
 use Rattle.sre_chars.specs.declared.constants.SreOpcode.TheVariants as opcode
-use Rattle.sre_chars.specs.declared.constants.SreCatCode.{SreCatCode}
 use Rattle.sre_chars.specs.declared.constants.SreCatCode.TheVariants as category
-use Rattle.sre_model.specs.Tree.{SetItem, Single, Range, RangeUniIgnore, Category, Charset, BigCharset, Negate}
-use Rattle.sre_model.specs.Grammar.{Word, word, Opcode, bytes_of, ReadsSet}
 use Rattle.sre_model.proofs.Words.{same_opcode, word_of, opcodes, opcode_back, categories, category_back}
 
 -- an item's first word

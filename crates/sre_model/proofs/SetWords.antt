@@ -1,15 +1,13 @@
 -- A set is read from its own words alone, and sets are the same where their words are.
-use Rattle.std.proofs.Common.{ℕ, ◌+◌, ◌*◌, ◌-◌, ◌≡◌, ◌<◌, ◌≤◌, List, [], ◌∷◌, ◌++◌}
-use Rattle.std.proofs.Common.{length, take, drop}
-use Rattle.std.proofs.Common.{slice_range, flat_map, refl, sym, ◌∙◌, ap, subst, arith}
-use Rattle.std.proofs.lemmas.List.{get_or-take, get_or-drop, length-take, length-drop, ext_get_or}
-use Rattle.sre_model.specs.Tree.{SetItem, Single, Range, RangeUniIgnore, Category, Charset, BigCharset, Negate}
-use Rattle.sre_model.specs.Grammar.{Word, word, bytes_of, BlocksBelow, ReadsSet}
-use Rattle.sre_model.specs.Standing.{AreWords, SetStands}
+use Rattle.sre_model.proofs.Terms.{ℕ, ◌+◌, ◌*◌, ◌-◌, ◌≡◌, ◌<◌, ◌≤◌, List, [], ◌∷◌, ◌++◌, length, take, drop}
+use Rattle.sre_model.proofs.Terms.{slice_range, refl, sym, ◌∙◌, ap, subst, arith, get_or-take, get_or-drop, ext_get_or}
+use Rattle.sre_model.proofs.Terms.{SetItem, Single, Range, RangeUniIgnore, Category, Charset, BigCharset, Negate, Word}
+use Rattle.sre_model.proofs.Terms.{word, bytes_of, BlocksBelow, ReadsSet, AreWords, SetStands, set_words}
+use Rattle.std.proofs.Common.{flat_map}
+use Rattle.std.proofs.lemmas.List.{length-take, length-drop}
 use Rattle.sre_model.proofs.Words.{word_at, word_of, word_within}
 use Rattle.sre_model.proofs.Places.{set_within}
 use Rattle.sre_model.proofs.Unique.{set_same}
-use Rattle.sre_model.specs.Written.{set_words}
 use Rattle.sre_model.proofs.StandingWords.{stands_range, range_long}
 use Rattle.sre_model.proofs.ReadBack.{read_set, spell_then, spell_last}
 

@@ -1,9 +1,8 @@
 -- Words that are at a position of a list.
-use Rattle.std.proofs.Common.{ℕ, zero, suc, ◌+◌, ◌-◌, ◌≡◌, ◌<◌, ◌≤◌, List, [], ◌∷◌, ◌++◌, length, drop}
-use Rattle.std.proofs.Common.{slice_index, slice_range, sym, ◌∙◌, ap, subst, arith, length-append, length-drop}
-use Rattle.std.proofs.lemmas.Option.{slice_get_within}
-use Rattle.std.proofs.lemmas.List.{get_or-take, get_or-drop, length-take-le, ext_get_or}
-use Rattle.sre_model.specs.Grammar.{Word}
+use Rattle.sre_model.proofs.Terms.{ℕ, zero, suc, ◌+◌, ◌-◌, ◌≡◌, ◌<◌, ◌≤◌, List, [], ◌∷◌, ◌++◌, length, drop}
+use Rattle.sre_model.proofs.Terms.{slice_index, slice_range, sym, ◌∙◌, ap, subst, arith, length-append}
+use Rattle.sre_model.proofs.Terms.{slice_get_within, get_or-take, get_or-drop, length-take-le, ext_get_or, Word}
+use Rattle.std.proofs.Common.{length-drop}
 use Rattle.sre_model.proofs.Words.{word_moved, word_of, word_there}
 
 -- the words from place i on are those of xs

@@ -1,19 +1,15 @@
 -- The tree of bytecode, by a function: a run of the machine is measured by it.
-use Rattle.std.proofs.Common.{◌≡◌, ℕ, zero, suc, ◌+◌, ◌-◌, ◌<◌, ◌≤◌, ◌⊎◌, inl, inr, Bool, true, false, nat_lt}
-use Rattle.std.proofs.Common.{nat_eq, List, [], ◌∷◌, length, Option, None, Some, slice_index_or}
-use Rattle.std.proofs.Common.{refl, sym, ap, ◌∙◌, arith}
-use Rattle.std.proofs.lemmas.Bool.Decides.{nat_tests}
-use Rattle.sre_chars.specs.Numbers.{at_number}
-use Rattle.sre_chars.specs.declared.constants.SreOpcode.{SreOpcode}
+use Rattle.sre_model.proofs.Terms.{◌≡◌, ℕ, zero, suc, ◌+◌, ◌-◌, ◌<◌, ◌≤◌, ◌⊎◌, inl, inr, Bool, true, false, nat_lt}
+use Rattle.sre_model.proofs.Terms.{nat_eq, List, [], ◌∷◌, length, Option, None, Some, slice_index_or, refl, sym, ap}
+use Rattle.sre_model.proofs.Terms.{◌∙◌, arith, nat_tests, at_number, SreOpcode, SreAtCode, Tree, Empty, Then, Item}
+use Rattle.sre_model.proofs.Terms.{Fail, One, At, Mark, Branch, Loop, Run, PossessiveLoop, Atomic, Look, Reference}
+use Rattle.sre_model.proofs.Terms.{Exists, ExistsElse, Trees, Only, Or, Test, Any, AnyAll, InCategory, Literal}
+use Rattle.sre_model.proofs.Terms.{NotLiteral, In, Order, Greedy, Lazy, RunKind, GreedyRun, LazyRun, PossessiveRun}
+use Rattle.sre_model.proofs.Terms.{Sign, Positive, Negative, Fold, Plain, Ascii, Locale, Unicode, SetItem, Word, word}
+use Rattle.sre_model.proofs.Terms.{Opcode, skip, test_opcode, item_opcode, until_opcode, ReadsSet, TestOperands, Reads}
+use Rattle.sre_model.proofs.Terms.{Operands, ReadsBranch, WholeItems}
 use Rattle.sre_chars.specs.declared.constants.SreOpcode.TheVariants as opcode
-use Rattle.sre_chars.specs.declared.constants.SreAtCode.{SreAtCode}
 use Rattle.sre_chars.specs.declared.constants.SreAtCode.TheVariants as at
-use Rattle.sre_model.specs.Tree.{Tree, Empty, Then, Item, Fail, One, At, Mark, Branch, Loop, Run, PossessiveLoop}
-use Rattle.sre_model.specs.Tree.{Atomic, Look, Reference, Exists, ExistsElse, Trees, Only, Or, Test, Any, AnyAll}
-use Rattle.sre_model.specs.Tree.{InCategory, Literal, NotLiteral, In, Order, Greedy, Lazy, RunKind, GreedyRun, LazyRun}
-use Rattle.sre_model.specs.Tree.{PossessiveRun, Sign, Positive, Negative, Fold, Plain, Ascii, Locale, Unicode, SetItem}
-use Rattle.sre_model.specs.Grammar.{Word, word, Opcode, skip, test_opcode, item_opcode, until_opcode}
-use Rattle.sre_model.specs.Grammar.{ReadsSet, TestOperands, Reads, Operands, ReadsBranch, WholeItems}
 use Rattle.sre_model.proofs.Words.{word_of, opcode_within, at_codes, at_back}
 use Rattle.sre_model.proofs.SetItems.{set_item_opcode, first, opcode_at, category_at, set_item_by, item_past, parted}
 use Rattle.sre_model.proofs.SetItems.{opcode-read, category-read}

@@ -1,6 +1,5 @@
 -- How steps add up.
-use Rattle.std.proofs.Common.{ℕ, ◌+◌, ◌*◌, ◌≤◌, arith}
-use Rattle.std.proofs.Math.Nat.{mul-le-mul_right}
+use Rattle.sre_model.proofs.Terms.{ℕ, ◌+◌, ◌*◌, ◌≤◌, arith, mul-le-mul_right}
 
 -- another turn
 pub turn_spent : (given left after turned each : ℕ) → given ≤ left + turned * each → left ≤ after + each

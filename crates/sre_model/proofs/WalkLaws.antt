@@ -1,10 +1,8 @@
 -- An iteration is the match that is found, and the iteration after it; it has a bound, and goes forward.
-use Rattle.std.proofs.Common.{◌≡◌, ◌≤◌, ◌<◌, ◌+◌, ◌-◌, ◌*◌, ℕ, zero, suc, [], ◌∷◌, length, Bool, true, false, not, ◌||◌}
-use Rattle.std.proofs.Common.{cond, nat_eq, Some, None, refl, sym, ap, ◌∙◌, subst, arith, inl, inr}
-use Rattle.std.proofs.lemmas.Bool.{and_parts}
-use Rattle.std.proofs.lemmas.Bool.Decides.{nat_tests}
-use Rattle.sre_model.specs.Tree.{Tree}
-use Rattle.sre_model.specs.Found.{Asked, Match, found, asked_after, walk_of, walk}
+use Rattle.sre_model.proofs.Terms.{◌≡◌, ◌≤◌, ◌<◌, ◌+◌, ◌-◌, ◌*◌, ℕ, zero, suc, [], ◌∷◌, length, Bool, true, false, not}
+use Rattle.sre_model.proofs.Terms.{◌||◌, cond, nat_eq, Some, None, refl, sym, ap, ◌∙◌, subst, arith, inl, inr}
+use Rattle.sre_model.proofs.Terms.{and_parts, nat_tests, Tree, Asked, Match, found}
+use Rattle.sre_model.specs.Found.{asked_after, walk_of, walk}
 use Rattle.sre_model.specs.WalkBounds.{most_matches, AreInOrder}
 use Rattle.sre_model.proofs.FoundLaws.{Either, either, found-least, found-is}
 

@@ -1,11 +1,6 @@
 -- Each match path is at least as long as the tree's least width.
-use Rattle.std.proofs.Common.{◌≡◌, ℕ, ◌+◌, ◌<◌, ◌≤◌, List, [], ◌∷◌, refl, arith}
-use Rattle.std.specs.List.{flat_map, AllByRecursion}
-use Rattle.sre_model.specs.Tree.{Tree}
-use Rattle.sre_model.specs.Marks.{Marks}
-use Rattle.sre_model.specs.Subject.{Subject}
-use Rattle.sre_model.specs.Ways.{Way, Body, ways}
-use Rattle.sre_model.specs.Width.{width}
+use Rattle.sre_model.proofs.Terms.{◌≡◌, ℕ, ◌+◌, ◌<◌, ◌≤◌, List, [], ◌∷◌, refl, arith, flat_map, AllByRecursion, Tree}
+use Rattle.sre_model.proofs.Terms.{Marks, Subject, Way, Body, ways, width}
 use Rattle.sre_model.proofs.Each.{each-flat_map, each-weaken}
 use Rattle.sre_model.proofs.Bounds.{EachBetween, Wide, tree-wide, ways-bounded}
 

@@ -1,7 +1,5 @@
 -- Widths saturate at the greatest word.
-use Rattle.std.proofs.Common.{◌≤◌, arith}
-use Rattle.sre_model.specs.Tree.{Tree, Empty, Then, Trees, Only, Or}
-use Rattle.sre_model.specs.Width.{width, least_width}
+use Rattle.sre_model.proofs.Terms.{◌≤◌, arith, Tree, Empty, Then, Trees, Only, Or, width, least_width}
 
 pub width_held : (t : Tree) → width t ≤ 4294967295
 width_held Empty = omega arith

@@ -1,16 +1,12 @@
 -- Single words, and the opcodes that they are.
-use Rattle.std.proofs.Common.{ℕ, ◌≡◌, ◌<◌, ◌≤◌, List, [], ◌∷◌, length, slice_index_or, refl, sym, ◌∙◌, ap, subst, arith}
-use Rattle.std.proofs.lemmas.Option.{get_or_from_slice_get, slice_get-get_or, slice_get_within}
+use Rattle.sre_model.proofs.Terms.{ℕ, ◌≡◌, ◌<◌, ◌≤◌, List, [], ◌∷◌, length, slice_index_or, refl, sym, ◌∙◌, ap, subst}
+use Rattle.sre_model.proofs.Terms.{arith, slice_get_within, opcode_number, at_number, category_number, SreOpcode}
+use Rattle.sre_model.proofs.Terms.{SreAtCode, SreCatCode, Word, word, Opcode, AreWords}
+use Rattle.std.proofs.lemmas.Option.{get_or_from_slice_get, slice_get-get_or}
 use Rattle.std.proofs.lemmas.List.{get_or_past}
-use Rattle.sre_chars.specs.Numbers.{opcode_number, at_number, category_number}
-use Rattle.sre_chars.specs.declared.constants.SreOpcode.{SreOpcode}
 use Rattle.sre_chars.specs.declared.constants.SreOpcode.TheVariants as opcode
-use Rattle.sre_chars.specs.declared.constants.SreAtCode.{SreAtCode}
 use Rattle.sre_chars.specs.declared.constants.SreAtCode.TheVariants as at
-use Rattle.sre_chars.specs.declared.constants.SreCatCode.{SreCatCode}
 use Rattle.sre_chars.specs.declared.constants.SreCatCode.TheVariants as category
-use Rattle.sre_model.specs.Grammar.{Word, word, Opcode}
-use Rattle.sre_model.specs.Standing.{AreWords}
 
 pub same_word : (ws : List ℕ) (i a b : ℕ) → Word ws i a → Word ws i b → a ≡ b
 same_word ws i a b p q = cc

@@ -1,10 +1,6 @@
 -- A text of UTF-8 with as many bytes as characters has one byte a character, each below 128.
-use Rattle.std.proofs.Common.{◌≡◌, ℕ, ◌+◌, ◌-◌, ◌<◌, ◌≤◌, List, Some, ap, ◌∙◌, inl, inr, arith}
-use Rattle.std.proofs.lemmas.Bool.{cases_lt}
-use Rattle.std.proofs.lemmas.Bool.Decides.{nat_tests}
-use Rattle.std.specs.Char.{len_utf8}
-use Rattle.sre_model.specs.Subject.{Subject, char_at}
-use Rattle.sre_patterns.specs.Covers.{InBytes, InUtf8}
+use Rattle.sre_patterns.proofs.Terms.{◌≡◌, ℕ, ◌+◌, ◌-◌, ◌<◌, ◌≤◌, List, Some, ap, ◌∙◌, inl, inr, arith, cases_lt}
+use Rattle.sre_patterns.proofs.Terms.{nat_tests, len_utf8, Subject, char_at, InBytes, InUtf8}
 use Rattle.sre_patterns.proofs.Edges.{utf8-sided}
 use Rattle.sre_patterns.proofs.OverUtf8.{utf8-apart}
 

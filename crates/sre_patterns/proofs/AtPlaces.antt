@@ -1,19 +1,15 @@
 -- Where the matches of patterns begin: at a byte where a position is, unless they are empty.
-use Rattle.std.proofs.Common.{◌≡◌, ℕ, zero, suc, ◌+◌, ◌-◌, ◌<◌, ◌≤◌, Bool, true, false, List, [], Option, Some, None}
-use Rattle.std.proofs.Common.{true≢false, sym, ap, ◌∙◌, ◌⊎◌, ⊎_elim, inl, inr, arith, slice_index}
-use Rattle.std.proofs.lemmas.Bool.{cases_lt}
-use Rattle.std.proofs.lemmas.Str.{len_utf8_bounds}
+use Rattle.sre_patterns.proofs.Terms.{◌≡◌, ℕ, zero, suc, ◌+◌, ◌-◌, ◌<◌, ◌≤◌, Bool, true, false, List, [], Option, Some}
+use Rattle.sre_patterns.proofs.Terms.{None, sym, ap, ◌∙◌, ◌⊎◌, ⊎_elim, inl, inr, arith, slice_index, cases_lt}
+use Rattle.sre_patterns.proofs.Terms.{len_utf8_bounds, Re, empty, byte_in, char_in, look, cat, alt, plus, Look}
+use Rattle.sre_patterns.proofs.Terms.{optional, copies, up_to, at_least, Rounds, one_round, next_round, Matches}
+use Rattle.sre_patterns.proofs.Terms.{char_at_fits, Subject, char_at, InBytes, InUtf8, IsPlace}
+use Rattle.std.proofs.Common.{true≢false}
 use Rattle.regex_class.specs.Ranges.{in_ranges}
-use Rattle.regex_hir.specs.Re.{Re, empty, byte_in, char_in, look, cat, alt, plus}
 use Rattle.regex_hir.specs.Text as bytes
-use Rattle.regex_hir.specs.declared.look.Look.{Look}
-use Rattle.regex_hir.specs.Meaning.{optional, copies, up_to, at_least, repeat}
-use Rattle.regex_hir.specs.Matches.{Rounds, one_round, next_round, Matches}
+use Rattle.regex_hir.specs.Meaning.{repeat}
 use Rattle.regex_hir.proofs.MatchesLemmas.{Matches-IsSpan}
-use Rattle.regex_hir.proofs.TextLemmas.{char_at_fits}
-use Rattle.sre_model.specs.Subject.{Subject, char_at}
-use Rattle.sre_patterns.specs.Covers.{InBytes, InUtf8}
-use Rattle.sre_patterns.specs.Exact.{IsPlace, AtPlaces}
+use Rattle.sre_patterns.specs.Exact.{AtPlaces}
 use Rattle.sre_patterns.proofs.Edges.{IsLater, char-bytes}
 use Rattle.sre_patterns.proofs.OverBytes.{bytes-places}
 

@@ -1,16 +1,13 @@
 -- Alternatives: what is read so far, and what is left.
-use Rattle.std.proofs.Common.{◌≡◌, ◌≢◌, ℕ, ◌+◌, ◌-◌, ◌<◌, ◌≤◌, ◌⊎◌, List, [], ◌∷◌, ◌++◌, length, refl, sym, ap, ◌∙◌}
-use Rattle.std.proofs.Common.{subst, inl, inr, arith}
-use Rattle.regex_hir.specs.Re.{Re, byte_in, alt}
-use Rattle.sre_model.specs.Tree.{Tree, Branch, Trees, Only, Or}
-use Rattle.sre_model.specs.Grammar.{Word, skip, Reads, ReadsItem, ReadsBranch}
-use Rattle.sre_model.proofs.Words.{word_of, word_within, same_word}
+use Rattle.sre_patterns.proofs.Terms.{◌≡◌, ◌≢◌, ℕ, ◌+◌, ◌-◌, ◌<◌, ◌≤◌, ◌⊎◌, List, [], ◌∷◌, ◌++◌, length, refl, sym, ap}
+use Rattle.sre_patterns.proofs.Terms.{◌∙◌, subst, inl, inr, arith, Re, byte_in, alt, Tree, Trees, Only, Or, Word, skip}
+use Rattle.sre_patterns.proofs.Terms.{Reads, ReadsItem, word_within, same_word, branch_ways, uni_of, Task, view_of}
+use Rattle.sre_patterns.proofs.Terms.{alt_onto, AtItem, AtItems, HasItems, Serves, ServesItem, ServesBody}
+use Rattle.sre_model.specs.Tree.{Branch}
+use Rattle.sre_model.specs.Grammar.{ReadsBranch}
+use Rattle.sre_model.proofs.Words.{word_of}
 use Rattle.sre_model.proofs.Places.{alternative_long}
-use Rattle.sre_model.specs.Ways.{branch_ways}
-use Rattle.sre_code.specs.Codes.{uni_of}
-use Rattle.sre_patterns.specs.declared.task.Task.{Task}
-use Rattle.sre_patterns.specs.Patterns.{view_of, alt_onto, AtItem, AtItems, HasItems, HasBranch}
-use Rattle.sre_patterns.specs.Purposes.{Serves, ServesItem, ServesBody}
+use Rattle.sre_patterns.specs.Patterns.{HasBranch}
 use Rattle.sre_patterns.proofs.Items.{items-to, word-needed, at-item}
 use Rattle.sre_patterns.proofs.Onto.{alt-last}
 use Rattle.sre_patterns.proofs.Composed.{Composes}

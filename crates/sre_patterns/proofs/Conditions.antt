@@ -1,18 +1,12 @@
 -- Conditionals: with a second part, which a JUMP announces, or without.
-use Rattle.std.proofs.Common.{◌≡◌, ◌≢◌, ℕ, ◌+◌, ◌-◌, ◌<◌, ◌⊎◌, List, length, sym, ap, ◌∙◌, subst, inl, inr, arith}
-use Rattle.regex_hir.specs.Re.{Re, empty, alt}
-use Rattle.sre_chars.specs.Tables.{Table}
-use Rattle.sre_model.specs.Tree.{Tree, Item, Exists, ExistsElse}
+use Rattle.sre_patterns.proofs.Terms.{◌≡◌, ◌≢◌, ℕ, ◌+◌, ◌-◌, ◌<◌, ◌⊎◌, List, length, sym, ap, ◌∙◌, subst, inl, inr}
+use Rattle.sre_patterns.proofs.Terms.{arith, Re, empty, alt, Table, Tree, Item, Exists, ExistsElse, word, skip}
+use Rattle.sre_patterns.proofs.Terms.{item_opcode, Reads, ReadsItem, role_here, reads_within, uni_of, View, Covers}
+use Rattle.sre_patterns.proofs.Terms.{IsWider, Task, view_of, AtItem, AtItems, HasItems, Serves, ServesItem, OnlyCovers}
 use Rattle.sre_model.specs.Roles.{ToCheckGroup}
-use Rattle.sre_model.specs.Grammar.{word, skip, item_opcode, Reads, ReadsItem}
-use Rattle.sre_model.proofs.Families.{role_here, is_exists}
-use Rattle.sre_model.proofs.Places.{reads_within}
-use Rattle.sre_code.specs.Codes.{uni_of}
-use Rattle.sre_patterns.specs.Covers.{View, Covers, IsWider}
+use Rattle.sre_model.proofs.Families.{is_exists}
 use Rattle.sre_patterns.proofs.Composed.{covers-exists, covers-either, covers-wider}
-use Rattle.sre_patterns.specs.declared.task.Task.{Task}
-use Rattle.sre_patterns.specs.Patterns.{view_of, AtItem, AtItems, HasItems, HasCondition}
-use Rattle.sre_patterns.specs.Purposes.{Serves, ServesItem, OnlyCovers}
+use Rattle.sre_patterns.specs.Patterns.{HasCondition}
 use Rattle.sre_patterns.proofs.Items.{items-to, word-needed, at-item}
 use Rattle.sre_patterns.proofs.Serving.{covered, serves-covered}
 

@@ -1,33 +1,28 @@
 -- Positions between characters, as positions between bytes: where a position code holds an assertion does. What is at
 -- both edges of a character.
-use Rattle.std.proofs.Common.{◌≡◌, ℕ, zero, suc, ◌+◌, ◌-◌, ◌<◌, ◌≤◌, Bool, true, false, cond, not, ◌&&◌, ◌||◌, ◌==◌}
-use Rattle.std.proofs.Common.{nat_eq, nat_lt, List, length, Option, None, Some, is_some, slice_get, refl, sym, ap, ap₂}
-use Rattle.std.proofs.Common.{◌∙◌, subst, inl, inr, arith, slice_index}
-use Rattle.std.proofs.lemmas.Bool.{and_parts, cases_lt}
-use Rattle.std.proofs.lemmas.Bool.Decides.{nat_tests}
-use Rattle.std.proofs.lemmas.Option.{slice_get_past, slice_get-get_or}
+use Rattle.sre_patterns.proofs.Terms.{◌≡◌, ℕ, zero, suc, ◌+◌, ◌-◌, ◌<◌, ◌≤◌, Bool, true, false, cond, not, ◌&&◌, ◌||◌}
+use Rattle.sre_patterns.proofs.Terms.{nat_eq, nat_lt, List, length, Option, None, Some, slice_get, refl, sym, ap, ap₂}
+use Rattle.sre_patterns.proofs.Terms.{◌∙◌, subst, inl, inr, arith, slice_index, and_parts, cases_lt, nat_tests}
+use Rattle.sre_patterns.proofs.Terms.{slice_get_past, slice_get-get_or, look, Look, char_at_fits, Table, SreAtCode, At}
+use Rattle.sre_patterns.proofs.Terms.{Subject, char_at, holds_at, View, CoversItem, InBytes, InUtf8, exact_look}
+use Rattle.sre_patterns.proofs.Terms.{len_utf8_bounds, len_utf8}
+use Rattle.std.proofs.Common.{◌==◌}
+use Rattle.std.proofs.Common.{is_some}
 use Rattle.ucd_perl.specs.Perl.{is_word_byte}
 use Rattle.regex_hir.specs.Text as bytes
 use Rattle.regex_hir.specs.Looks as looks
-use Rattle.regex_hir.specs.Re.{look}
-use Rattle.regex_hir.specs.declared.look.Look.{Look}
 use Rattle.regex_hir.specs.declared.look.Look.TheVariants.{EndLf, WordAsciiNegate}
-use Rattle.regex_hir.proofs.TextLemmas.{byte_before-zero, byte_before-add-one, char_at_fits}
-use Rattle.sre_chars.specs.Tables.{Table, is_ascii_alphanumeric, is_scalar, is_in_ranges}
+use Rattle.regex_hir.proofs.TextLemmas.{byte_before-zero, byte_before-add-one}
+use Rattle.sre_chars.specs.Tables.{is_ascii_alphanumeric, is_scalar, is_in_ranges}
 use Rattle.sre_chars.specs.Categories.{is_word, is_unicode_word, is_linebreak}
-use Rattle.sre_chars.specs.declared.constants.SreAtCode.{SreAtCode}
 use Rattle.sre_chars.specs.declared.constants.SreAtCode.TheVariants.{BEGINNING, BEGINNING_LINE, BEGINNING_STRING}
 use Rattle.sre_chars.specs.declared.constants.SreAtCode.TheVariants.{BOUNDARY, NON_BOUNDARY, END, END_LINE, END_STRING}
 use Rattle.sre_chars.specs.declared.constants.SreAtCode.TheVariants.{LOC_BOUNDARY, LOC_NON_BOUNDARY, UNI_BOUNDARY}
 use Rattle.sre_chars.specs.declared.constants.SreAtCode.TheVariants.{UNI_NON_BOUNDARY}
-use Rattle.sre_model.specs.Tree.{At}
-use Rattle.sre_model.specs.Subject.{Subject, char_at, after, holds_at, is_boundary, is_on_nothing}
+use Rattle.sre_model.specs.Subject.{after, is_boundary, is_on_nothing}
 use Rattle.sre_model.specs.Subject.{bars_non_boundary}
-use Rattle.sre_patterns.specs.Covers.{View, CoversItem, InBytes, InUtf8}
-use Rattle.sre_patterns.specs.Looks.{look_of, exact_look, in_ascii}
+use Rattle.sre_patterns.specs.Looks.{look_of, in_ascii}
 use Rattle.sre_patterns.proofs.Composed.{covers-position}
-use Rattle.std.proofs.lemmas.Str.{len_utf8_bounds}
-use Rattle.std.specs.Char.{len_utf8}
 use Rattle.regex_hir.proofs.Utf8Lemmas.{char_at_cases}
 
 -- a byte at an edge of a character: an ASCII character itself, and no ASCII byte else

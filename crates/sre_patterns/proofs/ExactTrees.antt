@@ -1,31 +1,19 @@
 -- Patterns that try the match paths of the parts of a tree in order, combined to one that tries those of the tree.
-use Rattle.std.proofs.Common.{◌≡◌, ℕ, ◌+◌, ◌-◌, ◌<◌, ◌≤◌, min, true, false, cond, nat_lt, List, [], Option, Some, None}
-use Rattle.std.proofs.Common.{slice_get, refl, sym, ap, ap₂, ◌∙◌, ◌⊎◌, inl, inr, arith}
-use Rattle.std.specs.List.{AllByRecursion}
-use Rattle.std.specs.Option.{option_or}
-use Rattle.std.proofs.lemmas.Bool.Decides.{nat_tests}
-use Rattle.std.proofs.lemmas.Option.{slice_get_past}
-use Rattle.std.specs.Char.{IsScalar}
+use Rattle.sre_patterns.proofs.Terms.{◌≡◌, ℕ, ◌+◌, ◌-◌, ◌<◌, ◌≤◌, min, true, false, cond, nat_lt, List, [], Option}
+use Rattle.sre_patterns.proofs.Terms.{Some, None, slice_get, refl, sym, ap, ap₂, ◌∙◌, ◌⊎◌, inl, inr, arith}
+use Rattle.sre_patterns.proofs.Terms.{AllByRecursion, option_or, nat_tests, slice_get_past, IsScalar, Re, byte_in}
+use Rattle.sre_patterns.proofs.Terms.{char_in, look, alt, Look, IsMinLen, option_or-None, char_at_parts, Table}
+use Rattle.sre_patterns.proofs.Terms.{SreAtCode, Tree, Fail, One, At, Loop, Run, Test, Order, Marks, holds, Subject}
+use Rattle.sre_patterns.proofs.Terms.{char_at, passes, holds_at, Body, here, unlimited, ways, item_ways, loop_ways}
+use Rattle.sre_patterns.proofs.Terms.{branch_ways, each-cond, Between, Bounded, ways-bounded, item-bounded, View}
+use Rattle.sre_patterns.proofs.Terms.{InBytes, InUtf8, ExactBody, ExactTree, Rises, AreKept, repeated, is_greedy}
+use Rattle.sre_patterns.proofs.Terms.{kind_of, exact_look}
 use Rattle.regex_class.specs.Ranges.{in_ranges}
-use Rattle.regex_hir.specs.Re.{Re, byte_in, char_in, look, alt, attempt}
-use Rattle.regex_hir.specs.declared.look.Look.{Look}
+use Rattle.regex_hir.specs.Re.{attempt}
 use Rattle.regex_hir.specs.Text.{is_some_and}
-use Rattle.regex_hir.specs.Matches.{IsMinLen}
-use Rattle.regex_hir.proofs.OptionLemmas.{option_or-None}
-use Rattle.regex_hir.proofs.TextLemmas.{char_at_parts, char_at_past}
-use Rattle.sre_chars.specs.Tables.{Table}
-use Rattle.sre_chars.specs.declared.constants.SreAtCode.{SreAtCode}
-use Rattle.sre_model.specs.Tree.{Tree, Fail, One, At, Loop, Run, Test, Order}
-use Rattle.sre_model.specs.Marks.{Marks}
-use Rattle.sre_model.specs.Characters.{holds}
-use Rattle.sre_model.specs.Subject.{Subject, char_at, passes, holds_at}
-use Rattle.sre_model.specs.Ways.{Body, here, unlimited, ways, item_ways, loop_ways, branch_ways}
-use Rattle.sre_model.proofs.Each.{each-cond}
-use Rattle.sre_model.proofs.Bounds.{Between, Bounded, ways-bounded, item-bounded}
-use Rattle.sre_patterns.specs.Covers.{View, InBytes, InUtf8}
-use Rattle.sre_patterns.specs.Exact.{tried, Exact, ExactBody, ExactTree, ExactItem, ExactTest, Rises, AreKept}
-use Rattle.sre_patterns.specs.Repeated.{most_kept, repeated, is_greedy, kind_of}
-use Rattle.sre_patterns.specs.Looks.{exact_look}
+use Rattle.regex_hir.proofs.TextLemmas.{char_at_past}
+use Rattle.sre_patterns.specs.Exact.{tried, Exact, ExactItem, ExactTest}
+use Rattle.sre_patterns.specs.Repeated.{most_kept}
 use Rattle.sre_patterns.proofs.Composed.{Composes}
 use Rattle.sre_patterns.proofs.InOrder.{tried-append, tried-flat, tried-here, tried-cond, one-exact, counted-exact}
 use Rattle.sre_patterns.proofs.InOrder.{endless-exact}

@@ -1,24 +1,15 @@
 -- A search for a pattern that tries a tree's match paths in order, each of which reads a byte, finds what the tree's
 -- semantics finds: over bytes, and over UTF-8, where its matches begin at characters.
-use Rattle.std.proofs.Common.{◌≡◌, ℕ, ◌≤◌, ◌<◌, true, false, cond, List, [], ◌∷◌, length}
-use Rattle.std.proofs.Common.{Some, None, refl, sym, ap, ◌∙◌, ⊎_elim, inl, inr, arith}
-use Rattle.std.specs.List.{AllByRecursion}
-use Rattle.std.proofs.lemmas.Bool.{cases_lt}
-use Rattle.std.proofs.lemmas.Bool.Decides.{nat_tests}
-use Rattle.std.proofs.lemmas.Option.{none-some, same_Some}
-use Rattle.regex_hir.specs.Re.{Re, Trace, accept, attempt}
+use Rattle.sre_patterns.proofs.Terms.{◌≡◌, ℕ, ◌≤◌, ◌<◌, true, false, cond, List, [], ◌∷◌, length, Some, None, refl, sym}
+use Rattle.sre_patterns.proofs.Terms.{ap, ◌∙◌, ⊎_elim, inl, inr, arith, AllByRecursion, cases_lt, nat_tests, none-some}
+use Rattle.sre_patterns.proofs.Terms.{same_Some, Re, Trace, accept, attempt_sound, Tree, no_marks, Way, ways, Between}
+use Rattle.sre_patterns.proofs.Terms.{ways-bounded, View, ExactTree, IsPlace, Rises}
+use Rattle.regex_hir.specs.Re.{attempt}
 use Rattle.regex_hir.specs.Matches.{IsMinLen}
 use Rattle.regex_hir.specs.Find as bytes
-use Rattle.regex_hir.proofs.AttemptLemmas.{attempt_sound}
 use Rattle.regex_hir.proofs.FindLemmas.{IsFirst-of_first_between, none_of_first_between}
-use Rattle.sre_model.specs.Tree.{Tree}
-use Rattle.sre_model.specs.Marks.{no_marks}
-use Rattle.sre_model.specs.Ways.{Way, ways}
 use Rattle.sre_model.specs.Found.{Asked, Match, subject_of, is_accepted, first_accepted, at_start, found}
-use Rattle.sre_model.proofs.Bounds.{Between, ways-bounded}
 use Rattle.sre_model.proofs.FoundLaws.{least-found, none-found}
-use Rattle.sre_patterns.specs.Covers.{View}
-use Rattle.sre_patterns.specs.Exact.{ExactTree, IsPlace, Rises}
 use Rattle.sre_patterns.proofs.InOrder.{first_end, first-way}
 use Rattle.sre_patterns.proofs.InOrder.{exact-moves}
 

@@ -1,13 +1,8 @@
 -- Patterns for starts alone: where the pattern has no match the tree has no match path.
-use Rattle.std.proofs.Common.{◌≡◌, ℕ, List, [], ◌∷◌, ◌++◌, refl, ap₂}
-use Rattle.std.specs.List.{flat_map, AllByRecursion}
-use Rattle.regex_hir.specs.Re.{Re, empty, cat}
-use Rattle.regex_hir.specs.Matches.{Matches}
-use Rattle.sre_chars.specs.Tables.{Table}
-use Rattle.sre_model.specs.Tree.{Tree, Then, Item}
-use Rattle.sre_model.specs.Subject.{Subject}
-use Rattle.sre_model.specs.Ways.{Way, Body, ways, item_ways}
-use Rattle.sre_patterns.specs.Covers.{Leads, IsWider, Along, View, Covers, CoversItem, Fronts, CoversStart}
+use Rattle.sre_patterns.proofs.Terms.{◌≡◌, ℕ, List, [], ◌∷◌, ◌++◌, refl, ap₂, flat_map, AllByRecursion, Re, empty, cat}
+use Rattle.sre_patterns.proofs.Terms.{Matches, Table, Tree, Then, Item, Subject, Way, Body, ways, item_ways, Leads}
+use Rattle.sre_patterns.proofs.Terms.{IsWider, Along, View, Covers, CoversItem, CoversStart}
+use Rattle.sre_patterns.specs.Covers.{Fronts}
 use Rattle.sre_patterns.proofs.Composed.{Leg}
 
 module _ (s : Subject) (hay : List ℕ) (off : ℕ → ℕ) where

@@ -1,27 +1,22 @@
 -- An exact pattern tries the match paths of its tree in their order, so its first match is their first, and it has a
 -- match along each of them.
-use Rattle.std.proofs.Common.{◌≡◌, ℕ, zero, suc, ◌+◌, ◌-◌, ◌<◌, ◌≤◌, Bool, true, false, cond, ◌&&◌, ◌||◌, nat_lt}
-use Rattle.std.proofs.Common.{nat_eq, List, [], ◌∷◌, ◌++◌, Option, Some, None, refl, sym, ap, ap₂, ◌∙◌, arith, subst}
-use Rattle.std.specs.List.{flat_map, AllByRecursion}
-use Rattle.std.specs.Option.{option_or}
+use Rattle.sre_patterns.proofs.Terms.{◌≡◌, ℕ, zero, suc, ◌+◌, ◌-◌, ◌<◌, ◌≤◌, Bool, true, false, cond, ◌&&◌, ◌||◌}
+use Rattle.sre_patterns.proofs.Terms.{nat_lt, nat_eq, List, [], ◌∷◌, ◌++◌, Option, Some, None, refl, sym, ap, ap₂, ◌∙◌}
+use Rattle.sre_patterns.proofs.Terms.{arith, subst, flat_map, AllByRecursion, option_or, nat_tests, Re, cat, plus}
+use Rattle.sre_patterns.proofs.Terms.{Trace, accept, optional, copies, up_to, at_least, option_or-None, attempt_sound}
+use Rattle.sre_patterns.proofs.Terms.{holds, Order, Greedy, Lazy, One, Test, Marks, Subject, char_at, Way, Body, here}
+use Rattle.sre_patterns.proofs.Terms.{unlimited, ordered, loop_ways, item_ways, loop_from, each-weaken, Between}
+use Rattle.sre_patterns.proofs.Terms.{Bounded, loop-below-all, loop-beyond-all, loop-ways, is_greedy, Matches}
 use Rattle.std.proofs.lemmas.Bool.{cond-true}
-use Rattle.std.proofs.lemmas.Bool.Decides.{nat_tests}
-use Rattle.regex_hir.specs.Re.{Re, cat, plus, Trace, Rest, accept, prefer, more_rounds, attempt}
-use Rattle.regex_hir.specs.Meaning.{optional, copies, up_to, at_least, repeat}
-use Rattle.regex_hir.proofs.OptionLemmas.{option_or-None, option_or_assoc}
-use Rattle.regex_hir.proofs.AttemptLemmas.{more_rounds_unfold, attempt_sound, cond_some}
-use Rattle.sre_model.specs.Characters.{holds}
-use Rattle.sre_model.specs.Tree.{Order, Greedy, Lazy, One, Test}
-use Rattle.sre_model.specs.Marks.{Marks}
-use Rattle.sre_model.specs.Subject.{Subject, char_at}
-use Rattle.sre_model.specs.Ways.{Way, Body, here, unlimited, ordered, may_repeat, loop_ways, item_ways}
-use Rattle.sre_model.specs.Loops.{loop_from}
-use Rattle.sre_model.proofs.Each.{each-both, each-weaken}
-use Rattle.sre_model.proofs.Bounds.{Between, Bounded}
-use Rattle.sre_model.proofs.LoopCases.{alone, loop-below-all, loop-beyond-all, loop-ways}
+use Rattle.regex_hir.specs.Re.{Rest, prefer, more_rounds, attempt}
+use Rattle.regex_hir.specs.Meaning.{repeat}
+use Rattle.regex_hir.proofs.OptionLemmas.{option_or_assoc}
+use Rattle.regex_hir.proofs.AttemptLemmas.{more_rounds_unfold, cond_some}
+use Rattle.sre_model.specs.Ways.{may_repeat}
+use Rattle.sre_model.proofs.Each.{each-both}
+use Rattle.sre_model.proofs.LoopCases.{alone}
 use Rattle.sre_patterns.specs.Exact as exact
-use Rattle.sre_patterns.specs.Repeated.{is_greedy}
-use Rattle.regex_hir.specs.Matches.{Matches, IsMinLen}
+use Rattle.regex_hir.specs.Matches.{IsMinLen}
 
 -- the last body began before here
 abbrev pub Passed : Option ℕ → ℕ → Type 0

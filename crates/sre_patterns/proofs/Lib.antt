@@ -18,3 +18,4 @@ pub mod AtPlaces
 pub mod ExactTrees
 pub mod FirstFound
 pub mod AsciiSeen
+pub mod Terms

@@ -1,13 +1,9 @@
 -- Concatenation and alternation of patterns.
-use Rattle.std.proofs.Common.{◌≡◌, ℕ, List, [], ◌∷◌, ◌++◌, map, refl, sym, ap, ◌∙◌, subst}
-use Rattle.std.proofs.lemmas.List.{map-append}
-use Rattle.regex_hir.specs.Re.{Re, empty, cat, alt, byte_in, literal}
-use Rattle.regex_hir.specs.Meaning.{cat_all, alt_all, meaning}
+use Rattle.sre_patterns.proofs.Terms.{◌≡◌, ℕ, List, [], ◌∷◌, ◌++◌, map, refl, sym, ap, ◌∙◌, subst, map-append, Re}
+use Rattle.sre_patterns.proofs.Terms.{empty, cat, alt, byte_in, literal, meaning, Matches, IsWider, cat_onto, alt_onto}
+use Rattle.regex_hir.specs.Meaning.{cat_all, alt_all}
 use Rattle.regex_hir.specs.declared.hir.Hir.{Hir}
-use Rattle.regex_hir.specs.Matches.{Matches}
 use Rattle.sre_patterns.proofs.OverUtf8.{literals-joined}
-use Rattle.sre_patterns.specs.Covers.{IsWider}
-use Rattle.sre_patterns.specs.Patterns.{cat_onto, alt_onto}
 
 pub wider-same : (a b : Re) → a ≡ b → IsWider a b
 wider-same a b e hay i j m = subst (λ x. Matches hay x i j) e m

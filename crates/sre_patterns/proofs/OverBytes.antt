@@ -1,15 +1,8 @@
 -- Texts of bytes are seen as their bytes, and a class has each byte that passes.
-use Rattle.std.proofs.Common.{◌≡◌, ℕ, zero, suc, ◌+◌, ◌<◌, ◌≤◌, true, List}
-use Rattle.std.proofs.Common.{length, take, Some, refl, sym, ap, ◌∙◌, arith}
-use Rattle.std.proofs.lemmas.Option.{slice_get-get_or}
-use Rattle.std.proofs.lemmas.List.{get_or-take, length-take-le}
-use Rattle.regex_class.specs.Ranges.{in_ranges}
-use Rattle.regex_hir.specs.Re.{byte_in}
-use Rattle.sre_chars.specs.Tables.{Table}
-use Rattle.sre_model.specs.Tree.{Test}
-use Rattle.sre_model.specs.Characters.{holds}
-use Rattle.sre_model.specs.Subject.{Subject, char_at}
-use Rattle.sre_patterns.specs.Covers.{InBytes, CoversTest, place, read_bytes}
+use Rattle.sre_patterns.proofs.Terms.{◌≡◌, ℕ, zero, suc, ◌+◌, ◌<◌, ◌≤◌, true, List, length, take, Some, refl, sym, ap}
+use Rattle.sre_patterns.proofs.Terms.{◌∙◌, arith, slice_get-get_or, get_or-take, length-take-le, in_ranges, byte_in}
+use Rattle.sre_patterns.proofs.Terms.{Table, Test, holds, Subject, char_at, InBytes, CoversTest}
+use Rattle.sre_patterns.specs.Covers.{place, read_bytes}
 use Rattle.sre_patterns.proofs.Composed.{covers-one}
 
 -- a text of bytes up to the window's end

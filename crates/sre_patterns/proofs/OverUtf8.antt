@@ -1,26 +1,20 @@
 -- Texts of UTF-8 are seen as their bytes, in which each character is whole.
-use Rattle.std.proofs.Common.{◌≡◌, ℕ, zero, suc, ◌+◌, ◌<◌, ◌≤◌, true, refl, ap, sym, ◌∙◌, arith, List, [], ◌∷◌}
-use Rattle.std.proofs.Common.{◌++◌, length, take, drop, get_or, Some, length-append}
-use Rattle.std.proofs.Math.Seq.{take-suc, drop-cons}
-use Rattle.std.proofs.lemmas.Bool.{and_parts}
-use Rattle.std.proofs.lemmas.Bool.Decides.{nat_tests}
-use Rattle.std.proofs.lemmas.List.{get_or-take, length-take-le, take-take, append_assoc}
+use Rattle.sre_patterns.proofs.Terms.{◌≡◌, ℕ, zero, suc, ◌+◌, ◌<◌, ◌≤◌, true, refl, ap, sym, ◌∙◌, arith, List, [], ◌∷◌}
+use Rattle.sre_patterns.proofs.Terms.{◌++◌, length, take, drop, get_or, Some, drop-cons, and_parts, nat_tests}
+use Rattle.sre_patterns.proofs.Terms.{get_or-take, length-take-le, len_utf8_bounds, IsScalar, len_utf8, in_ranges}
+use Rattle.sre_patterns.proofs.Terms.{literal, char_in, cat, Matches, char_at_parts, has_bytes_at_from, Table, Test}
+use Rattle.sre_patterns.proofs.Terms.{Plain, Literal, holds, Subject, char_at, InUtf8, CoversTest}
+use Rattle.std.proofs.Common.{length-append}
+use Rattle.std.proofs.Math.Seq.{take-suc}
+use Rattle.std.proofs.lemmas.List.{take-take, append_assoc}
 use Rattle.std.proofs.lemmas.Str.{encodes-append, scalars-chars, chars_from_encodes, length-encode, IsUtf8-take}
-use Rattle.std.proofs.lemmas.Str.{len_utf8_bounds}
 use Rattle.std.specs.Str.{chars, IsUtf8}
-use Rattle.std.specs.Char.{IsScalar, len_utf8, encode_utf8}
+use Rattle.std.specs.Char.{encode_utf8}
 use lib.Utf8.{scalars, scalar, encodes, encode}
-use Rattle.regex_class.specs.Ranges.{in_ranges}
-use Rattle.regex_hir.specs.Re.{literal, char_in, cat}
-use Rattle.regex_hir.specs.Matches.{Matches}
-use Rattle.regex_hir.proofs.TextLemmas.{char_at_parts, char_at_from, has_bytes_at_parts, has_bytes_at_from}
-use Rattle.sre_chars.specs.Tables.{Table}
+use Rattle.regex_hir.proofs.TextLemmas.{char_at_from, has_bytes_at_parts}
 use Rattle.sre_chars.specs.Texts.{offset_of}
 use Rattle.sre_chars.proofs.TextPlaces.{take_offset, drop_offset, offset_boundary}
-use Rattle.sre_model.specs.Tree.{Test, Plain, Literal}
-use Rattle.sre_model.specs.Characters.{holds}
-use Rattle.sre_model.specs.Subject.{Subject, char_at}
-use Rattle.sre_patterns.specs.Covers.{InUtf8, CoversTest, read_utf8}
+use Rattle.sre_patterns.specs.Covers.{read_utf8}
 use Rattle.sre_patterns.proofs.Composed.{covers-one}
 
 scalar-at : (cs : List ℕ) (p : ℕ) → scalars cs ≡ true → p < length cs → scalar (get_or cs p 0) ≡ true

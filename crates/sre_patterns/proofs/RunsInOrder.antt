@@ -1,19 +1,13 @@
 -- A single-character repeat is a loop over one character.
-use Rattle.std.proofs.Common.{◌≡◌, ℕ, zero, suc, ◌+◌, ◌-◌, ◌<◌, ◌≤◌, max, Bool, true, false, cond, ◌&&◌, ◌||◌, nat_lt}
-use Rattle.std.proofs.Common.{nat_eq, List, [], ◌∷◌, ◌++◌, map, Option, Some, None, refl, sym, ap, ap₂, ◌∙◌, arith}
-use Rattle.std.specs.List.{flat_map}
+use Rattle.sre_patterns.proofs.Terms.{◌≡◌, ℕ, zero, suc, ◌+◌, ◌-◌, ◌<◌, ◌≤◌, max, Bool, true, false, cond, ◌&&◌, ◌||◌}
+use Rattle.sre_patterns.proofs.Terms.{nat_lt, nat_eq, List, [], ◌∷◌, ◌++◌, map, Option, Some, None, refl, sym, ap, ap₂}
+use Rattle.sre_patterns.proofs.Terms.{◌∙◌, arith, flat_map, nat_tests, Test, Order, Greedy, Lazy, One, Marks, Subject}
+use Rattle.sre_patterns.proofs.Terms.{passes, Way, Body, here, unlimited, ordered, loop_ways, item_ways, loop_from}
+use Rattle.sre_patterns.proofs.Terms.{item-bounded, loop-below-all, loop-beyond-all, loop-ways, kind_of}
 use Rattle.std.proofs.lemmas.List.{append-nil}
-use Rattle.std.proofs.lemmas.Bool.Decides.{nat_tests}
-use Rattle.sre_model.specs.Tree.{Test, Order, Greedy, Lazy, One}
-use Rattle.sre_model.specs.Marks.{Marks}
-use Rattle.sre_model.specs.Subject.{Subject, passes}
-use Rattle.sre_model.specs.Ways.{Way, Body, here, unlimited, longest_run, rising, falling, counts, ordered, run_ways}
-use Rattle.sre_model.specs.Ways.{loop_ways, item_ways}
-use Rattle.sre_model.specs.Loops.{loop_from}
-use Rattle.sre_model.proofs.Bounds.{item-bounded, longest_run-fits}
+use Rattle.sre_model.specs.Ways.{longest_run, rising, falling, counts, run_ways}
+use Rattle.sre_model.proofs.Bounds.{longest_run-fits}
 use Rattle.sre_model.proofs.Longest.{goes_on, longest_goes_on, longest_stops}
-use Rattle.sre_model.proofs.LoopCases.{loop-below-all, loop-beyond-all, loop-ways}
-use Rattle.sre_patterns.specs.Repeated.{kind_of}
 use Rattle.sre_patterns.proofs.InOrder.{Passed, repeats}
 
 -- one way that two tests let through is followed

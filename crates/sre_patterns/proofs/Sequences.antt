@@ -1,13 +1,12 @@
 -- Items one after the other: what is read so far, and what is left.
-use Rattle.std.proofs.Common.{◌≡◌, ℕ, ◌<◌, ◌≤◌, ◌⊎◌, List, length, refl, sym, subst, inl, inr, arith}
-use Rattle.regex_hir.specs.Re.{Re, empty, cat}
+use Rattle.sre_patterns.proofs.Terms.{◌≡◌, ℕ, ◌<◌, ◌≤◌, ◌⊎◌, List, length, refl, sym, subst, inl, inr, arith, Re, empty}
+use Rattle.sre_patterns.proofs.Terms.{cat, Tree, Empty, Then, Item, Word, Opcode, Reads, ReadsItem, opcode_within}
+use Rattle.sre_patterns.proofs.Terms.{same_word, reads_within, cat_onto, HasItems, HasItem, AtItems, AtItem}
 use Rattle.sre_chars.specs.declared.constants.SreOpcode.TheVariants as opcode
-use Rattle.sre_model.specs.Tree.{Tree, Empty, Then, Item}
-use Rattle.sre_model.specs.Grammar.{Word, Opcode, Reads, ReadsItem}
-use Rattle.sre_model.proofs.Words.{opcode_moved, opcode_within, same_word}
+use Rattle.sre_model.proofs.Words.{opcode_moved}
 use Rattle.sre_model.proofs.Families.{no_item}
-use Rattle.sre_model.proofs.Places.{reads_within, operands_past}
-use Rattle.sre_patterns.specs.Patterns.{cat_onto, HasItems, HasItem, AtItems, AtItem, Stops}
+use Rattle.sre_model.proofs.Places.{operands_past}
+use Rattle.sre_patterns.specs.Patterns.{Stops}
 
 pub no-jump : (ws : List ℕ) (i v : ℕ) → Word ws i v → (v ≡ 15 → ⊥) → Opcode ws i opcode.JUMP → ⊥
 no-jump ws i v w other o = other (same_word ws i v 15 w o)

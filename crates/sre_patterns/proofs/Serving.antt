@@ -1,27 +1,15 @@
 -- Patterns that serve a purpose for the parts of a tree, combined to one that serves it for the tree.
-use Rattle.std.proofs.Common.{◌≡◌, ℕ, ◌≤◌, ◌<◌, Bool, List, Option, Some, None, sym, ◌∙◌, subst}
-use Rattle.regex_hir.specs.Re.{Re, look}
-use Rattle.regex_hir.specs.Matches.{IsMinLen}
-use Rattle.regex_hir.specs.declared.look.Look.{Look}
-use Rattle.sre_chars.specs.Tables.{Table}
-use Rattle.sre_chars.specs.declared.constants.SreAtCode.{SreAtCode}
-use Rattle.sre_chars.specs.declared.constants.SreOpcode.{SreOpcode}
-use Rattle.sre_model.specs.Tree.{Tree, One, At, Run, Test, Order, RunKind}
-use Rattle.sre_model.specs.Roles.{role, ToRun}
-use Rattle.sre_model.specs.Grammar.{Opcode}
-use Rattle.sre_model.specs.Subject.{Subject}
-use Rattle.sre_model.specs.Ways.{Body, unlimited, item_ways}
-use Rattle.sre_patterns.specs.Covers.{View, CoversBody}
-use Rattle.sre_patterns.specs.Exact.{ExactBody, Rises, AreKept}
-use Rattle.sre_patterns.specs.Repeated.{repeated, kind_of}
+use Rattle.sre_patterns.proofs.Terms.{◌≡◌, ℕ, ◌≤◌, ◌<◌, Bool, List, Option, Some, None, sym, ◌∙◌, subst, Re, look}
+use Rattle.sre_patterns.proofs.Terms.{IsMinLen, Look, Table, SreAtCode, SreOpcode, Tree, One, At, Run, Test, Order}
+use Rattle.sre_patterns.proofs.Terms.{RunKind, role, ToRun, Opcode, Subject, Body, unlimited, item_ways, View}
+use Rattle.sre_patterns.proofs.Terms.{CoversBody, ExactBody, Rises, AreKept, repeated, kind_of, Purpose, view_of}
+use Rattle.sre_patterns.proofs.Terms.{position_in, ServesBody, look_for, OnlyCovers}
 use Rattle.sre_patterns.proofs.Composed.{Composes, covers-parts, covers-wider, covers-run, covers-loop}
 use Rattle.sre_patterns.proofs.Edges.{covers-look_of}
 use Rattle.sre_patterns.proofs.ExactTrees.{exact-parts, exact-run, exact-loop, exact-at}
 use Rattle.sre_patterns.specs.declared.encoding.Encoding.{Encoding}
-use Rattle.sre_patterns.specs.declared.task.Purpose.{Purpose}
 use Rattle.sre_patterns.specs.declared.task.Purpose.TheVariants as purpose
-use Rattle.sre_patterns.specs.Patterns.{view_of, position_in}
-use Rattle.sre_patterns.specs.Purposes.{ServesBody, ServesFor, Replaces, look_for, WhenInOrder, OnlyCovers, RunsSo}
+use Rattle.sre_patterns.specs.Purposes.{ServesFor, Replaces, WhenInOrder, RunsSo}
 use Rattle.sre_patterns.specs.Purposes.{LoopsSo}
 use Rattle.sre_patterns.proofs.Items.{loop_of, end_of}
 use Rattle.sre_patterns.proofs.SidesSeen.{sided, alike}

@@ -1,14 +1,10 @@
 -- Positions in each kind of text: what is on both sides of them, which of them hold equally, and their order.
-use Rattle.std.proofs.Common.{ℕ, List, refl}
-use Rattle.sre_chars.specs.declared.constants.SreAtCode.{SreAtCode}
-use Rattle.sre_model.specs.Subject.{Subject}
-use Rattle.sre_patterns.specs.Exact.{Rises}
+use Rattle.sre_patterns.proofs.Terms.{ℕ, List, refl, SreAtCode, Subject, Rises, view_of, position_in}
 use Rattle.sre_patterns.proofs.Edges.{Sided, HoldAlike, bytes-sided, ascii-alike}
 use Rattle.sre_patterns.proofs.Edges.{utf8-sided}
 use Rattle.sre_patterns.proofs.ExactTrees.{bytes-rise, utf8-rise}
 use Rattle.sre_patterns.specs.declared.encoding.Encoding as encoding_type
 use Rattle.sre_patterns.specs.declared.encoding.Encoding.TheVariants as encoding
-use Rattle.sre_patterns.specs.Patterns.{view_of, position_in}
 
 pub sided : (e : encoding_type.Encoding) (s : Subject) (hay : List ℕ) (off : ℕ → ℕ) → view_of e s hay off
     → Sided s hay off

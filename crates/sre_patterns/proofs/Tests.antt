@@ -1,30 +1,20 @@
 -- Classes that have what a test takes, or just that.
-use Rattle.std.proofs.Common.{◌≡◌, ℕ, ◌+◌, ◌<◌, ◌≤◌, Bool, true, List, [], ◌∷◌, ◌++◌, sym, ap, ◌∙◌, arith, drop, get_or}
-use Rattle.std.proofs.Common.{suc, false, ◌&&◌, nat_lt, refl}
-use Rattle.std.proofs.lemmas.Bool.Decides.{nat_tests}
-use Rattle.std.specs.Char.{IsScalar}
-use Rattle.std.proofs.Math.Seq.{drop-cons}
+use Rattle.sre_patterns.proofs.Terms.{◌≡◌, ℕ, ◌+◌, ◌<◌, ◌≤◌, Bool, true, List, [], ◌∷◌, ◌++◌, sym, ap, ◌∙◌, arith, drop}
+use Rattle.sre_patterns.proofs.Terms.{get_or, suc, false, ◌&&◌, nat_lt, refl, nat_tests, IsScalar, drop-cons, literal}
+use Rattle.sre_patterns.proofs.Terms.{byte_in, char_in, has_bytes_at_from, Table, Word, Opcode, TestStands, char_at}
+use Rattle.sre_patterns.proofs.Terms.{Test, Literal, Plain, One, same_word, CoversTest, InBytes, InUtf8, HasJust, holds}
+use Rattle.sre_patterns.proofs.Terms.{item_ways, Purpose, ServesBody}
 use Rattle.std.proofs.lemmas.Option.{get_or_from_slice_get, slice_get_within}
 use Rattle.regex_class.specs.Ranges.{in_range, in_ranges, HasExactly}
 use Rattle.regex_class.proofs.RangesLemmas.{in_ranges-push}
-use Rattle.regex_hir.specs.Re.{literal, byte_in, char_in}
-use Rattle.regex_hir.proofs.TextLemmas.{has_bytes_at_from}
-use Rattle.sre_chars.specs.Tables.{Table}
 use Rattle.sre_chars.specs.declared.constants.SreOpcode.TheVariants as opcode
-use Rattle.sre_model.specs.Grammar.{Word, Opcode, test_opcode, TestOperands}
-use Rattle.sre_model.specs.Standing.{TestStands}
-use Rattle.sre_model.specs.Subject.{char_at}
-use Rattle.sre_model.specs.Tree.{Test, Literal, Plain, One}
-use Rattle.sre_model.proofs.Words.{same_word, same_opcode}
-use Rattle.sre_patterns.specs.Covers.{CoversTest, InBytes, InUtf8}
+use Rattle.sre_model.specs.Grammar.{test_opcode, TestOperands}
+use Rattle.sre_model.proofs.Words.{same_opcode}
 use Rattle.sre_patterns.proofs.Composed.{covers-one}
-use Rattle.sre_patterns.specs.Patterns.{HasBelow, HasJust}
-use Rattle.sre_model.specs.Characters.{holds}
-use Rattle.sre_model.specs.Ways.{item_ways}
+use Rattle.sre_patterns.specs.Patterns.{HasBelow}
 use Rattle.sre_patterns.proofs.ExactTrees.{bytes-exact, chars-exact}
-use Rattle.sre_patterns.specs.declared.task.Purpose.{Purpose}
 use Rattle.sre_patterns.specs.declared.task.Purpose.TheVariants as purpose
-use Rattle.sre_patterns.specs.Purposes.{ServesBody, HasFor}
+use Rattle.sre_patterns.specs.Purposes.{HasFor}
 use Rattle.sre_patterns.proofs.OverBytes.{bytes-take}
 use Rattle.sre_patterns.proofs.OverUtf8.{utf8-take}
 

@@ -1,13 +1,9 @@
 -- When a pattern of bytes tries the match paths of a tree in their order.
-use Rattle.std.specs.Prelude.{ℕ, ◌≡◌, ◌<◌, ◌≤◌, ◌⊎◌, List, [], ◌∷◌, Option, None}
+use Rattle.sre_patterns.specs.Terms.{ℕ, ◌≡◌, ◌<◌, ◌≤◌, ◌⊎◌, List, [], ◌∷◌, Option, None, Re, Matches, Table, Tree, Item}
+use Rattle.sre_patterns.specs.Terms.{One, Test, Marks, Subject, Body, ways, item_ways}
 use Rattle.std.specs.Option.{option_or}
-use Rattle.regex_hir.specs.Re.{Re, Rest, Trace, attempt}
-use Rattle.regex_hir.specs.Matches.{Matches}
-use Rattle.sre_chars.specs.Tables.{Table}
-use Rattle.sre_model.specs.Tree.{Tree, Item, One, Test}
-use Rattle.sre_model.specs.Marks.{Marks}
-use Rattle.sre_model.specs.Subject.{Subject}
-use Rattle.sre_model.specs.Ways.{Way, Body, unlimited, ways, item_ways}
+use Rattle.regex_hir.specs.Re.{Rest, Trace, attempt}
+use Rattle.sre_model.specs.Ways.{Way, unlimited}
 use Rattle.sre_patterns.specs.Covers.{View}
 
 -- what follows, tried from the end of each of some ways in turn

@@ -5,3 +5,4 @@ pub mod Covers
 pub mod Repeated
 pub mod Exact
 pub mod Looks
+pub mod Terms

@@ -1,17 +1,9 @@
 -- What a pattern does for a tree, by its purpose.
-use Rattle.std.specs.Prelude.{⊤, ℕ, ◌≡◌, Bool, List, Option}
-use Rattle.regex_hir.specs.Re.{Re}
-use Rattle.regex_hir.specs.declared.look.Look.{Look}
-use Rattle.sre_chars.specs.Tables.{Table}
-use Rattle.sre_chars.specs.declared.constants.SreAtCode.{SreAtCode}
-use Rattle.sre_chars.specs.declared.constants.SreOpcode.{SreOpcode}
+use Rattle.sre_patterns.specs.Terms.{ℕ, ◌≡◌, Bool, List, Option, Re, Look, Table, SreAtCode, SreOpcode, Tree, Item, One}
+use Rattle.sre_patterns.specs.Terms.{Test, Order, role, ToRun, Opcode, Subject, Body, ways, item_ways, uni_of}
+use Rattle.std.specs.Prelude.{⊤}
 use Rattle.sre_chars.specs.declared.constants.SreOpcode.TheVariants as opcode
-use Rattle.sre_model.specs.Tree.{Tree, Item, One, Test, Order}
-use Rattle.sre_model.specs.Roles.{role, ToRun}
-use Rattle.sre_model.specs.Grammar.{Opcode, until_opcode}
-use Rattle.sre_model.specs.Subject.{Subject}
-use Rattle.sre_model.specs.Ways.{Body, ways, item_ways}
-use Rattle.sre_code.specs.Codes.{uni_of}
+use Rattle.sre_model.specs.Grammar.{until_opcode}
 use Rattle.sre_patterns.specs.Covers.{View, IsWider, CoversBody}
 use Rattle.sre_patterns.specs.Exact.{ExactBody}
 use Rattle.sre_patterns.specs.Looks.{look_of, exact_look}

@@ -1,8 +1,7 @@
 -- Repetitions, whose counts are preserved while they are small.
-use Rattle.std.specs.Prelude.{ℕ, min, Bool, true, false, ◌||◌, cond, Option, Some, None, nat_lt}
-use Rattle.regex_hir.specs.Re.{Re}
-use Rattle.regex_hir.specs.Meaning.{repeat}
-use Rattle.sre_model.specs.Tree.{Order, Greedy, Lazy, RunKind, GreedyRun, LazyRun}
+use Rattle.sre_patterns.specs.Terms.{ℕ, Bool, true, Option, Some, None, nat_lt, Re, repeat, Order, RunKind}
+use Rattle.std.specs.Prelude.{min, false, ◌||◌, cond}
+use Rattle.sre_model.specs.Tree.{Greedy, Lazy, GreedyRun, LazyRun}
 
 -- the greatest count of a repetition, unless it or the least one is more than is kept
 abbrev pub most_kept : ℕ → ℕ → ℕ → Option ℕ

@@ -1,9 +1,8 @@
 -- From which character on a test, or a set, gives one answer.
-use Rattle.std.specs.Prelude.{ℕ, ◌≡◌, ◌≤◌, ◌<◌, Bool, List}
-use Rattle.sre_chars.specs.Tables.{Table}
+use Rattle.sre_patterns.specs.Terms.{ℕ, ◌≡◌, ◌≤◌, ◌<◌, Bool, List, Table, HasSet}
 use Rattle.sre_model.specs.Tree.{SetItem}
 use Rattle.sre_model.specs.Characters.{verdict}
-use Rattle.sre_model.specs.Standing.{SetStands, HasSet}
+use Rattle.sre_model.specs.Standing.{SetStands}
 
 -- from a number on a test has the same answer
 abbrev pub SettledFrom : ℕ → (ℕ → Bool) → Type 0

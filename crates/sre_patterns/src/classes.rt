@@ -1,15 +1,10 @@
 //! Single-character tests, as classes of bytes or characters.
 
-ghost use Rattle.std.specs.Prelude.{◌≡◌, ◌<◌, ℕ, IfOk, Some, [], ◌∷◌, encode_utf8};
-ghost use Rattle.regex_hir.specs.Re.{literal};
-ghost use Rattle.regex_hir.specs.Meaning.{meaning};
-ghost use Rattle.sre_model.specs.Tree.{Test, AnyAll, Literal, Plain};
-ghost use Rattle.sre_model.specs.Grammar.{Opcode};
-ghost use Rattle.sre_model.specs.Standing.{TestStands, HasTest};
-ghost use Rattle.sre_code.specs.Codes.{items_of, uni_of};
+ghost use Rattle.sre_patterns.specs.Terms.{◌≡◌, ◌<◌, ℕ, IfOk, Some, [], ◌∷◌, literal, meaning, Test, Opcode};
+ghost use Rattle.sre_patterns.specs.Terms.{TestStands, HasTest, items_of, uni_of, holds, Table};
+ghost use Rattle.std.specs.Prelude.{encode_utf8};
+ghost use Rattle.sre_model.specs.Tree.{AnyAll, Literal, Plain};
 ghost use Rattle.sre_patterns.specs.Covers.{CoversTest};
-ghost use Rattle.sre_model.specs.Characters.{holds};
-ghost use Rattle.sre_chars.specs.Tables.{Table};
 ghost use Rattle.sre_patterns.specs.Patterns.{view_of, AtTest, HasBelow, HasJust};
 ghost use Rattle.sre_patterns.specs.Purposes.{ServesTest, HasFor};
 ghost use Rattle.sre_patterns.specs.Settling.{SettledFrom};

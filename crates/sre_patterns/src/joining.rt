@@ -1,8 +1,7 @@
 //! Concatenation and alternation of patterns.
 
-ghost use Rattle.std.specs.Prelude.{map, OnOk, IfOk};
-ghost use Rattle.regex_hir.specs.Re.{Re, cat, alt, empty, literal};
-ghost use Rattle.regex_hir.specs.Meaning.{meaning};
+ghost use Rattle.sre_patterns.specs.Terms.{OnOk, IfOk, Re, cat, alt, empty, literal, meaning};
+ghost use Rattle.std.specs.Prelude.{map};
 ghost use Rattle.sre_patterns.specs.Covers.{IsWider};
 ghost use Rattle.sre_patterns.specs.Patterns.{cat_onto};
 ghost use Rattle.sre_patterns.specs.Purposes.{Replaces};

@@ -1,10 +1,8 @@
 //! Repetitions, whose counts are exact up to a limit.
 
-ghost use Rattle.std.specs.Prelude.{◌≡◌, ◌≤◌, ◌+◌, ◌<◌, ◌^◌, IfOk, length, true, None};
+ghost use Rattle.sre_patterns.specs.Terms.{◌≡◌, ◌≤◌, ◌+◌, ◌<◌, ◌^◌, IfOk, length, true, None, meaning, repeat, Word};
+ghost use Rattle.sre_patterns.specs.Terms.{items_of};
 ghost use Rattle.regex_hir.specs.Matches.{IsMinLen};
-ghost use Rattle.regex_hir.specs.Meaning.{meaning, repeat};
-ghost use Rattle.sre_model.specs.Grammar.{Word};
-ghost use Rattle.sre_code.specs.Codes.{items_of};
 ghost use Rattle.sre_patterns.specs.Exact.{AreKept};
 ghost use Rattle.sre_patterns.specs.Repeated as repetitions;
 ghost use Rattle.sre_patterns.specs.Purposes.{WhenInOrder, RunsSo, LoopsSo};

@@ -3,15 +3,11 @@
 //! Then the results up to that character determine the class of all characters. The bound is unknown if a Unicode table
 //! decides: for case, and for Unicode's letters and digits.
 
-ghost use Rattle.std.specs.Prelude.{◌≡◌, ◌+◌, ℕ, IfSome};
+ghost use Rattle.sre_patterns.specs.Terms.{◌≡◌, ◌+◌, ℕ, Table, Test, Opcode, HasSet, HasTest, TestStands, holds};
+ghost use Rattle.sre_patterns.specs.Terms.{items_of, uni_of};
+ghost use Rattle.std.specs.Prelude.{IfSome};
 ghost use Rattle.sre_chars.specs.Categories.{category};
 ghost use Rattle.sre_chars.specs.Numbers.{category_number};
-ghost use Rattle.sre_chars.specs.Tables.{Table};
-ghost use Rattle.sre_model.specs.Tree.{Test};
-ghost use Rattle.sre_model.specs.Grammar.{Opcode};
-ghost use Rattle.sre_model.specs.Standing.{HasSet, HasTest, TestStands};
-ghost use Rattle.sre_model.specs.Characters.{holds};
-ghost use Rattle.sre_code.specs.Codes.{items_of, uni_of};
 ghost use Rattle.sre_patterns.specs.Settling.{SettledFrom, SettledSet, SettlesBehind};
 
 use sre_chars::constants::{SreCatCode, SreOpcode};

@@ -6,13 +6,8 @@
 //! body can be empty, since SRE ends such a loop differently. Counts must be within the limit `KEPT`. Over UTF-8, it
 //! must be known which of all characters a test accepts.
 
-ghost use Rattle.std.specs.Prelude.{◌≡◌, IfOk, Some};
-ghost use Rattle.regex_hir.specs.Meaning.{meaning};
-ghost use Rattle.regex_hir.specs.Re.{empty};
-ghost use Rattle.sre_model.specs.Tree.{Tree};
-ghost use Rattle.sre_model.specs.Grammar.{Opcode, WholeItems};
-ghost use Rattle.sre_model.specs.Standing.{HasTest};
-ghost use Rattle.sre_code.specs.Codes.{items_of, uni_of};
+ghost use Rattle.sre_patterns.specs.Terms.{◌≡◌, IfOk, Some, meaning, empty, Tree, Opcode, HasTest, items_of, uni_of};
+ghost use Rattle.sre_model.specs.Grammar.{WholeItems};
 ghost use Rattle.sre_patterns.specs.Covers.{Covers, CoversStart};
 ghost use Rattle.sre_patterns.specs.Exact.{ExactTree};
 ghost use Rattle.sre_patterns.specs.Patterns.{view_of, HasItems, HasItem, AtItems, AtItem, CoversFrontAt};

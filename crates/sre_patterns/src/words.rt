@@ -1,11 +1,8 @@
 //! Reads code words where the tree determines what they are.
 
-ghost use Rattle.std.specs.Prelude.{◌≡◌, ◌+◌, ◌<◌, ◌^◌, length};
+ghost use Rattle.sre_patterns.specs.Terms.{◌≡◌, ◌+◌, ◌<◌, ◌^◌, length, Word, Opcode, HasTest, items_of};
 ghost use Rattle.sre_chars.specs.Numbers.{at_number};
-ghost use Rattle.sre_model.specs.Grammar.{Word, Opcode};
 ghost use Rattle.sre_model.specs.Grammar as grammar;
-ghost use Rattle.sre_model.specs.Standing.{HasTest};
-ghost use Rattle.sre_code.specs.Codes.{items_of};
 ghost use Rattle.sre_patterns.specs.Patterns.{HasItem};
 
 use sre_chars::constants::{SreAtCode, SreOpcode};

@@ -1,23 +1,21 @@
 -- The matches of an iteration that adjoin each other: what a lexer takes of it.
-use Rattle.std.proofs.Common.{◌≡◌, ◌≢◌, ◌<◌, ◌≤◌, ◌+◌, ◌-◌, ℕ, zero, suc, List, [], ◌∷◌, ◌++◌, Bool, true, false, not}
-use Rattle.std.proofs.Common.{◌&&◌, ◌||◌, ◌⊎◌, cond, nat_eq, Some, None, refl, sym, ap, ◌∙◌, subst, arith, inl, inr}
+use Rattle.sre_recipes.proofs.Terms.{◌≡◌, ◌≢◌, ◌<◌, ◌≤◌, ◌+◌, ◌-◌, ℕ, zero, suc, List, [], ◌∷◌, ◌++◌, Bool, true, false}
+use Rattle.sre_recipes.proofs.Terms.{not, ◌⊎◌, cond, Some, None, refl, sym, ap, ◌∙◌, subst, arith, inl, inr, eq-eqb}
+use Rattle.sre_recipes.proofs.Terms.{eqb-true, Tree, Asked, Match, subject_of, found, asked_after, walk, Either, either}
+use Rattle.sre_recipes.proofs.Terms.{found-least, found-is, walk-end, walk-next, Ghosts, start_of, match_shown}
+use Rattle.sre_recipes.proofs.Terms.{request_of, shown_of, left_of, Gives, SearchIter, token_matches, reached}
+use Rattle.sre_recipes.proofs.Terms.{adjoining, unless_empty}
+use Rattle.std.proofs.Common.{◌&&◌, ◌||◌, nat_eq}
 use Rattle.std.proofs.lemmas.Bool.Decides.{eqb_tells, nat_tests}
-use Rattle.std.proofs.lemmas.Bool.{and_parts, eq-eqb, ne_eqb, eqb-true}
-use Rattle.sre_engine.specs.Tree.{Tree}
+use Rattle.std.proofs.lemmas.Bool.{and_parts, ne_eqb}
 use Rattle.sre_engine.specs.Ways.{Way, ways}
 use Rattle.sre_engine.specs.Marks.{no_marks}
-use Rattle.sre_engine.specs.Found.{Asked, Match, subject_of, first_accepted, at_start, found}
-use Rattle.sre_engine.specs.Found.{asked_after, walk}
-use Rattle.sre_model.proofs.FoundLaws.{Either, either, found-least, found-is, found-none}
+use Rattle.sre_engine.specs.Found.{first_accepted, at_start}
+use Rattle.sre_model.proofs.FoundLaws.{found-none}
 use Rattle.sre_model.proofs.FoundLaws.{least-found, none-found}
-use Rattle.sre_model.proofs.WalkLaws.{walk-end, walk-next}
-use Rattle.sre_chars.specs.declared.string.StrDrive.{Ghosts}
-use Rattle.sre_engine.specs.Requests.{start_of}
-use Rattle.sre_engine.specs.Answers.{match_shown}
-use Rattle.sre_engine.specs.Iterators.{request_of, shown_of, left_of, Gives, IsOver}
-use Rattle.sre_engine.specs.declared.engine.search_iter.SearchIter.{SearchIter}
-use Rattle.sre_recipes.specs.Lexed.{token_at, tokens_from, token_matches, reached}
-use Rattle.sre_recipes.specs.Adjoining.{adjoining, unless_empty, NoneAdjoins}
+use Rattle.sre_engine.specs.Iterators.{IsOver}
+use Rattle.sre_recipes.specs.Lexed.{token_at, tokens_from}
+use Rattle.sre_recipes.specs.Adjoining.{NoneAdjoins}
 
 -- a token more
 adjoining_more : (m : Match) (ms : List Match) (p : ℕ) → m.start ≡ p → p < m.end

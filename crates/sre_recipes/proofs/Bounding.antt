@@ -1,21 +1,11 @@
 -- What bounds leave of an iteration.
-use Rattle.std.proofs.Common.{◌≡◌, ◌<◌, ◌+◌, ◌-◌, ℕ, zero, suc, List, [], ◌∷◌, Bool, false, take, Option}
-use Rattle.std.proofs.Common.{Some, None, refl, sym, ap, ◌∙◌, subst, arith, cond, inl, inr}
-use Rattle.sre_chars.specs.declared.string.StrDrive.{Ghosts}
-use Rattle.sre_engine.specs.Tree.{Tree}
-use Rattle.sre_engine.specs.Found.{Asked, Match, found, asked_after, walk}
-use Rattle.sre_model.specs.WalkBounds.{most_matches}
-use Rattle.sre_model.proofs.FoundLaws.{Either, either}
-use Rattle.sre_model.proofs.WalkLaws.{walk-end, walk-next, most_matches-falls}
-use Rattle.sre_engine.specs.Codes.{words_of, hints_of}
-use Rattle.sre_code.proofs.Checked.{code_tree}
-use Rattle.sre_engine.specs.Requests.{code_of, asked_of}
-use Rattle.sre_engine.specs.Answers.{match_shown}
-use Rattle.sre_engine.specs.Iterators.{request_of, shown_of, left_of, most_items, Gives}
-use Rattle.sre_engine.specs.declared.engine.search_iter.SearchIter.{SearchIter}
-use Rattle.sre_recipes.specs.declared.bounds.Bounds.{Bounds}
-use Rattle.sre_recipes.specs.Bounded.{first_of, AreLeft}
-use Rattle.sre_recipes.specs.Limits.{is_spent, one_less, Goes, Takes, SpendsOn}
+use Rattle.sre_recipes.proofs.Terms.{◌≡◌, ◌<◌, ◌+◌, ◌-◌, ℕ, zero, suc, List, [], ◌∷◌, Bool, false, take, Option, Some}
+use Rattle.sre_recipes.proofs.Terms.{None, refl, sym, ap, ◌∙◌, subst, arith, cond, inl, inr, Ghosts, Tree, Asked, Match}
+use Rattle.sre_recipes.proofs.Terms.{found, asked_after, walk, most_matches, Either, either, walk-end, walk-next}
+use Rattle.sre_recipes.proofs.Terms.{most_matches-falls, words_of, hints_of, code_tree, code_of, asked_of, match_shown}
+use Rattle.sre_recipes.proofs.Terms.{request_of, shown_of, left_of, most_items, Gives, SearchIter, Bounds, first_of}
+use Rattle.sre_recipes.proofs.Terms.{AreLeft, is_spent, one_less, Takes}
+use Rattle.sre_recipes.specs.Limits.{Goes, SpendsOn}
 
 -- where no step is taken, all are left
 pub left_all : (steps : Option ℕ) → AreLeft steps steps

@@ -1,15 +1,14 @@
 -- Where a text is cut: the bytes between the offsets of two positions are the characters between these.
-use Rattle.std.proofs.Common.{◌≡◌, ℕ, ◌+◌, ◌-◌, ◌<◌, ◌≤◌, List, [], ◌++◌, length, take, drop, ap, sym, ◌∙◌, arith}
-use Rattle.std.proofs.Common.{◌≢◌, inl, inr, length-append}
+use Rattle.sre_recipes.proofs.Terms.{◌≡◌, ℕ, ◌+◌, ◌-◌, ◌<◌, ◌≤◌, List, [], ◌++◌, length, take, ap, sym, ◌∙◌, arith, ◌≢◌}
+use Rattle.sre_recipes.proofs.Terms.{inl, inr, slice_range, chars, IsUtf8, offset_of}
+use Rattle.std.proofs.Common.{drop}
+use Rattle.std.proofs.Common.{length-append}
 use Rattle.std.proofs.Math.Seq.{take-add, take-append_seam, take-length, drop-length}
 use Rattle.std.proofs.lemmas.List.{take-append-drop}
 use Rattle.std.proofs.lemmas.Str.{encodes-append, encodes-chars}
-use Rattle.std.specs.List.{slice_range}
-use Rattle.std.specs.Str.{chars, IsUtf8}
 use Rattle.std.proofs.lemmas.Bool.{cases_lt}
 use lib.Utf8.{encodes}
 use Rattle.sre_chars.proofs.TextPlaces.{drop_offset, some_after}
-use Rattle.sre_chars.specs.Texts.{offset_of}
 
 -- the bytes up to a place are those up to an earlier one, and those of the characters between
 offset_between : (bs : List ℕ) (p n : ℕ)

@@ -1,12 +1,9 @@
 -- Where the cursors of an iteration over texts are: the next match lies after the last one, in the text.
-use Rattle.std.proofs.Common.{◌≡◌, ◌≤◌, ℕ, length, sym, subst, arith}
+use Rattle.sre_recipes.proofs.Terms.{◌≡◌, ◌≤◌, ℕ, length, sym, subst, arith, Ghosts, StringCursor, string_of, start_of}
+use Rattle.sre_recipes.proofs.Terms.{end_of, Span, SpanIter, GivesSpan}
 use Rattle.std.proofs.Math.Logic.{∥∥₁_elim}
-use Rattle.sre_chars.specs.declared.string.StrDrive.{Ghosts}
-use Rattle.sre_chars.specs.declared.string.StringCursor.{StringCursor}
-use Rattle.sre_engine.specs.Requests.{string_of, start_of, end_of, stands_in}
-use Rattle.sre_finder.specs.declared.span_iter.Span.{Span}
-use Rattle.sre_finder.specs.declared.span_iter.SpanIter.{SpanIter}
-use Rattle.sre_finder.specs.SpanIters.{request_of, GivesSpan}
+use Rattle.sre_engine.specs.Requests.{stands_in}
+use Rattle.sre_finder.specs.SpanIters.{request_of}
 
 -- a cursor stands in a text where a window starts, and a span lies behind it
 pub record Reaches {S : Type 0} (text : Ghosts S) (string : S) (cursor : StringCursor) (span : Span) : Type 0 where

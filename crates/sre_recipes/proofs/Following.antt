@@ -1,27 +1,20 @@
 -- What an iteration within bounds takes of them, match by match.
-use Rattle.std.proofs.Common.{◌≡◌, ℕ, suc, ◌+◌, ◌-◌, List, [], ◌∷◌, length, Bool, true, false, Option, Some, None}
-use Rattle.std.proofs.Common.{◌*◌, ◌≤◌, ◌<◌, ◌⊎◌, inl, inr, zero, IfSome, Ok, refl, sym, ap, ◌∙◌, subst, arith}
-use Rattle.std.proofs.Common.{add-mul, one-mul}
-use Rattle.std.proofs.Math.Nat.{mul-le-mul_right}
-use Rattle.sre_chars.specs.declared.string.StrDrive.{Ghosts}
-use Rattle.sre_code.specs.declared.code.Code.{Code}
-use Rattle.sre_engine.specs.Tree.{Tree}
-use Rattle.sre_engine.specs.Grammar.{Whole}
-use Rattle.sre_engine.specs.Found.{Asked, Match, asked_after, walk}
-use Rattle.sre_engine.specs.Codes.{words_of, hints_of}
+use Rattle.sre_recipes.proofs.Terms.{◌≡◌, ℕ, suc, ◌+◌, ◌-◌, List, [], ◌∷◌, length, Bool, true, false, Option, Some}
+use Rattle.sre_recipes.proofs.Terms.{None, ◌*◌, ◌≤◌, ◌<◌, ◌⊎◌, inl, inr, zero, Ok, refl, sym, ap, ◌∙◌, subst, arith}
+use Rattle.sre_recipes.proofs.Terms.{add-mul, mul-le-mul_right, Ghosts, Code, Tree, Whole, Asked, Match, asked_after}
+use Rattle.sre_recipes.proofs.Terms.{walk, words_of, hints_of, code_tree, code_of, asked_of, match_shown, runs_of}
+use Rattle.sre_recipes.proofs.Terms.{request_of, shown_of, has_ended, Gives, SearchIter, Bounds, first_of, Spends}
+use Rattle.sre_recipes.proofs.Terms.{Followed, is_spent, one_less, Takes, FollowedRest}
+use Rattle.std.proofs.Common.{IfSome}
+use Rattle.std.proofs.Common.{one-mul}
 use Rattle.sre_engine.specs.WalkBounds.{most_matches}
 use Rattle.sre_growth.specs.Refusal.{Refused}
-use Rattle.sre_code.proofs.Checked.{code_tree}
-use Rattle.sre_engine.specs.Requests.{code_of, asked_of}
-use Rattle.sre_engine.specs.Answers.{match_shown, MayTakeMemory}
-use Rattle.sre_engine.specs.Counts.{CountsUpTo, KeepsToSteps, runs_of}
-use Rattle.sre_engine.specs.Iterators.{request_of, shown_of, has_ended, Gives, Counted}
+use Rattle.sre_engine.specs.Answers.{MayTakeMemory}
+use Rattle.sre_engine.specs.Counts.{CountsUpTo, KeepsToSteps}
+use Rattle.sre_engine.specs.Iterators.{Counted}
 use Rattle.sre_engine.specs.declared.engine.state.SreError.{SreError}
-use Rattle.sre_engine.specs.declared.engine.search_iter.SearchIter.{SearchIter}
-use Rattle.sre_recipes.specs.declared.bounds.Bounds.{Bounds}
-use Rattle.sre_recipes.specs.Bounded.{first_of}
-use Rattle.sre_recipes.specs.Followed.{less_by, SearchSpends, Spends, most_searches, IsAmple, Followed}
-use Rattle.sre_recipes.specs.Limits.{is_spent, one_less, Takes, Stops, FollowedRest}
+use Rattle.sre_recipes.specs.Followed.{less_by, SearchSpends, most_searches, IsAmple}
+use Rattle.sre_recipes.specs.Limits.{Stops}
 use Rattle.sre_recipes.proofs.Begun.{all_left}
 use Rattle.sre_recipes.proofs.Bounding.{one_taken, falls_by}
 

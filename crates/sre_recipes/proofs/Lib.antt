@@ -9,3 +9,4 @@ pub mod Begun
 pub mod Following
 pub mod Telling
 pub mod Passing
+pub mod Terms

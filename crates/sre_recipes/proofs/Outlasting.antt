@@ -1,22 +1,17 @@
 -- A step budget that outlasts an iteration is not exceeded.
-use Rattle.std.proofs.Common.{◌≡◌, ◌≤◌, ◌<◌, ℕ, ◌+◌, ◌-◌, ◌*◌, ◌/◌, true, Option, Some, None, List, [], ◌∷◌, ◌++◌}
-use Rattle.std.proofs.Common.{refl, sym, subst, arith, add-mul}
-use Rattle.std.proofs.Math.Nat.{mul-le-mul, mul-le-mul_right, div-mul-le_self}
+use Rattle.sre_recipes.proofs.Terms.{◌≡◌, ◌≤◌, ◌<◌, ℕ, ◌+◌, ◌-◌, ◌*◌, true, Option, Some, None, List, [], ◌∷◌, ◌++◌}
+use Rattle.sre_recipes.proofs.Terms.{refl, sym, subst, arith, add-mul, mul-le-mul_right, Tree, Asked, Match, subject_of}
+use Rattle.sre_recipes.proofs.Terms.{found, asked_after, walk, most_matches, found-least, found-is, most_matches-falls}
+use Rattle.sre_recipes.proofs.Terms.{Code, runs_of, first_of, Outlast, Spends, AllSpend, one_less}
+use Rattle.std.proofs.Common.{◌/◌}
+use Rattle.std.proofs.Math.Nat.{mul-le-mul, div-mul-le_self}
 use Rattle.std.proofs.lemmas.Nat.{le-div}
-use Rattle.sre_engine.specs.Tree.{Tree}
-use Rattle.sre_engine.specs.Found.{Asked, Match, subject_of, found, asked_after, walk}
 use Rattle.sre_model.specs.Prefixes.{behind_items}
 use Rattle.sre_model.specs.TurnBounds.{turns_of, most_each, RunsWithin}
-use Rattle.sre_model.specs.WalkBounds.{most_matches}
-use Rattle.sre_model.proofs.FoundLaws.{found-least, found-is}
-use Rattle.sre_model.proofs.WalkLaws.{most_matches-falls}
-use Rattle.sre_code.specs.declared.code.Code.{Code}
-use Rattle.sre_engine.specs.Counts.{SpentUpTo, runs_of}
+use Rattle.sre_engine.specs.Counts.{SpentUpTo}
 use Rattle.sre_engine.proofs.CountLaws.{once}
 use Rattle.sre_engine.proofs.Spending.{never_used_up}
-use Rattle.sre_recipes.specs.Bounded.{first_of, most_runs, Outlast, OutlastWalk}
-use Rattle.sre_recipes.specs.Followed.{Spends, AllSpend}
-use Rattle.sre_recipes.specs.Limits.{one_less}
+use Rattle.sre_recipes.specs.Bounded.{most_runs, OutlastWalk}
 use Rattle.sre_recipes.proofs.Bounding.{first_step}
 
 -- of a window that begins later a step costs no more

@@ -1,27 +1,18 @@
 -- What stays in an iteration over spans, and what a step over a match leaves to come.
-use Rattle.std.proofs.Common.{◌≡◌, ◌≤◌, ℕ, Bool, false, true, List, [], ◌∷◌, Some, length, cond, refl, ap, ap₂}
-use Rattle.std.proofs.Common.{sym, ◌∙◌, subst, arith, Result, Ok, Err, IfOk}
-use Rattle.sre_chars.specs.declared.string.StrDrive.{Ghosts}
-use Rattle.sre_chars.specs.declared.string.StringCursor.{StringCursor}
+use Rattle.sre_recipes.proofs.Terms.{◌≡◌, ◌≤◌, ℕ, Bool, false, true, List, [], ◌∷◌, Some, length, cond, refl, ap, sym}
+use Rattle.sre_recipes.proofs.Terms.{◌∙◌, subst, arith, Ok, IfOk, Ghosts, StringCursor, Code, Tree, Whole, Asked, Match}
+use Rattle.sre_recipes.proofs.Terms.{found, walk, words_of, hints_of, code_tree, found-is, string_of, start_of, end_of}
+use Rattle.sre_recipes.proofs.Terms.{code_of, asked_of, Shown, match_shown, Span, SpanIter, last_asked, GivesSpan}
+use Rattle.sre_recipes.proofs.Terms.{rest_of, IsSpan, StandsAt}
+use Rattle.std.proofs.Common.{ap₂}
+use Rattle.std.proofs.Common.{Result, Err}
 use Rattle.sre_chars.specs.declared.constants.EmptyRule.{EmptyRule}
 use Rattle.sre_chars.specs.declared.constants.EmptyRule.TheVariants.{Never}
 use Rattle.sre_chars.specs.Tables.{Table}
-use Rattle.sre_code.specs.declared.code.Code.{Code}
-use Rattle.sre_engine.specs.Tree.{Tree}
-use Rattle.sre_engine.specs.Grammar.{Whole}
-use Rattle.sre_engine.specs.Found.{Asked, Match, found, walk}
-use Rattle.sre_engine.specs.Codes.{words_of, hints_of}
-use Rattle.sre_code.proofs.Checked.{code_tree}
-use Rattle.sre_model.proofs.FoundLaws.{found-is}
-use Rattle.sre_engine.specs.Requests.{string_of, start_of, end_of, code_of, asked_of}
-use Rattle.sre_engine.specs.Answers.{Shown, match_shown, answer_of}
-use Rattle.sre_finder.specs.declared.span_iter.Span.{Span}
-use Rattle.sre_finder.specs.declared.span_iter.SpanIter.{SpanIter}
-use Rattle.sre_finder.specs.SpanIters.{request_of, shown_of, has_ended, left_of, last_asked, GivesSpan}
+use Rattle.sre_engine.specs.Answers.{answer_of}
+use Rattle.sre_finder.specs.SpanIters.{request_of, shown_of, has_ended, left_of}
 use Rattle.sre_finder.specs.Spans.{match_with}
 use Rattle.sre_recipes.specs.Nexts.{FindsNext}
-use Rattle.sre_recipes.specs.Patterns.{rest_of}
-use Rattle.sre_recipes.specs.Spans.{IsSpan, StandsAt}
 use Rattle.sre_recipes.proofs.Steps.{is_found, is_shown}
 
 -- what stays in an iteration over a text

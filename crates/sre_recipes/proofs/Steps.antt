@@ -1,16 +1,9 @@
 -- What a step over a match leaves to come, and where it is.
-use Rattle.std.proofs.Common.{◌≡◌, ◌≤◌, ℕ, List, ◌∷◌, length, Bool, refl, ap, sym, ◌∙◌, subst, arith}
-use Rattle.sre_chars.specs.declared.string.StrDrive.{Ghosts}
-use Rattle.sre_chars.specs.declared.string.StringCursor.{StringCursor}
-use Rattle.sre_engine.specs.Tree.{Tree}
-use Rattle.sre_engine.specs.Grammar.{Whole}
-use Rattle.sre_engine.specs.Codes.{words_of}
-use Rattle.sre_engine.specs.Found.{Asked}
-use Rattle.sre_engine.specs.Requests.{string_of, start_of, end_of, code_of}
-use Rattle.sre_engine.specs.Answers.{Shown, match_shown}
-use Rattle.sre_engine.specs.Iterators.{request_of, shown_of, left_of, Gives}
-use Rattle.sre_engine.specs.declared.engine.search_iter.SearchIter.{SearchIter}
-use Rattle.sre_recipes.specs.Spans.{IsSpan, StandsAt, IsFound, Shows}
+use Rattle.sre_recipes.proofs.Terms.{◌≡◌, ◌≤◌, ℕ, List, ◌∷◌, length, Bool, refl, ap, sym, ◌∙◌, subst, arith, Ghosts}
+use Rattle.sre_recipes.proofs.Terms.{StringCursor, Tree, Whole, words_of, Asked, string_of, start_of, end_of, code_of}
+use Rattle.sre_recipes.proofs.Terms.{Shown, match_shown, request_of, shown_of, left_of, Gives, SearchIter, IsSpan}
+use Rattle.sre_recipes.proofs.Terms.{StandsAt}
+use Rattle.sre_recipes.specs.Spans.{IsFound, Shows}
 
 -- what is asked behind a match starts at its end, in the same window
 pub next_start : {S A : Type 0} {text : Ghosts S} {it next : SearchIter S A text} → Gives it next

@@ -1,16 +1,8 @@
 -- What a call within bounds tells of what its iteration took of them.
-use Rattle.std.proofs.Common.{◌≡◌, ◌+◌, ℕ, List, [], ◌∷◌, ◌++◌, Bool, true, false, not, Option, Some, None, inl, inr}
-use Rattle.std.proofs.Common.{refl, sym, ap, ◌∙◌, subst}
-use Rattle.std.proofs.lemmas.List.{append-nil}
-use Rattle.sre_code.specs.declared.code.Code.{Code}
-use Rattle.sre_code.proofs.Checked.{code_tree}
-use Rattle.sre_engine.specs.Codes.{words_of, hints_of}
-use Rattle.sre_engine.specs.Found.{Asked, Match, asked_after, walk}
-use Rattle.sre_engine.specs.Grammar.{Whole}
-use Rattle.sre_engine.specs.Tree.{Tree}
-use Rattle.sre_recipes.specs.declared.bounds.Bounds.{Bounds}
-use Rattle.sre_recipes.specs.Bounded.{first_of, AreLeft, Outlast}
-use Rattle.sre_recipes.specs.Followed.{Spends, AllSpend, Followed}
+use Rattle.sre_recipes.proofs.Terms.{◌≡◌, ◌+◌, ℕ, List, [], ◌∷◌, ◌++◌, Bool, true, false, not, Option, Some, None, inl}
+use Rattle.sre_recipes.proofs.Terms.{inr, refl, sym, ap, ◌∙◌, subst, append-nil, Code, code_tree, words_of, hints_of}
+use Rattle.sre_recipes.proofs.Terms.{Asked, Match, asked_after, walk, Whole, Tree, Bounds, first_of, AreLeft, Outlast}
+use Rattle.sre_recipes.proofs.Terms.{Spends, AllSpend, Followed}
 use Rattle.sre_recipes.proofs.Bounding.{left_all, left_on}
 use Rattle.sre_recipes.proofs.Outlasting.{never_exceeded}
 

@@ -1,11 +1,9 @@
 -- What a step over a match adds to pieces, to tokens and to a text.
-use Rattle.std.proofs.Common.{◌≡◌, ◌+◌, ℕ, List, [], ◌∷◌, ◌++◌, map, refl, ap, sym, ◌∙◌, append_assoc}
-use Rattle.std.proofs.lemmas.List.{append-nil, map-append}
+use Rattle.sre_recipes.proofs.Terms.{◌≡◌, ◌+◌, ℕ, List, [], ◌∷◌, ◌++◌, map, refl, ap, sym, ◌∙◌, append-nil, map-append}
+use Rattle.sre_recipes.proofs.Terms.{range_with_len, Match, reached, lexeme_of, adjoining, unless_empty}
+use Rattle.std.proofs.Common.{append_assoc}
 use Rattle.std.proofs.lemmas.List.FromFn.{map-range_with_len_more}
-use Rattle.std.specs.List.{range_with_len}
-use Rattle.sre_engine.specs.Found.{Match}
-use Rattle.sre_recipes.specs.Lexed.{Lexeme, reached, lexeme_of}
-use Rattle.sre_recipes.specs.Adjoining.{adjoining, unless_empty}
+use Rattle.sre_recipes.specs.Lexed.{Lexeme}
 use Rattle.sre_recipes.proofs.Adjoining.{adjoining_step, reached_step}
 
 -- two parts more, before what follows

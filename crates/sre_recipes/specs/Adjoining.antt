@@ -1,13 +1,6 @@
 -- The matches of an iteration that adjoin each other: definitions for private functions' contracts.
-use Rattle.std.specs.Prelude.{◌≡◌, ℕ, List, [], ◌∷◌, cond, nat_eq}
-use Rattle.sre_chars.specs.declared.string.StrDrive.{Ghosts}
-use Rattle.sre_engine.specs.Tree.{Tree}
-use Rattle.sre_engine.specs.Grammar.{Whole}
-use Rattle.sre_engine.specs.Found.{Match}
-use Rattle.sre_engine.specs.Codes.{words_of}
-use Rattle.sre_engine.specs.Requests.{start_of, code_of}
-use Rattle.sre_engine.specs.Iterators.{request_of, shown_of, left_of, Gives}
-use Rattle.sre_engine.specs.declared.engine.search_iter.SearchIter.{SearchIter}
+use Rattle.sre_recipes.specs.Terms.{◌≡◌, ℕ, List, [], ◌∷◌, cond, nat_eq, Ghosts, Tree, Whole, Match, words_of, start_of}
+use Rattle.sre_recipes.specs.Terms.{code_of, request_of, shown_of, left_of, Gives, SearchIter}
 
 -- of matches in order those up to the first gap from p on, without the empty ones
 abbrev pub adjoining : ℕ → List Match → List Match

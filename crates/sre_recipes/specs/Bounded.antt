@@ -1,11 +1,8 @@
 -- The first matches, where no more than so many are wanted, the steps left, and budgets that outlast an iteration.
 -- Of the specification: what sre_recipes makes public rests on it.
-use Rattle.std.specs.Prelude.{⊤, ℕ, ◌≡◌, ◌≤◌, ◌<◌, ◌+◌, ◌-◌, ◌*◌, List, take, Option, Some, None}
-use Rattle.sre_code.specs.declared.code.Code.{Code}
-use Rattle.sre_engine.specs.Codes.{words_of}
-use Rattle.sre_engine.specs.Found.{Asked, Match}
-use Rattle.sre_engine.specs.Grammar.{Whole}
-use Rattle.sre_engine.specs.Tree.{Tree}
+use Rattle.sre_recipes.specs.Terms.{⊤, ℕ, ◌≡◌, ◌≤◌, ◌<◌, ◌+◌, ◌-◌, ◌*◌, List, Option, Some, None, Code, words_of, Asked}
+use Rattle.sre_recipes.specs.Terms.{Match, Whole, Tree}
+use Rattle.std.specs.Prelude.{take}
 use Rattle.sre_model.specs.TurnBounds.{RunsWithin}
 use Rattle.sre_model.specs.WalkBounds.{most_matches}
 

@@ -1,19 +1,15 @@
 -- What an iteration within bounds takes of them.
 -- Of the meaning: what sre_recipes makes public rests on it.
-use Rattle.std.specs.Prelude.{◌≡◌, ◌≤◌, ℕ, ◌+◌, ◌-◌, ◌⊎◌, Bool, true, false, List, [], ◌∷◌, ◌++◌, length}
-use Rattle.std.specs.Prelude.{Option, Some, None, IfSome, IsSome, Ok, min, ◌*◌}
-use Rattle.sre_growth.specs.Refusal.{Refused}
-use Rattle.sre_code.specs.declared.code.Code.{Code}
+use Rattle.sre_recipes.specs.Terms.{◌≡◌, ◌≤◌, ℕ, ◌+◌, ◌-◌, Bool, true, false, List, [], ◌∷◌, ◌++◌, length, Option, Some}
+use Rattle.sre_recipes.specs.Terms.{None, IfSome, IsSome, Ok, min, ◌*◌, Refused, Code, Tree, Whole, Asked, Match, walk}
+use Rattle.sre_recipes.specs.Terms.{words_of, Shown, MayTakeMemory, SreError}
+use Rattle.std.specs.Prelude.{◌⊎◌}
 use Rattle.sre_model.specs.Anchors.{is_anchored}
-use Rattle.sre_engine.specs.Tree.{Tree}
-use Rattle.sre_engine.specs.Grammar.{Whole}
-use Rattle.sre_engine.specs.Found.{Asked, Match, asked_after, walk}
-use Rattle.sre_engine.specs.Codes.{words_of, items_of}
+use Rattle.sre_engine.specs.Found.{asked_after}
+use Rattle.sre_engine.specs.Codes.{items_of}
 use Rattle.sre_engine.specs.StepBounds.{IsWindow, IsStepBound}
 use Rattle.sre_engine.specs.WalkBounds.{most_matches}
-use Rattle.sre_engine.specs.Answers.{Shown, MayTakeMemory}
 use Rattle.sre_engine.specs.Counts.{CountsUpTo, KeepsToSteps, runs_of}
-use Rattle.sre_engine.specs.declared.engine.state.SreError.{SreError}
 use Rattle.sre_recipes.specs.declared.bounds.Bounds.{Bounds}
 use Rattle.sre_recipes.specs.Bounded.{first_of}
 

@@ -1,14 +1,9 @@
 -- What an iteration over the texts of matches gives.
 -- Definitions for the contracts of this crate.
-use Rattle.std.specs.Prelude.{◌≡◌, false, Option, Some, None, Result, Ok, Err, slice_range}
-use Rattle.sre_chars.specs.declared.string.StrDrive.{Ghosts}
-use Rattle.sre_growth.specs.Refusal.{Refused}
-use Rattle.sre_engine.specs.Requests.{string_of, code_of}
-use Rattle.sre_engine.specs.Answers.{MayTakeMemory}
-use Rattle.sre_engine.specs.declared.engine.state.SreError.{SreError}
+use Rattle.sre_recipes.specs.Terms.{◌≡◌, false, Option, Some, None, Result, Ok, Err, slice_range, Ghosts, Refused}
+use Rattle.sre_recipes.specs.Terms.{string_of, code_of, MayTakeMemory, SreError, SpanIter, has_ended, GivesSpan}
 use Rattle.sre_finder.specs.declared.span_iter.Span.{Span}
-use Rattle.sre_finder.specs.declared.span_iter.SpanIter.{SpanIter}
-use Rattle.sre_finder.specs.SpanIters.{request_of, has_ended, GivesSpan, Ends, IsOver}
+use Rattle.sre_finder.specs.SpanIters.{request_of, Ends, IsOver}
 use Rattle.sre_recipes.specs.declared.found.FoundTexts.{FoundTexts}
 
 -- the walk over the matches' spans

@@ -14,3 +14,4 @@ pub mod Limits
 pub mod Nexts
 pub mod Adjoining
 pub mod Rows
+pub mod Terms

@@ -1,13 +1,8 @@
 -- How far an iteration is followed within bounds: definitions for private functions' contracts.
-use Rattle.std.specs.Prelude.{◌≡◌, ℕ, ◌+◌, ◌-◌, nat_eq, Bool, true, false, [], Option, Some, None}
-use Rattle.sre_chars.specs.declared.string.StrDrive.{Ghosts}
-use Rattle.sre_engine.specs.Tree.{Tree}
-use Rattle.sre_engine.specs.Grammar.{Whole}
-use Rattle.sre_engine.specs.Codes.{words_of}
-use Rattle.sre_engine.specs.Requests.{code_of, asked_of}
-use Rattle.sre_engine.specs.Answers.{match_shown}
-use Rattle.sre_engine.specs.Iterators.{request_of, shown_of, has_ended, left_of, IsOver}
-use Rattle.sre_engine.specs.declared.engine.search_iter.SearchIter.{SearchIter}
+use Rattle.sre_recipes.specs.Terms.{◌≡◌, ℕ, ◌+◌, ◌-◌, nat_eq, Bool, true, false, [], Option, Some, None, Ghosts, Tree}
+use Rattle.sre_recipes.specs.Terms.{Whole, words_of, code_of, asked_of, match_shown, request_of, shown_of, left_of}
+use Rattle.sre_recipes.specs.Terms.{IsOver, SearchIter}
+use Rattle.sre_engine.specs.Iterators.{has_ended}
 use Rattle.sre_recipes.specs.declared.bounds.Bounds.{Bounds}
 use Rattle.sre_recipes.specs.Bounded.{first_of}
 use Rattle.sre_recipes.specs.Followed.{Spends, AllSpend, Followed}

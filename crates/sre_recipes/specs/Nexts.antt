@@ -1,14 +1,7 @@
 -- The next match of an iteration with a prefilter: a definition for private functions' contracts.
-use Rattle.std.specs.Prelude.{◌≡◌, ◌≤◌, Bool, false, ◌∷◌}
-use Rattle.sre_chars.specs.declared.string.StrDrive.{Ghosts}
-use Rattle.sre_chars.specs.declared.string.StringCursor.{StringCursor}
-use Rattle.sre_engine.specs.Tree.{Tree}
-use Rattle.sre_engine.specs.Grammar.{Whole}
-use Rattle.sre_engine.specs.Found.{Match}
-use Rattle.sre_engine.specs.Codes.{words_of}
-use Rattle.sre_engine.specs.Requests.{string_of, start_of, end_of, code_of}
-use Rattle.sre_finder.specs.declared.span_iter.SpanIter.{SpanIter}
-use Rattle.sre_finder.specs.SpanIters.{request_of, shown_of, has_ended, left_of}
+use Rattle.sre_recipes.specs.Terms.{◌≡◌, ◌≤◌, Bool, false, ◌∷◌, Ghosts, StringCursor, Tree, Whole, Match, words_of}
+use Rattle.sre_recipes.specs.Terms.{string_of, start_of, end_of, code_of, SpanIter, has_ended}
+use Rattle.sre_finder.specs.SpanIters.{request_of, shown_of, left_of}
 use Rattle.sre_recipes.specs.Spans.{IsFound, Shows}
 
 -- the first of the matches that were left is found between two cursors, and the walk goes on at its end

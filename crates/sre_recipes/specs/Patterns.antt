@@ -1,10 +1,7 @@
 -- What a pattern that owns its code shows, and what its searches ask.
 -- Of the specification: what sre_recipes makes public rests on it.
-use Rattle.std.specs.Prelude.{◌≤◌, ◌<◌, ℕ, List, length, min, false}
-use Rattle.sre_chars.specs.Tables.{Table}
+use Rattle.sre_recipes.specs.Terms.{◌≤◌, ◌<◌, ℕ, List, length, min, false, Table, Asked, Shown}
 use Rattle.sre_chars.specs.declared.constants.EmptyRule.TheVariants.{Never}
-use Rattle.sre_engine.specs.Found.{Asked}
-use Rattle.sre_engine.specs.Answers.{Shown}
 
 -- its words, its table, and what its state shows
 pub record PatternValue : Type 0 where

@@ -1,14 +1,9 @@
 //! Replacement of all matches by the results of a closure.
 
-ghost use Rattle.std.specs.Prelude.{◌≡◌, ◌++◌, true, None, Some, Err};
-ghost use Rattle.std.specs.Prelude.{is_none, IfOk, IfSome, IsSome, OnErr};
+ghost use Rattle.sre_recipes.specs.Terms.{◌≡◌, ◌++◌, true, None, Some, Err, is_none, IfOk, IfSome, IsSome, OnErr, Tree};
+ghost use Rattle.sre_recipes.specs.Terms.{Whole, walk, words_of, string_of, start_of, end_of, code_of, asked_of};
+ghost use Rattle.sre_recipes.specs.Terms.{Refused};
 ghost use Rattle.std.specs.Global.{Global};
-ghost use Rattle.sre_engine.specs.Tree.{Tree};
-ghost use Rattle.sre_engine.specs.Grammar.{Whole};
-ghost use Rattle.sre_engine.specs.Found.{walk};
-ghost use Rattle.sre_engine.specs.Codes.{words_of};
-ghost use Rattle.sre_engine.specs.Requests.{string_of, start_of, end_of, code_of, asked_of};
-ghost use Rattle.sre_growth.specs.Refusal.{Refused};
 ghost use Rattle.sre_recipes.specs.Computed.{Computes, ReplacedInOrder};
 ghost use Rattle.sre_recipes.specs.Spans.{StandsBy};
 ghost use Rattle.sre_recipes.specs.Bounded.{first_of, AreLeft, Outlast};

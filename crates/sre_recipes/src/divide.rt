@@ -1,14 +1,8 @@
 //! Splitting: the pieces of text between matches.
 
-ghost use Rattle.std.specs.Prelude.{⊤, ◌≡◌, ◌++◌, true, false, None, Some, map};
-ghost use Rattle.std.specs.Prelude.{is_none, IfOk, IfSome, IsSome, OnErr};
-ghost use Rattle.std.specs.Option.{option_map};
-ghost use Rattle.sre_engine.specs.Tree.{Tree};
-ghost use Rattle.sre_engine.specs.Grammar.{Whole};
-ghost use Rattle.sre_engine.specs.Found.{walk};
-ghost use Rattle.sre_engine.specs.Codes.{words_of};
-ghost use Rattle.sre_engine.specs.Requests.{string_of, start_of, end_of, code_of, asked_of};
-ghost use Rattle.sre_growth.specs.Refusal.{Refused};
+ghost use Rattle.sre_recipes.specs.Terms.{⊤, ◌≡◌, ◌++◌, true, false, None, Some, map, is_none, IfOk, IfSome, IsSome};
+ghost use Rattle.sre_recipes.specs.Terms.{OnErr, option_map, Tree, Whole, walk, words_of, string_of, start_of, end_of};
+ghost use Rattle.sre_recipes.specs.Terms.{code_of, asked_of, Refused};
 ghost use Rattle.sre_recipes.specs.Spans.{StandsBy};
 ghost use Rattle.sre_recipes.specs.Pieces.{pieces_between, pieces_and_groups};
 ghost use Rattle.sre_recipes.specs.Bounded.{first_of, AreLeft, Outlast};

@@ -1,15 +1,10 @@
 //! The text of one match, and the texts of all matches.
 
-ghost use Rattle.std.specs.Prelude.{⊤, ◌≡◌, ◌≤◌, ◌++◌, true, false, None, Some, map, slice_range};
-ghost use Rattle.std.specs.Prelude.{is_none, is_some, IsSome, IfSome, IfOk, OnErr};
-ghost use Rattle.sre_engine.specs.Tree.{Tree};
-ghost use Rattle.sre_engine.specs.Grammar.{Whole};
-ghost use Rattle.sre_engine.specs.Marks.{no_marks};
-ghost use Rattle.sre_engine.specs.Found.{matched, found, walk};
-ghost use Rattle.sre_engine.specs.Codes.{words_of};
-ghost use Rattle.sre_engine.specs.Requests.{string_of, start_of, end_of, code_of, asked_of, stands_in};
-ghost use Rattle.sre_engine.specs.Answers.{answer_of, Spans};
-ghost use Rattle.sre_growth.specs.Refusal.{Refused};
+ghost use Rattle.sre_recipes.specs.Terms.{⊤, ◌≡◌, ◌≤◌, ◌++◌, true, false, None, Some, map, slice_range, is_none};
+ghost use Rattle.sre_recipes.specs.Terms.{is_some, IsSome, IfSome, IfOk, OnErr, Tree, Whole, no_marks, matched, found};
+ghost use Rattle.sre_recipes.specs.Terms.{walk, words_of, string_of, start_of, end_of, code_of, asked_of, stands_in};
+ghost use Rattle.sre_recipes.specs.Terms.{answer_of, Refused};
+ghost use Rattle.sre_engine.specs.Answers.{Spans};
 ghost use Rattle.sre_recipes.specs.Slices.{slice_of, to_the_end};
 ghost use Rattle.sre_recipes.specs.Bounded.{first_of, AreLeft, Outlast};
 ghost use Rattle.sre_recipes.specs.Followed.{Followed};

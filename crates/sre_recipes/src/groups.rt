@@ -1,17 +1,11 @@
 //! Matches with the texts of their groups.
 
-ghost use Rattle.std.specs.Prelude.{⊤, ◌≡◌, ◌≤◌, ◌+◌, ◌^◌, ◌++◌, true, None, length, map};
-ghost use Rattle.std.specs.Prelude.{slice_index_or, is_none, is_some, IfOk, IfSome, OnErr, IsSome};
-ghost use Rattle.std.specs.List.{range_with_len};
-ghost use Rattle.std.specs.Option.{option_map};
-ghost use Rattle.sre_engine.specs.Tree.{Tree};
-ghost use Rattle.sre_engine.specs.Grammar.{Whole};
-ghost use Rattle.sre_engine.specs.Marks.{no_marks};
-ghost use Rattle.sre_engine.specs.Found.{matched, found, walk};
-ghost use Rattle.sre_engine.specs.Codes.{words_of};
-ghost use Rattle.sre_engine.specs.Requests.{string_of, code_of, asked_of};
-ghost use Rattle.sre_engine.specs.Answers.{match_shown, answer_of};
-ghost use Rattle.sre_growth.specs.Refusal.{Refused};
+ghost use Rattle.sre_recipes.specs.Terms.{⊤, ◌≡◌, ◌≤◌, ◌+◌, ◌++◌, true, None, length, map, is_none, is_some, IfOk};
+ghost use Rattle.sre_recipes.specs.Terms.{IfSome, OnErr, IsSome, range_with_len, option_map, Tree, Whole, no_marks};
+ghost use Rattle.sre_recipes.specs.Terms.{matched, found, walk, words_of, string_of, code_of, asked_of, match_shown};
+ghost use Rattle.sre_recipes.specs.Terms.{answer_of, Refused};
+ghost use Rattle.std.specs.Prelude.{◌^◌};
+ghost use Rattle.std.specs.Prelude.{slice_index_or};
 ghost use Rattle.sre_recipes.specs.Slices.{numbered_group, captured};
 ghost use Rattle.sre_recipes.specs.Captured.{captures_shown};
 ghost use Rattle.sre_recipes.specs.Bounded.{first_of, AreLeft, Outlast};

@@ -1,20 +1,15 @@
 //! A compiled pattern that owns all that it needs, for many texts.
 
-ghost use Rattle.std.specs.Prelude.{◌≡◌, ◌≢◌, ◌≤◌, ◌<◌, ℕ, List, None, length, true, false, is_some, map};
-ghost use Rattle.std.specs.Prelude.{IfOk, IfErr, OnOk, OnErr, MatchOption};
-ghost use Rattle.std.specs.Option.{option_map};
-ghost use Rattle.sre_chars.specs.Tables.{Table};
-ghost use Rattle.sre_growth.specs.Refusal.{Refused};
-ghost use Rattle.sre_engine.specs.Tree.{Tree};
-ghost use Rattle.sre_engine.specs.Grammar.{Whole, IsCode};
-ghost use Rattle.sre_engine.specs.Marks.{no_marks};
-ghost use Rattle.sre_engine.specs.Found.{found, walk};
-ghost use Rattle.sre_engine.specs.Codes.{words_of, uni_of};
+ghost use Rattle.sre_recipes.specs.Terms.{◌≡◌, ◌≤◌, ◌<◌, ℕ, List, None, length, true, false, is_some, map, IfOk, OnErr};
+ghost use Rattle.sre_recipes.specs.Terms.{MatchOption, option_map, Table, Refused, Tree, Whole, no_marks, found, walk};
+ghost use Rattle.sre_recipes.specs.Terms.{words_of, code_of, asked_of, stands_in, answer_of, has_ended};
+ghost use Rattle.std.specs.Prelude.{◌≢◌};
+ghost use Rattle.std.specs.Prelude.{IfErr, OnOk};
+ghost use Rattle.sre_engine.specs.Grammar.{IsCode};
+ghost use Rattle.sre_engine.specs.Codes.{uni_of};
 ghost use Rattle.sre_engine.specs.Refusals.{place_of};
-ghost use Rattle.sre_engine.specs.Requests.{code_of, asked_of, stands_in};
-ghost use Rattle.sre_engine.specs.Answers.{answer_of};
 ghost use Rattle.sre_finder.specs.Kepts.{Suits};
-ghost use Rattle.sre_finder.specs.SpanIters.{request_of, has_ended};
+ghost use Rattle.sre_finder.specs.SpanIters.{request_of};
 ghost use Rattle.sre_recipes.specs.Pieces.{pieces_between};
 ghost use Rattle.sre_recipes.specs.Templates.{written, replaced};
 ghost use Rattle.sre_recipes.specs.Matches.{match_seen, placed_match, placed_groups, groups_seen};

@@ -1,16 +1,9 @@
 //! Replacement of all matches by a template.
 
-ghost use Rattle.std.specs.Prelude.{⊤, ◌≡◌, ◌++◌, true, None, Some};
-ghost use Rattle.std.specs.Prelude.{is_none, IfOk, IfSome, IsSome, OnErr};
-ghost use Rattle.std.specs.Str.{chars};
+ghost use Rattle.sre_recipes.specs.Terms.{⊤, ◌≡◌, ◌++◌, true, None, Some, is_none, IfOk, IfSome, IsSome, OnErr, chars};
+ghost use Rattle.sre_recipes.specs.Terms.{Tree, Whole, walk, words_of, string_of, start_of, end_of, code_of, asked_of};
+ghost use Rattle.sre_recipes.specs.Terms.{match_shown, Refused};
 ghost use Rattle.std.specs.String.{string_bytes};
-ghost use Rattle.sre_engine.specs.Tree.{Tree};
-ghost use Rattle.sre_engine.specs.Grammar.{Whole};
-ghost use Rattle.sre_engine.specs.Found.{walk};
-ghost use Rattle.sre_engine.specs.Codes.{words_of};
-ghost use Rattle.sre_engine.specs.Requests.{string_of, start_of, end_of, code_of, asked_of};
-ghost use Rattle.sre_engine.specs.Answers.{match_shown};
-ghost use Rattle.sre_growth.specs.Refusal.{Refused};
 ghost use Rattle.sre_recipes.specs.Spans.{IsSpan, StandsBy};
 ghost use Rattle.sre_recipes.specs.Templates.{piece_of, written, replaced};
 ghost use Rattle.sre_recipes.specs.Bounded.{first_of, AreLeft, Outlast};

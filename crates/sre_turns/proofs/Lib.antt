@@ -2,3 +2,4 @@ pub mod analyses
 pub mod semantics
 pub mod memoization
 pub mod bound
+pub mod Terms

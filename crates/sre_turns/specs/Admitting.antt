@@ -1,18 +1,12 @@
 -- FIRST sets: what may come next at a point, which is an ASCII character of a set, or one past ASCII. Where another one
 -- comes next, the point fails; it fails where the range ends, too, unless the set has every ASCII character.
 -- Definitions for the machine's contracts. What is public rests on `AdmitsOnly`, by the lists that a request may carry.
-use Rattle.std.specs.Prelude.{⊤, ℕ, ◌+◌, ◌≡◌, ◌<◌, Bool, true, false, List, []}
-use Rattle.sre_chars.specs.Tables.{Table}
-use Rattle.sre_model.specs.Tree.{Test, Order}
-use Rattle.sre_model.specs.Characters.{holds}
-use Rattle.sre_model.specs.Marks.{Marks}
-use Rattle.sre_model.specs.Subject.{Subject, char_at}
-use Rattle.sre_model.specs.Ways.{Way}
-use Rattle.sre_model.specs.Grammar.{Opcode, word, skip, until_opcode}
-use Rattle.sre_model.specs.Roles.{Role, ToFail, ToEnd, ToTest, ToCheckPosition, ToMark, ToBranch, ToJump, ToRun}
-use Rattle.sre_model.specs.Roles.{ToRepeat, ToLoop, ToRepeatPossessively, ToGroupAtomically, ToLook, ToRefer}
-use Rattle.sre_model.specs.Roles.{ToCheckGroup, ToNothing}
-use Rattle.sre_model.specs.Standing.{TestStands}
+use Rattle.sre_turns.specs.Terms.{⊤, ℕ, ◌+◌, ◌≡◌, ◌<◌, Bool, true, false, List, [], Table, Test, Order, holds, Marks}
+use Rattle.sre_turns.specs.Terms.{Subject, char_at, Way, Opcode, word, skip, Role, ToFail, ToEnd, ToTest}
+use Rattle.sre_turns.specs.Terms.{ToCheckPosition, ToMark, ToBranch, ToJump, ToRun, ToRepeat, ToLoop}
+use Rattle.sre_turns.specs.Terms.{ToRepeatPossessively, ToGroupAtomically, ToLook, ToRefer, ToCheckGroup, ToNothing}
+use Rattle.sre_turns.specs.Terms.{TestStands}
+use Rattle.sre_model.specs.Grammar.{until_opcode}
 use Rattle.sre_turns.specs.declared.Frame.{Frame}
 use Rattle.sre_turns.specs.declared.Point.TheVariants.{Instruction, Alternatives}
 use Rattle.sre_turns.specs.declared.Point.{Point}

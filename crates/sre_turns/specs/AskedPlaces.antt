@@ -1,17 +1,11 @@
 -- Which captures may be live at an address: read from there on, before they are set anew. Where none is, captures make
 -- no difference to the outcomes of a configuration.
 -- Definitions for the machine's contracts; what sre_engine makes public does not rest on it.
-use Rattle.std.specs.Prelude.{⊤, ℕ, ◌+◌, ◌*◌, ◌≡◌, ◌<◌, ◌≤◌, ◌⊎◌, Bool, true, List, [], ◌∷◌, Some, slice_get}
-use Rattle.sre_chars.specs.declared.constants.SreOpcode.{SreOpcode}
-use Rattle.sre_model.specs.Tree.{Test}
-use Rattle.sre_model.specs.Marks.{Marks}
-use Rattle.sre_model.specs.Grammar.{Word, Opcode, word, skip}
-use Rattle.sre_model.specs.Roles.{Role, ToFail, ToEnd, ToTest, ToCheckPosition, ToMark, ToBranch, ToJump, ToRun}
-use Rattle.sre_model.specs.Roles.{ToRepeat, ToLoop, ToRepeatPossessively, ToGroupAtomically, ToLook, ToRefer}
-use Rattle.sre_model.specs.Roles.{ToCheckGroup, ToNothing, role}
-use Rattle.sre_model.specs.Standing.{TestStands}
-use Rattle.sre_model.specs.Subject.{Subject}
-use Rattle.sre_model.specs.Ways.{Way}
+use Rattle.sre_turns.specs.Terms.{⊤, ℕ, ◌+◌, ◌*◌, ◌≡◌, ◌<◌, ◌≤◌, ◌⊎◌, Bool, true, List, [], ◌∷◌, Some, SreOpcode, Test}
+use Rattle.sre_turns.specs.Terms.{Marks, Word, Opcode, word, skip, Role, ToFail, ToEnd, ToTest, ToCheckPosition, ToMark}
+use Rattle.sre_turns.specs.Terms.{ToBranch, ToJump, ToRun, ToRepeat, ToLoop, ToRepeatPossessively, ToGroupAtomically}
+use Rattle.sre_turns.specs.Terms.{ToLook, ToRefer, ToCheckGroup, ToNothing, role, TestStands, Subject, Way}
+use Rattle.std.specs.Prelude.{slice_get}
 use Rattle.sre_model.proofs.MarksApart.{SameStops}
 use Rattle.sre_turns.specs.declared.Frame.{Frame}
 use Rattle.sre_turns.specs.declared.Point.TheVariants.{Instruction, Alternatives, Shorter, Longer, Again}

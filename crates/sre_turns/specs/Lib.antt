@@ -26,3 +26,4 @@ pub mod BodyEnds
 pub mod Admitting
 pub mod Strides
 pub mod Prices
+pub mod Terms

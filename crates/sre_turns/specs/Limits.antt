@@ -1,11 +1,8 @@
 -- What a run may still take: steps, and in a search over bytecode whose steps are counted a potential, which goes down
 -- with each step, and up by credits where an instruction that may branch is executed.
 -- Definitions for the machine's contracts; what sre_engine makes public does not rest on it.
-use Rattle.std.specs.Prelude.{⊤, ℕ, ◌+◌, ◌-◌, ◌≤◌, ◌≡◌, Bool, true, false, List, [], ◌∷◌, drop, length, map}
-use Rattle.sre_chars.specs.declared.constants.SreOpcode.{SreOpcode}
-use Rattle.sre_model.specs.Grammar.{Opcode}
-use Rattle.sre_model.specs.Roles.{role}
-use Rattle.sre_model.specs.Runs.{Run}
+use Rattle.sre_turns.specs.Terms.{⊤, ℕ, ◌+◌, ◌-◌, ◌≤◌, ◌≡◌, Bool, true, false, List, [], ◌∷◌, drop, length, map}
+use Rattle.sre_turns.specs.Terms.{SreOpcode, Opcode, role, Run, Marks}
 use Rattle.sre_turns.specs.Attempts.{Attempt}
 use Rattle.sre_turns.specs.Board.{Choice, Else, Keep, Trying}
 use Rattle.sre_turns.specs.Fruit.{is_inside}
@@ -20,7 +17,6 @@ use Rattle.sre_turns.specs.Straight.{InBody, forking, point_behind, goes_behind}
 use Rattle.sre_turns.specs.declared.Frame.{Frame}
 use Rattle.sre_turns.specs.declared.Region.{Region}
 use Rattle.sre_turns.specs.declared.Region.TheVariants.{Further}
-use Rattle.sre_model.specs.Marks.{Marks}
 
 -- how many steps are left; how many were taken, with how many at first, and how many were granted as credits; what is
 -- tried, newest first; and where the range begins

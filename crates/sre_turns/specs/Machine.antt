@@ -1,23 +1,17 @@
 -- The machine: the outcomes at a point of the bytecode, and what a step preserves. With it come the names that its
 -- definitions speak of.
 -- Definitions for the machine's contracts; what sre_engine makes public does not rest on it.
-use Rattle.std.specs.Prelude.{⊤, ℕ, suc, ◌+◌, ◌≡◌, ◌<◌, ◌≤◌, Bool, false, List, [], ◌∷◌, ◌++◌, drop, length, Option}
-use Rattle.std.specs.Prelude.{Some, None}
-use Rattle.std.specs.List.{filter}
-use Rattle.sre_chars.specs.declared.constants.SreOpcode.{SreOpcode}
+use Rattle.sre_turns.specs.Terms.{⊤, ℕ, suc, ◌+◌, ◌≡◌, ◌<◌, ◌≤◌, Bool, false, List, [], ◌∷◌, ◌++◌, drop, length, Option}
+use Rattle.sre_turns.specs.Terms.{Some, None, filter, SreOpcode, Table, Tree, Test, holds, mark_at, no_marks, char_at}
+use Rattle.sre_turns.specs.Terms.{first, here, TestStands}
 pub use Rattle.sre_chars.specs.declared.string.StringCursor.{StringCursor}
-use Rattle.sre_chars.specs.Tables.{Table}
-use Rattle.sre_model.specs.Tree.{Tree, Test, Literal, Plain}
-use Rattle.sre_model.specs.Characters.{holds}
-use Rattle.sre_model.specs.Marks.{mark_at, no_marks}
+use Rattle.sre_model.specs.Tree.{Literal, Plain}
 pub use Rattle.sre_model.specs.Marks.{Marks}
-use Rattle.sre_model.specs.Subject.{char_at}
 pub use Rattle.sre_model.specs.Subject.{Subject, passes}
-use Rattle.sre_model.specs.Ways.{first, here, ways}
+use Rattle.sre_model.specs.Ways.{ways}
 pub use Rattle.sre_model.specs.Ways.{Way}
 pub use Rattle.sre_model.specs.Grammar.{Word, Opcode, skip}
 pub use Rattle.sre_model.specs.Runs.{Run}
-use Rattle.sre_model.specs.Standing.{TestStands}
 pub use Rattle.sre_turns.specs.Board.{Choice, Else, Keep, Trying, BoardValue, from_region}
 use Rattle.sre_turns.specs.Bodies.{IsConfined, MarklessRegions}
 use Rattle.sre_turns.specs.Lying.{repeats}

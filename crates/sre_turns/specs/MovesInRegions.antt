@@ -1,8 +1,7 @@
 -- What the machine does in one step at an atomic scope: ATOMIC_GROUP skip body SUCCESS, and the lookarounds.
 -- Definitions for the machine's contracts; what sre_engine makes public does not rest on it.
-use Rattle.std.specs.Prelude.{ℕ, ◌+◌, ◌-◌, ◌≡◌, ◌<◌, length, cond, nat_lt, List, []}
+use Rattle.sre_turns.specs.Terms.{ℕ, ◌+◌, ◌-◌, ◌≡◌, ◌<◌, length, cond, nat_lt, List, [], Word, skip}
 use Rattle.sre_model.specs.Tree.{Sign, Positive, Negative}
-use Rattle.sre_model.specs.Grammar.{Word, skip}
 use Rattle.sre_turns.specs.declared.Region.TheVariants.{AtomicGroup, Ahead, NotAhead}
 use Rattle.sre_turns.specs.declared.Region.{Region}
 use Rattle.sre_turns.specs.Moves.{Spot, into_region, Move, Enter, closing_move}

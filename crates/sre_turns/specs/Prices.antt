@@ -2,17 +2,15 @@
 -- what such an instruction is given each time that it is executed, which pays for each of its ways to go on (amortized
 -- analysis).
 -- For the law that the step bound suffices. What sre_engine makes public does not rest on it.
-use Rattle.std.specs.Prelude.{ℕ, zero, suc, ◌+◌, ◌-◌, ◌*◌, ◌≤◌, ◌≡◌, Bool, true, List, [], ◌∷◌, length, cond, max, min}
-use Rattle.std.specs.Prelude.{nat_eq, slice_index_or}
-use Rattle.sre_chars.specs.declared.constants.SreOpcode.{SreOpcode}
+use Rattle.sre_turns.specs.Terms.{ℕ, suc, ◌+◌, ◌-◌, ◌*◌, ◌≤◌, ◌≡◌, Bool, true, List, [], ◌∷◌, length, cond, min, nat_eq}
+use Rattle.sre_turns.specs.Terms.{SreOpcode, GreedyRun, LazyRun, PossessiveRun, word, skip, unlimited, Role, ToEnd}
+use Rattle.sre_turns.specs.Terms.{ToTest, ToCheckPosition, ToMark, ToBranch, ToJump, ToRun, ToRepeat, ToLoop}
+use Rattle.sre_turns.specs.Terms.{ToRepeatPossessively, ToGroupAtomically, ToLook, ToRefer, ToCheckGroup, role}
+use Rattle.std.specs.Prelude.{zero, max}
+use Rattle.std.specs.Prelude.{slice_index_or}
 use Rattle.sre_chars.specs.declared.constants.SreOpcode.TheVariants as opcode
-use Rattle.sre_model.specs.Tree.{GreedyRun, LazyRun, PossessiveRun}
 use Rattle.sre_model.specs.TreePrices.{other_ends, scan_price}
-use Rattle.sre_model.specs.Grammar.{word, skip}
-use Rattle.sre_model.specs.Ways.{unlimited}
-use Rattle.sre_model.specs.Roles.{Role, TestKind, OfAny, OfAnyAll, OfCategory, OfLiteral, OfNotLiteral, OfSet, ToEnd}
-use Rattle.sre_model.specs.Roles.{ToTest, ToCheckPosition, ToMark, ToBranch, ToJump, ToRun, ToRepeat, ToLoop}
-use Rattle.sre_model.specs.Roles.{ToRepeatPossessively, ToGroupAtomically, ToLook, ToRefer, ToCheckGroup, role}
+use Rattle.sre_model.specs.Roles.{TestKind, OfAny, OfAnyAll, OfCategory, OfLiteral, OfNotLiteral, OfSet}
 use Rattle.sre_turns.specs.declared.Point.TheVariants.{Instruction, Alternatives, Shorter, Longer, Again}
 use Rattle.sre_turns.specs.declared.Point.{Point}
 use Rattle.sre_turns.specs.declared.Region.{Region}

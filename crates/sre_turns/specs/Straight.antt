@@ -1,13 +1,9 @@
 -- Bodies of atomic scopes, where the machine is in one, and where it has one way to go on at most.
 -- Definitions for the machine's contracts; what sre_engine makes public does not rest on it.
-use Rattle.std.specs.Prelude.{ℕ, ◌+◌, ◌≡◌, ◌≤◌, Bool, true, false, List}
-use Rattle.sre_chars.specs.declared.constants.SreOpcode.{SreOpcode}
-use Rattle.sre_model.specs.Tree.{Tree}
-use Rattle.sre_model.specs.Grammar.{Opcode}
+use Rattle.sre_turns.specs.Terms.{ℕ, ◌+◌, ◌≡◌, ◌≤◌, Bool, true, false, List, SreOpcode, Tree, Opcode, Role, ToBranch}
+use Rattle.sre_turns.specs.Terms.{ToRun, ToRepeat, ToLoop, ToRepeatPossessively, role, Run}
 use Rattle.sre_model.specs.LooksBehind.{backs}
 use Rattle.sre_model.specs.Regions.{forks, has_forked_region}
-use Rattle.sre_model.specs.Roles.{Role, ToBranch, ToRun, ToRepeat, ToLoop, ToRepeatPossessively, role}
-use Rattle.sre_model.specs.Runs.{Run}
 use Rattle.sre_turns.specs.declared.Region.TheVariants.{AtomicGroup, Ahead, NotAhead, Owed, Further}
 use Rattle.sre_turns.specs.declared.Region.{Region}
 use Rattle.sre_turns.specs.declared.Point.{Point}

@@ -1,13 +1,9 @@
 -- Steps: what the machine does at a point, and the outcomes of a configuration.
 -- Definitions for the machine's contracts; what sre_engine makes public does not rest on it.
-use Rattle.std.specs.Prelude.{ℕ, suc, ◌+◌, ◌≡◌, List, [], ◌∷◌, ◌++◌}
-use Rattle.sre_chars.specs.declared.constants.SreOpcode.{SreOpcode}
-use Rattle.sre_model.specs.Roles.{Role, ToFail, ToEnd, ToTest, ToCheckPosition, ToMark, ToBranch, ToJump, ToRun}
-use Rattle.sre_model.specs.Roles.{ToRepeat, ToLoop, ToRepeatPossessively, ToGroupAtomically, ToLook, ToRefer}
-use Rattle.sre_model.specs.Roles.{ToCheckGroup, ToNothing, role}
-use Rattle.sre_model.specs.Subject.{Subject}
-use Rattle.sre_model.specs.Ways.{Way, here}
-use Rattle.sre_model.specs.Grammar.{Opcode}
+use Rattle.sre_turns.specs.Terms.{ℕ, suc, ◌+◌, ◌≡◌, List, [], ◌∷◌, ◌++◌, SreOpcode, Role, ToFail, ToEnd, ToTest}
+use Rattle.sre_turns.specs.Terms.{ToCheckPosition, ToMark, ToBranch, ToJump, ToRun, ToRepeat, ToLoop}
+use Rattle.sre_turns.specs.Terms.{ToRepeatPossessively, ToGroupAtomically, ToLook, ToRefer, ToCheckGroup, ToNothing}
+use Rattle.sre_turns.specs.Terms.{role, Subject, Way, here, Opcode}
 use Rattle.sre_turns.specs.declared.Region.{Region}
 use Rattle.sre_turns.specs.declared.Point.TheVariants.{Instruction, Alternatives, Shorter, Longer, Inside, Again, Tried}
 use Rattle.sre_turns.specs.declared.Point.TheVariants.{TriedAgain}

@@ -3,12 +3,10 @@
 //! A summary tells whether an atomic scope may branch and whether one sets a capture. If not both, a second scan counts
 //! the counter states.
 
-ghost use Rattle.std.specs.Prelude.{◌≡◌, ◌+◌, ℕ, ◌-◌, ◌*◌, ◌^◌, length, min, nat_le, true, false, IfSome, ◌≤◌};
-ghost use Rattle.sre_model.specs.Tree.{Tree};
-ghost use Rattle.sre_model.specs.Grammar.{WholeItems};
+ghost use Rattle.sre_code.specs.Terms.{◌≡◌, ◌+◌, ℕ, ◌-◌, ◌*◌, ◌^◌, length, min, true, false, IfSome, ◌≤◌, Tree};
+ghost use Rattle.sre_code.specs.Terms.{WholeItems, refers, longest_lookbehind};
+ghost use Rattle.std.specs.Prelude.{nat_le};
 ghost use Rattle.sre_code.specs.MostSlots.{SlotsTold};
-ghost use Rattle.sre_model.specs.References.{refers};
-ghost use Rattle.sre_model.specs.LooksBehind.{longest_lookbehind};
 ghost use Rattle.sre_code.specs.Bounds.{CountedTold, BoundTold, NumberBy, AreWhole, room_by, bound_by, bound_of};
 ghost use Rattle.sre_code.specs.Prices.{AreHeld};
 ghost use Rattle.sre_code.specs.Saturating.{Held};

@@ -1,8 +1,7 @@
 //! Branches: `<BRANCH>`, the alternatives as `<length> <items> <JUMP> <skip>`, then 0 instead of a further length. Each
 //! JUMP leads past that 0.
 
-ghost use Rattle.std.specs.Prelude.{◌≡◌};
-ghost use Rattle.sre_model.specs.Grammar.{Opcode};
+ghost use Rattle.sre_code.specs.Terms.{◌≡◌, Opcode};
 ghost use Rattle.sre_code.specs.Steps.{Gives, ItemAt, EndGives, BoundsAt, MoreAt, Closes, Closing};
 
 use crate::code::error::CodeError;

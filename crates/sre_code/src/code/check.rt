@@ -1,11 +1,8 @@
 //! The check, generic in the allocator of its stack.
 
-ghost use Rattle.std.specs.Prelude.{◌≡◌, ◌≢◌, ◌≤◌, length, IfOk, IfErr, OnOk};
-ghost use Rattle.sre_model.specs.Tree.{Tree};
-ghost use Rattle.sre_model.specs.Grammar.{Whole, IsCode};
+ghost use Rattle.sre_code.specs.Terms.{◌≡◌, ◌≢◌, ◌≤◌, length, IfOk, IfErr, OnOk, Tree, Whole, IsCode, Refused};
 ghost use Rattle.sre_code.specs.Refusals.{place_of};
 ghost use Rattle.sre_code.specs.Codes.{words_of, uni_of};
-ghost use Rattle.sre_growth.specs.Refusal.{Refused};
 
 use crate::code::descent::descend;
 use crate::code::summary::summarize;

@@ -2,11 +2,7 @@
 //!
 //! The block is `<INFO> <skip> <flags> <least width> <greatest width>`, then a prefix or a set, as the flags say.
 
-ghost use Rattle.std.specs.Prelude.{◌≡◌, ◌≤◌};
-ghost use Rattle.sre_model.specs.Tree.{Tree};
-ghost use Rattle.sre_model.specs.Grammar.{WholeItems};
-ghost use Rattle.sre_model.specs.Width.{width};
-ghost use Rattle.sre_model.specs.Claims.{confirmed_width, behind_prefix, is_literal};
+ghost use Rattle.sre_code.specs.Terms.{◌≡◌, ◌≤◌, Tree, WholeItems, width, confirmed_width, behind_prefix, is_literal};
 ghost use Rattle.sre_code.specs.Fronts.{Fronts, HasBlock};
 ghost use Rattle.sre_code.specs.Prefixes.{Ends, LeftAt};
 ghost use Rattle.sre_code.specs.Hinted.{Confirmed};

@@ -3,12 +3,9 @@
 //! After MARK items, the code has to begin with a literal in the set, or with an IN of the same words. Or it begins
 //! with a branch whose alternatives all begin like this.
 
-ghost use Rattle.std.specs.Prelude.{◌≡◌, ◌≤◌, ◌↔◌, IsTrue, List, length, slice_range};
-ghost use Rattle.std.specs.Bool.{Decides};
-ghost use Rattle.sre_model.specs.Tree.{Tree, SetItem};
-ghost use Rattle.sre_model.specs.Characters.{is_member};
-ghost use Rattle.sre_model.specs.Grammar.{WholeItems};
-ghost use Rattle.sre_model.specs.Claims.{behind_marks, TestIn, EachTestIn, FirstIn, HasFirstSet};
+ghost use Rattle.sre_code.specs.Terms.{◌≡◌, ◌≤◌, ◌↔◌, IsTrue, List, length, slice_range, Decides, Tree, SetItem};
+ghost use Rattle.sre_code.specs.Terms.{is_member, WholeItems, behind_marks, HasFirstSet};
+ghost use Rattle.sre_model.specs.Claims.{TestIn, EachTestIn, FirstIn};
 ghost use Rattle.sre_code.specs.Fronts.{HasBlock};
 ghost use Rattle.sre_code.specs.Prefixes.{Ends};
 ghost use Rattle.sre_code.specs.FirstSets.{HasBlockSet, IsSetUpTo, Tells, TellsEach};

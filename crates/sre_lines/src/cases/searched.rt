@@ -1,12 +1,8 @@
 //! The search of a case, with a prefilter.
 
-ghost use Rattle.std.specs.Prelude.{◌≡◌, true, IfOk};
-ghost use Rattle.sre_engine.specs.Tree.{Tree};
-ghost use Rattle.sre_engine.specs.Grammar.{Whole};
-ghost use Rattle.sre_engine.specs.Found.{found};
+ghost use Rattle.sre_lines.specs.Terms.{◌≡◌, true, IfOk, Tree, Whole, found, words_of, asked_of, code_of};
 ghost use Rattle.sre_engine.specs.Answers.{answer_of};
-ghost use Rattle.sre_engine.specs.Codes.{words_of};
-ghost use Rattle.sre_engine.specs.Requests.{asked_of, code_of, stands_in};
+ghost use Rattle.sre_engine.specs.Requests.{stands_in};
 
 use sre_engine::engine::SreError;
 use sre_engine::{Request, State};

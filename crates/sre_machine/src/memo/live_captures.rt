@@ -1,14 +1,8 @@
 //! Failures that are memoized under live captures.
 
-ghost use Rattle.std.specs.Prelude.{ℕ, ◌≡◌, ◌⊎◌, ◌+◌, ◌*◌, ◌<◌, ◌≤◌, None, slice_index_or, true};
-ghost use Rattle.sre_model.specs.Marks.{mark_at};
-ghost use Rattle.sre_turns.specs.Fruit.{is_inside};
-ghost use Rattle.sre_turns.specs.MovesAtReferences.{Asks};
-ghost use Rattle.sre_turns.specs.Moves.{spot_at};
-ghost use Rattle.sre_turns.specs.AskedPlaces.{AreIdle, SaysOf};
-ghost use Rattle.sre_code.specs.Codes.{items_of};
-ghost use Rattle.sre_growth.specs.Refusal.{Refused};
-ghost use Rattle.sre_board.specs.Failures.{HoldsNone, HoldsNoMore, HoldsOneMore, Tells};
+ghost use Rattle.sre_machine.specs.Terms.{ℕ, ◌≡◌, ◌⊎◌, ◌+◌, ◌*◌, ◌<◌, ◌≤◌, None, slice_index_or, true, mark_at};
+ghost use Rattle.sre_machine.specs.Terms.{is_inside, Asks, spot_at, AreIdle, SaysOf, items_of, Refused, HoldsNone};
+ghost use Rattle.sre_machine.specs.Terms.{HoldsNoMore, HoldsOneMore, Tells};
 ghost use Rattle.sre_machine.specs.Memos.{EndsStay, MarkedStays};
 
 use crate::memo::Memo;

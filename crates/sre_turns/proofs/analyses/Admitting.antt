@@ -1,37 +1,24 @@
 -- The FIRST set of an instruction, from those where it continues: one step, whatever the role.
 -- Branches skip alternatives that fail by this; nothing in this crate rests on it.
-use Rattle.std.proofs.Common.{◌≡◌, ℕ, ◌+◌, ◌-◌, ◌<◌, ◌&&◌, ◌||◌, Bool, true, false, cond, nat_eq, nat_lt, List, [], ◌∷◌}
-use Rattle.std.proofs.Common.{Some, None, refl, sym, ◌∙◌, ap, subst, arith}
-use Rattle.std.specs.Bool.{⊤}
-use Rattle.std.proofs.lemmas.Bool.Decides.{nat_tests}
-use Rattle.std.proofs.lemmas.Bool.{true≢false, and_parts}
-use Rattle.sre_chars.specs.declared.constants.SreOpcode.{SreOpcode}
-use Rattle.sre_model.specs.Tree.{Test, Order, Greedy, Lazy, Positive, Negative}
-use Rattle.sre_model.specs.Characters.{holds}
-use Rattle.sre_model.specs.Marks.{Marks, group}
-use Rattle.sre_model.specs.Subject.{Subject, char_at, passes}
-use Rattle.sre_model.specs.Ways.{Way, unlimited, may_repeat, longest_run, run_length}
-use Rattle.sre_model.specs.Grammar.{Word, Opcode, word, skip, until_opcode}
-use Rattle.sre_model.specs.Roles.{Role, ToLoop, role}
-use Rattle.sre_model.specs.Standing.{TestStands}
+use Rattle.sre_turns.proofs.Terms.{◌≡◌, ℕ, ◌+◌, ◌-◌, ◌<◌, ◌&&◌, ◌||◌, Bool, true, false, cond, nat_eq, nat_lt, List, []}
+use Rattle.sre_turns.proofs.Terms.{◌∷◌, Some, None, refl, sym, ◌∙◌, ap, subst, arith, ⊤, nat_tests, true≢false}
+use Rattle.sre_turns.proofs.Terms.{and_parts, SreOpcode, Test, Order, Greedy, Lazy, Positive, Negative, holds, Marks}
+use Rattle.sre_turns.proofs.Terms.{group, char_at, passes, Way, unlimited, may_repeat, longest_run, run_length, Word}
+use Rattle.sre_turns.proofs.Terms.{Opcode, word, skip, until_opcode, Role, ToLoop, role, TestStands, Region}
+use Rattle.sre_turns.proofs.Terms.{AtomicGroup, Owed, Further, Shorter, Longer, Again, Point, Spot, Move, End, Split}
+use Rattle.sre_turns.proofs.Terms.{Enter, closing_move, RunOperands, first_frame, next_frame, UntilMove, again_move}
+use Rattle.sre_turns.proofs.Terms.{AgainMove, in_order, InRole, Moves, Runs, turns, Comes, stops, goes, splits, enters}
+use Rattle.sre_turns.proofs.Terms.{until_role, run_none, word_of, same_opcode}
+use Rattle.sre_model.specs.Subject.{Subject}
 use Rattle.sre_turns.specs.declared.Frame.{Frame}
-use Rattle.sre_turns.specs.declared.Region.{Region}
-use Rattle.sre_turns.specs.declared.Region.TheVariants.{AtomicGroup, Owed, Further}
-use Rattle.sre_turns.specs.declared.Point.TheVariants.{Instruction, Shorter, Longer, Again}
-use Rattle.sre_turns.specs.declared.Point.{Point}
-use Rattle.sre_turns.specs.Moves.{Spot, spot_at, Move, Stop, End, Go, Split, Enter, closing_move}
-use Rattle.sre_turns.specs.MovesInRuns.{RunOperands}
-use Rattle.sre_turns.specs.MovesInLoops.{first_frame, next_frame, UntilMove, again_move, AgainMove, in_order}
-use Rattle.sre_turns.specs.Machine.{InRole, Moves, Runs, turns, Comes, stops, goes, splits, enters}
+use Rattle.sre_turns.specs.declared.Point.TheVariants.{Instruction}
+use Rattle.sre_turns.specs.Moves.{spot_at, Stop, Go}
 use Rattle.sre_turns.specs.Admitting.{NextOutside, AdmitsOnly, TestsOnly, HasAll, RepeatsOnly, RunsOnly, LeadsOnly}
 use Rattle.sre_turns.proofs.semantics.Turned.{GoesOn, behind_test, behind_reference, behind_run, run_on, group_there}
 use Rattle.sre_turns.proofs.semantics.Turned.{group_missing, Forks, greedy_run, lazy_run, Begins, plain_loop}
 use Rattle.sre_turns.proofs.semantics.Turned.{possessive_loop, Enters, atomic_group, lookaround, Turned, stopped, ended}
 use Rattle.sre_turns.proofs.semantics.Turned.{went, forked, marked, grouped, begun, entered, looped, none_owed}
 use Rattle.sre_turns.proofs.semantics.Turned.{point_turned}
-use Rattle.sre_model.proofs.Families.{until_role}
-use Rattle.sre_model.proofs.Longest.{run_none}
-use Rattle.sre_model.proofs.Words.{word_of, same_opcode}
 use Rattle.sre_turns.proofs.semantics.OneTurn.{loop_opened}
 
 -- a step after which nothing comes

@@ -1,11 +1,10 @@
 -- A list of the captures that may be live at each address stays right where fewer are listed for one.
 -- The machine's list of live captures is filled by it; nothing in this crate rests on it.
-use Rattle.std.proofs.Common.{◌≡◌, ℕ, ◌+◌, ◌⊎◌, inl, inr, List, sym, subst, rules}
-use Rattle.sre_chars.specs.declared.constants.SreOpcode.{SreOpcode}
-use Rattle.sre_model.specs.Grammar.{Word, Opcode, skip}
-use Rattle.sre_model.specs.Roles.{Role, ToTest, ToMark, ToBranch, role}
-use Rattle.sre_turns.specs.MovesAtReferences.{Asks}
-use Rattle.sre_turns.specs.AskedPlaces.{MarkRange, Within, PlacesAsk, GroupLies, AsksAt, AlternativesAsk, AskedByPlace}
+use Rattle.sre_turns.proofs.Terms.{◌≡◌, ℕ, ◌+◌, ◌⊎◌, inl, inr, List, sym, subst, SreOpcode, Word, Opcode, skip, Role}
+use Rattle.sre_turns.proofs.Terms.{ToTest, ToMark, ToBranch, role, Asks, Within, PlacesAsk, GroupLies, AsksAt}
+use Rattle.sre_turns.proofs.Terms.{AskedByPlace}
+use Rattle.std.proofs.Common.{rules}
+use Rattle.sre_turns.specs.AskedPlaces.{MarkRange, AlternativesAsk}
 use Rattle.sre_turns.specs.AskedPlaces.{GroupAsked}
 
 -- no more is told of any place

@@ -1,27 +1,17 @@
 -- What a step leaves of the potential, in a search over bytecode whose steps are counted.
-use Rattle.std.proofs.Common.{◌≡◌, ℕ, ◌+◌, ◌≤◌, List, [], ◌∷◌, drop, true, refl, sym, ap, ◌∙◌, subst, arith}
-use Rattle.sre_chars.specs.declared.constants.SreOpcode.{SreOpcode}
+use Rattle.sre_turns.proofs.Terms.{◌≡◌, ℕ, ◌+◌, ◌≤◌, List, [], ◌∷◌, drop, true, refl, sym, ap, ◌∙◌, subst, arith}
+use Rattle.sre_turns.proofs.Terms.{SreOpcode, Marks, Way, begins_test, some_test, Choice, Else, Keep, Trying}
+use Rattle.sre_turns.proofs.Terms.{Alternatives, Shorter, Longer, Point, Spot, Move, End, Split, Enter, price, price_of}
+use Rattle.sre_turns.proofs.Terms.{toll, toll_by, split_toll, Covers, Counted, Attempt, Limit, earlier, raised, pool}
+use Rattle.sre_turns.proofs.Terms.{CodeAt, tried_spots, Fares, FaresAt, FaresBack, FaresEnd, HereIn, Reopens, Settling}
+use Rattle.sre_turns.proofs.Terms.{end_share, FaresBoth, Wider, Stage, share, Coming, is_inside, InBody}
 use Rattle.sre_chars.specs.declared.constants.SreOpcode.TheVariants as opcode
 use Rattle.sre_chars.specs.declared.string.StringCursor.{StringCursor}
-use Rattle.sre_model.specs.Marks.{Marks}
-use Rattle.sre_model.specs.Ways.{Way}
 use Rattle.sre_model.specs.Runs.{Run}
-use Rattle.sre_model.specs.Roles.{begins_test}
-use Rattle.sre_model.proofs.Families.{some_test}
-use Rattle.sre_turns.specs.Board.{Choice, Else, Keep, Trying}
 use Rattle.sre_turns.specs.declared.Frame.{Frame}
-use Rattle.sre_turns.specs.declared.Point.TheVariants.{Instruction, Alternatives, Shorter, Longer}
-use Rattle.sre_turns.specs.declared.Point.{Point}
-use Rattle.sre_turns.specs.Moves.{Spot, spot_at, Move, Stop, End, Go, Split, Enter}
-use Rattle.sre_turns.specs.Prices.{price, price_of, toll, toll_by, split_toll, Covers}
+use Rattle.sre_turns.specs.declared.Point.TheVariants.{Instruction}
+use Rattle.sre_turns.specs.Moves.{spot_at, Stop, Go}
 use Rattle.sre_turns.specs.Lying.{repeats}
-use Rattle.sre_turns.specs.Settled.{Counted}
-use Rattle.sre_turns.specs.Attempts.{Attempt}
-use Rattle.sre_turns.specs.Limits.{Limit, earlier, raised, pool, CodeAt, tried_spots, Fares, FaresAt, FaresBack}
-use Rattle.sre_turns.specs.Limits.{FaresEnd, HereIn, Reopens, Settling, end_share, FaresBoth, Wider, Stage, share}
-use Rattle.sre_turns.specs.Limits.{Coming}
-use Rattle.sre_turns.specs.Fruit.{is_inside}
-use Rattle.sre_turns.specs.Straight.{InBody}
 use Rattle.sre_turns.specs.Turning.{MovesAt, Moves, Runs, turns}
 use Rattle.sre_turns.proofs.bound.HereMoves.{OntoHere, here_moves}
 use Rattle.sre_turns.proofs.bound.PriceMoves.{enters_at, step_covered, IsPlace, is_place, some_price}

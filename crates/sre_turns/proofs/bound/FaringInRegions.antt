@@ -1,26 +1,17 @@
 -- What is left of the potential where an atomic scope is left, in a search over bytecode whose steps are counted: the
 -- saved alternatives above it go, with what is tried inside.
 -- That the step bound suffices (`enough` of sre_engine) rests on this.
-use Rattle.std.proofs.Common.{◌≡◌, ℕ, ◌≤◌, length, List, [], ◌∷◌, drop, true, refl, sym, ap, ◌∙◌, ◌++◌, subst, arith}
-use Rattle.std.proofs.lemmas.Bool.{true≢false}
+use Rattle.sre_turns.proofs.Terms.{◌≡◌, ℕ, ◌≤◌, length, List, [], ◌∷◌, drop, true, refl, sym, ap, ◌∙◌, ◌++◌, subst}
+use Rattle.sre_turns.proofs.Terms.{arith, true≢false, Marks, Attempt, Choice, Else, Keep, Trying, from_region, Limit}
+use Rattle.sre_turns.proofs.Terms.{earlier, without_open, Reopens, Settling, Fares, FaresAt, FaresBack, FaresEnd}
+use Rattle.sre_turns.proofs.Terms.{EndsIn, end_share, tried_spots, is_inside, price, open_spots, Counted, point_behind}
+use Rattle.sre_turns.proofs.Terms.{Point, Region, Further}
 use Rattle.sre_chars.specs.declared.string.StringCursor.{StringCursor}
-use Rattle.sre_model.specs.Marks.{Marks}
 use Rattle.sre_model.specs.Runs.{Run}
-use Rattle.sre_turns.specs.Attempts.{Attempt}
-use Rattle.sre_turns.specs.Board.{Choice, Else, Keep, Trying, from_region}
-use Rattle.sre_turns.specs.Limits.{Limit, earlier, without_open, Reopens, Settling, Fares, FaresAt, FaresBack, FaresEnd}
-use Rattle.sre_turns.specs.Limits.{EndsIn, end_share, waiting, tried_spots, open_attempts}
-use Rattle.sre_turns.specs.Fruit.{is_inside}
+use Rattle.sre_turns.specs.Limits.{waiting, open_attempts}
 use Rattle.sre_turns.specs.Moves.{spot_at}
-use Rattle.sre_turns.specs.Prices.{price}
-use Rattle.sre_turns.specs.OpenMarks.{open_spots}
-use Rattle.sre_turns.specs.Settled.{Counted}
-use Rattle.sre_turns.specs.Straight.{point_behind}
 use Rattle.sre_turns.specs.declared.Frame.{Frame}
 use Rattle.sre_turns.specs.declared.Point.TheVariants.{Instruction}
-use Rattle.sre_turns.specs.declared.Point.{Point}
-use Rattle.sre_turns.specs.declared.Region.{Region}
-use Rattle.sre_turns.specs.declared.Region.TheVariants.{Further}
 use Rattle.sre_turns.proofs.bound.Faring.{fares_earlier}
 use Rattle.sre_turns.proofs.bound.PriceMoves.{behind_covered}
 

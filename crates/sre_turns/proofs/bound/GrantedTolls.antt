@@ -1,23 +1,17 @@
 -- The credits of an instruction, with what its scan is charged, are no more than what a memoized failure there pays
 -- for, but for a repeat without a greatest count. Where there is one way to go on, there are none.
 -- That the step bound suffices (`enough` of sre_engine) rests on this.
-use Rattle.std.proofs.Common.{◌≡◌, ℕ, ◌+◌, ◌*◌, ◌≤◌, ◌⊎◌, inl, inr, false, List, refl, subst, sym, ap, ◌∙◌, arith}
-use Rattle.std.proofs.Common.{add-mul, one-mul, mul-le-mul_right}
-use Rattle.std.proofs.lemmas.Bool.Decides.{nat_tests}
-use Rattle.sre_chars.specs.declared.constants.SreOpcode.{SreOpcode}
+use Rattle.sre_turns.proofs.Terms.{◌≡◌, ℕ, ◌+◌, ◌*◌, ◌≤◌, ◌⊎◌, inl, inr, false, List, refl, subst, sym, ap, ◌∙◌, arith}
+use Rattle.sre_turns.proofs.Terms.{add-mul, one-mul, mul-le-mul_right, nat_tests, SreOpcode, RunKind, GreedyRun}
+use Rattle.sre_turns.proofs.Terms.{LazyRun, PossessiveRun, Way, unlimited, word, Opcode, Word, Role, ToBranch, ToRun}
+use Rattle.sre_turns.proofs.Terms.{ToRepeat, ToLoop, ToRepeatPossessively, role, other_ends, word_of, CodeAt, Frame}
+use Rattle.sre_turns.proofs.Terms.{Instruction, spot_at, Subject, Runs, toll, toll_by, bit_by, bit_toll, end_price}
+use Rattle.sre_turns.proofs.Terms.{ends_beside, split_toll, split_by, role_at, forking}
 use Rattle.sre_chars.specs.declared.constants.SreOpcode.TheVariants as opcode
-use Rattle.sre_model.specs.Tree.{RunKind, GreedyRun, LazyRun, PossessiveRun}
-use Rattle.sre_model.specs.Ways.{Way, unlimited}
-use Rattle.sre_model.specs.Grammar.{word, Opcode, Word}
-use Rattle.sre_model.specs.Roles.{Role, ToBranch, ToRun, ToRepeat, ToLoop, ToRepeatPossessively, role}
-use Rattle.sre_model.specs.TreePrices.{other_ends}
-use Rattle.sre_model.proofs.Words.{word_of}
-use Rattle.sre_turns.specs.Limits.{has_toll, CodeAt}
-use Rattle.sre_turns.specs.Machine.{Frame, Point, Instruction, Again, spot_at, Marks, Subject, Runs}
-use Rattle.sre_turns.specs.Prices.{toll, toll_by, bit_by, bit_toll, end_price, ends_beside, split_toll, split_by}
-use Rattle.sre_turns.specs.Prices.{scan_by, scan_toll, role_at}
+use Rattle.sre_turns.specs.Limits.{has_toll}
+use Rattle.sre_turns.specs.Machine.{Point, Again, Marks}
+use Rattle.sre_turns.specs.Prices.{scan_by, scan_toll}
 use Rattle.sre_turns.specs.RunEnds.{RunsOn}
-use Rattle.sre_turns.specs.Straight.{forking}
 use Rattle.sre_turns.proofs.semantics.Moving.{in_role}
 use Rattle.sre_turns.proofs.bound.Steps.{role_there}
 

@@ -1,35 +1,21 @@
 -- In a search over bytecode whose steps are counted, each step leads to where the machine may be: it enters an atomic
 -- scope at the body that the scope has, and continues after it where it may be, too.
 -- That the step bound suffices (`enough` of sre_engine) rests on this.
-use Rattle.std.proofs.Common.{◌≡◌, ℕ, ◌+◌, ◌-◌, ◌≤◌, true, false, List, [], ◌∷◌, length, drop, refl, sym, subst, arith}
-use Rattle.std.specs.Bool.{⊤}
-use Rattle.std.proofs.lemmas.Bool.{true≢false}
+use Rattle.sre_turns.proofs.Terms.{◌≡◌, ℕ, ◌+◌, ◌-◌, ◌≤◌, true, false, List, [], ◌∷◌, length, drop, refl, sym, subst}
+use Rattle.sre_turns.proofs.Terms.{arith, ⊤, true≢false, Tree, Opcode, Reads, Marks, backs, forks, has_forked_region}
+use Rattle.sre_turns.proofs.Terms.{least_from, Choice, Else, Keep, Trying, is_inside, HereIn, Reopens, EndsIn, Moves}
+use Rattle.sre_turns.proofs.Terms.{Spot, Move, End, Split, Enter, repeats, LiesIn, AllBegunBy, ClosesAt, LeadsTo}
+use Rattle.sre_turns.proofs.Terms.{Counted, SettledIn, point_behind, goes_behind, BodyOf, IsBodyIn, InBody, Point}
+use Rattle.sre_turns.proofs.Terms.{AtomicGroup, Further, Region, first, LiesInBody}
 use Rattle.sre_chars.specs.declared.constants.SreOpcode.TheVariants as opcode
-use Rattle.sre_model.specs.Tree.{Tree}
-use Rattle.sre_model.specs.Grammar.{Opcode, Reads}
-use Rattle.sre_model.specs.Marks.{Marks}
-use Rattle.sre_model.specs.LooksBehind.{backs}
-use Rattle.sre_model.specs.Regions.{forks, has_forked_region}
 use Rattle.sre_model.specs.Runs.{Run}
-use Rattle.sre_turns.specs.Alike.{least_from}
-use Rattle.sre_turns.specs.Board.{Choice, Else, Keep, Trying}
-use Rattle.sre_turns.specs.Fruit.{is_inside}
-use Rattle.sre_turns.specs.Limits.{HereIn, Reopens, EndsIn}
-use Rattle.sre_turns.specs.Machine.{Moves}
-use Rattle.sre_turns.specs.Moves.{Spot, spot_at, Move, Stop, End, Go, Split, Enter}
-use Rattle.sre_turns.specs.Nested.{repeats, LiesIn, Passed, AllBegunBy, ClosesAt, LeadsTo}
-use Rattle.sre_turns.specs.Settled.{Counted, SettledIn}
-use Rattle.sre_turns.specs.Straight.{point_behind, goes_behind, BodyOf, IsBodyIn, InBody}
+use Rattle.sre_turns.specs.Moves.{spot_at, Stop, Go}
+use Rattle.sre_turns.specs.Nested.{Passed}
 use Rattle.sre_turns.specs.declared.Frame.{Frame}
 use Rattle.sre_turns.specs.declared.Point.TheVariants.{Instruction}
-use Rattle.sre_turns.specs.declared.Point.{Point}
-use Rattle.sre_turns.specs.declared.Region.TheVariants.{AtomicGroup, Further}
-use Rattle.sre_turns.specs.declared.Region.{Region}
 use Rattle.sre_turns.proofs.bound.NestedMoves.{begins, body_moves}
 use Rattle.sre_turns.proofs.semantics.Onward.{outer_begun, Reaches, Reaching, point_reaches, all_later, least_position}
 use Rattle.sre_turns.proofs.memoization.Straight.{StraightPoint, body_straight, GoesBack, counted_entry, point_entered}
-use Rattle.sre_model.specs.Ways.{first}
-use Rattle.sre_turns.specs.Bodies.{LiesInBody}
 
 -- what is told of where a step leads
 abbrev pub OntoHere : (r : Run) → Counted r → ℕ → List Choice → Spot → Move → Type 0

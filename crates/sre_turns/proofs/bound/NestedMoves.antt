@@ -1,27 +1,20 @@
 -- Each step of a configuration in the bytecode of a tree leads to configurations there.
 -- That the step bound suffices (`enough` of sre_engine) rests on this.
-use Rattle.std.proofs.Common.{◌≡◌, ℕ, ◌+◌, ◌-◌, inl, inr, false, nat_eq, List, [], ◌∷◌, refl, ap, ◌∙◌, subst, arith}
-use Rattle.std.proofs.lemmas.Bool.Decides.{nat_tests}
-use Rattle.sre_chars.specs.declared.constants.SreOpcode.{SreOpcode}
+use Rattle.sre_turns.proofs.Terms.{◌≡◌, ℕ, ◌+◌, ◌-◌, inl, inr, false, nat_eq, List, [], ◌∷◌, refl, ap, ◌∙◌, subst}
+use Rattle.sre_turns.proofs.Terms.{arith, nat_tests, SreOpcode, Tree, Empty, Then, Item, Fail, One, At, Mark, Branch}
+use Rattle.sre_turns.proofs.Terms.{Loop, PossessiveLoop, Atomic, Look, Reference, Exists, ExistsElse, RunKind}
+use Rattle.sre_turns.proofs.Terms.{GreedyRun, LazyRun, Order, Sign, Positive, Negative, Marks, group, word, skip}
+use Rattle.sre_turns.proofs.Terms.{Opcode, Reads, ReadsItem, Operands, until_opcode, Role, ToEnd, ToMark, ToJump, ToRun}
+use Rattle.sre_turns.proofs.Terms.{ToRepeat, ToLoop, ToRepeatPossessively, ToGroupAtomically, ToLook, role, same_opcode}
+use Rattle.sre_turns.proofs.Terms.{word_of, test_same, item_role, until_role, Region, Alternatives, Shorter, Longer}
+use Rattle.sre_turns.proofs.Terms.{Again, Point, Spot, Move, Moves, repeats, LiesIn, LiesInItem, LeadsTo, ClosesAt}
 use Rattle.sre_chars.specs.declared.constants.SreOpcode.TheVariants as opcode
-use Rattle.sre_model.specs.Tree.{Tree, Empty, Then, Item, Fail, One, At, Mark, Branch, Loop, Run, PossessiveLoop}
-use Rattle.sre_model.specs.Tree.{Atomic, Look, Reference, Exists, ExistsElse, RunKind, GreedyRun, LazyRun, Order, Sign}
-use Rattle.sre_model.specs.Tree.{Positive, Negative}
-use Rattle.sre_model.specs.Marks.{Marks, group}
+use Rattle.sre_model.specs.Tree.{Run}
 use Rattle.sre_model.specs.Subject.{Subject}
-use Rattle.sre_model.specs.Grammar.{word, skip, Opcode, Reads, ReadsItem, Operands, item_opcode, until_opcode}
-use Rattle.sre_model.specs.Roles.{Role, ToEnd, ToMark, ToJump, ToRun, ToRepeat, ToLoop, ToRepeatPossessively}
-use Rattle.sre_model.specs.Roles.{ToGroupAtomically, ToLook, role}
-use Rattle.sre_model.proofs.Words.{same_opcode, word_of}
-use Rattle.sre_model.proofs.Unique.{test_same}
-use Rattle.sre_model.proofs.Families.{item_role, role_same, until_role}
+use Rattle.sre_model.specs.Grammar.{item_opcode}
+use Rattle.sre_model.proofs.Families.{role_same}
 use Rattle.sre_turns.specs.declared.Frame.{Frame}
-use Rattle.sre_turns.specs.declared.Region.{Region}
-use Rattle.sre_turns.specs.declared.Point.TheVariants.{Instruction, Alternatives, Shorter, Longer, Again}
-use Rattle.sre_turns.specs.declared.Point.{Point}
-use Rattle.sre_turns.specs.Moves.{Spot, Move}
-use Rattle.sre_turns.specs.Machine.{Moves}
-use Rattle.sre_turns.specs.Nested.{repeats, LiesIn, LiesInItem, LeadsTo, ClosesAt}
+use Rattle.sre_turns.specs.declared.Point.TheVariants.{Instruction}
 pub use Rattle.sre_turns.proofs.semantics.Parts.{begins}
 use Rattle.sre_turns.proofs.semantics.Parts.{branch_begins, Own, Ends, Law, lies_law, alternative, no_more, shorter}
 use Rattle.sre_turns.proofs.semantics.Parts.{longer, possessive, with_item, jump, until, success}

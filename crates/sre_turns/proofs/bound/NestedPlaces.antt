@@ -1,18 +1,15 @@
 -- An address of a tree's bytecode always has the same point, in the same loops: an instruction, or a possessive loop at
 -- that of its first operand.
 -- That the step bound suffices (`enough` of sre_engine) rests on this.
-use Rattle.std.proofs.Common.{◌≡◌, ℕ, ◌+◌, ◌-◌, ◌<◌, ◌≤◌, ◌⊎◌, inl, inr, List, [], ◌∷◌, length, refl, true, false, ap}
-use Rattle.std.proofs.Common.{Option, Some, None, sym, ◌∙◌, subst, arith}
-use Rattle.std.proofs.lemmas.Bool.{true≢false}
-use Rattle.sre_model.specs.Tree.{Tree, Empty, Then, Item, Branch, Loop, Run, PossessiveLoop, Atomic, Look, Exists}
-use Rattle.sre_model.specs.Tree.{ExistsElse, Trees, Only, Or}
-use Rattle.sre_model.specs.Grammar.{word, skip, Reads, Operands, ReadsBranch, WholeItems}
-use Rattle.sre_model.proofs.Places.{reads_within, operands_past}
-use Rattle.sre_turns.specs.declared.Point.TheVariants.{Instruction, Alternatives, Shorter, Longer, Again}
-use Rattle.sre_turns.specs.Alike.{least_from}
-use Rattle.sre_turns.specs.declared.Point.{Point}
-use Rattle.sre_turns.specs.Moves.{Spot}
-use Rattle.sre_turns.specs.Nested.{repeats, IsAt, LiesIn, LiesInItem, LiesInBranch, Lies, place_under, place_of}
+use Rattle.sre_turns.proofs.Terms.{◌≡◌, ℕ, ◌+◌, ◌-◌, ◌<◌, ◌≤◌, ◌⊎◌, inl, inr, List, [], ◌∷◌, length, refl, true, false}
+use Rattle.sre_turns.proofs.Terms.{ap, Option, Some, None, sym, ◌∙◌, subst, arith, true≢false, Tree, Empty, Then, Item}
+use Rattle.sre_turns.proofs.Terms.{Branch, Loop, PossessiveLoop, Atomic, Look, Exists, ExistsElse, Trees, Only, Or}
+use Rattle.sre_turns.proofs.Terms.{word, skip, Reads, Operands, ReadsBranch, WholeItems, reads_within, Alternatives}
+use Rattle.sre_turns.proofs.Terms.{Shorter, Longer, Again, least_from, Point, Spot, repeats, IsAt, LiesIn, LiesInItem}
+use Rattle.sre_turns.proofs.Terms.{LiesInBranch, Lies, place_under, place_of}
+use Rattle.sre_model.specs.Tree.{Run}
+use Rattle.sre_model.proofs.Places.{operands_past}
+use Rattle.sre_turns.specs.declared.Point.TheVariants.{Instruction}
 use Rattle.sre_turns.specs.Nested.{is_again}
 use Rattle.sre_turns.proofs.semantics.Parts.{Own, Ends, Law, lies_law, alternative, no_more, shorter, longer}
 use Rattle.sre_turns.proofs.semantics.Parts.{possessive, with_item, jump, until, success}

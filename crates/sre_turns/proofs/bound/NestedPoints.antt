@@ -1,16 +1,12 @@
 -- What holds of each point in a tree's bytecode, where the tree is good by a fold.
 -- That the step bound suffices (`enough` of sre_engine) rests on this.
-use Rattle.std.proofs.Common.{ℕ, List, [], ◌∷◌, refl}
+use Rattle.sre_turns.proofs.Terms.{ℕ, List, [], ◌∷◌, refl, Tree, Empty, Then, Item, Branch, Loop, PossessiveLoop, Trees}
+use Rattle.sre_turns.proofs.Terms.{Order, RunKind, Test, Folding, of_tree, of_item, of_parts, Reads, Operands}
+use Rattle.sre_turns.proofs.Terms.{ReadsItem, until_opcode, ToEnd, ToJump, ToLoop, HasRole, role_here, until_role}
+use Rattle.sre_turns.proofs.Terms.{Alternatives, Shorter, Longer, Again, Point, LiesIn}
 use Rattle.sre_chars.specs.declared.constants.SreOpcode.TheVariants as opcode
-use Rattle.sre_model.specs.Tree.{Tree, Empty, Then, Item, Branch, Loop, Run, PossessiveLoop, Trees, Order, RunKind}
-use Rattle.sre_model.specs.Tree.{Test}
-use Rattle.sre_model.specs.Folding.{Folding, of_tree, of_item, of_parts}
-use Rattle.sre_model.specs.Grammar.{Reads, Operands, ReadsItem, until_opcode}
-use Rattle.sre_model.specs.Roles.{ToEnd, ToJump, ToLoop}
-use Rattle.sre_model.proofs.Families.{HasRole, role_here, until_role}
-use Rattle.sre_turns.specs.declared.Point.TheVariants.{Instruction, Alternatives, Shorter, Longer, Again}
-use Rattle.sre_turns.specs.declared.Point.{Point}
-use Rattle.sre_turns.specs.Nested.{LiesIn}
+use Rattle.sre_model.specs.Tree.{Run}
+use Rattle.sre_turns.specs.declared.Point.TheVariants.{Instruction}
 use Rattle.sre_turns.proofs.semantics.Parts.{Own, Ends, Law, lies_law, alternative, no_more, shorter, longer}
 use Rattle.sre_turns.proofs.semantics.Parts.{possessive, with_item, jump, until, success}
 

@@ -1,16 +1,12 @@
 -- At each address of a tree's bytecode the loops in progress have at most as many states as the tree says.
 -- That the step bound suffices (`enough` of sre_engine) rests on this.
-use Rattle.std.proofs.Common.{◌≡◌, ℕ, ◌+◌, ◌*◌, ◌-◌, ◌≤◌, max, List, [], ◌∷◌, length, refl, sym, ap, ◌∙◌, arith}
+use Rattle.sre_turns.proofs.Terms.{◌≡◌, ℕ, ◌+◌, ◌*◌, ◌-◌, ◌≤◌, List, [], ◌∷◌, length, refl, sym, ap, ◌∙◌, arith, Tree}
+use Rattle.sre_turns.proofs.Terms.{Empty, Then, Item, Loop, PossessiveLoop, word, Word, Reads, Operands, WholeItems}
+use Rattle.sre_turns.proofs.Terms.{word_of, Point, Spot, counted_to, repeats, Lies, slots, of_tree, of_parts, of_item}
+use Rattle.std.proofs.Common.{max}
 use Rattle.std.proofs.Math.Nat.{mul_assoc, mul_left_comm, mul-le-mul_left, mul-le-mul_right, one-le-mul, le-max_left}
 use Rattle.std.proofs.Math.Nat.{le-max_right, mul-one}
-use Rattle.sre_model.specs.Tree.{Tree, Empty, Then, Item, Loop, PossessiveLoop}
-use Rattle.sre_model.specs.Grammar.{word, Word, Reads, Operands, WholeItems}
-use Rattle.sre_model.proofs.Words.{word_of}
-use Rattle.sre_turns.specs.declared.Point.{Point}
-use Rattle.sre_turns.specs.Moves.{Spot}
-use Rattle.sre_turns.specs.Alike.{counted_to}
-use Rattle.sre_turns.specs.Nested.{repeats, Lies, loop_slots, slots, most_slots, by_slots}
-use Rattle.sre_model.specs.Folding.{of_tree, of_parts, of_item}
+use Rattle.sre_turns.specs.Nested.{loop_slots, most_slots, by_slots}
 use Rattle.sre_turns.proofs.semantics.Parts.{IsIn, Own, Ends, Law, lies_law, possessive, until, success}
 
 -- products

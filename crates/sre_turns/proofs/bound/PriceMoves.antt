@@ -1,41 +1,29 @@
 -- The price of a configuration, with the credits of its point, pays for its step and for the prices of what the step
 -- leads to. And which instructions enter an atomic scope.
 -- That the step bound suffices (`enough` of sre_engine) rests on this.
-use Rattle.std.proofs.Common.{◌≡◌, ℕ, zero, suc, ◌+◌, ◌-◌, ◌*◌, ◌<◌, ◌≤◌, ◌||◌, Bool, true, false, cond, nat_eq, nat_lt}
-use Rattle.std.proofs.Common.{List, length, refl, sym, ◌∙◌, ap, subst, arith, mul-le-mul, add-mul, one-mul, min}
-use Rattle.std.proofs.lemmas.Bool.Decides.{nat_tests}
-use Rattle.sre_chars.specs.declared.constants.SreOpcode.{SreOpcode}
-use Rattle.sre_model.specs.Tree.{Test, RunKind, PossessiveRun, Positive, Negative}
-use Rattle.sre_model.specs.Marks.{Marks, group}
+use Rattle.sre_turns.proofs.Terms.{◌≡◌, ℕ, zero, suc, ◌+◌, ◌-◌, ◌*◌, ◌<◌, ◌≤◌, ◌||◌, Bool, true, false, cond, nat_eq}
+use Rattle.sre_turns.proofs.Terms.{nat_lt, List, length, refl, sym, ◌∙◌, ap, subst, arith, mul-le-mul, add-mul, one-mul}
+use Rattle.sre_turns.proofs.Terms.{min, nat_tests, SreOpcode, Test, RunKind, PossessiveRun, Positive, Negative, Marks}
+use Rattle.sre_turns.proofs.Terms.{group, unlimited, longest_run, word, skip, Opcode, test_opcode, Role, ToTest, ToRun}
+use Rattle.sre_turns.proofs.Terms.{ToGroupAtomically, ToLook, role, word_of, same_opcode, run_at_most, run_inside}
+use Rattle.sre_turns.proofs.Terms.{passes-below, Region, Further, Alternatives, Longer, Again, Inside, Tried}
+use Rattle.sre_turns.proofs.Terms.{TriedAgain, Point, Spot, Move, MovesAt, test_end, steps_by, steps, end_price}
+use Rattle.sre_turns.proofs.Terms.{ends_beside, price, loop_toll, toll_by, toll, split_toll, split_by, Covers, CodeAt}
+use Rattle.sre_turns.proofs.Terms.{point_behind, test_kind, test_role, role_here, ⊤}
 use Rattle.sre_model.specs.Subject.{Subject}
-use Rattle.sre_model.specs.Ways.{unlimited, longest_run, most_from}
-use Rattle.sre_model.specs.Grammar.{word, skip, Opcode, test_opcode}
-use Rattle.sre_model.specs.Roles.{Role, ToTest, ToRun, ToGroupAtomically, ToLook, role}
-use Rattle.sre_model.proofs.Words.{word_of, same_opcode}
-use Rattle.sre_model.proofs.Longest.{run_at_most, run_inside}
-use Rattle.sre_model.proofs.Bounds.{passes-below}
+use Rattle.sre_model.specs.Ways.{most_from}
 use Rattle.sre_turns.specs.declared.Frame.{Frame}
-use Rattle.sre_turns.specs.declared.Region.{Region}
-use Rattle.sre_turns.specs.declared.Region.TheVariants.{Further}
-use Rattle.sre_turns.specs.declared.Point.TheVariants.{Instruction, Alternatives, Longer, Again, Inside, Tried}
-use Rattle.sre_turns.specs.declared.Point.TheVariants.{TriedAgain}
-use Rattle.sre_turns.specs.declared.Point.{Point}
+use Rattle.sre_turns.specs.declared.Point.TheVariants.{Instruction}
 use Rattle.sre_turns.specs.Lying.{repeats}
-use Rattle.sre_turns.specs.Moves.{Spot, spot_at, Move}
-use Rattle.sre_turns.specs.Machine.{MovesAt}
-use Rattle.sre_turns.specs.Prices.{test_end, steps_by, steps, branch_in, branch_price, end_price, ends_beside}
-use Rattle.sre_turns.specs.Prices.{more_ends, price, loop_toll, toll_by, again_toll, toll, aside, split_toll, split_by}
-use Rattle.sre_turns.specs.Prices.{Covers}
-use Rattle.sre_turns.specs.Limits.{CodeAt}
-use Rattle.sre_turns.specs.Straight.{point_behind}
+use Rattle.sre_turns.specs.Moves.{spot_at}
+use Rattle.sre_turns.specs.Prices.{branch_in, branch_price}
+use Rattle.sre_turns.specs.Prices.{more_ends, again_toll, aside}
 use Rattle.sre_turns.proofs.semantics.Turned.{GoesOn, behind_test, run_on, Forks, greedy_run, lazy_run}
 use Rattle.sre_turns.proofs.semantics.Turned.{next_alternative, next_shorter, next_longer, Begins, plain_loop}
 use Rattle.sre_turns.proofs.semantics.Turned.{possessive_loop, Enters, atomic_group, lookaround, Turned, stopped, ended}
 use Rattle.sre_turns.proofs.semantics.Turned.{went, forked, marked, grouped, begun, entered, looped, repeated}
 use Rattle.sre_turns.proofs.semantics.Turned.{point_turned}
 use Rattle.sre_turns.proofs.bound.Steps.{some_steps, role_there, steps_told, test_ends}
-use Rattle.sre_model.proofs.Families.{test_kind, test_role, role_here}
-use Rattle.std.specs.Bool.{⊤}
 use Rattle.sre_turns.proofs.semantics.LoopTurns.{until_holds, again_holds}
 
 -- whether an instruction may enter an atomic scope

@@ -1,12 +1,7 @@
 -- In bytecode whose steps are counted a run begins at a settled configuration.
 -- That the step bound suffices (`enough` of sre_engine) rests on this.
-use Rattle.std.proofs.Common.{ℕ, ◌*◌, ◌≤◌, List, []}
-use Rattle.sre_model.specs.Tree.{Tree}
-use Rattle.sre_model.specs.Marks.{Marks}
+use Rattle.sre_turns.proofs.Terms.{ℕ, ◌*◌, ◌≤◌, List, [], Tree, Marks, WholeItems, ReadsBehind, AreWords}
 use Rattle.sre_model.specs.Subject.{Subject}
-use Rattle.sre_model.specs.Grammar.{WholeItems}
-use Rattle.sre_model.specs.Prefixes.{ReadsBehind}
-use Rattle.sre_model.specs.Standing.{AreWords}
 use Rattle.sre_turns.specs.declared.Point.TheVariants.{Instruction}
 use Rattle.sre_turns.specs.Moves.{spot_at}
 use Rattle.sre_turns.specs.Settled.{Settled}

@@ -1,36 +1,32 @@
 -- What memoized failures pay for at one position is no more than what the tree says: by the instructions of its
 -- bytecode, each of which has at most as many failures as its loops have states.
 -- That the step bound suffices (`enough` of sre_engine) rests on this.
-use Rattle.std.proofs.Common.{◌≡◌, ℕ, zero, suc, ◌+◌, ◌-◌, ◌*◌, ◌<◌, ◌≤◌, ◌⊎◌, inl, inr, Bool, true, false, cond, List}
-use Rattle.std.proofs.Common.{[], ◌∷◌, length, refl, sym, ap, ◌∙◌, subst, arith, nat_eq, mul-le-mul, mul-le-mul_right}
-use Rattle.std.proofs.Common.{add-mul, map, ◌||◌}
+use Rattle.sre_turns.proofs.Terms.{◌≡◌, ℕ, zero, suc, ◌+◌, ◌-◌, ◌*◌, ◌<◌, ◌≤◌, ◌⊎◌, inl, inr, Bool, true, false, cond}
+use Rattle.sre_turns.proofs.Terms.{List, [], ◌∷◌, length, refl, sym, ap, ◌∙◌, subst, arith, nat_eq, mul-le-mul}
+use Rattle.sre_turns.proofs.Terms.{mul-le-mul_right, add-mul, map, ◌||◌, ⊤, AllByRecursion, each-weaken, each-both}
+use Rattle.sre_turns.proofs.Terms.{Tree, Empty, Then, Item, Branch, Loop, PossessiveLoop, Atomic, Look, Exists}
+use Rattle.sre_turns.proofs.Terms.{ExistsElse, Trees, Only, Or, PossessiveRun, word, skip, Opcode, Reads, ReadsItem}
+use Rattle.sre_turns.proofs.Terms.{ReadsBranch, JumpsTo, WholeItems, until_opcode, Role, ToEnd, ToJump, ToLoop}
+use Rattle.sre_turns.proofs.Terms.{steps_of, other_ends, HasRole, role_here, item_role, item_here, until_role, word_of}
+use Rattle.sre_turns.proofs.Terms.{Alternatives, Shorter, Longer, Again, Point, IsAt, LiesIn, LiesInItem, LiesInBranch}
+use Rattle.sre_turns.proofs.Terms.{slots, steps, bit_by, bit_toll, end_price, nat_tests}
 use Rattle.std.proofs.Math.Dec.{eqb}
 use Rattle.std.proofs.lemmas.Bool.{eqb-true}
-use Rattle.std.specs.Bool.{⊤}
 use Rattle.std.proofs.lemmas.List.{length-map}
 use Rattle.std.proofs.lemmas.List.Elements.{All-from_recursion}
 use Rattle.std.proofs.lemmas.List.Sums.{sum_by-cons, sum_by-le}
 use Rattle.std.proofs.lemmas.Map.Steps.{length-le_from_distinct_below}
-use Rattle.std.specs.List.{AllByRecursion, IsDistinct, list_any, sum_by}
-use Rattle.sre_model.proofs.Each.{each-weaken, each-both, each-map}
+use Rattle.std.specs.List.{IsDistinct, list_any, sum_by}
+use Rattle.sre_model.proofs.Each.{each-map}
 use Rattle.sre_chars.specs.declared.constants.SreOpcode.TheVariants as opcode
-use Rattle.sre_model.specs.Tree.{Tree, Empty, Then, Item, Branch, Loop, Run, PossessiveLoop, Atomic, Look, Exists}
-use Rattle.sre_model.specs.Tree.{ExistsElse, Trees, Only, Or, PossessiveRun}
-use Rattle.sre_model.specs.Grammar.{word, skip, Opcode, Reads, ReadsItem, ReadsBranch, JumpsTo, WholeItems}
-use Rattle.sre_model.specs.Grammar.{until_opcode}
-use Rattle.sre_model.specs.Roles.{Role, ToEnd, ToJump, ToLoop}
+use Rattle.sre_model.specs.Tree.{Run}
 use Rattle.sre_model.specs.Slots.{loop_slots}
-use Rattle.sre_model.specs.TreePrices.{steps_of, branch_steps, cost_of, item_cost, branch_cost, other_ends, scan_price}
-use Rattle.sre_model.proofs.Families.{HasRole, role_here, item_role, item_here, until_role}
-use Rattle.sre_model.proofs.Words.{word_of}
-use Rattle.sre_turns.specs.declared.Point.TheVariants.{Instruction, Alternatives, Shorter, Longer, Again}
-use Rattle.sre_turns.specs.declared.Point.{Point}
-use Rattle.sre_turns.specs.Nested.{IsAt, LiesIn, LiesInItem, LiesInBranch, slots}
-use Rattle.sre_turns.specs.Prices.{steps, branch_in, bit_by, bit_toll, end_price}
+use Rattle.sre_model.specs.TreePrices.{branch_steps, cost_of, item_cost, branch_cost, scan_price}
+use Rattle.sre_turns.specs.declared.Point.TheVariants.{Instruction}
+use Rattle.sre_turns.specs.Prices.{branch_in}
 use Rattle.sre_turns.proofs.bound.NestedMoves.{begins}
 use Rattle.sre_turns.proofs.bound.Steps.{role_there, steps_told}
 use Rattle.sre_turns.proofs.bound.TreePrices.{tree_steps, body_steps, body_end, jump_steps}
-use Rattle.std.proofs.lemmas.Bool.Decides.{nat_tests}
 
 regrouped : {A B C D : Type 0} → A ⊎ ((B ⊎ C) ⊎ D) → A ⊎ (B ⊎ (C ⊎ D))
 regrouped (inl x) = inl x

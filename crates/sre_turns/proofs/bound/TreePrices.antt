@@ -1,15 +1,12 @@
 -- The steps from an address are those of the tree whose code words begin there, before those from where they end.
 -- That the step bound suffices (`enough` of sre_engine) rests on this.
-use Rattle.std.proofs.Common.{◌≡◌, ℕ, zero, suc, ◌+◌, ◌-◌, ◌≤◌, List, length, refl, sym, ap, ◌∙◌, arith}
+use Rattle.sre_turns.proofs.Terms.{◌≡◌, ℕ, zero, suc, ◌+◌, ◌-◌, ◌≤◌, List, length, refl, sym, ap, ◌∙◌, arith, Tree}
+use Rattle.sre_turns.proofs.Terms.{Empty, Then, Item, Fail, One, At, Mark, Branch, Loop, PossessiveLoop, Atomic, Look}
+use Rattle.sre_turns.proofs.Terms.{Reference, Exists, ExistsElse, word, Opcode, Reads, ReadsItem, JumpsTo, behind_items}
+use Rattle.sre_turns.proofs.Terms.{ToEnd, ToJump, steps_of, item_role, item_here, role_here, steps, steps_by}
 use Rattle.sre_chars.specs.declared.constants.SreOpcode.TheVariants as opcode
-use Rattle.sre_model.specs.Tree.{Tree, Empty, Then, Item, Fail, One, At, Mark, Branch, Loop, Run, PossessiveLoop}
-use Rattle.sre_model.specs.Tree.{Atomic, Look, Reference, Exists, ExistsElse}
-use Rattle.sre_model.specs.Grammar.{word, Opcode, Reads, ReadsItem, JumpsTo}
-use Rattle.sre_model.specs.Prefixes.{behind_items}
-use Rattle.sre_model.specs.Roles.{ToEnd, ToJump}
-use Rattle.sre_model.specs.TreePrices.{steps_of, item_steps, most_steps}
-use Rattle.sre_model.proofs.Families.{item_role, item_here, role_here}
-use Rattle.sre_turns.specs.Prices.{steps, steps_by}
+use Rattle.sre_model.specs.Tree.{Run}
+use Rattle.sre_model.specs.TreePrices.{item_steps, most_steps}
 use Rattle.sre_turns.proofs.bound.Steps.{steps_told, test_ends}
 
 -- the end of a body, or of a whole

@@ -1,13 +1,9 @@
 -- Equivalent loops: how long they stay so, and that they decide the same on a further body. So the memo of failures
 -- stores of a loop its count, as far as it makes a difference, and one bit of its last body.
-use Rattle.std.proofs.Common.{◌≡◌, ℕ, ◌+◌, ◌≤◌, not, ◌&&◌, ◌||◌, List, [], ◌∷◌, min, drop, nat_eq}
-use Rattle.std.proofs.Common.{nat_lt, Option, Some, None, refl, sym, ap, ◌∙◌, arith}
-use Rattle.std.proofs.lemmas.Bool.Decides.{nat_tests}
-use Rattle.sre_model.specs.Ways.{unlimited, may_repeat}
-use Rattle.sre_model.specs.Grammar.{Word}
+use Rattle.sre_turns.proofs.Terms.{◌≡◌, ℕ, ◌+◌, ◌≤◌, not, ◌&&◌, ◌||◌, List, [], ◌∷◌, min, drop, nat_eq, nat_lt, Option}
+use Rattle.sre_turns.proofs.Terms.{Some, None, refl, sym, ap, ◌∙◌, arith, nat_tests, unlimited, may_repeat, Word}
+use Rattle.sre_turns.proofs.Terms.{next_frame, is_last, counted_to, FramesAlike, LoopsAlike}
 use Rattle.sre_turns.specs.declared.Frame.{Frame}
-use Rattle.sre_turns.specs.MovesInLoops.{next_frame}
-use Rattle.sre_turns.specs.Alike.{is_last, counted_to, FramesAlike, LoopsAlike}
 
 -- from a position on, so from a later one on
 frame_later : (ws : List ℕ) (p q : ℕ) (f g : Frame) → p ≤ q → FramesAlike ws p f g → FramesAlike ws q f g

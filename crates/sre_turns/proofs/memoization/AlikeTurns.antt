@@ -1,34 +1,22 @@
 -- Equivalent configurations with equivalent captures make equivalent steps, and close an atomic scope equally. By these
 -- laws they have the same stops (SameComes), on which the memo of failures rests.
-use Rattle.std.proofs.Common.{◌≡◌, ℕ, ◌+◌, ◌*◌, ◌≤◌, Bool, true, false, cond, nat_lt, List, [], ◌∷◌, Option, Some, refl}
-use Rattle.std.proofs.Common.{sym, ap, subst, arith, ◌⊎◌, inl, inr, drop, ◌<◌}
-use Rattle.std.specs.Bool.{⊤}
-use Rattle.std.proofs.lemmas.Bool.Decides.{nat_tests}
-use Rattle.std.proofs.lemmas.Bool.{true≢false}
-use Rattle.sre_chars.specs.declared.constants.SreOpcode.{SreOpcode}
-use Rattle.sre_model.specs.Tree.{Order, Greedy, Lazy, Positive, Negative}
-use Rattle.sre_model.specs.Marks.{Marks, group}
+use Rattle.sre_turns.proofs.Terms.{◌≡◌, ℕ, ◌+◌, ◌*◌, ◌≤◌, Bool, true, false, cond, nat_lt, List, [], ◌∷◌, Option, Some}
+use Rattle.sre_turns.proofs.Terms.{refl, sym, ap, subst, arith, ◌⊎◌, inl, inr, drop, ◌<◌, ⊤, nat_tests, true≢false}
+use Rattle.sre_turns.proofs.Terms.{SreOpcode, Order, Greedy, Lazy, Positive, Negative, Marks, group, Way, may_repeat}
+use Rattle.sre_turns.proofs.Terms.{first, Word, Opcode, word, skip, same_word, Role, ToRefer, ToCheckGroup, role}
+use Rattle.sre_turns.proofs.Terms.{AtomicGroup, Ahead, NotAhead, Owed, Further, Region, Again, Point, Spot, Move, End}
+use Rattle.sre_turns.proofs.Terms.{Split, Enter, closing_move, first_frame, next_frame, at_body, behind, in_order}
+use Rattle.sre_turns.proofs.Terms.{until_move, enter_body, again_move, LoopMove, Asks, asks, MarksAgree, OutcomesAlike}
+use Rattle.sre_turns.proofs.Terms.{Within, PlacesAsk, GroupLies, AsksAt, AskedByPlace, PointAsks, LoopsAsk, Matters}
+use Rattle.sre_turns.proofs.Terms.{MattersBehind, Moves, MovesAt, is_last, LoopsAlike, FramesAlike, least_from, Alike}
+use Rattle.sre_turns.proofs.Terms.{goes_behind}
 use Rattle.sre_model.specs.Subject.{Subject}
-use Rattle.sre_model.specs.Ways.{Way, may_repeat, first}
-use Rattle.sre_model.specs.Grammar.{Word, Opcode, word, skip}
-use Rattle.sre_model.proofs.Words.{same_word}
-use Rattle.sre_model.specs.Roles.{Role, ToRefer, ToCheckGroup, role}
 use Rattle.sre_turns.specs.declared.Frame.{Frame}
-use Rattle.sre_turns.specs.declared.Region.TheVariants.{AtomicGroup, Ahead, NotAhead, Owed, Further}
-use Rattle.sre_turns.specs.declared.Region.{Region}
-use Rattle.sre_turns.specs.declared.Point.TheVariants.{Instruction, Again}
-use Rattle.sre_turns.specs.declared.Point.{Point}
-use Rattle.sre_turns.specs.Moves.{Spot, spot_at, Move, Stop, End, Go, Split, Enter, closing_move}
-use Rattle.sre_turns.specs.MovesInLoops.{first_frame, next_frame, at_body, behind, in_order, until_move, enter_body}
-use Rattle.sre_turns.specs.MovesInLoops.{again_move, LoopMove}
-use Rattle.sre_turns.specs.MovesAtReferences.{Asks, asks}
-use Rattle.sre_turns.specs.Asked.{MarksAgree, OutcomesAlike}
-use Rattle.sre_turns.specs.AskedPlaces.{Lies, Within, PlacesAsk, GroupLies, AsksAt, AskedByPlace, MarkLeads, PointAsks}
-use Rattle.sre_turns.specs.AskedPlaces.{LoopsAsk, Matters, RegionAsks, MattersBehind}
-use Rattle.sre_turns.specs.Machine.{Moves, MovesAt}
-use Rattle.sre_turns.specs.Alike.{is_last, LoopsAlike, FramesAlike, least_from, Alike}
+use Rattle.sre_turns.specs.declared.Point.TheVariants.{Instruction}
+use Rattle.sre_turns.specs.Moves.{spot_at, Stop, Go}
+use Rattle.sre_turns.specs.AskedPlaces.{Lies, MarkLeads}
+use Rattle.sre_turns.specs.AskedPlaces.{RegionAsks}
 use Rattle.sre_turns.proofs.memoization.Asked.{agree_less, agree_set, group_agrees}
-use Rattle.sre_turns.specs.Straight.{goes_behind}
 use Rattle.sre_turns.proofs.semantics.Onward.{EndFrom}
 use Rattle.sre_turns.proofs.semantics.Turned.{GoesOn, behind_test, behind_reference, behind_look, run_on, group_there}
 use Rattle.sre_turns.proofs.semantics.Turned.{group_missing, Forks, greedy_run, lazy_run, next_alternative}

@@ -1,13 +1,10 @@
 -- Equivalent captures stay so, and say the same of a group.
-use Rattle.std.proofs.Common.{◌≡◌, ℕ, zero, suc, ◌+◌, ◌-◌, ◌*◌, ◌<◌, ◌≤◌, List, [], ◌∷◌, ◌++◌, length, replicate, cond}
-use Rattle.std.proofs.Common.{slice_set, slice_index_or, Option, Some, None, refl, sym, ap, ◌∙◌, arith, nat_le, ◌⊎◌}
-use Rattle.std.proofs.Common.{inl, inr}
+use Rattle.sre_turns.proofs.Terms.{◌≡◌, ℕ, zero, suc, ◌+◌, ◌-◌, ◌*◌, ◌<◌, ◌≤◌, List, [], ◌∷◌, ◌++◌, length, replicate}
+use Rattle.sre_turns.proofs.Terms.{cond, slice_set, slice_index_or, Option, Some, None, refl, sym, ap, ◌∙◌, arith}
+use Rattle.sre_turns.proofs.Terms.{nat_le, ◌⊎◌, inl, inr, Marks, lengthened, set_mark, mark_at, group, Way, SameStops}
+use Rattle.sre_turns.proofs.Terms.{HasReference, Asks, MarksAgree, AskedMark, MarksAlike, OutcomesAlike}
 use Rattle.std.proofs.lemmas.List.{length-append, length-replicate}
-use Rattle.sre_model.specs.Marks.{Marks, lengthened, set_mark, mark_at, group}
-use Rattle.sre_model.specs.Ways.{Way}
-use Rattle.sre_model.proofs.MarksApart.{SameStops}
-use Rattle.sre_turns.specs.MovesAtReferences.{HasReference, Asks}
-use Rattle.sre_turns.specs.Asked.{MarksAgree, AskedMark, MarksAlike, Unmarked, OutcomesAlike}
+use Rattle.sre_turns.specs.Asked.{Unmarked}
 
 -- one entry of a list
 abbrev entry : List (Option ℕ) → ℕ → Option ℕ

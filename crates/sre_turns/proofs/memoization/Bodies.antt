@@ -1,35 +1,21 @@
 -- In the body of an atomic scope that sets no capture slot the captures stay as they are: a run there stays in the
 -- body, and no step there is that of a MARK.
 -- The memo of body ends rests on this.
-use Rattle.std.proofs.Common.{◌≡◌, ℕ, Bool, true, false, List, [], ◌∷◌, refl, sym, ap, ◌∙◌, subst}
-use Rattle.std.specs.Bool.{⊤}
-use Rattle.std.proofs.lemmas.Bool.{or_parts, true≢false}
-use Rattle.sre_chars.specs.declared.constants.SreOpcode.{SreOpcode}
+use Rattle.sre_turns.proofs.Terms.{◌≡◌, ℕ, Bool, true, false, List, [], ◌∷◌, refl, sym, ap, ◌∙◌, subst, ⊤, or_parts}
+use Rattle.sre_turns.proofs.Terms.{true≢false, SreOpcode, Tree, Item, Mark, Marks, group, marks_in_regions, Way}
+use Rattle.sre_turns.proofs.Terms.{of_item, of_parts, Opcode, WholeItems, Role, ToEnd, ToMark, role, each-append}
+use Rattle.sre_turns.proofs.Terms.{HasRole, role_here, item_role, item_here, items_same, same_opcode, NotAhead, Further}
+use Rattle.sre_turns.proofs.Terms.{Region, Point, Spot, Move, End, Split, Enter, closing_move, Moves, Runs, turns}
+use Rattle.sre_turns.proofs.Terms.{Comes, stops, ends, goes, splits, enters, repeats, ClosesAt, LeadsTo, LoopsAlike}
+use Rattle.sre_turns.proofs.Terms.{Alike, LiesInBody, Confined, MarklessRegions, AllMarked, MarksStay}
 use Rattle.sre_chars.specs.declared.constants.SreOpcode.TheVariants as opcode
-use Rattle.sre_model.specs.Tree.{Tree, Item, Mark}
-use Rattle.sre_model.specs.Marks.{Marks, group}
-use Rattle.sre_model.specs.MarksSet.{by_marks, marks_in_regions}
+use Rattle.sre_model.specs.MarksSet.{by_marks}
 use Rattle.sre_model.specs.Subject.{Subject}
-use Rattle.sre_model.specs.Ways.{Way}
-use Rattle.sre_model.specs.Folding.{of_item, of_parts}
-use Rattle.sre_model.specs.Grammar.{Opcode, WholeItems}
-use Rattle.sre_model.specs.Roles.{Role, ToEnd, ToMark, role}
 use Rattle.sre_model.specs.Runs.{Run}
-use Rattle.sre_model.proofs.Each.{each-append}
-use Rattle.sre_model.proofs.Families.{HasRole, role_here, item_role, item_here}
-use Rattle.sre_model.proofs.Unique.{items_same}
-use Rattle.sre_model.proofs.Words.{same_opcode}
 use Rattle.sre_turns.specs.declared.Frame.{Frame}
-use Rattle.sre_turns.specs.declared.Region.TheVariants.{NotAhead, Further}
-use Rattle.sre_turns.specs.declared.Region.{Region}
 use Rattle.sre_turns.specs.declared.Point.TheVariants.{Instruction}
-use Rattle.sre_turns.specs.declared.Point.{Point}
-use Rattle.sre_turns.specs.Moves.{Spot, Move, Stop, End, Go, Split, Enter, closing_move}
-use Rattle.sre_turns.specs.Machine.{Moves, Runs, turns, Comes, stops, ends, goes, splits, enters}
-use Rattle.sre_turns.specs.Nested.{repeats, ClosesAt, LeadsTo}
-use Rattle.sre_turns.specs.Alike.{LoopsAlike, Alike}
-use Rattle.sre_turns.specs.Bodies.{MarklessBody, LiesInBody, Confined, MarklessRegions}
-use Rattle.sre_turns.specs.BodyEnds.{AllMarked, MarksStay}
+use Rattle.sre_turns.specs.Moves.{Stop, Go}
+use Rattle.sre_turns.specs.Bodies.{MarklessBody}
 use Rattle.sre_turns.proofs.bound.NestedMoves.{body_moves}
 use Rattle.sre_turns.proofs.semantics.Turned.{Turned, stopped, ended, went, forked, marked, grouped, begun, entered}
 use Rattle.sre_turns.proofs.semantics.Turned.{looped, repeated, point_turned}

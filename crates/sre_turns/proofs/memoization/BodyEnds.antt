@@ -1,32 +1,26 @@
 -- Where the body of an atomic scope ends: each instruction that is tried inside has that end as its first outcome, so
 -- has each equivalent configuration, and there the machine may go to the end at once.
 -- The memo of body ends rests on this.
-use Rattle.std.proofs.Common.{◌≡◌, ℕ, ◌≤◌, true, List, [], ◌∷◌, drop, refl, subst, arith, ◌+◌, ◌++◌, sym, ap, ◌∙◌, inl}
-use Rattle.std.proofs.Common.{inr, ◌⊎◌}
-use Rattle.std.specs.List.{AllByRecursion}
-use Rattle.sre_model.proofs.Each.{each-append, each-both, each-weaken}
-use Rattle.sre_model.specs.Ways.{Way, first, here}
-use Rattle.sre_turns.specs.Limits.{HereIn, EndsIn, Limit}
-use Rattle.sre_turns.specs.Machine.{Point, Instruction, Region, Ahead, NotAhead, Further, Spot, spot_at, Move, Stop}
-use Rattle.sre_turns.specs.Machine.{End, Go, Split, Enter, closing_move, Choice, Else, Keep, Trying, BoardValue}
-use Rattle.sre_turns.specs.Machine.{Counted, Run, StringCursor, Marks, Subject, Runs, turns, Comes, stops, ends, goes}
-use Rattle.sre_turns.specs.Machine.{splits, enters, Waits, otherwise, tried, Arrives, Ends, Later, spot}
-use Rattle.sre_turns.specs.Straight.{point_behind, goes_behind, InBody}
+use Rattle.sre_turns.proofs.Terms.{◌≡◌, ℕ, ◌≤◌, true, List, [], ◌∷◌, drop, refl, subst, arith, ◌+◌, ◌++◌, sym, ap, ◌∙◌}
+use Rattle.sre_turns.proofs.Terms.{inl, inr, ◌⊎◌, AllByRecursion, each-append, each-both, each-weaken, Way, first, here}
+use Rattle.sre_turns.proofs.Terms.{HereIn, EndsIn, Limit, Instruction, spot_at, Stop, Go, BoardValue, Run, StringCursor}
+use Rattle.sre_turns.proofs.Terms.{Subject, Runs, turns, Comes, stops, ends, goes, splits, enters, Waits, otherwise}
+use Rattle.sre_turns.proofs.Terms.{tried, Arrives, Ends, Later, spot, point_behind, goes_behind, InBody, SameFruit}
+use Rattle.sre_turns.proofs.Terms.{is_inside, MarksAlike, Confined, MarklessRegions, AllMarked, MarksStay, AllConfined}
+use Rattle.sre_turns.proofs.Terms.{open_spots, SameStops}
+use Rattle.sre_turns.specs.Machine.{Point, Region, Ahead, NotAhead, Further, Spot, Move}
+use Rattle.sre_turns.specs.Machine.{End, Split, Enter, closing_move, Choice, Else, Keep, Trying}
+use Rattle.sre_turns.specs.Machine.{Counted, Marks}
 use Rattle.sre_turns.proofs.bound.HereMoves.{InsideOnto, inside_moves}
 use Rattle.sre_turns.specs.declared.Next.TheVariants as next
-use Rattle.sre_turns.specs.Fruit.{SameFruit, is_inside}
-use Rattle.sre_turns.specs.Asked.{MarksAlike}
-use Rattle.sre_turns.specs.Bodies.{Confined, MarklessRegions}
-use Rattle.sre_turns.specs.BodyEnds.{AllMarked, MarksStay, EndsAt, CameToEnd}
-use Rattle.sre_turns.specs.Confining.{AllConfined}
-use Rattle.sre_turns.specs.OpenMarks.{open_spots, EachOpen}
+use Rattle.sre_turns.specs.BodyEnds.{EndsAt, CameToEnd}
+use Rattle.sre_turns.specs.OpenMarks.{EachOpen}
 use Rattle.sre_turns.proofs.memoization.Bodies.{confined_stay}
 use Rattle.sre_turns.proofs.semantics.FirstOutcomes.{fruit_waits}
 use Rattle.sre_turns.proofs.memoization.SameComes.{marked_come}
 use Rattle.sre_turns.proofs.bound.Faring.{place_ended, run_code, run_place}
 use Rattle.sre_turns.proofs.semantics.Moving.{sooner, some_turns}
 use Rattle.sre_turns.proofs.memoization.Trying.{alike_itself}
-use Rattle.sre_model.proofs.MarksApart.{SameStops}
 
 module _ (r : Run) (pl : Counted r) (start : ℕ) where
   -- an outcome of a region's body that was entered at a position

@@ -1,13 +1,11 @@
 -- Each step keeps the machine in its atomic scope's body, where no atomic scope of the bytecode sets a capture slot.
 -- The memo of body ends rests on this.
-use Rattle.std.proofs.Common.{◌≡◌, ℕ, Bool, true, List, [], ◌∷◌}
-use Rattle.sre_model.specs.Marks.{Marks, no_marks}
-use Rattle.sre_turns.specs.Machine.{Frame, Point, Region, Further, Spot, spot_at, Move, Stop, End, Go, Split, Enter}
-use Rattle.sre_turns.specs.Machine.{Choice, Else, Keep, Trying, from_region, StringCursor, Subject, Moves}
-use Rattle.sre_turns.specs.Fruit.{is_inside}
-use Rattle.sre_turns.specs.Nested.{repeats, ClosesAt, LeadsTo}
-use Rattle.sre_turns.specs.Bodies.{LiesInBody, IsConfined, Confined}
-use Rattle.sre_turns.specs.Confining.{ConfinedInside, AllConfined, ChoicesConfined, StandsConfined, BothConfined}
+use Rattle.sre_turns.proofs.Terms.{◌≡◌, ℕ, Bool, true, List, [], ◌∷◌, Marks, no_marks, Frame, spot_at, Stop, Go}
+use Rattle.sre_turns.proofs.Terms.{StringCursor, Subject, Moves, is_inside, repeats, ClosesAt, LeadsTo, LiesInBody}
+use Rattle.sre_turns.proofs.Terms.{IsConfined, Confined, ConfinedInside, AllConfined, ChoicesConfined, StandsConfined}
+use Rattle.sre_turns.proofs.Terms.{BothConfined}
+use Rattle.sre_turns.specs.Machine.{Point, Region, Further, Spot, Move, End, Split, Enter}
+use Rattle.sre_turns.specs.Machine.{Choice, Else, Keep, Trying, from_region}
 use Rattle.sre_turns.proofs.memoization.Bodies.{confined_moves}
 
 -- what holds of each point of one kind holds of another

@@ -1,19 +1,13 @@
 -- A configuration that failed is hopeless, and the machine may backtrack at once from an equivalent one.
 -- The memo of failures, which stores hopeless configurations, rests on these laws.
-use Rattle.std.proofs.Common.{◌≡◌, ℕ, Bool, true, false, List, [], ◌∷◌, refl, sym, ◌∙◌, inl, inr, ap}
-use Rattle.std.proofs.lemmas.Bool.{true≢false}
-use Rattle.sre_model.specs.Tree.{Tree}
-use Rattle.sre_model.specs.References.{refers}
+use Rattle.sre_turns.proofs.Terms.{◌≡◌, ℕ, Bool, true, false, List, [], ◌∷◌, refl, sym, ◌∙◌, inl, inr, ap, true≢false}
+use Rattle.sre_turns.proofs.Terms.{Tree, refers, WholeItems, SameStops, HasReference, Run, Runs, Waits, Alike, Hopeless}
+use Rattle.sre_turns.proofs.Terms.{MarksServe, AcceptsByStop, first}
 use Rattle.sre_model.specs.Found.{Asked, is_accepted}
-use Rattle.sre_model.specs.Grammar.{WholeItems}
-use Rattle.sre_model.proofs.MarksApart.{SameStops}
-use Rattle.sre_turns.specs.MovesAtReferences.{HasReference}
-use Rattle.sre_turns.specs.Machine.{Spot, Choice, Run, Marks, Way, Runs, Waits}
-use Rattle.sre_turns.specs.Alike.{Alike}
-use Rattle.sre_turns.specs.Hopeless.{Fruitless, Hopeless, MarksServe, AcceptsByStop, is_inside}
+use Rattle.sre_turns.specs.Machine.{Spot, Choice, Marks, Way}
+use Rattle.sre_turns.specs.Hopeless.{Fruitless, is_inside}
 use Rattle.sre_turns.proofs.semantics.FirstOutcomes.{none_passes, fruit_waits}
 use Rattle.sre_turns.proofs.memoization.SameComes.{marked_come}
-use Rattle.sre_model.specs.Ways.{first}
 
 -- the words of a tree that has no reference have none
 pub no_reference : (ws : List ℕ) (t : Tree) → WholeItems ws t → refers t ≡ false → HasReference ws → ⊥

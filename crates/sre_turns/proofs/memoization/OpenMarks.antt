@@ -1,13 +1,9 @@
 -- No configuration is reached that is equivalent to one whose marker waits: equivalent ones take as many steps, and the
 -- one reached has fewer to come than the one that is tried. That the step bound suffices rests on this.
-use Rattle.std.proofs.Common.{ℕ, ◌+◌, ◌≤◌, List, [], ◌∷◌, arith}
-use Rattle.sre_turns.specs.MovesAtReferences.{HasReference}
-use Rattle.sre_turns.specs.Limits.{Limit, tried_spots}
-use Rattle.sre_turns.specs.Machine.{Point, Spot, Choice, Else, Keep, Trying, BoardValue, Run, StringCursor, Way, Runs}
-use Rattle.sre_turns.specs.Machine.{Waits, otherwise, kept, tried, Arrives, spot}
-use Rattle.std.specs.List.{AllByRecursion}
-use Rattle.sre_turns.specs.Alike.{Alike}
-use Rattle.sre_turns.specs.Attempts.{Attempt}
+use Rattle.sre_turns.proofs.Terms.{ℕ, ◌+◌, ◌≤◌, List, [], ◌∷◌, arith, HasReference, Limit, tried_spots, BoardValue, Run}
+use Rattle.sre_turns.proofs.Terms.{StringCursor, Runs, Waits, otherwise, kept, tried, Arrives, spot, AllByRecursion}
+use Rattle.sre_turns.proofs.Terms.{Alike, Attempt}
+use Rattle.sre_turns.specs.Machine.{Point, Spot, Choice, Else, Keep, Trying, Way}
 use Rattle.sre_turns.proofs.memoization.SameComes.{same_comes}
 
 -- what is tried is of no spot that is alike to this one

@@ -1,21 +1,16 @@
 -- Equivalent configurations with equivalent captures have equivalent outcomes in as many steps. Hopelessness rests on
 -- where these stop, the step bound on the number of steps: no configuration leads to an equivalent one.
-use Rattle.std.proofs.Common.{◌≡◌, ℕ, suc, ◌+◌, List, [], ◌∷◌, refl, sym, ap, subst, arith, inl, inr, Bool, true, Some}
+use Rattle.sre_turns.proofs.Terms.{◌≡◌, ℕ, suc, ◌+◌, List, [], ◌∷◌, refl, sym, ap, subst, arith, inl, inr, Bool, true}
+use Rattle.sre_turns.proofs.Terms.{Some, Marks, Way, SameStops, Again, Point, Region, Spot, Move, End, Split, Enter}
+use Rattle.sre_turns.proofs.Terms.{closing_move, HasReference, Runs, turns, Comes, stops, ends, goes, splits, enters}
+use Rattle.sre_turns.proofs.Terms.{least_from, LoopsAlike, Alike, AskedMark, MarksAlike, OutcomesAlike, PlacesAsk}
+use Rattle.sre_turns.proofs.Terms.{AskedByPlace, PointAsks, LoopsAsk, Matters, MattersBehind}
 use Rattle.std.proofs.Common.{slice_get}
-use Rattle.sre_model.specs.Marks.{Marks}
 use Rattle.sre_model.specs.Subject.{Subject}
-use Rattle.sre_model.specs.Ways.{Way}
-use Rattle.sre_model.proofs.MarksApart.{SameStops}
 use Rattle.sre_turns.specs.declared.Frame.{Frame}
-use Rattle.sre_turns.specs.declared.Point.TheVariants.{Instruction, Again}
-use Rattle.sre_turns.specs.declared.Point.{Point}
-use Rattle.sre_turns.specs.declared.Region.{Region}
-use Rattle.sre_turns.specs.Moves.{Spot, spot_at, Move, Stop, End, Go, Split, Enter, closing_move}
-use Rattle.sre_turns.specs.MovesAtReferences.{HasReference}
-use Rattle.sre_turns.specs.Machine.{Runs, turns, Comes, stops, ends, goes, splits, enters}
-use Rattle.sre_turns.specs.Alike.{least_from, LoopsAlike, Alike}
-use Rattle.sre_turns.specs.Asked.{AskedMark, MarksAlike, OutcomesAlike}
-use Rattle.sre_turns.specs.AskedPlaces.{Lies, PlacesAsk, AskedByPlace, PointAsks, LoopsAsk, Matters, MattersBehind}
+use Rattle.sre_turns.specs.declared.Point.TheVariants.{Instruction}
+use Rattle.sre_turns.specs.Moves.{spot_at, Stop, Go}
+use Rattle.sre_turns.specs.AskedPlaces.{Lies}
 use Rattle.sre_turns.specs.AskedPlaces.{MarksIdle, SaysOfBodies, SaysOf, AreIdle}
 use Rattle.sre_turns.proofs.memoization.AlikeLoops.{loops-alike}
 use Rattle.sre_turns.proofs.analyses.AskedPlaces.{told_alike}

@@ -1,31 +1,23 @@
 -- In a body that does not branch the machine has at most one way to go on at each point. An atomic scope that is
 -- entered has a body, with what its tree has.
 -- That the step bound suffices (`enough` of sre_engine) rests on this.
-use Rattle.std.proofs.Common.{◌≡◌, ℕ, ◌+◌, ◌-◌, ◌≤◌, Bool, true, false, List, [], ◌∷◌, refl, sym, ap, ◌∙◌, subst, arith}
-use Rattle.std.specs.Bool.{⊤}
-use Rattle.std.proofs.lemmas.Bool.{or_parts, true≢false, or_left, or_right}
-use Rattle.sre_chars.specs.declared.constants.SreOpcode.{SreOpcode}
+use Rattle.sre_turns.proofs.Terms.{◌≡◌, ℕ, ◌+◌, ◌-◌, ◌≤◌, Bool, true, false, List, [], ◌∷◌, refl, sym, ap, ◌∙◌, subst}
+use Rattle.sre_turns.proofs.Terms.{arith, ⊤, or_parts, true≢false, or_left, or_right, SreOpcode, Tree, Item, Branch}
+use Rattle.sre_turns.proofs.Terms.{Loop, PossessiveLoop, Atomic, Look, Sign, Marks, group, Folding, of_tree, of_item}
+use Rattle.sre_turns.proofs.Terms.{of_parts, skip, Opcode, Operands, ReadsItem, backs, forks, has_forked_region, Role}
+use Rattle.sre_turns.proofs.Terms.{ToEnd, role, HasRole, item_role, item_here, same_opcode, same_word, Owed, Further}
+use Rattle.sre_turns.proofs.Terms.{Region, Again, Point, Spot, Move, Enter, MovesAt, repeats, LiesIn, forking, BodyOf}
+use Rattle.sre_turns.proofs.Terms.{IsBodyIn}
 use Rattle.sre_chars.specs.declared.constants.SreOpcode.TheVariants as opcode
-use Rattle.sre_model.specs.Tree.{Tree, Item, Branch, Loop, Run, PossessiveLoop, Atomic, Look, Sign}
-use Rattle.sre_model.specs.Marks.{Marks, group}
+use Rattle.sre_model.specs.Tree.{Run}
 use Rattle.sre_model.specs.Subject.{Subject}
-use Rattle.sre_model.specs.Folding.{Folding, of_tree, of_item, of_parts}
-use Rattle.sre_model.specs.Grammar.{skip, Opcode, Operands, ReadsItem}
-use Rattle.sre_model.specs.LooksBehind.{by_backs, backs}
-use Rattle.sre_model.specs.Regions.{by_forks, forks, by_forked_regions, has_forked_region}
-use Rattle.sre_model.specs.Roles.{Role, ToEnd, role}
-use Rattle.sre_model.proofs.Families.{HasRole, item_role, item_here}
+use Rattle.sre_model.specs.LooksBehind.{by_backs}
+use Rattle.sre_model.specs.Regions.{by_forks, by_forked_regions}
 use Rattle.sre_model.proofs.Foldings.{paired, tree_paired}
-use Rattle.sre_model.proofs.Words.{same_opcode, same_word}
 use Rattle.sre_turns.specs.declared.Frame.{Frame}
-use Rattle.sre_turns.specs.declared.Region.TheVariants.{Owed, Further}
-use Rattle.sre_turns.specs.declared.Region.{Region}
-use Rattle.sre_turns.specs.declared.Point.TheVariants.{Instruction, Again}
-use Rattle.sre_turns.specs.declared.Point.{Point}
-use Rattle.sre_turns.specs.Moves.{Spot, spot_at, Move, Enter}
-use Rattle.sre_turns.specs.Machine.{MovesAt}
-use Rattle.sre_turns.specs.Nested.{repeats, LiesIn}
-use Rattle.sre_turns.specs.Straight.{forking, ForksAt, BodyOf, IsBodyIn}
+use Rattle.sre_turns.specs.declared.Point.TheVariants.{Instruction}
+use Rattle.sre_turns.specs.Moves.{spot_at}
+use Rattle.sre_turns.specs.Straight.{ForksAt}
 use Rattle.sre_turns.proofs.bound.NestedPoints.{HoldsInGood, tree_holds}
 use Rattle.sre_turns.proofs.bound.PriceMoves.{enters}
 use Rattle.sre_turns.proofs.semantics.Turned.{Enters, atomic_group, lookaround, Turned, stopped, ended, went, forked}

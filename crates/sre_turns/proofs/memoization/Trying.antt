@@ -1,14 +1,13 @@
 -- An instruction or a possessive loop that is tried: a marker waits below all its outcomes, and where that marker is
 -- reached again, it has failed, and always will.
-use Rattle.std.proofs.Common.{◌≡◌, ℕ, ◌≤◌, Bool, List, [], ◌∷◌, drop, ap, refl, sym, subst, arith}
+use Rattle.sre_turns.proofs.Terms.{◌≡◌, ℕ, ◌≤◌, Bool, List, [], ◌∷◌, drop, ap, refl, sym, subst, arith, Limit, Stage}
+use Rattle.sre_turns.proofs.Terms.{Going, Splitting, spare, FaresBack, Frame, BoardValue, Run, StringCursor, Runs}
+use Rattle.sre_turns.proofs.Terms.{Waits, tried, GoesWith, Goes, Arrives, Tries, Backs, Later, spot, ChoicesConfined}
+use Rattle.sre_turns.proofs.Terms.{is_inside, Alike, LoopsAlike, least_from, Hopeless, AcceptsByStop, MarksServe}
 use Rattle.sre_turns.specs.declared.Next.TheVariants as next
-use Rattle.sre_turns.specs.Limits.{Limit, attempt, with_tried, without_tried, Stage, Going, Splitting, spare, FaresBack}
-use Rattle.sre_turns.specs.Machine.{Frame, Point, Spot, Trying, BoardValue, Counted, Run, StringCursor, Marks, Way}
-use Rattle.sre_turns.specs.Machine.{Runs, Waits, tried, GoesWith, Goes, Arrives, Tries, Backs, Later, spot}
-use Rattle.sre_turns.specs.Confining.{ChoicesConfined}
-use Rattle.sre_turns.specs.Fruit.{Fruitless, is_inside}
-use Rattle.sre_turns.specs.Alike.{Alike, LoopsAlike, least_from}
-use Rattle.sre_turns.specs.Hopeless.{Hopeless, AcceptsByStop, MarksServe}
+use Rattle.sre_turns.specs.Limits.{attempt, with_tried, without_tried}
+use Rattle.sre_turns.specs.Machine.{Point, Spot, Trying, Counted, Marks, Way}
+use Rattle.sre_turns.specs.Fruit.{Fruitless}
 use Rattle.sre_turns.proofs.semantics.FirstOutcomes.{first_none}
 use Rattle.sre_turns.proofs.memoization.Hopeless.{hopeless_again, fruitless_waits, fruitless_none}
 use Rattle.sre_turns.proofs.semantics.Moving.{standing, back_from}

@@ -1,20 +1,18 @@
 -- What waits twice: where the newest saved alternative is to continue right where the machine continues, it may go. All
 -- its outcomes come of continuing, too, and before.
-use Rattle.std.proofs.Common.{◌≡◌, inl, inr, ℕ, ◌+◌, ◌≤◌, Bool, true, false, List, [], ◌∷◌, ◌++◌, refl, sym, subst}
-use Rattle.std.proofs.Common.{arith}
-use Rattle.sre_model.proofs.MarksApart.{SameStops}
-use Rattle.sre_turns.specs.Board.{Else, BoardValue, Dropped}
+use Rattle.sre_turns.proofs.Terms.{◌≡◌, inl, inr, ℕ, ◌+◌, ◌≤◌, Bool, true, false, List, [], ◌∷◌, ◌++◌, refl, sym, subst}
+use Rattle.sre_turns.proofs.Terms.{arith, SameStops, Else, HasReference, AcceptsByStop, Instruction, Stop, Go, Run}
+use Rattle.sre_turns.proofs.Terms.{StringCursor, Subject, Runs, turns, Comes, stops, ends, goes, splits, enters, Waits}
+use Rattle.sre_turns.proofs.Terms.{otherwise, Arrives, Later, spot, Coming}
+use Rattle.sre_turns.specs.Board.{BoardValue, Dropped}
 use Rattle.sre_turns.specs.declared.Next.TheVariants as next
-use Rattle.sre_turns.specs.MovesAtReferences.{HasReference}
-use Rattle.sre_turns.specs.Hopeless.{AcceptsByStop, SameFruit, is_inside}
-use Rattle.sre_turns.specs.Machine.{Instruction, Spot, Move, Stop, End, Go, Split, Enter, closing_move, Limit, earlier}
-use Rattle.sre_turns.specs.Machine.{Run, StringCursor, Marks, Subject, Way, Runs, turns, Comes, stops, ends, goes}
-use Rattle.sre_turns.specs.Machine.{splits, enters, Waits, otherwise, Arrives, Later, spot}
+use Rattle.sre_turns.specs.Hopeless.{SameFruit, is_inside}
+use Rattle.sre_turns.specs.Machine.{Spot, Move, End, Split, Enter, closing_move, Limit, earlier}
+use Rattle.sre_turns.specs.Machine.{Marks, Way}
 use Rattle.sre_turns.proofs.semantics.FirstOutcomes.{SameFirsts, firsts_begin, firsts_again, fruit_waits}
 use Rattle.sre_turns.proofs.semantics.Moving.{standing}
 use Rattle.sre_turns.proofs.semantics.OneTurn.{comes}
 use Rattle.sre_turns.proofs.memoization.SameComes.{marks_apart}
-use Rattle.sre_turns.specs.Limits.{Coming}
 
 -- of outcomes that begin with the same under each test the first that counts is the same
 fruit_alike : (r : Run) → AcceptsByStop r → (inside : Bool) (xs ys : List Way) → SameFirsts xs ys

@@ -1,16 +1,10 @@
 -- Steps at a single-character repeat, and at its shorter and longer counts, where its operands are known.
-use Rattle.std.proofs.Common.{◌≡◌, ℕ, ◌+◌, ◌-◌, ◌<◌, ◌≤◌, true, false, nat_eq, nat_lt, List, refl, arith}
-use Rattle.std.proofs.lemmas.Bool.Decides.{nat_tests}
+use Rattle.sre_turns.proofs.Terms.{◌≡◌, ℕ, ◌+◌, ◌-◌, ◌<◌, ◌≤◌, true, false, nat_eq, nat_lt, List, refl, arith}
+use Rattle.sre_turns.proofs.Terms.{nat_tests, Test, RunKind, GreedyRun, LazyRun, PossessiveRun, unlimited, run_length}
+use Rattle.sre_turns.proofs.Terms.{longest_run, Opcode, run_opcode, skip, ToRun, run_role, goes_on, Frame, Instruction}
+use Rattle.sre_turns.proofs.Terms.{spot_at, Stop, Go, Subject, Moves, RunOperands, run_turn}
 use Rattle.sre_chars.specs.declared.constants.SreOpcode.TheVariants as opcode
-use Rattle.sre_model.specs.Tree.{Test, RunKind, GreedyRun, LazyRun, PossessiveRun}
-use Rattle.sre_model.specs.Ways.{unlimited, run_length, longest_run}
-use Rattle.sre_model.specs.Grammar.{Opcode, run_opcode, skip}
-use Rattle.sre_model.specs.Roles.{ToRun}
-use Rattle.sre_model.proofs.Families.{run_role}
-use Rattle.sre_model.proofs.Longest.{goes_on}
-use Rattle.sre_turns.specs.Machine.{Frame, Instruction, Shorter, Longer, spot_at, Move, Stop, Split, Go, Marks, Subject}
-use Rattle.sre_turns.specs.Machine.{Moves}
-use Rattle.sre_turns.specs.MovesInRuns.{RunOperands, run_turn}
+use Rattle.sre_turns.specs.Machine.{Shorter, Longer, Move, Split, Marks}
 use Rattle.sre_turns.proofs.semantics.Moving.{at_instruction}
 
 -- a step at the repeat

@@ -1,16 +1,10 @@
 -- The first outcome that passes a test: outcomes that come again after others change nothing of it, whatever the test
 -- is, as long as it depends on where they stop. So what waits twice may be left out where it comes later.
-use Rattle.std.proofs.Common.{◌≡◌, Bool, true, false, List, [], ◌∷◌, ◌++◌, refl, sym, ap, ◌∙◌, ℕ}
+use Rattle.sre_turns.proofs.Terms.{◌≡◌, Bool, true, false, List, [], ◌∷◌, ◌++◌, refl, sym, ap, ◌∙◌, ℕ, Way, first}
+use Rattle.sre_turns.proofs.Terms.{SameStops, Region, NotAhead, Spot, closing_move, SameFruit, is_inside, Waits}
+use Rattle.sre_turns.proofs.Terms.{outermost, otherwise, kept, tried, Choice, Else, Keep, Trying}
 use Rattle.std.specs.List.{filter}
 use Rattle.std.proofs.lemmas.List.Elements.{filter-append}
-use Rattle.sre_model.specs.Ways.{Way, first}
-use Rattle.sre_model.proofs.MarksApart.{SameStops}
-use Rattle.sre_turns.specs.declared.Region.{Region}
-use Rattle.sre_turns.specs.declared.Region.TheVariants.{NotAhead}
-use Rattle.sre_turns.specs.Moves.{Spot, closing_move}
-use Rattle.sre_turns.specs.Fruit.{SameFruit, is_inside}
-use Rattle.sre_turns.specs.Machine.{Waits, outermost, otherwise, kept, tried}
-use Rattle.sre_turns.specs.Board.{Choice, Else, Keep, Trying}
 use Rattle.sre_model.specs.Runs.{Run}
 
 -- a test that looks at where an outcome stops

@@ -1,12 +1,11 @@
 -- Steps that take the newest saved alternative.
-use Rattle.std.proofs.Common.{◌≡◌, ℕ, ◌≤◌, List, [], ◌∷◌, refl, sym, ap, ◌∙◌, subst, arith}
-use Rattle.sre_turns.specs.Board.{Else, Keep, choice, BoardValue}
-use Rattle.sre_turns.specs.Limits.{Limit, earlier, Wider, FaresBack, Coming}
-use Rattle.sre_turns.specs.Machine.{Point, Instruction, Again, Inside, Region, Run, StringCursor, Way, spot, Waits}
-use Rattle.sre_turns.specs.Machine.{outermost, otherwise, Goes, Arrives, Backs, Stands, Later, without_outcome}
-use Rattle.sre_turns.specs.Machine.{without_loop, IsBack, HasRun}
-use Rattle.sre_turns.specs.Confining.{ChoicesConfined}
-use Rattle.sre_turns.specs.declared.Next.{Next}
+use Rattle.sre_turns.proofs.Terms.{◌≡◌, ℕ, ◌≤◌, List, [], ◌∷◌, refl, sym, ap, ◌∙◌, subst, arith, Else, Keep, choice}
+use Rattle.sre_turns.proofs.Terms.{Limit, earlier, Wider, FaresBack, Coming, Instruction, Run, StringCursor, spot}
+use Rattle.sre_turns.proofs.Terms.{Waits, outermost, otherwise, Goes, Arrives, Backs, Stands, Later, without_outcome}
+use Rattle.sre_turns.proofs.Terms.{without_loop, HasRun, ChoicesConfined, Next}
+use Rattle.sre_turns.specs.Board.{BoardValue}
+use Rattle.sre_turns.specs.Machine.{Point, Again, Inside, Region, Way}
+use Rattle.sre_turns.specs.Machine.{IsBack}
 use Rattle.sre_turns.specs.declared.Next.TheVariants as next
 use Rattle.sre_turns.proofs.semantics.FirstOutcomes.{first_none}
 use Rattle.sre_turns.proofs.semantics.Moving.{arrived, standing}

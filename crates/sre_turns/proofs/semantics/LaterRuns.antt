@@ -1,22 +1,15 @@
 -- The ends that are left of a lazy repeat without a greatest count are those of the same repeat from later on. So what
 -- was saved of it before failures were memoized goes on as that repeat, which is looked up and tried like any other
 -- instruction.
-use Rattle.std.proofs.Common.{◌≡◌, ℕ, ◌+◌, ◌<◌, ◌≤◌, inl, inr, true, List, [], refl, arith}
+use Rattle.sre_turns.proofs.Terms.{◌≡◌, ℕ, ◌+◌, ◌<◌, ◌≤◌, inl, inr, true, List, [], refl, arith, Tree, Item, LazyRun}
+use Rattle.sre_turns.proofs.Terms.{Way, unlimited, first, Word, Opcode, Reads, Operands, HasTest, passes-below, Limit}
+use Rattle.sre_turns.proofs.Terms.{HereIn, FaresBoth, Frame, Instruction, spot_at, StringCursor, GoesBoth, IsConfined}
+use Rattle.sre_turns.proofs.Terms.{IsAt, LiesIn, repeats, price_of, AllPass}
 use Rattle.sre_chars.specs.declared.constants.SreOpcode.TheVariants as opcode
-use Rattle.sre_model.specs.Tree.{Tree, Item, LazyRun}
-use Rattle.sre_model.specs.Ways.{Way, unlimited, first}
-use Rattle.sre_model.specs.Grammar.{Word, Opcode, Reads, Operands}
 use Rattle.sre_model.specs.Runs as runs
-use Rattle.sre_model.specs.Standing.{HasTest}
-use Rattle.sre_model.proofs.Bounds.{passes-below}
-use Rattle.sre_turns.specs.Limits.{Limit, HereIn, FaresBoth}
-use Rattle.sre_turns.specs.Machine.{Frame, Point, Instruction, Longer, Spot, spot_at, Choice, Counted, StringCursor}
-use Rattle.sre_turns.specs.Machine.{Marks, passes, GoesBoth}
-use Rattle.sre_turns.specs.Bodies.{IsConfined}
-use Rattle.sre_turns.specs.Nested.{IsAt, LiesIn, repeats}
-use Rattle.sre_turns.specs.Prices.{price_of}
+use Rattle.sre_turns.specs.Machine.{Point, Longer, Spot, Choice, Counted}
+use Rattle.sre_turns.specs.Machine.{Marks, passes}
 use Rattle.sre_turns.proofs.bound.PriceMoves.{later_run_covered}
-use Rattle.sre_turns.specs.RunEnds.{AllPass}
 use Rattle.sre_turns.proofs.bound.Faring.{fares_less}
 use Rattle.sre_turns.proofs.bound.HereMoves.{here_reached}
 use Rattle.sre_turns.proofs.semantics.LazyRunEnds.{longer_run}

@@ -1,18 +1,12 @@
 -- The outcomes of a lazy repeat without a greatest count: where more than its least count passes, those of its own
 -- first end, and then those of the repeat from the next character on. And its step where it has one end, or none.
-use Rattle.std.proofs.Common.{◌≡◌, ℕ, zero, suc, ◌+◌, ◌-◌, ◌<◌, ◌≤◌, Bool, true, false, List, ◌++◌, refl, sym, ap}
-use Rattle.std.proofs.Common.{subst, arith}
+use Rattle.sre_turns.proofs.Terms.{◌≡◌, ℕ, zero, suc, ◌+◌, ◌-◌, ◌<◌, ◌≤◌, Bool, true, false, List, ◌++◌, refl, sym, ap}
+use Rattle.sre_turns.proofs.Terms.{subst, arith, Test, Way, unlimited, run_length, HasTest, passes-below, run_has}
+use Rattle.sre_turns.proofs.Terms.{word_of, Frame, Instruction, spot_at, Stop, Run, Subject, Moves, Runs, turns, stops}
+use Rattle.sre_turns.proofs.Terms.{RunOperands, AllPass}
 use Rattle.sre_chars.specs.declared.constants.SreOpcode.TheVariants as opcode
-use Rattle.sre_model.specs.Tree.{Test}
-use Rattle.sre_model.specs.Ways.{Way, unlimited, run_length}
-use Rattle.sre_model.specs.Standing.{HasTest}
-use Rattle.sre_model.proofs.Bounds.{passes-below}
-use Rattle.sre_model.proofs.Longest.{run_has}
-use Rattle.sre_model.proofs.Words.{word_of}
-use Rattle.sre_turns.specs.Machine.{Frame, Instruction, Longer, Spot, spot_at, Stop, Split, Run, Marks, Subject, passes}
-use Rattle.sre_turns.specs.Machine.{Word, Opcode, skip, Moves, Runs, turns, stops}
-use Rattle.sre_turns.specs.MovesInRuns.{RunOperands}
-use Rattle.sre_turns.specs.RunEnds.{AllPass}
+use Rattle.sre_turns.specs.Machine.{Longer, Spot, Split, Marks, passes}
+use Rattle.sre_turns.specs.Machine.{Word, Opcode, skip}
 use Rattle.sre_turns.proofs.semantics.AtRuns.{lazy_none, lazy_splits, longer_none, longer_splits}
 use Rattle.sre_turns.proofs.semantics.AfterSteps.{stopped, parted, split}
 

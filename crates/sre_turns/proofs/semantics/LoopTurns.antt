@@ -1,12 +1,9 @@
 -- What holds of each turn that a loop in progress may make holds of its turn: of a body, of the loop's end, and of both
 -- in either order.
-use Rattle.std.proofs.Common.{ℕ, ◌+◌, Bool, true, false, cond, nat_lt, Some, List}
-use Rattle.sre_model.specs.Tree.{Order, Greedy, Lazy}
-use Rattle.sre_model.specs.Ways.{may_repeat, first}
-use Rattle.sre_model.specs.Grammar.{skip}
-use Rattle.sre_turns.specs.declared.Region.TheVariants.{Owed, Further}
-use Rattle.sre_turns.specs.Moves.{Spot, Move, Go, Split}
-use Rattle.sre_turns.specs.MovesInLoops.{at_body, behind, in_order, enter_body, UntilMove, AgainMove}
+use Rattle.sre_turns.proofs.Terms.{ℕ, ◌+◌, Bool, true, false, cond, nat_lt, Some, List, Order, Greedy, Lazy, may_repeat}
+use Rattle.sre_turns.proofs.Terms.{first, skip, Owed, Further, Spot, Move, Split, at_body, behind, in_order, enter_body}
+use Rattle.sre_turns.proofs.Terms.{UntilMove, AgainMove}
+use Rattle.sre_turns.specs.Moves.{Go}
 
 module _ (Q : Move → Type 0) where
   by_test : (b : Bool) {v w : Move} → Q v → Q w → Q (cond b v w)

@@ -1,42 +1,31 @@
 -- A step of the machine, whatever the opcode: what it comes to, and that the accepted outcomes begin as they did.
-use Rattle.std.proofs.Common.{◌≡◌, ℕ, suc, ◌+◌, ◌<◌, ◌≤◌, List, [], ◌∷◌, ◌++◌, length, refl, sym, ap, ◌∙◌, subst, arith}
-use Rattle.std.proofs.Common.{true}
-use Rattle.std.proofs.lemmas.List.{append-nil}
-use Rattle.sre_chars.specs.declared.constants.SreOpcode.{SreOpcode}
+use Rattle.sre_turns.proofs.Terms.{◌≡◌, ℕ, suc, ◌+◌, ◌<◌, ◌≤◌, List, [], ◌∷◌, ◌++◌, length, refl, sym, ap, ◌∙◌, subst}
+use Rattle.sre_turns.proofs.Terms.{arith, true, append-nil, SreOpcode, Marks, Way, first, Opcode, Choice, Else, Keep}
+use Rattle.sre_turns.proofs.Terms.{Trying, choice, from_region, Region, Inside, Tried, TriedAgain, Point, Spot, Move}
+use Rattle.sre_turns.proofs.Terms.{End, Split, Enter, Limit, earlier, raised, pool, CodeAt, FaresAt, Stage, Coming}
+use Rattle.sre_turns.proofs.Terms.{Going, Splitting, spare, share, FaresBoth, price_of, toll, toll_by, split_toll}
+use Rattle.sre_turns.proofs.Terms.{Counted, StandsConfined, BothConfined, Placed, InRole, Moves, MovesAt, Runs, turns}
+use Rattle.sre_turns.proofs.Terms.{Comes, stops, ends, goes, splits, enters, Waits, outermost, otherwise, kept, tried}
+use Rattle.sre_turns.proofs.Terms.{Goes, Arrives, Tries, GoesBoth, Later, spot, HasRun, GoesWith, Refuses, Skips}
+use Rattle.sre_turns.proofs.Terms.{SkipsBoth, Exhausted, Continues, Advances, Chooses, Role, ToTest, role, begins_test}
+use Rattle.sre_turns.proofs.Terms.{same_opcode, opcode_within, some_test, MarklessRegions}
 use Rattle.sre_chars.specs.declared.string.StringCursor.{StringCursor}
-use Rattle.sre_model.specs.Marks.{Marks}
 use Rattle.sre_model.specs.Subject.{Subject}
-use Rattle.sre_model.specs.Ways.{Way, first}
-use Rattle.sre_model.specs.Grammar.{Opcode}
-use Rattle.sre_turns.specs.Board.{Choice, Else, Keep, Trying, choice, from_region, BoardValue}
+use Rattle.sre_turns.specs.Board.{BoardValue}
 use Rattle.sre_turns.specs.declared.Frame.{Frame}
-use Rattle.sre_turns.specs.declared.Region.{Region}
-use Rattle.sre_turns.specs.declared.Point.TheVariants.{Instruction, Inside, Tried, TriedAgain}
-use Rattle.sre_turns.specs.declared.Point.{Point}
-use Rattle.sre_turns.specs.Moves.{Spot, spot_at, Move, Stop, End, Go, Split, Enter, TestMove}
-use Rattle.sre_turns.specs.Limits.{Limit, earlier, raised, pool, CodeAt, FaresAt, Stage, Coming, Going, Splitting}
-use Rattle.sre_turns.specs.Limits.{spare, share, FaresBoth}
-use Rattle.sre_turns.specs.Prices.{price_of, toll, toll_by, split_toll}
+use Rattle.sre_turns.specs.declared.Point.TheVariants.{Instruction}
+use Rattle.sre_turns.specs.Moves.{spot_at, Stop, Go, TestMove}
 use Rattle.sre_turns.specs.Lying.{repeats}
-use Rattle.sre_turns.specs.Settled.{Counted}
-use Rattle.sre_turns.specs.Confining.{StandsConfined, BothConfined}
 use Rattle.sre_turns.proofs.memoization.Confining.{turn_confined, goes_confined, splits_confined, first_confined}
 use Rattle.sre_turns.proofs.memoization.Confining.{first_left, second_left}
 use Rattle.sre_turns.proofs.bound.Faring.{FreeOfToll, turn_leaves, fares_less, first_waits, first_alone, second_alone}
 use Rattle.sre_turns.proofs.bound.Faring.{second_goes, run_code, with_tolls, with_toll, run_place, place_left}
 use Rattle.sre_turns.proofs.bound.Faring.{share_more}
-use Rattle.sre_turns.specs.Machine.{Placed, InRole, Moves, MovesAt, Runs, turns, Comes, stops, ends, goes, splits}
-use Rattle.sre_turns.specs.Machine.{enters, Waits, outermost, otherwise, kept, tried, Goes, Arrives, Tries, GoesBoth}
-use Rattle.sre_turns.specs.Machine.{Later, spot, HasRun, IsAt, GoesWith, Refuses, Skips, SkipsBoth, Exhausted}
-use Rattle.sre_turns.specs.Machine.{Continues, Advances, Chooses}
+use Rattle.sre_turns.specs.Machine.{IsAt}
 use Rattle.sre_model.specs.Runs.{Run}
-use Rattle.sre_model.specs.Roles.{Role, ToTest, role, begins_test}
 use Rattle.sre_turns.specs.declared.Next.TheVariants as next
-use Rattle.sre_model.proofs.Words.{same_opcode, opcode_within}
-use Rattle.sre_model.proofs.Families.{some_test}
 use Rattle.sre_turns.proofs.semantics.OneTurn.{comes}
 use Rattle.sre_turns.proofs.semantics.AfterSteps.{has_run, stopped, went, parted}
-use Rattle.sre_turns.specs.Bodies.{MarklessRegions}
 
 -- what stands at an instruction
 pub in_role : {ws : List ℕ} {s : Subject} {i p n : ℕ} {fs : List Frame} {m : Marks} {os : List Way} (o : SreOpcode)

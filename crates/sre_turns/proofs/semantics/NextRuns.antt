@@ -2,24 +2,18 @@
 -- later, and of its own first end; of a possessive one, of one of the two. While failures are memoized the machine goes
 -- by that, so that each end is tried once, from wherever the repeat is reached. Such a step has two ways to go on at
 -- most, so the credits of one step pay for it.
-use Rattle.std.proofs.Common.{◌≡◌, ℕ, ◌+◌, ◌-◌, ◌<◌, ◌≤◌, false, List, ◌++◌, refl, sym, ap, ◌∙◌, subst, arith}
+use Rattle.sre_turns.proofs.Terms.{◌≡◌, ℕ, ◌+◌, ◌-◌, ◌<◌, ◌≤◌, false, List, ◌++◌, refl, sym, ap, ◌∙◌, subst, arith}
+use Rattle.sre_turns.proofs.Terms.{SreOpcode, Way, unlimited, run_length, longest_run, HasTest, passes-below, Limit}
+use Rattle.sre_turns.proofs.Terms.{FaresAt, FaresBoth, Splitting, Coming, Frame, Instruction, spot_at, Stop, BoardValue}
+use Rattle.sre_turns.proofs.Terms.{Run, StringCursor, Subject, Moves, Tries, GoesBoth, Later, spot, RunOperands}
+use Rattle.sre_turns.proofs.Terms.{price_of, end_price, split_toll, steps, RunKind, GreedyRun, LazyRun, PossessiveRun}
+use Rattle.sre_turns.proofs.Terms.{Test, ToRun, role, word_of, AllPass}
 use Rattle.std.proofs.Common.{append-nil}
-use Rattle.sre_chars.specs.declared.constants.SreOpcode.{SreOpcode}
 use Rattle.sre_chars.specs.declared.constants.SreOpcode.TheVariants as opcode
-use Rattle.sre_model.specs.Ways.{Way, unlimited, run_length, longest_run}
-use Rattle.sre_model.specs.Standing.{HasTest}
-use Rattle.sre_model.proofs.Bounds.{passes-below}
-use Rattle.sre_turns.specs.Limits.{Limit, FaresAt, FaresBoth, Splitting, Coming}
-use Rattle.sre_turns.specs.Machine.{Frame, Instruction, Shorter, Longer, Spot, spot_at, Stop, Split, Choice, BoardValue}
-use Rattle.sre_turns.specs.Machine.{Counted, Run, StringCursor, Subject, passes, Word, Opcode, skip, Moves, Tries}
-use Rattle.sre_turns.specs.Machine.{GoesBoth, Later, spot, Marks}
-use Rattle.sre_turns.specs.MovesInRuns.{RunOperands}
-use Rattle.sre_turns.specs.Prices.{price_of, end_price, split_toll, steps}
-use Rattle.sre_model.specs.Tree.{RunKind, GreedyRun, LazyRun, PossessiveRun, Test}
-use Rattle.sre_model.specs.Roles.{ToRun, role}
+use Rattle.sre_turns.specs.Machine.{Shorter, Longer, Spot, Split, Choice}
+use Rattle.sre_turns.specs.Machine.{Counted, passes, Word, Opcode, skip}
+use Rattle.sre_turns.specs.Machine.{Marks}
 use Rattle.sre_turns.proofs.bound.PriceMoves.{split_is}
-use Rattle.sre_model.proofs.Words.{word_of}
-use Rattle.sre_turns.specs.RunEnds.{AllPass}
 use Rattle.sre_turns.specs.declared.Next.TheVariants as next
 use Rattle.sre_turns.proofs.memoization.Confining.{splits_confined, first_left}
 use Rattle.sre_turns.proofs.bound.Faring.{fares_less, fares_earlier, run_code}

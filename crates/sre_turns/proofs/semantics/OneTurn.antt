@@ -1,15 +1,8 @@
 -- A step is determined: no configuration has two moves, so its outcomes come of its one step.
-use Rattle.std.proofs.Common.{◌≡◌, ℕ, ◌+◌, List, ◌∷◌, refl, sym, ◌∙◌, subst}
-use Rattle.sre_model.specs.Marks.{Marks, group}
+use Rattle.sre_turns.proofs.Terms.{◌≡◌, ℕ, ◌+◌, List, ◌∷◌, refl, sym, ◌∙◌, subst, Marks, group, Way, Word, same_word}
+use Rattle.sre_turns.proofs.Terms.{Point, Spot, Move, LoopMove, Moves, Runs, turns, Comes}
 use Rattle.sre_model.specs.Subject.{Subject}
-use Rattle.sre_model.specs.Ways.{Way}
-use Rattle.sre_model.specs.Grammar.{Word}
-use Rattle.sre_model.proofs.Words.{same_word}
 use Rattle.sre_turns.specs.declared.Frame.{Frame}
-use Rattle.sre_turns.specs.declared.Point.{Point}
-use Rattle.sre_turns.specs.Moves.{Spot, Move}
-use Rattle.sre_turns.specs.MovesInLoops.{LoopMove}
-use Rattle.sre_turns.specs.Machine.{Moves, Runs, turns, Comes}
 use Rattle.sre_turns.proofs.semantics.Turned.{Turned, stopped, ended, went, forked, marked, grouped, begun, entered}
 use Rattle.sre_turns.proofs.semantics.Turned.{looped, repeated, point_turned}
 

@@ -1,26 +1,18 @@
 -- How far a step reaches: no further back than its configuration, not out of the range, and not before the last bodies
 -- of its loops began. So its outcomes end no earlier than at the least position to which its point comes back: after an
 -- atomic group and a body of a possessive loop no position is earlier than before it. Equivalence rests on that.
-use Rattle.std.proofs.Common.{◌≡◌, ℕ, ◌≤◌, true, List, [], ◌∷◌, ◌++◌, drop, Option, Some, None, refl, subst, arith}
-use Rattle.std.specs.Bool.{⊤}
-use Rattle.std.specs.List.{AllByRecursion}
-use Rattle.sre_model.specs.Marks.{Marks, group}
+use Rattle.sre_turns.proofs.Terms.{◌≡◌, ℕ, ◌≤◌, true, List, [], ◌∷◌, ◌++◌, drop, Option, Some, None, refl, subst, arith}
+use Rattle.sre_turns.proofs.Terms.{⊤, AllByRecursion, Marks, group, Way, first, Ahead, NotAhead, Further, Region, Point}
+use Rattle.sre_turns.proofs.Terms.{Spot, Move, End, Split, Enter, closing_move, next_frame, MovesAt, Runs, turns, Comes}
+use Rattle.sre_turns.proofs.Terms.{stops, ends, goes, splits, enters, least_from, goes_behind, AllBegunBy, each-append}
+use Rattle.sre_turns.proofs.Terms.{each-weaken}
 use Rattle.sre_model.specs.Subject.{Subject}
-use Rattle.sre_model.specs.Ways.{Way, first}
 use Rattle.sre_turns.specs.declared.Frame.{Frame}
-use Rattle.sre_turns.specs.declared.Region.TheVariants.{Ahead, NotAhead, Further}
-use Rattle.sre_turns.specs.declared.Region.{Region}
 use Rattle.sre_turns.specs.declared.Point.TheVariants.{Instruction}
-use Rattle.sre_turns.specs.declared.Point.{Point}
-use Rattle.sre_turns.specs.Moves.{Spot, spot_at, Move, Stop, End, Go, Split, Enter, closing_move}
-use Rattle.sre_turns.specs.MovesInLoops.{next_frame}
-use Rattle.sre_turns.specs.Machine.{MovesAt, Runs, turns, Comes, stops, ends, goes, splits, enters}
-use Rattle.sre_turns.specs.Alike.{least_from}
-use Rattle.sre_turns.specs.Straight.{goes_behind}
-use Rattle.sre_turns.specs.Nested.{BegunBy, AllBegunBy}
+use Rattle.sre_turns.specs.Moves.{spot_at, Stop, Go}
+use Rattle.sre_turns.specs.Nested.{BegunBy}
 use Rattle.sre_turns.proofs.semantics.Turned.{Turned, stopped, ended, went, forked, marked, grouped, begun, entered}
 use Rattle.sre_turns.proofs.semantics.Turned.{looped, repeated, point_turned}
-use Rattle.sre_model.proofs.Each.{each-append, each-weaken}
 use Rattle.sre_turns.proofs.semantics.LoopTurns.{until_holds, again_holds}
 
 -- each of some ways ends no earlier than at a position

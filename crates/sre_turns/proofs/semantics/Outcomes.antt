@@ -1,14 +1,9 @@
 -- The outcomes at a point, where what follows is known.
-use Rattle.std.proofs.Common.{◌≡◌, ℕ, ◌≤◌, List, [], ◌∷◌, ◌++◌, refl, ap, subst}
-use Rattle.std.specs.List.{flat_map}
-use Rattle.std.proofs.lemmas.List.{append-nil}
+use Rattle.sre_turns.proofs.Terms.{◌≡◌, ℕ, ◌≤◌, List, [], ◌∷◌, ◌++◌, refl, ap, subst, flat_map, append-nil, Way, Body}
+use Rattle.sre_turns.proofs.Terms.{here, Frame, Instruction, spot_at, Subject, Runs, turns, ends, ToEnd, Costs, ending}
 use Rattle.sre_chars.specs.declared.constants.SreOpcode.TheVariants as opcode
-use Rattle.sre_model.specs.Ways.{Way, Body, here}
-use Rattle.sre_turns.specs.Machine.{Frame, Point, Instruction, Spot, spot_at, End, Marks, Subject, Opcode, Runs, turns}
-use Rattle.sre_turns.specs.Machine.{ends}
-use Rattle.sre_model.specs.Roles.{ToEnd}
+use Rattle.sre_turns.specs.Machine.{Point, Spot, End, Marks, Opcode}
 use Rattle.sre_turns.proofs.semantics.Moving.{at_instruction}
-use Rattle.sre_model.specs.Cost.{Costs, ending}
 
 -- what follows each of some ways
 abbrev pub followed : Body → List Way → List Way

@@ -1,18 +1,15 @@
 -- The outcomes of a possessive repeat without a greatest count: where more than its least count passes, those of the
 -- repeat from the next character on, and else those of its tail. So they are those of its tail after all characters
 -- that pass.
-use Rattle.std.proofs.Common.{◌≡◌, ℕ, zero, suc, ◌+◌, ◌-◌, ◌<◌, ◌≤◌, Bool, true, false, List, refl, sym, subst, arith}
-use Rattle.std.proofs.Common.{nat_lt, nat_eq, cond}
-use Rattle.std.proofs.lemmas.Bool.Decides.{nat_tests}
+use Rattle.sre_turns.proofs.Terms.{◌≡◌, ℕ, zero, suc, ◌+◌, ◌-◌, ◌<◌, ◌≤◌, Bool, true, false, List, refl, sym, subst}
+use Rattle.sre_turns.proofs.Terms.{arith, nat_lt, nat_eq, cond, nat_tests, Test, PossessiveRun, Way, unlimited}
+use Rattle.sre_turns.proofs.Terms.{run_length, longest_run, run_passes, run_stopped, run_has, past_end, Frame}
+use Rattle.sre_turns.proofs.Terms.{Instruction, spot_at, Stop, Go, Subject, Moves, Runs, turns, goes, RunOperands}
+use Rattle.sre_turns.proofs.Terms.{AllPass}
 use Rattle.sre_chars.specs.declared.constants.SreOpcode.TheVariants as opcode
-use Rattle.sre_model.specs.Tree.{Test, PossessiveRun}
-use Rattle.sre_model.specs.Ways.{Way, unlimited, run_length, longest_run}
-use Rattle.sre_model.proofs.Longest.{run_passes, run_stopped, run_has}
-use Rattle.sre_model.proofs.Passing.{past_end}
-use Rattle.sre_turns.specs.Machine.{Frame, Instruction, Spot, spot_at, Move, Stop, Go, Marks, Subject, passes, Opcode}
-use Rattle.sre_turns.specs.Machine.{skip, Moves, Runs, turns, goes}
-use Rattle.sre_turns.specs.MovesInRuns.{RunOperands, onward_turn}
-use Rattle.sre_turns.specs.RunEnds.{AllPass}
+use Rattle.sre_turns.specs.Machine.{Spot, Move, Marks, passes, Opcode}
+use Rattle.sre_turns.specs.Machine.{skip}
+use Rattle.sre_turns.specs.MovesInRuns.{onward_turn}
 use Rattle.sre_turns.proofs.semantics.AtRuns.{at_run, bounded_stops, bounded_goes}
 use Rattle.sre_turns.proofs.semantics.AfterSteps.{went, stopped}
 use Rattle.sre_turns.proofs.semantics.LazyRunEnds.{least_passed}

@@ -1,30 +1,25 @@
 -- The bytecode of a tree has the tree's match paths.
-use Rattle.std.proofs.Common.{◌≡◌, ℕ, suc, ◌+◌, ◌-◌, ◌<◌, ◌≤◌, true, false, ◌||◌, List, [], length, refl, sym, arith}
-use Rattle.std.proofs.lemmas.Bool.{or_left, or_right, or_parts}
-use Rattle.std.proofs.lemmas.Grind.{flat_map-append}
+use Rattle.sre_turns.proofs.Terms.{◌≡◌, ℕ, suc, ◌+◌, ◌-◌, ◌<◌, ◌≤◌, true, false, ◌||◌, List, [], length, refl, sym}
+use Rattle.sre_turns.proofs.Terms.{arith, or_left, or_right, or_parts, flat_map-append, Tree, Atomic, Look, Empty, Then}
+use Rattle.sre_turns.proofs.Terms.{Item, Fail, One, At, Mark, Branch, GreedyRun, Trees, Only, Or, Loop, LazyRun}
+use Rattle.sre_turns.proofs.Terms.{PossessiveRun, PossessiveLoop, Reference, Exists, ExistsElse, refers, by_references}
+use Rattle.sre_turns.proofs.Terms.{asked_from, asked_to, of_item, of_branch, Marks, group, Way, Body, here, ways}
+use Rattle.sre_turns.proofs.Terms.{item_ways, marks_in_regions, by_marked_regions, word, skip, Opcode, Reads, ReadsItem}
+use Rattle.sre_turns.proofs.Terms.{ReadsBranch, AreWords, IsConfined, MarklessRegions, MayAsk, Frame, Instruction}
+use Rattle.sre_turns.proofs.Terms.{spot_at, Stop, Go, Subject, Runs, turns, stops, goes, ToFail, ToBranch}
+use Rattle.sre_turns.proofs.Terms.{flat_map-flat_map, opcode_within, reads_within, Costs, cost, item_cost}
 use Rattle.sre_chars.specs.declared.constants.SreOpcode.TheVariants as opcode
-use Rattle.sre_model.specs.Tree.{Tree, Atomic, Look, Empty, Then, Item, Fail, One, At, Mark, Branch, Run, GreedyRun}
-use Rattle.sre_model.specs.Tree.{Trees, Only, Or, Loop, LazyRun, PossessiveRun, PossessiveLoop, Reference, Exists}
-use Rattle.sre_model.specs.Tree.{ExistsElse}
-use Rattle.sre_model.specs.References.{refers, by_references, asked_from, asked_to, by_groups, by_last_groups}
-use Rattle.sre_model.specs.Folding.{of_item, of_branch}
-use Rattle.sre_model.specs.Marks.{Marks, group}
-use Rattle.sre_model.specs.Ways.{Way, Body, here, ways, item_ways, branch_ways}
-use Rattle.sre_model.specs.MarksSet.{sets_mark, marks_in_regions, by_marked_regions}
-use Rattle.sre_model.specs.Grammar.{word, skip, Opcode, Reads, ReadsItem, ReadsBranch}
-use Rattle.sre_model.specs.Standing.{AreWords}
-use Rattle.sre_turns.specs.Bodies.{IsConfined, MarklessRegions}
-use Rattle.sre_turns.specs.MovesAtReferences.{MayAsk}
-use Rattle.sre_turns.specs.Machine.{Frame, Instruction, Alternatives, spot_at, Stop, Go, Subject, Runs, turns, stops}
-use Rattle.sre_turns.specs.Machine.{goes}
-use Rattle.sre_model.specs.Roles.{ToFail, ToBranch}
+use Rattle.sre_model.specs.Tree.{Run}
+use Rattle.sre_model.specs.References.{by_groups, by_last_groups}
+use Rattle.sre_model.specs.Ways.{branch_ways}
+use Rattle.sre_model.specs.MarksSet.{sets_mark}
+use Rattle.sre_turns.specs.Machine.{Alternatives}
 use Rattle.sre_turns.proofs.semantics.Moving.{at_instruction}
 use Rattle.sre_turns.proofs.bound.NestedMoves.{begins}
-use Rattle.sre_model.proofs.Each.{flat_map-flat_map}
 use Rattle.sre_model.proofs.Bounds.{ways-bounded}
-use Rattle.sre_model.proofs.Words.{opcode_within, word_there}
-use Rattle.sre_model.proofs.Places.{reads_within, alternative_long, branch_past}
-use Rattle.sre_model.specs.Cost.{Costs, cost, item_cost, branch_cost}
+use Rattle.sre_model.proofs.Words.{word_there}
+use Rattle.sre_model.proofs.Places.{alternative_long, branch_past}
+use Rattle.sre_model.specs.Cost.{branch_cost}
 use Rattle.sre_turns.proofs.semantics.Outcomes.{followed, Follows, Ran, moved, alone}
 use Rattle.sre_turns.proofs.semantics.RanAtItems.{one-ran, at-ran, mark-ran, alternative-ran, last_alternative}
 use Rattle.sre_turns.proofs.semantics.RanAtItems.{skip_there, jump-ran, atomic-ran, look-ran, reference-ran}

@@ -1,33 +1,25 @@
 -- The bytecode of items has their match paths: of tests, positions, captures, jumps and alternatives, of
 -- back-references and conditionals, of atomic groups and lookarounds.
-use Rattle.std.proofs.Common.{◌≡◌, ℕ, suc, ◌+◌, ◌<◌, ◌≤◌, Bool, true, false, cond, nat_lt, nat_eq, List, [], ◌++◌}
-use Rattle.std.proofs.Common.{length, refl, subst, arith, ◌-◌, ◌&&◌, nat_le, ap, Option, Some, None, ◌∷◌, map}
-use Rattle.std.proofs.lemmas.List.{append-nil}
-use Rattle.std.proofs.lemmas.Bool.Decides.{nat_tests}
-use Rattle.sre_chars.specs.Numbers.{at_number}
-use Rattle.sre_chars.specs.declared.constants.SreAtCode.{SreAtCode}
+use Rattle.sre_turns.proofs.Terms.{◌≡◌, ℕ, suc, ◌+◌, ◌<◌, ◌≤◌, Bool, true, false, cond, nat_lt, nat_eq, List, [], ◌++◌}
+use Rattle.sre_turns.proofs.Terms.{length, refl, subst, arith, ◌-◌, ◌&&◌, nat_le, ap, Option, Some, None, ◌∷◌, map}
+use Rattle.sre_turns.proofs.Terms.{append-nil, nat_tests, at_number, SreAtCode, One, At, Mark, Test, Fold, Sign}
+use Rattle.sre_turns.proofs.Terms.{Positive, Negative, Marks, set_mark, group, passes, holds_at, same_folded, Way, Body}
+use Rattle.sre_turns.proofs.Terms.{here, item_ways, first, Word, Opcode, skip, JumpsTo, test_opcode, TestOperands, word}
+use Rattle.sre_turns.proofs.Terms.{reference_opcode, look_opcode, passes-below, Bounded, EachBetween, Frame}
+use Rattle.sre_turns.proofs.Terms.{Instruction, spot_at, Stop, Go, Runs, turns, stops, goes, splits, Moves, enters}
+use Rattle.sre_turns.proofs.Terms.{Comes, ToTest, ToCheckPosition, ToMark, ToJump, ToRefer, ToCheckGroup}
+use Rattle.sre_turns.proofs.Terms.{ToGroupAtomically, ToLook, test_kind, test_role, reference_role, look_role}
+use Rattle.sre_turns.proofs.Terms.{word_past, Costs, item_cost, ending, atomic_cost, leb-true, and_parts, MayAsk, Asks}
+use Rattle.sre_turns.proofs.Terms.{asks, reference_turn, condition_place, IsConfined, MarklessRegions, look}
 use Rattle.sre_chars.specs.declared.constants.SreOpcode.TheVariants as opcode
-use Rattle.sre_model.specs.Tree.{One, At, Mark, Test, Fold, Sign, Positive, Negative}
-use Rattle.sre_model.specs.Marks.{Marks, set_mark, group}
-use Rattle.sre_model.specs.Subject.{Subject, passes, holds_at, same_folded}
-use Rattle.sre_model.specs.Ways.{Way, Body, here, item_ways, reference_ways, first, look_ways}
-use Rattle.sre_model.specs.Grammar.{Word, Opcode, skip, JumpsTo, test_opcode, TestOperands, word, reference_opcode}
-use Rattle.sre_model.specs.Grammar.{look_opcode}
-use Rattle.sre_model.proofs.Bounds.{passes-below, Bounded, EachBetween}
-use Rattle.sre_turns.specs.Machine.{Frame, Instruction, Alternatives, AtomicGroup, spot_at, Stop, Go, Spot, Move, Enter}
-use Rattle.sre_turns.specs.Machine.{closing_move, Runs, turns, stops, goes, splits, Moves, enters, Comes}
-use Rattle.sre_model.specs.Roles.{ToTest, ToCheckPosition, ToMark, ToJump, ToRefer, ToCheckGroup, ToGroupAtomically}
-use Rattle.sre_model.specs.Roles.{ToLook}
-use Rattle.sre_model.proofs.Families.{test_kind, test_role, reference_role, look_role}
+use Rattle.sre_model.specs.Subject.{Subject}
+use Rattle.sre_model.specs.Ways.{reference_ways, look_ways}
+use Rattle.sre_turns.specs.Machine.{Alternatives, AtomicGroup, Spot, Move, Enter}
+use Rattle.sre_turns.specs.Machine.{closing_move}
 use Rattle.sre_turns.proofs.semantics.Moving.{at_instruction}
-use Rattle.sre_model.proofs.Words.{word_past}
-use Rattle.sre_model.specs.Cost.{Costs, item_cost, reference_cost, condition_cost, ending, atomic_cost, look_cost}
+use Rattle.sre_model.specs.Cost.{reference_cost, condition_cost, look_cost}
 use Rattle.sre_model.specs.Cost.{looked_cost}
 use Rattle.sre_turns.proofs.semantics.Outcomes.{followed, Ran, moved, alone, Follows, region}
-use Rattle.std.proofs.lemmas.Bool.{leb-true, and_parts}
-use Rattle.sre_turns.specs.MovesAtReferences.{MayAsk, Asks, asks, reference_turn, condition_place}
-use Rattle.sre_turns.specs.Bodies.{IsConfined, MarklessRegions}
-use Rattle.sre_turns.specs.MovesInRegions.{look}
 
 -- a step that goes on where a test holds, and else comes to nothing
 tested : {ws : List ℕ} {s : Subject} {x : Spot} {j q : ℕ} {fs : List Frame} {m : Marks} (K : Body) (C : Costs)

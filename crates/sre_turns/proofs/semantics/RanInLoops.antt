@@ -1,32 +1,24 @@
 -- The bytecode of a loop has its match paths, and that of a possessive loop.
-use Rattle.std.proofs.Common.{◌≡◌, ℕ, zero, suc, ◌+◌, ◌-◌, ◌<◌, ◌≤◌, ◌⊎◌, inl, inr, Bool, true, false, cond, ◌&&◌, ◌||◌}
-use Rattle.std.proofs.Common.{not, nat_lt, nat_eq, min, Option, Some, None, List, [], ◌∷◌, ◌++◌, refl, ap, ◌∙◌, subst}
-use Rattle.std.proofs.Common.{arith}
-use Rattle.std.specs.List.{flat_map}
-use Rattle.std.proofs.lemmas.List.{append-nil}
-use Rattle.std.proofs.lemmas.Grind.{flat_map-append}
-use Rattle.std.proofs.lemmas.Bool.Decides.{nat_tests}
+use Rattle.sre_turns.proofs.Terms.{◌≡◌, ℕ, zero, suc, ◌+◌, ◌-◌, ◌<◌, ◌≤◌, ◌⊎◌, inl, inr, Bool, true, false, cond, ◌&&◌}
+use Rattle.sre_turns.proofs.Terms.{◌||◌, not, nat_lt, nat_eq, min, Option, Some, None, List, [], ◌∷◌, ◌++◌, refl, ap}
+use Rattle.sre_turns.proofs.Terms.{◌∙◌, subst, arith, flat_map, append-nil, flat_map-append, nat_tests, Order, Greedy}
+use Rattle.sre_turns.proofs.Terms.{Lazy, Way, Body, here, unlimited, may_repeat, first, Word, Opcode, skip}
+use Rattle.sre_turns.proofs.Terms.{until_opcode, in_order, until_move, again_move, Frame, Instruction, spot_at, Go}
+use Rattle.sre_turns.proofs.Terms.{Subject, Moves, Runs, turns, goes, splits, stops, enters, Comes, ToRepeat, ToLoop}
+use Rattle.sre_turns.proofs.Terms.{ToRepeatPossessively, until_role, flat_map-flat_map, Bounded, EachBetween}
+use Rattle.sre_turns.proofs.Terms.{word_within, Costs, ending, atomic_cost, IsConfined, MarklessRegions}
 use Rattle.sre_chars.specs.declared.constants.SreOpcode.TheVariants as opcode
-use Rattle.sre_model.specs.Tree.{Order, Greedy, Lazy}
-use Rattle.sre_model.specs.Ways.{Way, Body, here, unlimited, within, ordered, may_repeat, more, least, loop_ways, first}
+use Rattle.sre_model.specs.Ways.{within, ordered, more, least, loop_ways}
 use Rattle.sre_model.specs.Ways.{possessive_more, possessive_ways}
-use Rattle.sre_model.specs.Grammar.{Word, Opcode, skip, until_opcode}
-use Rattle.sre_turns.specs.MovesInLoops.{in_order, until_move, again_move}
-use Rattle.sre_turns.specs.Machine.{Frame, Instruction, Again, Owed, Further, Spot, spot_at, Move, Go, Split, Enter}
-use Rattle.sre_turns.specs.Machine.{closing_move, Marks, Subject, Moves, Runs, turns, goes, splits, stops, enters}
-use Rattle.sre_turns.specs.Machine.{Comes}
-use Rattle.sre_model.specs.Roles.{ToRepeat, ToLoop, ToRepeatPossessively}
-use Rattle.sre_model.proofs.Families.{until_role}
+use Rattle.sre_turns.specs.Machine.{Again, Owed, Further, Spot, Move, Split, Enter}
+use Rattle.sre_turns.specs.Machine.{closing_move, Marks}
 use Rattle.sre_turns.proofs.semantics.Moving.{at_instruction}
-use Rattle.sre_model.proofs.Each.{flat_map-flat_map}
-use Rattle.sre_model.proofs.Bounds.{Bounded, within-all, Between, EachBetween}
+use Rattle.sre_model.proofs.Bounds.{within-all, Between}
 use Rattle.sre_model.proofs.LoopCases.{stays}
-use Rattle.sre_model.proofs.Words.{word_within}
-use Rattle.sre_model.specs.Cost.{Costs, least_cost, more_cost, ending, atomic_cost, owed_cost, further_cost}
+use Rattle.sre_model.specs.Cost.{least_cost, more_cost, owed_cost, further_cost}
 use Rattle.sre_model.specs.Cost.{possessive_cost}
 use Rattle.sre_turns.proofs.semantics.Outcomes.{followed, Follows, Ran, alone, region}
 use Rattle.sre_model.specs.Loops.{first_of_body, or_here}
-use Rattle.sre_turns.specs.Bodies.{IsConfined, MarklessRegions}
 use Rattle.sre_model.proofs.PossessiveCases.{first-bounded, first_of_body-all}
 use Rattle.sre_turns.proofs.semantics.OneTurn.{loop_move}
 

@@ -1,19 +1,16 @@
 -- The bytecode of a single-character repeat has its match paths.
-use Rattle.std.proofs.Common.{[], ◌∷◌, ◌≡◌, ℕ, zero, suc, ◌+◌, ◌-◌, ◌<◌, ◌≤◌, Bool, true, false, cond, nat_lt, nat_eq}
-use Rattle.std.proofs.Common.{List, map, refl, arith, nat_le}
-use Rattle.std.proofs.lemmas.Bool.Decides.{nat_tests}
+use Rattle.sre_turns.proofs.Terms.{[], ◌∷◌, ◌≡◌, ℕ, zero, suc, ◌+◌, ◌-◌, ◌<◌, ◌≤◌, Bool, true, false, cond, nat_lt}
+use Rattle.sre_turns.proofs.Terms.{nat_eq, List, map, refl, arith, nat_le, nat_tests, GreedyRun, Test, LazyRun}
+use Rattle.sre_turns.proofs.Terms.{PossessiveRun, Body, unlimited, run_length, longest_run, Word, Opcode, skip}
+use Rattle.sre_turns.proofs.Terms.{test_opcode, TestOperands, RunOperands, Frame, Instruction, spot_at, Stop, Subject}
+use Rattle.sre_turns.proofs.Terms.{Runs, turns, stops, splits, longest_run-fits, goes_on, Costs}
 use Rattle.sre_chars.specs.declared.constants.SreOpcode.TheVariants as opcode
-use Rattle.sre_model.specs.Tree.{GreedyRun, Test, LazyRun, PossessiveRun}
-use Rattle.sre_model.specs.Ways.{Body, unlimited, run_length, longest_run, falling, rising, run_ways}
-use Rattle.sre_model.specs.Grammar.{Word, Opcode, skip, test_opcode, TestOperands}
-use Rattle.sre_turns.specs.MovesInRuns.{RunOperands}
-use Rattle.sre_turns.specs.Machine.{Frame, Instruction, Shorter, Longer, spot_at, Stop, Marks, Subject, Runs, turns}
-use Rattle.sre_turns.specs.Machine.{stops, splits}
+use Rattle.sre_model.specs.Ways.{falling, rising, run_ways}
+use Rattle.sre_turns.specs.Machine.{Shorter, Longer, Marks}
 use Rattle.sre_turns.proofs.semantics.AtRuns.{greedy_stops, greedy_splits, lazy_none, lazy_splits, longer_none}
 use Rattle.sre_turns.proofs.semantics.AtRuns.{longer_splits}
-use Rattle.sre_model.proofs.Bounds.{longest_run-fits}
-use Rattle.sre_model.proofs.Longest.{goes_on, longest_goes_on, longest_stops, least_there, least_short}
-use Rattle.sre_model.specs.Cost.{Costs, shorter_cost, run_cost, longer_cost, lazy_run_cost, longest_run_cost}
+use Rattle.sre_model.proofs.Longest.{longest_goes_on, longest_stops, least_there, least_short}
+use Rattle.sre_model.specs.Cost.{shorter_cost, run_cost, longer_cost, lazy_run_cost, longest_run_cost}
 use Rattle.sre_turns.proofs.semantics.Outcomes.{followed, Follows, Ran, moved, alone}
 use Rattle.sre_turns.proofs.semantics.PossessiveRunEnds.{longest_runs, longest_none}
 

@@ -1,20 +1,15 @@
 -- The outcomes of a greedy repeat without a greatest count: where more than its least count passes, those of the repeat
 -- from the next character on, and then those of its own first end. And its step where it has one end, or none.
-use Rattle.std.proofs.Common.{◌≡◌, ℕ, zero, suc, ◌+◌, ◌-◌, ◌<◌, ◌≤◌, Bool, true, false, List, [], ◌++◌, refl, sym, ◌∙◌}
-use Rattle.std.proofs.Common.{ap, subst, arith, append-nil, nat_lt}
+use Rattle.sre_turns.proofs.Terms.{◌≡◌, ℕ, zero, suc, ◌+◌, ◌-◌, ◌<◌, ◌≤◌, Bool, true, false, List, [], ◌++◌, refl, sym}
+use Rattle.sre_turns.proofs.Terms.{◌∙◌, ap, subst, arith, nat_lt, nat_tests, Test, Way, unlimited, run_length}
+use Rattle.sre_turns.proofs.Terms.{longest_run, HasTest, passes-below, run_passes, run_stopped, run_at_most, run_has}
+use Rattle.sre_turns.proofs.Terms.{word_of, Frame, Instruction, spot_at, Stop, Run, Subject, Moves, Runs, turns, stops}
+use Rattle.sre_turns.proofs.Terms.{RunOperands, AllPass}
+use Rattle.std.proofs.Common.{append-nil}
 use Rattle.std.proofs.lemmas.List.{append_assoc}
-use Rattle.std.proofs.lemmas.Bool.Decides.{nat_tests}
 use Rattle.sre_chars.specs.declared.constants.SreOpcode.TheVariants as opcode
-use Rattle.sre_model.specs.Tree.{Test}
-use Rattle.sre_model.specs.Ways.{Way, unlimited, run_length, longest_run}
-use Rattle.sre_model.specs.Standing.{HasTest}
-use Rattle.sre_model.proofs.Bounds.{passes-below}
-use Rattle.sre_model.proofs.Longest.{run_passes, run_stopped, run_at_most, run_has}
-use Rattle.sre_model.proofs.Words.{word_of}
-use Rattle.sre_turns.specs.Machine.{Frame, Instruction, Shorter, Spot, spot_at, Stop, Split, Run, Marks, Subject}
-use Rattle.sre_turns.specs.Machine.{passes, Word, Opcode, skip, Moves, Runs, turns, stops}
-use Rattle.sre_turns.specs.MovesInRuns.{RunOperands}
-use Rattle.sre_turns.specs.RunEnds.{AllPass}
+use Rattle.sre_turns.specs.Machine.{Shorter, Spot, Split, Marks}
+use Rattle.sre_turns.specs.Machine.{passes, Word, Opcode, skip}
 use Rattle.sre_turns.proofs.semantics.AtRuns.{greedy_stops, greedy_splits}
 use Rattle.sre_turns.proofs.semantics.AfterSteps.{Parted, stopped, parted, split}
 use Rattle.sre_turns.proofs.semantics.StepsInRuns.{shorter_stop, shorter_moves, shorter_within}

@@ -1,29 +1,17 @@
 -- How a run begins, and how it ends.
-use Rattle.std.proofs.Common.{◌≡◌, ℕ, ◌-◌, ◌≤◌, ◌++◌, Bool, true, false, List, [], ◌∷◌, refl, sym, ap, ◌∙◌, subst}
-use Rattle.std.proofs.Common.{arith, length, zero, suc}
-use Rattle.std.proofs.lemmas.Bool.{or_right, or_parts, true≢false}
+use Rattle.sre_turns.proofs.Terms.{◌≡◌, ℕ, ◌-◌, ◌≤◌, ◌++◌, Bool, true, false, List, [], ◌∷◌, refl, sym, ap, ◌∙◌, subst}
+use Rattle.sre_turns.proofs.Terms.{arith, length, zero, suc, or_right, or_parts, true≢false, Tree, Empty, Then, refers}
+use Rattle.sre_turns.proofs.Terms.{by_references, asked_from, asked_to, of_item, marks_in_regions, by_marked_regions}
+use Rattle.sre_turns.proofs.Terms.{behind_items, no_marks, Way, first, ways, Opcode, Reads, WholeItems, AreWords}
+use Rattle.sre_turns.proofs.Terms.{Choice, Else, Keep, Trying, from_region, SameFruit, is_inside, MayAsk, price}
+use Rattle.sre_turns.proofs.Terms.{Counted, SettledIn, Instruction, spot_at, Run, StringCursor, Waits, outermost}
+use Rattle.sre_turns.proofs.Terms.{otherwise, tried, Arrives, Ends, Stands, Later, Next, cost, ending, items_same}
 use Rattle.sre_chars.specs.declared.constants.SreOpcode.TheVariants as opcode
-use Rattle.sre_model.specs.Tree.{Tree, Empty, Then}
-use Rattle.sre_model.specs.References.{refers, by_references, asked_from, asked_to}
-use Rattle.sre_model.specs.Folding.{of_item}
-use Rattle.sre_model.specs.MarksSet.{marks_in_regions, by_marked_regions}
-use Rattle.sre_model.specs.Prefixes.{behind_items}
-use Rattle.sre_model.specs.Marks.{no_marks}
-use Rattle.sre_model.specs.Ways.{Way, first, ways}
-use Rattle.sre_model.specs.Grammar.{Opcode, Reads, WholeItems}
-use Rattle.sre_model.specs.Standing.{AreWords}
-use Rattle.sre_turns.specs.Board.{Choice, Else, Keep, Trying, from_region, BoardValue, bare}
-use Rattle.sre_turns.specs.Fruit.{SameFruit, is_inside}
-use Rattle.sre_turns.specs.MovesAtReferences.{MayAsk}
-use Rattle.sre_turns.specs.Prices.{price}
-use Rattle.sre_turns.specs.Settled.{Counted, SettledIn}
+use Rattle.sre_turns.specs.Board.{BoardValue, bare}
 use Rattle.sre_turns.proofs.bound.FaringInRegions.{end_refused}
-use Rattle.sre_turns.specs.Machine.{Instruction, spot_at, Limit, Run, StringCursor, Waits, outermost, otherwise, tried}
-use Rattle.sre_turns.specs.Machine.{Arrives, Ends, Stands, Later, SaysAccepted, outcomes}
-use Rattle.sre_turns.specs.declared.Next.{Next}
+use Rattle.sre_turns.specs.Machine.{Limit}
+use Rattle.sre_turns.specs.Machine.{SaysAccepted, outcomes}
 use Rattle.sre_turns.specs.declared.Next.TheVariants as next
-use Rattle.sre_model.specs.Cost.{cost, ending}
-use Rattle.sre_model.proofs.Unique.{items_same}
 use Rattle.sre_turns.proofs.semantics.Outcomes.{region}
 use Rattle.sre_turns.proofs.semantics.Placed.{none_placed}
 use Rattle.sre_turns.proofs.semantics.Ran.{ran, PartOf}

@@ -1,19 +1,12 @@
 -- Steps at a back-reference to a group, and at a conditional on one.
-use Rattle.std.proofs.Common.{◌≡◌, ℕ, ◌+◌, ◌-◌, ◌<◌, true, false, nat_le, List, length, Some, None, refl, sym, ◌∙◌}
-use Rattle.std.proofs.Common.{subst}
-use Rattle.sre_chars.specs.declared.constants.SreOpcode.{SreOpcode}
+use Rattle.sre_turns.proofs.Terms.{◌≡◌, ℕ, ◌+◌, ◌-◌, ◌<◌, true, false, nat_le, List, length, Some, None, refl, sym, ◌∙◌}
+use Rattle.sre_turns.proofs.Terms.{subst, SreOpcode, Fold, group, same_folded, Word, Opcode, reference_opcode, Asks}
+use Rattle.sre_turns.proofs.Terms.{reference_turn, condition_place, ToRefer, role, ToCheckGroup, Instruction, Stop, Go}
+use Rattle.sre_turns.proofs.Terms.{BoardValue, Run, StringCursor, Moves, Goes, spot, HasRun, Advances, reference_role}
+use Rattle.sre_turns.proofs.Terms.{same_opcode, word_of, word_within}
 use Rattle.sre_chars.specs.declared.constants.SreOpcode.TheVariants as opcode
-use Rattle.sre_model.specs.Tree.{Fold}
-use Rattle.sre_model.specs.Marks.{group}
-use Rattle.sre_model.specs.Subject.{same_folded}
-use Rattle.sre_model.specs.Grammar.{Word, Opcode, reference_opcode}
-use Rattle.sre_turns.specs.MovesAtReferences.{Asks, reference_turn, condition_place}
-use Rattle.sre_model.specs.Roles.{ToRefer, role, ToCheckGroup}
-use Rattle.sre_turns.specs.Machine.{Instruction, Move, Stop, Go, BoardValue, Limit, Run, StringCursor, Way, Moves, Goes}
-use Rattle.sre_turns.specs.Machine.{spot, HasRun, Advances}
-use Rattle.sre_model.proofs.Families.{reference_role}
+use Rattle.sre_turns.specs.Machine.{Move, Limit, Way}
 use Rattle.sre_turns.specs.declared.Next.TheVariants as next
-use Rattle.sre_model.proofs.Words.{same_opcode, word_of, word_within}
 use Rattle.sre_turns.proofs.semantics.Moving.{in_role, at_instruction, turn_stops, turn_goes}
 
 -- what is asked for is told by the word that names it

@@ -1,16 +1,14 @@
 -- Steps at a branch and at its alternatives.
-use Rattle.std.proofs.Common.{◌≡◌, ℕ, zero, suc, ◌+◌, ◌<◌, ◌≤◌, false, nat_eq, List, length, refl, arith}
-use Rattle.std.proofs.lemmas.Bool.Decides.{nat_tests}
+use Rattle.sre_turns.proofs.Terms.{◌≡◌, ℕ, zero, suc, ◌+◌, ◌<◌, ◌≤◌, false, nat_eq, List, length, refl, arith}
+use Rattle.sre_turns.proofs.Terms.{nat_tests, Spot, Split, Instruction, BoardValue, Run, StringCursor, Subject, Moves}
+use Rattle.sre_turns.proofs.Terms.{Runs, turns, Goes, GoesBoth, spot, HasRun, Refuses, Exhausted, Continues, Advances}
+use Rattle.sre_turns.proofs.Terms.{ToBranch, word_within, no_marks}
 use Rattle.sre_chars.specs.declared.constants.SreOpcode.TheVariants as opcode
-use Rattle.sre_turns.specs.Moves.{Spot, spot_at, Stop, Go, Split, to_point}
-use Rattle.sre_turns.specs.Machine.{Instruction, Alternatives, BoardValue, Limit, earlier, Run, StringCursor, Subject}
-use Rattle.sre_turns.specs.Machine.{Way, Word, Opcode, Moves, Runs, turns, Goes, GoesBoth, spot, HasRun, Refuses}
-use Rattle.sre_turns.specs.Machine.{Exhausted, Continues, Advances}
-use Rattle.sre_model.specs.Roles.{ToBranch}
+use Rattle.sre_turns.specs.Moves.{spot_at, Stop, Go, to_point}
+use Rattle.sre_turns.specs.Machine.{Alternatives, Limit, earlier}
+use Rattle.sre_turns.specs.Machine.{Way, Word, Opcode}
 use Rattle.sre_turns.specs.declared.Next.TheVariants as next
-use Rattle.sre_model.proofs.Words.{word_within}
 use Rattle.sre_turns.proofs.bound.Faring.{second_less, alternatives_free}
-use Rattle.sre_model.specs.Marks.{no_marks}
 use Rattle.sre_turns.proofs.semantics.AfterSteps.{run_on, both_run, run_second, has_run}
 use Rattle.sre_turns.proofs.memoization.Confining.{confined_leads}
 use Rattle.sre_turns.proofs.semantics.Moving.{at_instruction, turn_stops, turn_goes, turn_splits, run_nothing, arrived}

@@ -1,23 +1,16 @@
 -- Steps at a loop: its REPEAT, and the MAX_UNTIL or MIN_UNTIL that ends a body.
-use Rattle.std.proofs.Common.{◌≡◌, ℕ, ◌+◌, ◌<◌, ◌≤◌, true, false, nat_lt, List, ◌∷◌, length, drop, Some, refl, ap}
-use Rattle.std.proofs.Common.{arith}
-use Rattle.std.proofs.lemmas.Bool.Decides.{nat_tests}
+use Rattle.sre_turns.proofs.Terms.{◌≡◌, ℕ, ◌+◌, ◌<◌, ◌≤◌, true, false, nat_lt, List, ◌∷◌, length, drop, Some, refl, ap}
+use Rattle.sre_turns.proofs.Terms.{arith, nat_tests, Order, Greedy, Lazy, Way, may_repeat, Word, Opcode, until_opcode}
+use Rattle.sre_turns.proofs.Terms.{skip, first_frame, next_frame, at_body, behind, in_order, until_move, Limit, earlier}
+use Rattle.sre_turns.proofs.Terms.{share, Going, Frame, Instruction, BoardValue, Run, StringCursor, Moves, Goes, Later}
+use Rattle.sre_turns.proofs.Terms.{spot, HasRun, Refuses, with_loop, Advances, Next, ToRepeat, ToLoop, role, steps}
+use Rattle.sre_turns.proofs.Terms.{toll, toll_by, loop_toll, until_role, same_opcode, word_of, word_within}
 use Rattle.sre_chars.specs.declared.constants.SreOpcode.TheVariants as opcode
-use Rattle.sre_model.specs.Tree.{Order, Greedy, Lazy}
-use Rattle.sre_model.specs.Ways.{Way, may_repeat}
-use Rattle.sre_model.specs.Grammar.{Word, Opcode, until_opcode, skip}
-use Rattle.sre_turns.specs.MovesInLoops.{first_frame, next_frame, at_body, behind, in_order, until_move}
-use Rattle.sre_turns.specs.Limits.{Limit, earlier, share, Going}
-use Rattle.sre_turns.specs.Machine.{Frame, Instruction, Spot, Move, Else, BoardValue, Run, StringCursor, Moves, Goes}
-use Rattle.sre_turns.specs.Machine.{Later, spot, HasRun, IsAt, Refuses, with_loop, Advances}
-use Rattle.sre_turns.specs.declared.Next.{Next}
-use Rattle.sre_model.specs.Roles.{ToRepeat, ToLoop, role}
-use Rattle.sre_turns.specs.Prices.{steps, toll, toll_by, loop_toll}
+use Rattle.sre_turns.specs.Machine.{Spot, Move, Else}
+use Rattle.sre_turns.specs.Machine.{IsAt}
 use Rattle.sre_turns.proofs.bound.Steps.{some_steps}
 use Rattle.sre_turns.specs.Lying.{repeats}
-use Rattle.sre_model.proofs.Families.{until_role}
 use Rattle.sre_turns.specs.declared.Next.TheVariants as next
-use Rattle.sre_model.proofs.Words.{same_opcode, word_of, word_within}
 use Rattle.sre_turns.proofs.semantics.Moving.{in_role, at_instruction, turn_goes, turn_splits, both_wait_there}
 use Rattle.sre_turns.proofs.semantics.Moving.{both_first, both_second, standing}
 use Rattle.sre_turns.proofs.semantics.GoingBack.{later_again}

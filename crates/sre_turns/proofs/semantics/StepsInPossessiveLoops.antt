@@ -1,16 +1,13 @@
 -- Steps at a possessive loop: POSSESSIVE_REPEAT, and a body or the end.
-use Rattle.std.proofs.Common.{◌≡◌, ℕ, ◌+◌, ◌<◌, ◌≤◌, true, false, nat_lt, List, [], ◌∷◌, length, drop, Option, Some}
-use Rattle.std.proofs.Common.{refl, ap, arith}
-use Rattle.std.proofs.lemmas.Bool.Decides.{nat_tests}
+use Rattle.sre_turns.proofs.Terms.{◌≡◌, ℕ, ◌+◌, ◌<◌, ◌≤◌, true, false, nat_lt, List, [], ◌∷◌, length, drop, Option}
+use Rattle.sre_turns.proofs.Terms.{Some, refl, ap, arith, nat_tests, Way, may_repeat, repeats, place_under, place_of}
+use Rattle.sre_turns.proofs.Terms.{first_frame, next_frame, enter_body, again_move, Frame, Instruction, BoardValue, Run}
+use Rattle.sre_turns.proofs.Terms.{StringCursor, Moves, Runs, turns, spot, Advances, ToRepeatPossessively, word_of}
+use Rattle.sre_turns.proofs.Terms.{word_within}
 use Rattle.sre_chars.specs.declared.constants.SreOpcode.TheVariants as opcode
-use Rattle.sre_model.specs.Ways.{Way, may_repeat}
-use Rattle.sre_turns.specs.Nested.{repeats, place_under, place_of}
-use Rattle.sre_turns.specs.MovesInLoops.{first_frame, next_frame, enter_body, again_move}
-use Rattle.sre_turns.specs.Machine.{Frame, Instruction, Again, Region, Owed, Further, Move, Keep, BoardValue, Run}
-use Rattle.sre_turns.specs.Machine.{StringCursor, Word, Opcode, Moves, Runs, turns, spot, IsAt, Advances}
-use Rattle.sre_model.specs.Roles.{ToRepeatPossessively}
+use Rattle.sre_turns.specs.Machine.{Again, Region, Owed, Further, Move, Keep}
+use Rattle.sre_turns.specs.Machine.{Word, Opcode, IsAt}
 use Rattle.sre_turns.specs.declared.Next.TheVariants as next
-use Rattle.sre_model.proofs.Words.{word_of, word_within}
 use Rattle.sre_turns.proofs.semantics.Moving.{at_instruction, turn_goes, turn_enters}
 use Rattle.sre_turns.proofs.semantics.OneTurn.{loop_opened, loop_move}
 

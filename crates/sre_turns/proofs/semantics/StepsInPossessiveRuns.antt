@@ -1,20 +1,13 @@
 -- Steps at a possessive repeat of one test. One without a greatest count goes on step by step; the machine may go over
 -- all these steps at once.
-use Rattle.std.proofs.Common.{◌≡◌, ℕ, ◌+◌, ◌-◌, ◌<◌, ◌≤◌, Bool, true, false, nat_eq, List, refl, sym, subst, arith}
-use Rattle.std.proofs.lemmas.Bool.Decides.{nat_tests}
-use Rattle.sre_chars.specs.declared.constants.SreOpcode.{SreOpcode}
+use Rattle.sre_turns.proofs.Terms.{◌≡◌, ℕ, ◌+◌, ◌-◌, ◌<◌, ◌≤◌, Bool, true, false, nat_eq, List, refl, sym, subst, arith}
+use Rattle.sre_turns.proofs.Terms.{nat_tests, SreOpcode, Test, Way, unlimited, longest_run, StandsConfined, Limit}
+use Rattle.sre_turns.proofs.Terms.{Stage, share, Going, HereIn, Coming, steps, Instruction, spot_at, Go, BoardValue}
+use Rattle.sre_turns.proofs.Terms.{Run, StringCursor, Moves, GoesWith, Later, spot, Advances, RunOperands}
+use Rattle.sre_turns.proofs.Terms.{OperandsOfRun, AllPass}
 use Rattle.sre_chars.specs.declared.constants.SreOpcode.TheVariants as opcode
-use Rattle.sre_model.specs.Tree.{Test}
-use Rattle.sre_model.specs.Ways.{Way, unlimited, longest_run}
-use Rattle.sre_turns.specs.Confining.{StandsConfined}
-use Rattle.sre_turns.specs.Limits.{Limit, Stage, share, Going, HereIn, Coming}
-use Rattle.sre_turns.specs.Prices.{steps}
 use Rattle.sre_turns.proofs.bound.Steps.{some_steps}
-use Rattle.sre_turns.specs.Machine.{Instruction, spot_at, Go, BoardValue, Run, StringCursor, passes, Opcode, skip}
-use Rattle.sre_turns.specs.Machine.{Moves, GoesWith, Later, spot, Advances}
-use Rattle.sre_turns.specs.MovesInRuns.{RunOperands}
-use Rattle.sre_turns.specs.OperandsOfRuns.{OperandsOfRun}
-use Rattle.sre_turns.specs.RunEnds.{AllPass}
+use Rattle.sre_turns.specs.Machine.{passes, Opcode, skip}
 use Rattle.sre_turns.specs.declared.Next.TheVariants as next
 use Rattle.sre_turns.proofs.memoization.Confining.{goes_confined}
 use Rattle.sre_turns.proofs.bound.Faring.{fares_earlier}

@@ -1,29 +1,20 @@
 -- Steps at an atomic scope: ATOMIC_GROUP, the lookarounds, and the end of a body.
-use Rattle.std.proofs.Common.{◌≡◌, ℕ, ◌+◌, ◌-◌, ◌<◌, ◌≤◌, true, false, nat_lt, List, [], ◌∷◌, length, drop, refl, sym}
-use Rattle.std.proofs.Common.{subst, arith}
-use Rattle.std.proofs.lemmas.Bool.Decides.{nat_tests}
+use Rattle.sre_turns.proofs.Terms.{◌≡◌, ℕ, ◌+◌, ◌-◌, ◌<◌, ◌≤◌, true, false, nat_lt, List, [], ◌∷◌, length, drop, refl}
+use Rattle.sre_turns.proofs.Terms.{sym, subst, arith, nat_tests, Sign, Positive, Negative, Word, Opcode, look_opcode}
+use Rattle.sre_turns.proofs.Terms.{Keep, look, MarklessRegions, ConfinedInside, AllConfined, is_inside, repeats}
+use Rattle.sre_turns.proofs.Terms.{ClosesAt, point_behind, Limit, earlier, without_open, FaresAt, FaresBack, FaresEnd}
+use Rattle.sre_turns.proofs.Terms.{Coming, price, price_of, Instruction, spot_at, Stop, Go, Run, StringCursor, Moves}
+use Rattle.sre_turns.proofs.Terms.{Comes, stops, goes, Waits, kept, Arrives, Placed, Ends, Later, spot, HasRun}
+use Rattle.sre_turns.proofs.Terms.{without_outcome, without_loop, Advances, ToGroupAtomically, ToLook, look_role}
+use Rattle.sre_turns.proofs.Terms.{word_of, word_within}
 use Rattle.sre_chars.specs.declared.constants.SreOpcode.TheVariants as opcode
-use Rattle.sre_model.specs.Tree.{Sign, Positive, Negative}
-use Rattle.sre_model.specs.Grammar.{Word, Opcode, look_opcode}
-use Rattle.sre_turns.specs.Board.{Keep, Cuts, BoardValue}
-use Rattle.sre_turns.specs.MovesInRegions.{look}
-use Rattle.sre_turns.specs.Bodies.{MarklessRegions}
-use Rattle.sre_turns.specs.Confining.{ConfinedInside, AllConfined}
-use Rattle.sre_turns.specs.Fruit.{is_inside}
-use Rattle.sre_turns.specs.Nested.{repeats, ClosesAt}
-use Rattle.sre_turns.specs.Straight.{point_behind}
+use Rattle.sre_turns.specs.Board.{Cuts, BoardValue}
 use Rattle.sre_turns.proofs.memoization.Confining.{region_confined}
 use Rattle.sre_turns.proofs.bound.FaringInRegions.{cut_fares, region_on, region_off, loop_left}
-use Rattle.sre_turns.specs.Limits.{Limit, earlier, without_open, FaresAt, FaresBack, FaresEnd, Coming}
-use Rattle.sre_turns.specs.Prices.{price, price_of}
-use Rattle.sre_turns.specs.Machine.{Point, Instruction, Region, AtomicGroup, Ahead, NotAhead, Further, Spot, spot_at}
-use Rattle.sre_turns.specs.Machine.{Stop, Go, closing_move, Counted, Run, StringCursor, Marks, Way, Moves, Comes, stops}
-use Rattle.sre_turns.specs.Machine.{goes, Waits, kept, Arrives, Placed, Ends, Later, spot, HasRun, after_outcome}
-use Rattle.sre_turns.specs.Machine.{without_outcome, without_loop, Advances}
-use Rattle.sre_model.specs.Roles.{ToGroupAtomically, ToLook}
-use Rattle.sre_model.proofs.Families.{look_role}
+use Rattle.sre_turns.specs.Machine.{Point, Region, AtomicGroup, Ahead, NotAhead, Further, Spot}
+use Rattle.sre_turns.specs.Machine.{closing_move, Counted, Marks, Way}
+use Rattle.sre_turns.specs.Machine.{after_outcome}
 use Rattle.sre_turns.specs.declared.Next.TheVariants as next
-use Rattle.sre_model.proofs.Words.{word_of, word_within}
 use Rattle.sre_turns.proofs.semantics.Moving.{in_role, at_instruction, turn_stops, turn_goes, turn_enters, cut_waits}
 use Rattle.sre_turns.proofs.semantics.Moving.{sooner, standing}
 use Rattle.sre_turns.proofs.bound.HereMoves.{closes_behind}

@@ -1,25 +1,18 @@
 -- Steps at a single-character repeat, and at its shorter counts.
-use Rattle.std.proofs.Common.{◌≡◌, ◌⊎◌, inl, inr, ℕ, zero, suc, ◌+◌, ◌-◌, ◌<◌, ◌≤◌, Bool, true, false, ◌||◌, nat_eq}
-use Rattle.std.proofs.Common.{nat_lt, List, [], length, Option, refl, sym, subst, arith}
-use Rattle.std.proofs.lemmas.Bool.Decides.{nat_tests}
+use Rattle.sre_turns.proofs.Terms.{◌≡◌, ◌⊎◌, inl, inr, ℕ, zero, suc, ◌+◌, ◌-◌, ◌<◌, ◌≤◌, Bool, true, false, ◌||◌}
+use Rattle.sre_turns.proofs.Terms.{nat_eq, nat_lt, List, [], length, Option, refl, sym, subst, arith, nat_tests, Test}
+use Rattle.sre_turns.proofs.Terms.{RunKind, GreedyRun, passes, char_at, holds, Way, unlimited, run_length, longest_run}
+use Rattle.sre_turns.proofs.Terms.{Word, Opcode, test_opcode, run_opcode, RunOperands, OperandsOfRun, Frame}
+use Rattle.sre_turns.proofs.Terms.{Instruction, spot_at, Stop, BoardValue, Run, StringCursor, Moves, Runs, turns, Goes}
+use Rattle.sre_turns.proofs.Terms.{GoesBoth, spot, HasRun, Skips, SkipsBoth, Exhausted, Refuses, Demands, Advances}
+use Rattle.sre_turns.proofs.Terms.{Chooses, TestStands, HasTest, ToRun, run_role, opcode_within, past_end, read_passes}
+use Rattle.sre_turns.proofs.Terms.{goes_on, run_passes, run_at_most, run_inside, run_none}
 use Rattle.sre_chars.specs.declared.constants.SreOpcode.TheVariants as opcode
-use Rattle.sre_model.specs.Tree.{Test, RunKind, GreedyRun}
-use Rattle.sre_model.specs.Subject.{passes, char_at}
-use Rattle.sre_model.specs.Characters.{holds}
-use Rattle.sre_model.specs.Ways.{Way, unlimited, run_length, longest_run}
-use Rattle.sre_model.specs.Grammar.{Word, Opcode, test_opcode, run_opcode}
-use Rattle.sre_turns.specs.MovesInRuns.{RunOperands}
-use Rattle.sre_turns.specs.OperandsOfRuns.{OperandsOfRun}
-use Rattle.sre_turns.specs.Machine.{Frame, Point, Instruction, Shorter, Longer, spot_at, Stop, Split, BoardValue, Limit}
-use Rattle.sre_turns.specs.Machine.{Run, StringCursor, Marks, Moves, Runs, turns, Goes, GoesBoth, spot, HasRun, Skips}
-use Rattle.sre_turns.specs.Machine.{SkipsBoth, Exhausted, Refuses, Demands, DemandsAny, Excludes, Advances, Chooses}
-use Rattle.sre_model.specs.Standing.{TestStands, HasTest}
-use Rattle.sre_model.specs.Roles.{ToRun}
-use Rattle.sre_model.proofs.Families.{run_role}
+use Rattle.sre_turns.specs.Machine.{Point, Shorter, Longer, Split, Limit}
+use Rattle.sre_turns.specs.Machine.{Marks}
+use Rattle.sre_turns.specs.Machine.{DemandsAny, Excludes}
 use Rattle.sre_turns.specs.declared.Next.TheVariants as next
-use Rattle.sre_model.proofs.Words.{opcode_within}
-use Rattle.sre_model.proofs.Passing.{past_end, read_passes, other_taken}
-use Rattle.sre_model.proofs.Longest.{goes_on, run_passes, run_at_most, run_inside, run_none}
+use Rattle.sre_model.proofs.Passing.{other_taken}
 use Rattle.sre_turns.proofs.semantics.Moving.{in_role, turn_stops, turn_splits, both_last, run_nothing}
 use Rattle.sre_turns.proofs.semantics.AfterSteps.{both_run, run_second}
 use Rattle.sre_turns.proofs.semantics.AtRuns.{greedy_stops, greedy_splits, lazy_none, lazy_splits, longer_none}

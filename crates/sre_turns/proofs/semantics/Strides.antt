@@ -1,23 +1,15 @@
 -- Batched loop iterations: bodies of one character each, gone over in one step.
-use Rattle.std.proofs.Common.{◌≡◌, ℕ, ◌+◌, ◌<◌, ◌≤◌, ◌⊎◌, inl, inr, Bool, true, false, nat_eq, nat_lt, ◌++◌, List, []}
-use Rattle.std.proofs.Common.{◌∷◌, Some, refl, sym, ap, ◌∙◌, subst, arith}
-use Rattle.std.proofs.lemmas.Bool.Decides.{nat_tests}
-use Rattle.std.proofs.lemmas.List.{append-nil}
-use Rattle.sre_chars.specs.declared.constants.SreOpcode.{SreOpcode}
+use Rattle.sre_turns.proofs.Terms.{◌≡◌, ℕ, ◌+◌, ◌<◌, ◌≤◌, ◌⊎◌, inl, inr, Bool, true, false, nat_eq, nat_lt, ◌++◌, List}
+use Rattle.sre_turns.proofs.Terms.{[], ◌∷◌, Some, refl, sym, ap, ◌∙◌, subst, arith, nat_tests, append-nil, SreOpcode}
+use Rattle.sre_turns.proofs.Terms.{passes, char_at, Greedy, Test, Literal, Plain, holds, begins_test, HasTest}
+use Rattle.sre_turns.proofs.Terms.{TestStands, Way, unlimited, Limit, Fares, Going, price, toll, Frame, Instruction}
+use Rattle.sre_turns.proofs.Terms.{spot_at, Go, BoardValue, Run, StringCursor, Moves, Runs, Goes, HasRun, Exhausted}
+use Rattle.sre_turns.proofs.Terms.{Refuses, Continues, Demands, with_loop, spot, next_frame}
 use Rattle.sre_chars.specs.declared.constants.SreOpcode.TheVariants as opcode
-use Rattle.sre_model.specs.Subject.{Subject, passes, char_at}
-use Rattle.sre_model.specs.Tree.{Greedy, Test, Literal, Plain}
-use Rattle.sre_model.specs.Characters.{holds}
-use Rattle.sre_model.specs.Roles.{begins_test}
-use Rattle.sre_model.specs.Standing.{HasTest, TestStands}
-use Rattle.sre_model.specs.Ways.{Way, unlimited}
-use Rattle.sre_turns.specs.Limits.{Limit, Fares, Going}
-use Rattle.sre_turns.specs.Prices.{price, toll}
+use Rattle.sre_model.specs.Subject.{Subject}
 use Rattle.sre_turns.specs.Lying.{repeats}
-use Rattle.sre_turns.specs.Machine.{Frame, Point, Instruction, Alternatives, Spot, spot_at, Go, Split, BoardValue, Run}
-use Rattle.sre_turns.specs.Machine.{StringCursor, Marks, Word, Opcode, Moves, Runs, Goes, HasRun, IsAt, Exhausted}
-use Rattle.sre_turns.specs.Machine.{Refuses, Continues, Demands, with_loop, spot}
-use Rattle.sre_turns.specs.MovesInLoops.{next_frame}
+use Rattle.sre_turns.specs.Machine.{Point, Alternatives, Spot, Split}
+use Rattle.sre_turns.specs.Machine.{Marks, Word, Opcode, IsAt}
 use Rattle.sre_turns.specs.Strides.{Yields, YieldsTo, MayRepeat, EndsBody, Strides, ReadsAscii, TellsTest}
 use Rattle.sre_turns.specs.Strides.{TellsAlternatives, TellsBodies}
 use Rattle.sre_turns.proofs.memoization.Confining.{confined_leads}

@@ -1,38 +1,26 @@
 -- What a step does, in one of ten forms: the only file of laws of steps with a row for each role. A form is of two
 -- steps at one point and position, under any loops and captures. That steps are determined, how far they reach, and
 -- that equivalent configurations make equivalent steps follow from it.
-use Rattle.std.proofs.Common.{◌≡◌, ℕ, ◌+◌, ◌-◌, ◌<◌, ◌≤◌, ◌&&◌, ◌||◌, Bool, true, false, cond, nat_eq, nat_lt, nat_le}
-use Rattle.std.proofs.Common.{length, List, [], ◌∷◌, Option, Some, None, refl, sym, ap, ◌∙◌, subst, arith}
-use Rattle.std.proofs.lemmas.Bool.Decides.{nat_tests}
-use Rattle.std.proofs.lemmas.Bool.{leb-true, and_parts, true≢false}
-use Rattle.sre_chars.specs.declared.constants.SreOpcode.{SreOpcode}
-use Rattle.sre_model.specs.Tree.{Test, RunKind, GreedyRun, LazyRun, PossessiveRun, Order, Sign, Positive, Negative}
-use Rattle.sre_model.specs.Tree.{Fold}
-use Rattle.sre_model.specs.Marks.{Marks, set_mark, group}
-use Rattle.sre_model.specs.Subject.{Subject, passes, holds_at, same_folded}
-use Rattle.sre_model.specs.Ways.{unlimited, longest_run, run_length}
-use Rattle.sre_model.specs.Grammar.{Word, Opcode, word, skip}
-use Rattle.sre_model.specs.Roles.{TestKind, Role, ToFail, ToEnd, ToTest, ToCheckPosition, ToMark, ToBranch, ToJump}
-use Rattle.sre_model.specs.Roles.{ToRun, ToRepeat, ToLoop, ToRepeatPossessively, ToGroupAtomically, ToLook, ToRefer}
-use Rattle.sre_model.specs.Roles.{ToCheckGroup, ToNothing, role}
-use Rattle.sre_model.specs.Standing.{TestStands}
-use Rattle.sre_model.proofs.Bounds.{longest_run-fits, passes-below}
-use Rattle.sre_model.proofs.Longest.{run_passes, run_none}
-use Rattle.sre_model.proofs.Unique.{test_same, same_reference_fold}
-use Rattle.sre_model.proofs.Words.{same_word, same_opcode, same_at, word_of, word_within}
+use Rattle.sre_turns.proofs.Terms.{◌≡◌, ℕ, ◌+◌, ◌-◌, ◌<◌, ◌≤◌, ◌&&◌, ◌||◌, Bool, true, false, cond, nat_eq, nat_lt}
+use Rattle.sre_turns.proofs.Terms.{nat_le, length, List, [], ◌∷◌, Option, Some, None, refl, sym, ap, ◌∙◌, subst, arith}
+use Rattle.sre_turns.proofs.Terms.{nat_tests, leb-true, and_parts, true≢false, SreOpcode, Test, RunKind, GreedyRun}
+use Rattle.sre_turns.proofs.Terms.{LazyRun, PossessiveRun, Order, Sign, Positive, Negative, Fold, Marks, set_mark}
+use Rattle.sre_turns.proofs.Terms.{group, passes, holds_at, same_folded, unlimited, longest_run, run_length, Word}
+use Rattle.sre_turns.proofs.Terms.{Opcode, word, skip, Role, ToFail, ToEnd, ToTest, ToCheckPosition, ToMark, ToBranch}
+use Rattle.sre_turns.proofs.Terms.{ToJump, ToRun, ToRepeat, ToLoop, ToRepeatPossessively, ToGroupAtomically, ToLook}
+use Rattle.sre_turns.proofs.Terms.{ToRefer, ToCheckGroup, role, TestStands, longest_run-fits, passes-below, run_passes}
+use Rattle.sre_turns.proofs.Terms.{run_none, test_same, same_word, same_opcode, word_of, word_within, AtomicGroup}
+use Rattle.sre_turns.proofs.Terms.{Region, Alternatives, Shorter, Longer, Again, Point, least_from, Spot, Move, End}
+use Rattle.sre_turns.proofs.Terms.{Split, Enter, closing_move, RunOperands, run_turn, first_frame, UntilMove, AgainMove}
+use Rattle.sre_turns.proofs.Terms.{look, Asks, asks, reference_turn, condition_place, InRole, MovesAt, goes_behind}
+use Rattle.sre_model.specs.Subject.{Subject}
+use Rattle.sre_model.specs.Roles.{TestKind}
+use Rattle.sre_model.specs.Roles.{ToNothing}
+use Rattle.sre_model.proofs.Unique.{same_reference_fold}
+use Rattle.sre_model.proofs.Words.{same_at}
 use Rattle.sre_turns.specs.declared.Frame.{Frame}
-use Rattle.sre_turns.specs.declared.Region.TheVariants.{AtomicGroup}
-use Rattle.sre_turns.specs.declared.Region.{Region}
-use Rattle.sre_turns.specs.declared.Point.TheVariants.{Instruction, Alternatives, Shorter, Longer, Again}
-use Rattle.sre_turns.specs.declared.Point.{Point}
-use Rattle.sre_turns.specs.Alike.{least_from}
-use Rattle.sre_turns.specs.Moves.{Spot, spot_at, Move, Stop, End, Go, Split, Enter, closing_move}
-use Rattle.sre_turns.specs.MovesInRuns.{RunOperands, run_turn}
-use Rattle.sre_turns.specs.MovesInLoops.{first_frame, UntilMove, AgainMove}
-use Rattle.sre_turns.specs.MovesInRegions.{look}
-use Rattle.sre_turns.specs.MovesAtReferences.{Asks, asks, reference_turn, condition_place}
-use Rattle.sre_turns.specs.Machine.{InRole, MovesAt}
-use Rattle.sre_turns.specs.Straight.{goes_behind}
+use Rattle.sre_turns.specs.declared.Point.TheVariants.{Instruction}
+use Rattle.sre_turns.specs.Moves.{spot_at, Stop, Go}
 
 -- from an instruction of a role and a position one goes on at others, under the loops in progress: the control flow
 pub data GoesOn (ws : List ℕ) (s : Subject) (i p : ℕ) : Role → Point → ℕ → Type 0 where

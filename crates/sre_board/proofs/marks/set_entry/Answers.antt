@@ -1,7 +1,6 @@
-use Rattle.std.proofs.Common.{◌≡◌, ℕ, ◌+◌, ◌-◌, ◌++◌, ◌∷◌, [], List, length, replicate, slice_set, Option, None, rules}
-use Rattle.std.proofs.Common.{ap, sym, ◌∙◌, arith}
+use Rattle.sre_board.proofs.Terms.{◌≡◌, ℕ, ◌+◌, ◌-◌, ◌++◌, ◌∷◌, [], List, length, replicate, slice_set, Option, None}
+use Rattle.sre_board.proofs.Terms.{rules, ap, sym, ◌∙◌, arith, lengthened}
 use Rattle.std.proofs.lemmas.List.{set-append_right}
-use Rattle.sre_model.specs.Marks.{lengthened}
 use Rattle.sre_board.proofs.marks.set_entry.Goals as goal
 
 -- the entry behind a list is set where it is appended

@@ -1,5 +1,4 @@
-use Rattle.std.proofs.Common.{◌≡◌, reverse, length}
-use Rattle.sre_board.specs.Choices.{down_to_region}
+use Rattle.sre_board.proofs.Terms.{◌≡◌, reverse, length, down_to_region}
 use Rattle.sre_board.proofs.saved.innermost.Given as goal
 
 abbrev pub invariant-choice : goal.invariant-choice

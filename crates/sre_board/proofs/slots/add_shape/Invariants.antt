@@ -1,6 +1,5 @@
-use Rattle.std.proofs.Common.{◌≡◌, ℕ, ◌<◌, ◌≤◌, ◌*◌, List, [], ◌++◌, length, slice_index_or, ◌^◌}
-use Rattle.sre_turns.specs.Nested.{repeats, slots}
-use Rattle.sre_board.specs.Failures.{WordsThere}
+use Rattle.sre_board.proofs.Terms.{◌≡◌, ℕ, ◌<◌, ◌≤◌, ◌*◌, List, [], ◌++◌, length, slice_index_or, ◌^◌, repeats, slots}
+use Rattle.sre_board.proofs.Terms.{WordsThere}
 use Rattle.sre_board.proofs.slots.add_shape.Given as goal
 
 abbrev pub invariant-walk : goal.invariant-walk

@@ -1,5 +1,4 @@
-use Rattle.std.proofs.Common.{◌≡◌, ◌∙◌, ap, sym, refl, arith, Some, slice_get, slice_index_or}
-use Rattle.sre_turns.specs.declared.Frame.{Frame}
+use Rattle.sre_board.proofs.Terms.{◌≡◌, ◌∙◌, ap, sym, refl, arith, Some, slice_get, slice_index_or, Frame}
 use Rattle.sre_board.proofs.ChainLaws.{get_some}
 use Rattle.sre_board.proofs.NoSlot.{no_slot_with, slot_with}
 use Rattle.sre_board.proofs.slots.slot_of.Goals as goal

@@ -1,6 +1,5 @@
-use Rattle.std.proofs.Common.{◌∙◌, ap, length}
-use Rattle.sre_engine.specs.Codes.{words_of, uni_of}
-use Rattle.sre_engine.specs.Requests.{asked_of, code_of}
+use Rattle.sre_c.proofs.Terms.{◌∙◌, ap, length, uni_of, asked_of, code_of}
+use Rattle.sre_engine.specs.Codes.{words_of}
 use Rattle.sre_c.proofs.KnownSets.{sets_of, sets_in}
 use Rattle.sre_c.proofs.Matches.{answers_in}
 use Rattle.sre_c.proofs.answer.answer_by.Goals as goal

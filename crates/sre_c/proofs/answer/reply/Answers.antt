@@ -1,8 +1,7 @@
-use Rattle.std.proofs.Common.{◌≡◌, sym, subst}
-use Rattle.sre_code.specs.Codes.{words_of, uni_of, items_of}
+use Rattle.sre_c.proofs.Terms.{◌≡◌, sym, subst, words_of, items_of, Finds}
+use Rattle.sre_code.specs.Codes.{uni_of}
 use Rattle.sre_request.specs.Admitting.{AllAdmitted}
 use Rattle.sre_request.specs.Requests.{asked_of, code_of, carrying}
-use Rattle.sre_c.specs.Replies.{Finds}
 use Rattle.sre_c.proofs.answer.reply.Goals as goal
 
 pub ask-told-requires : goal.ask-told-requires

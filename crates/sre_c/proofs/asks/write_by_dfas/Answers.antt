@@ -1,8 +1,5 @@
-use Rattle.std.proofs.Common.{sym, subst}
-use Rattle.sre_engine.specs.Codes.{words_of, uni_of}
-use Rattle.sre_engine.specs.Requests.{string_of, code_of}
-use Rattle.sre_finder.specs.Finders.{EndStands}
-use Rattle.sre_finder.specs.Kepts.{Suits}
+use Rattle.sre_c.proofs.Terms.{sym, subst, uni_of, string_of, code_of, EndStands, Suits}
+use Rattle.sre_engine.specs.Codes.{words_of}
 use Rattle.sre_c.proofs.asks.write_by_dfas.Goals as goal
 
 pub write_rows-requires-clause-suits : goal.write_rows-requires-clause-suits

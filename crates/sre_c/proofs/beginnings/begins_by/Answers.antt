@@ -1,5 +1,4 @@
-use Rattle.std.proofs.Common.{rules, Some}
-use Rattle.sre_engine.specs.Beginnings.{KnowsTest}
+use Rattle.sre_c.proofs.Terms.{rules, Some, KnowsTest}
 use Rattle.sre_c.proofs.Begun.{knows_flags}
 use Rattle.sre_c.proofs.beginnings.begins_by.Goals as goal
 

@@ -1,5 +1,4 @@
-use Rattle.std.proofs.Common.{◌≡◌, ◌<◌, ◌||◌, ℕ, nat_le, false, length, slice_index_or}
-use Rattle.sre_code.specs.AsciiSet.{contains}
+use Rattle.sre_c.proofs.Terms.{◌≡◌, ◌<◌, ◌||◌, ℕ, nat_le, false, length, slice_index_or, contains}
 use Rattle.sre_c.proofs.beginnings.write_flags.Given as goal
 
 abbrev pub invariant-loop-c : goal.invariant-loop-c

@@ -1,8 +1,4 @@
-use Rattle.std.proofs.Common.{sym, subst}
-use Rattle.sre_model.specs.Tree.{Tree}
-use Rattle.sre_model.specs.Grammar.{Whole}
-use Rattle.sre_code.specs.Hinted.{Confirmed}
-use Rattle.sre_c.specs.Known.{table_in}
+use Rattle.sre_c.proofs.Terms.{sym, subst, Tree, Whole, Confirmed, table_in}
 use Rattle.sre_c.proofs.Knowing.{known_code, known_confirmed, known_references, known_asked, known_counts}
 use Rattle.sre_c.proofs.check.code.Goals as goal
 

@@ -1,7 +1,4 @@
-use Rattle.std.proofs.Common.{sym, subst}
-use Rattle.sre_model.specs.Grammar.{behind_block}
-use Rattle.sre_engine.specs.FirstSets.{SetsOf}
-use Rattle.sre_c.specs.Known.{table_in}
+use Rattle.sre_c.proofs.Terms.{sym, subst, behind_block, SetsOf, table_in}
 use Rattle.sre_c.proofs.keep.answer_kept.Goals as goal
 
 pub answer-requires : goal.answer-requires

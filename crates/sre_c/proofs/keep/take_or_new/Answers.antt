@@ -1,6 +1,4 @@
-use Rattle.std.proofs.Common.{sym, subst}
-use Rattle.sre_finder.specs.Kepts.{Suits}
-use Rattle.sre_c.specs.Known.{table_in}
+use Rattle.sre_c.proofs.Terms.{sym, subst, Suits, table_in}
 use Rattle.sre_c.proofs.keep.take_or_new.Goals as goal
 
 pub returns-in-Ok-clause-suits : goal.returns-in-Ok-clause-suits

@@ -1,5 +1,4 @@
-use Rattle.std.proofs.Common.{◌-◌, ◌≤◌, length}
-use Rattle.sre_c.specs.Firsts.{Lacks}
+use Rattle.sre_c.proofs.Terms.{◌-◌, ◌≤◌, length, Lacks}
 use Rattle.sre_c.proofs.numbers.first_from.Given as goal
 
 abbrev pub invariant-loop-at : goal.invariant-loop-at

@@ -1,5 +1,4 @@
-use Rattle.std.proofs.Common.{◌≡◌, ◌+◌, false}
-use Rattle.sre_c.specs.Firsts.{Lacks}
+use Rattle.sre_c.proofs.Terms.{◌≡◌, ◌+◌, false, Lacks}
 use Rattle.sre_c.proofs.numbers.is_in_block.Given as goal
 
 abbrev pub invariant-loop-i : goal.invariant-loop-i

@@ -1,7 +1,5 @@
-use Rattle.std.proofs.Common.{◌≡◌, ◌<◌, ◌+◌, ℕ, length, slice_index}
+use Rattle.sre_c.proofs.Terms.{◌≡◌, ◌<◌, ◌+◌, ℕ, length, slice_index, match_with, entry_of}
 use Rattle.sre_model.specs.Marks.{Marks}
-use Rattle.sre_finder.specs.Spans.{match_with}
-use Rattle.sre_c.specs.Walked.{entry_of}
 use Rattle.sre_c.proofs.spans.write_span.Given as goal
 
 abbrev pub invariant-loop-place : goal.invariant-loop-place

@@ -1,6 +1,4 @@
-use Rattle.std.proofs.Common.{rules, ◌∙◌, ◌*◌, false, refl, sym, ap, subst, arith}
-use Rattle.sre_c.specs.declared.types.SreWalked.{SreWalked}
-use Rattle.sre_c.specs.Rows.{IsSoFar}
+use Rattle.sre_c.proofs.Terms.{rules, ◌∙◌, ◌*◌, false, refl, sym, ap, subst, arith, SreWalked, IsSoFar}
 use Rattle.sre_c.proofs.Rows.{with_steps, so_far_with}
 use Rattle.sre_c.proofs.SpanRows.{span_written, rows_over}
 use Rattle.sre_c.proofs.RowBudgets.{all_kept, last_unspent}

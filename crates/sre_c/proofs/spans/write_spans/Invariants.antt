@@ -1,9 +1,5 @@
-use Rattle.std.proofs.Common.{◌≡◌, ◌≤◌, ◌-◌, ◌*◌, length}
-use Rattle.sre_code.specs.Codes.{items_of}
-use Rattle.sre_engine.specs.FirstSets.{SetsOf}
-use Rattle.sre_engine.specs.Requests.{string_of, start_of, code_of, stands_in}
-use Rattle.sre_finder.specs.Finders.{EndStands}
-use Rattle.sre_c.specs.Rows.{IsSoFar}
+use Rattle.sre_c.proofs.Terms.{◌≡◌, ◌≤◌, ◌-◌, ◌*◌, length, items_of, SetsOf, string_of, start_of, code_of, stands_in}
+use Rattle.sre_c.proofs.Terms.{EndStands, IsSoFar}
 use Rattle.sre_c.proofs.spans.write_spans.Given as goal
 
 abbrev pub invariant-matches : goal.invariant-matches

@@ -1,7 +1,4 @@
-use Rattle.std.proofs.Common.{◌∙◌, ap, subst}
-use Rattle.sre_code.specs.Codes.{words_of}
-use Rattle.sre_c.specs.Given.{asked_in}
-use Rattle.sre_c.specs.Rows.{WritesRows}
+use Rattle.sre_c.proofs.Terms.{◌∙◌, ap, subst, words_of, asked_in, WritesRows}
 use Rattle.sre_c.proofs.Walks.{walks_of}
 use Rattle.sre_c.proofs.walk.walk_by.Goals as goal
 

@@ -1,5 +1,4 @@
-use Rattle.std.proofs.Common.{◌∙◌, Some, Ok, ap, subst}
-use Rattle.sre_c.specs.Rows.{Searched}
+use Rattle.sre_c.proofs.Terms.{◌∙◌, Some, Ok, ap, subst, Searched}
 use Rattle.sre_c.proofs.NextRows.{ended, limited, one_more}
 use Rattle.sre_c.proofs.walk.write_next.Goals as goal
 

@@ -1,6 +1,4 @@
-use Rattle.std.proofs.Common.{◌≡◌, ◌<◌, ◌+◌, ℕ, length, slice_index}
-use Rattle.sre_engine.specs.Answers.{match_shown}
-use Rattle.sre_c.specs.Walked.{entry_of}
+use Rattle.sre_c.proofs.Terms.{◌≡◌, ◌<◌, ◌+◌, ℕ, length, slice_index, match_shown, entry_of}
 use Rattle.sre_c.proofs.walk.write_row.Given as goal
 
 abbrev pub invariant-loop-place : goal.invariant-loop-place

@@ -1,7 +1,4 @@
-use Rattle.std.proofs.Common.{◌≡◌, ◌≤◌, ◌-◌, ◌*◌, length}
-use Rattle.sre_code.specs.Codes.{items_of}
-use Rattle.sre_engine.specs.FirstSets.{SetsOf}
-use Rattle.sre_engine.specs.Requests.{string_of, start_of, code_of, stands_in}
+use Rattle.sre_c.proofs.Terms.{◌≡◌, ◌≤◌, ◌-◌, ◌*◌, length, items_of, SetsOf, string_of, start_of, code_of, stands_in}
 use Rattle.sre_c.specs.Rows.{AreWritten}
 use Rattle.sre_c.proofs.walk.write_rows.Given as goal
 

@@ -1,7 +1,5 @@
-use Rattle.std.proofs.Common.{rules}
-use Rattle.sre_chars.specs.declared.table.Listing.TheVariants.{Ranges}
+use Rattle.sre_chars.proofs.Terms.{rules, Ranges, entries_in}
 use Rattle.sre_chars.proofs.RisingLists.{non_decreasing, is_in_ranges-last_up_to}
-use Rattle.sre_chars.specs.Lists.{entries_in}
 use Rattle.sre_chars.proofs.table.is_in_ranges.Goals as goal
 
 pub last_up_to-requires : goal.last_up_to-requires

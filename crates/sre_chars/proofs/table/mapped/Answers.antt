@@ -1,8 +1,5 @@
-use Rattle.std.proofs.Common.{rules, arith}
-use Rattle.std.proofs.lemmas.Bool.Decides.{nat_tests}
-use Rattle.sre_chars.specs.declared.table.Listing.TheVariants.{Map}
+use Rattle.sre_chars.proofs.Terms.{rules, arith, nat_tests, Map, entries_in}
 use Rattle.sre_chars.proofs.RisingLists.{non_decreasing, mapped-last_up_to}
-use Rattle.sre_chars.specs.Lists.{entries_in}
 use Rattle.sre_chars.proofs.table.mapped.Goals as goal
 
 pub last_up_to-requires : goal.last_up_to-requires

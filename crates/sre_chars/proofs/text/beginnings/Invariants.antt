@@ -1,5 +1,4 @@
-use Rattle.std.proofs.Common.{◌≡◌, ◌+◌, count_by}
-use Rattle.sre_chars.specs.Texts.{begins_char, begun}
+use Rattle.sre_chars.proofs.Terms.{◌≡◌, ◌+◌, count_by, begins_char, begun}
 use Rattle.sre_chars.proofs.text.beginnings.Given as goal
 
 abbrev pub invariant-loop-i : goal.invariant-loop-i

@@ -1,5 +1,4 @@
-use Rattle.std.proofs.Common.{◌≡◌, ◌≤◌}
-use Rattle.sre_chars.specs.Texts.{begun}
+use Rattle.sre_chars.proofs.Terms.{◌≡◌, ◌≤◌, begun}
 use Rattle.sre_chars.proofs.text.beginnings_in_block.Given as goal
 
 abbrev pub invariant-loop-i : goal.invariant-loop-i

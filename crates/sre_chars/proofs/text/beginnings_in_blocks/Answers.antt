@@ -1,5 +1,4 @@
-use Rattle.std.proofs.Common.{arith, ap, ◌∙◌, count_by}
-use Rattle.sre_chars.specs.Texts.{begins_char}
+use Rattle.sre_chars.proofs.Terms.{arith, ap, ◌∙◌, count_by, begins_char}
 use Rattle.sre_chars.proofs.Beginnings.{first_block}
 use Rattle.sre_chars.proofs.text.beginnings_in_blocks.Goals as goal
 

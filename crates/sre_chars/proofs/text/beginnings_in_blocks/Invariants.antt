@@ -1,5 +1,4 @@
-use Rattle.std.proofs.Common.{◌≡◌, ◌+◌, length, count_by}
-use Rattle.sre_chars.specs.Texts.{begins_char}
+use Rattle.sre_chars.proofs.Terms.{◌≡◌, ◌+◌, length, count_by, begins_char}
 use Rattle.sre_chars.proofs.text.beginnings_in_blocks.Given as goal
 
 abbrev pub invariant-blocks-2 : goal.invariant-blocks-2

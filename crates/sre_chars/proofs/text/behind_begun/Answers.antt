@@ -1,5 +1,4 @@
-use Rattle.std.proofs.Common.{◌≡◌, ◌+◌, ◌-◌, refl, sym, ap, ◌∙◌, arith}
-use Rattle.sre_chars.specs.Texts.{begun, offset_of}
+use Rattle.sre_chars.proofs.Terms.{◌≡◌, ◌+◌, ◌-◌, refl, sym, ap, ◌∙◌, arith, begun, offset_of}
 use Rattle.sre_chars.proofs.Beginnings.{begin_behind, place_at}
 use Rattle.sre_chars.proofs.text.behind_begun.Goals as goal
 

@@ -1,5 +1,4 @@
-use Rattle.std.proofs.Common.{◌≡◌, ◌-◌, ◌++◌, arith, sym, ap, ◌∙◌, take, length, get_or}
-use lib.Utf8.{encodes, encode}
+use Rattle.sre_chars.proofs.Terms.{◌≡◌, ◌-◌, ◌++◌, arith, sym, ap, ◌∙◌, take, length, get_or, encodes, encode}
 use Rattle.sre_chars.proofs.AsciiSteps.{ascii_before, byte_before}
 use Rattle.sre_chars.proofs.TextPlaces.{offset_boundary, before_char, some_before}
 use Rattle.sre_chars.proofs.text.char_before.Goals as goal

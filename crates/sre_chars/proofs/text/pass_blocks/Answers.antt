@@ -1,6 +1,5 @@
-use Rattle.std.proofs.Common.{arith, ap, ◌∙◌, count_by, take, length}
-use Rattle.std.proofs.lemmas.List.{length-drop, take_rest}
-use Rattle.sre_chars.specs.Texts.{begins_char}
+use Rattle.sre_chars.proofs.Terms.{arith, ap, ◌∙◌, count_by, take, length, length-drop, begins_char}
+use Rattle.std.proofs.lemmas.List.{take_rest}
 use Rattle.sre_chars.proofs.Beginnings.{begun_block}
 use Rattle.sre_chars.proofs.text.pass_blocks.Goals as goal
 

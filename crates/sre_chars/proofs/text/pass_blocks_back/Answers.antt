@@ -1,6 +1,4 @@
-use Rattle.std.proofs.Common.{◌≤◌, ◌-◌, arith, ap, ◌∙◌, count_by, drop, take}
-use Rattle.std.proofs.lemmas.List.{length-take-le}
-use Rattle.sre_chars.specs.Texts.{begins_char}
+use Rattle.sre_chars.proofs.Terms.{◌≤◌, ◌-◌, arith, ap, ◌∙◌, count_by, drop, take, length-take-le, begins_char}
 use Rattle.sre_chars.proofs.Beginnings.{begun_block_back}
 use Rattle.sre_chars.proofs.text.pass_blocks_back.Goals as goal
 

@@ -1,5 +1,4 @@
-use Rattle.std.proofs.Common.{◌≡◌, ◌+◌, ◌≤◌}
-use Rattle.sre_chars.specs.Texts.{begun}
+use Rattle.sre_chars.proofs.Terms.{◌≡◌, ◌+◌, ◌≤◌, begun}
 use Rattle.sre_chars.proofs.text.pass_blocks_back.Given as goal
 
 abbrev pub invariant-blocks-2 : goal.invariant-blocks-2

@@ -1,6 +1,4 @@
-use Rattle.std.proofs.Common.{◌≡◌, ◌+◌, ◌≤◌, length}
-use Rattle.std.specs.Str.{IsCharBoundary}
-use Rattle.sre_chars.specs.Texts.{begun}
+use Rattle.sre_chars.proofs.Terms.{◌≡◌, ◌+◌, ◌≤◌, length, IsCharBoundary, begun}
 use Rattle.sre_chars.proofs.text.pass_bytes_back.Given as goal
 
 abbrev pub invariant-loop-n : goal.invariant-loop-n

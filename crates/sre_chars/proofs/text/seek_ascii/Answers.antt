@@ -1,7 +1,5 @@
-use Rattle.std.proofs.Common.{◌≡◌, ◌+◌, ◌-◌, refl, sym, ap, ◌∙◌, arith, length, drop, subst}
-use Rattle.std.proofs.lemmas.List.{length-take-le}
-use Rattle.std.specs.Str.{chars}
-use Rattle.sre_chars.specs.Texts.{NoneIs, begun}
+use Rattle.sre_chars.proofs.Terms.{◌≡◌, ◌+◌, ◌-◌, refl, sym, ap, ◌∙◌, arith, length, drop, subst, length-take-le, chars}
+use Rattle.sre_chars.proofs.Terms.{NoneIs, begun}
 use Rattle.sre_chars.proofs.TextPlaces.{offset_boundary}
 use Rattle.sre_chars.proofs.Seeks.{first_begins, none_begins, none_on, room_ahead}
 use Rattle.sre_chars.proofs.text.seek_ascii.Goals as goal

@@ -1,6 +1,4 @@
-use Rattle.std.proofs.Common.{◌-◌, ◌≤◌}
-use Rattle.std.specs.Str.{chars}
-use Rattle.sre_chars.specs.Texts.{StandsInText, NoneIs}
+use Rattle.sre_chars.proofs.Terms.{◌-◌, ◌≤◌, chars, StandsInText, NoneIs}
 use Rattle.sre_chars.proofs.text.seek_other.Given as goal
 
 -- no character that was passed is the one

@@ -1,7 +1,5 @@
-use Rattle.std.proofs.Common.{ℕ, ◌≡◌, List, subst, arith}
-use Rattle.sre_chars.specs.declared.constants.SreOpcode.{SreOpcode}
-use Rattle.sre_model.specs.Grammar.{Opcode}
-use Rattle.sre_model.proofs.Members.{single_room, range_room, category_there, charset_room}
+use Rattle.sre_code.proofs.Terms.{ℕ, ◌≡◌, List, subst, arith, SreOpcode, Opcode, single_room, range_room}
+use Rattle.sre_code.proofs.Terms.{category_there, charset_room}
 use Rattle.sre_code.proofs.AsciiMembers.{literal_holds, range_holds, category_holds, charset_holds}
 use Rattle.sre_code.proofs.ascii_members.ascii_item.Goals as goal
 

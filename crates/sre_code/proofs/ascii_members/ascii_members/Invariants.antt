@@ -1,5 +1,4 @@
-use Rattle.std.proofs.Common.{◌-◌, length}
-use Rattle.sre_code.specs.AsciiSets.{AsciiLeft}
+use Rattle.sre_code.proofs.Terms.{◌-◌, length, AsciiLeft}
 use Rattle.sre_code.proofs.ascii_members.ascii_members.Given as goal
 
 abbrev pub invariant-item : goal.invariant-item

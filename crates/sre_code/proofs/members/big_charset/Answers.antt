@@ -1,6 +1,5 @@
-use Rattle.std.proofs.Common.{◌+◌, arith}
+use Rattle.sre_code.proofs.Terms.{◌+◌, arith, word_of}
 use Rattle.sre_model.proofs.Members.{big_charset_there, big_charset_says}
-use Rattle.sre_model.proofs.Words.{word_of}
 use Rattle.sre_code.proofs.members.big_charset.Goals as goal
 
 pub operand-count-requires : goal.operand-count-requires

@@ -1,5 +1,4 @@
-use Rattle.std.proofs.Common.{arith}
-use Rattle.sre_model.proofs.Members.{charset_room, charset_says}
+use Rattle.sre_code.proofs.Terms.{arith, charset_room, charset_says}
 use Rattle.sre_code.proofs.members.charset.Goals as goal
 
 pub has_bit-requires : goal.has_bit-requires

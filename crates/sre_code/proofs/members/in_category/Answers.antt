@@ -1,5 +1,4 @@
-use Rattle.std.proofs.Common.{arith}
-use Rattle.sre_model.proofs.Members.{category_there, category_says}
+use Rattle.sre_code.proofs.Terms.{arith, category_there, category_says}
 use Rattle.sre_code.proofs.members.in_category.Goals as goal
 
 pub category_code-code-requires : goal.category_code-code-requires

@@ -1,5 +1,4 @@
-use Rattle.std.proofs.Common.{arith}
-use Rattle.sre_model.proofs.Members.{single_room, single_says}
+use Rattle.sre_code.proofs.Terms.{arith, single_room, single_says}
 use Rattle.sre_code.proofs.members.literal.Goals as goal
 
 pub operand-value-requires : goal.operand-value-requires

@@ -1,6 +1,5 @@
-use Rattle.sre_model.proofs.Members.{set_begins}
-use Rattle.sre_model.proofs.Words.{opcode_within}
-use Rattle.sre_model.proofs.CodesRead.{word_known, opcode_unlike}
+use Rattle.sre_code.proofs.Terms.{set_begins, opcode_within, word_known}
+use Rattle.sre_model.proofs.CodesRead.{opcode_unlike}
 use Rattle.sre_code.proofs.members.opcode.Goals as goal
 
 pub word-requires : goal.word-requires

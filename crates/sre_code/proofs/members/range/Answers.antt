@@ -1,5 +1,4 @@
-use Rattle.std.proofs.Common.{arith}
-use Rattle.sre_model.proofs.Members.{range_room, range_says}
+use Rattle.sre_code.proofs.Terms.{arith, range_room, range_says}
 use Rattle.sre_code.proofs.members.range.Goals as goal
 
 pub operand-low-requires : goal.operand-low-requires

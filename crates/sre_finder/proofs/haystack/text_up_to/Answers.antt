@@ -1,5 +1,4 @@
-use Rattle.std.proofs.Common.{◌≤◌, ◌∙◌, sym, ap, take, length, arith}
-use Rattle.std.proofs.lemmas.List.{length-take-le}
+use Rattle.sre_finder.proofs.Terms.{◌≤◌, ◌∙◌, sym, ap, take, length, arith, length-take-le}
 use Rattle.sre_finder.proofs.Places.{utf8_seen, offset_inside}
 use Rattle.sre_finder.proofs.haystack.text_up_to.Goals as goal
 

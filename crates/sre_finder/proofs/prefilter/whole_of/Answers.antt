@@ -1,6 +1,4 @@
-use Rattle.regex_hir.specs.Meaning.{meaning}
-use Rattle.sre_code.specs.Codes.{uni_of}
-use Rattle.sre_patterns.specs.Patterns.{view_of}
+use Rattle.sre_finder.proofs.Terms.{meaning, uni_of, view_of}
 use Rattle.sre_patterns.proofs.Fronts.{start-covers}
 use Rattle.sre_finder.proofs.Covered.{covering}
 use Rattle.sre_finder.proofs.prefilter.whole_of.Goals as goal

@@ -1,8 +1,5 @@
-use Rattle.std.proofs.Common.{◌≡◌, ap, ap₂, sym, subst, ◌∙◌, rules}
-use Rattle.sre_model.specs.Grammar.{Whole}
-use Rattle.sre_model.specs.Found.{Asked, found}
-use Rattle.sre_code.specs.Codes.{words_of}
-use Rattle.sre_request.specs.Requests.{string_of, start_of, code_of, asked_of}
+use Rattle.sre_finder.proofs.Terms.{◌≡◌, ap, ap₂, sym, subst, ◌∙◌, rules, Whole, Asked, found, words_of, string_of}
+use Rattle.sre_finder.proofs.Terms.{start_of, code_of, asked_of}
 use Rattle.sre_finder.proofs.Spans.{step_answers}
 use Rattle.sre_finder.proofs.searched.show_at.Goals as goal
 

@@ -1,5 +1,4 @@
-use Rattle.std.proofs.Common.{◌∙◌}
-use Rattle.regex_hir.specs.Meaning.{meaning}
+use Rattle.sre_finder.proofs.Terms.{◌∙◌, meaning}
 use Rattle.sre_finder.proofs.Spans.{exactly, reads_one}
 use Rattle.sre_finder.proofs.span_finder.exact_of.Goals as goal
 

@@ -1,8 +1,5 @@
 -- What is written is the fault's line, or a part of it.
-use Rattle.std.proofs.Common.{ℕ, List, ◌++◌, subst, append_assoc}
-use Rattle.std.specs.Prelude.{OnOk, OnErr, codes}
-use Rattle.std.specs.Io.KnownBytes.{Appends}
-use Rattle.sre_lines.specs.Output.{AppendsPart}
+use Rattle.sre_lines.proofs.Terms.{ℕ, List, ◌++◌, subst, append_assoc, OnOk, OnErr, codes, Appends, AppendsPart}
 use Rattle.sre_lines.proofs.cases.write_line.Goals as goal
 
 pub returns-in-CannotRead-clause-line : goal.returns-in-CannotRead-clause-line

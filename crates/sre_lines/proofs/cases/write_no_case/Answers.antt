@@ -1,7 +1,5 @@
 -- The line's number is between two pieces of text.
-use Rattle.std.proofs.Common.{◌∙◌, ◌++◌, List, ℕ, ap}
-use Rattle.std.specs.Prelude.{codes}
-use Rattle.std.specs.Fmt.{decimal}
+use Rattle.sre_lines.proofs.Terms.{◌∙◌, ◌++◌, List, ℕ, ap, codes, decimal}
 use Rattle.sre_lines.proofs.Parts.{front_part, behind_part, behind_whole}
 use Rattle.sre_lines.proofs.cases.write_no_case.Goals as goal
 

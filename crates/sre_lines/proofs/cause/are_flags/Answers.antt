@@ -1,8 +1,5 @@
 -- The letters so far are flags.
-use Rattle.std.proofs.Common.{rules}
-use Rattle.std.proofs.lemmas.List.Elements.{All-more}
-use Rattle.std.proofs.lemmas.List.{take_all}
-use Rattle.sre_lines.specs.Causes.{IsFlag}
+use Rattle.sre_lines.proofs.Terms.{rules, All-more, take_all, IsFlag}
 use Rattle.sre_lines.proofs.cause.are_flags.Goals as goal
 
 pub loop-letter-preserved : goal.loop-letter-preserved

@@ -1,6 +1,4 @@
-use Rattle.std.proofs.Common.{take}
-use Rattle.std.specs.Prelude.{All}
-use Rattle.sre_lines.specs.Causes.{IsFlag}
+use Rattle.sre_lines.proofs.Terms.{take, All, IsFlag}
 use Rattle.sre_lines.proofs.cause.are_flags.Given as goal
 
 abbrev pub invariant-loop-letter : goal.invariant-loop-letter

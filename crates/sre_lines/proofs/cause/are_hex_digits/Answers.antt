@@ -1,8 +1,5 @@
 -- The digits so far are hexadecimal ones.
-use Rattle.std.proofs.Common.{rules}
-use Rattle.std.proofs.lemmas.List.Elements.{All-more}
-use Rattle.std.proofs.lemmas.List.{take_all}
-use Rattle.sre_lines.specs.Causes.{IsHexDigit}
+use Rattle.sre_lines.proofs.Terms.{rules, All-more, take_all, IsHexDigit}
 use Rattle.sre_lines.proofs.cause.are_hex_digits.Goals as goal
 
 pub loop-digit-preserved : goal.loop-digit-preserved

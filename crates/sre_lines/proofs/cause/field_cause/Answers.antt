@@ -1,7 +1,5 @@
 -- The fields before the reported one have their form.
-use Rattle.std.proofs.Common.{rules, refl}
-use Rattle.sre_lines.specs.declared.line.Verb.TheVariants.{Find}
-use Rattle.sre_lines.specs.Causes.{IsWords, IsBytes, IsWindowField, IsFlagsField}
+use Rattle.sre_lines.proofs.Terms.{rules, refl, Find, IsWords, IsBytes, IsWindowField, IsFlagsField}
 use Rattle.sre_lines.proofs.Causes.{not_utf8}
 use Rattle.sre_lines.proofs.cause.field_cause.Goals as goal
 

@@ -1,9 +1,6 @@
 -- Four fields have to follow the command.
-use Rattle.std.proofs.Common.{arith, ap, sym, subst, ◌∙◌, ◌∷◌}
+use Rattle.sre_lines.proofs.Terms.{arith, ap, sym, subst, ◌∙◌, ◌∷◌, Find, verb_text, IsCauseOf}
 use Rattle.std.specs.Prelude.{length}
-use Rattle.sre_lines.specs.declared.line.Verb.TheVariants.{Find}
-use Rattle.sre_lines.specs.Fields.{verb_text}
-use Rattle.sre_lines.specs.Causes.{IsCauseOf}
 use Rattle.sre_lines.proofs.Parted.{first_part_at, only_part_at, some_part}
 use Rattle.sre_lines.proofs.Causes.{two_parts, three_parts, four_parts}
 use Rattle.sre_lines.proofs.Causes.{no_subject, missing, too_many}

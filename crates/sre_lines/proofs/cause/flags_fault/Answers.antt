@@ -1,8 +1,7 @@
 -- The letter `-` alone is no fault.
-use Rattle.std.proofs.Common.{rules, sym, false, ◌≢◌}
+use Rattle.sre_lines.proofs.Terms.{rules, sym, false, ◌≢◌, flags_text}
 use Rattle.sre_chars.specs.declared.constants.EmptyRule.TheVariants.{Never}
 use Rattle.sre_lines.specs.declared.line.Flags.{Flags}
-use Rattle.sre_lines.specs.Fields.{flags_text}
 use Rattle.sre_lines.proofs.cause.flags_fault.Goals as goal
 
 pub returns-else-are_flags-clause-fault : goal.returns-else-are_flags-clause-fault

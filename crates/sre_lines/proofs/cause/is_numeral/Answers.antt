@@ -1,9 +1,5 @@
 -- The digits so far are decimal ones.
-use Rattle.std.proofs.Common.{rules, refl}
-use Rattle.std.proofs.lemmas.List.Elements.{All-more}
-use Rattle.std.proofs.lemmas.List.{take_all}
-use Rattle.std.specs.Int.{IsInRange}
-use Rattle.std.specs.Prelude.{All}
+use Rattle.sre_lines.proofs.Terms.{rules, refl, All-more, take_all, IsInRange, All}
 use Rattle.sre_lines.proofs.Causes.{digits_model}
 use Rattle.sre_lines.proofs.cause.is_numeral.Goals as goal
 

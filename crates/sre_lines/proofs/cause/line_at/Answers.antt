@@ -1,6 +1,5 @@
 -- The lines before the one at hand are passed over.
-use Rattle.std.proofs.Common.{◌≡◌, ◌≤◌, arith, subst}
-use Rattle.sre_lines.specs.Lines.{IsLineAt}
+use Rattle.sre_lines.proofs.Terms.{◌≡◌, ◌≤◌, arith, subst, IsLineAt}
 use Rattle.sre_lines.proofs.LineAt.{next_reached, no_more, line_reached, last_reached}
 use Rattle.sre_lines.proofs.cause.line_at.Goals as goal
 

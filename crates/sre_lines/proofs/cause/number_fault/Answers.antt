@@ -1,6 +1,5 @@
 -- Digits that are rejected denote a greater number.
-use Rattle.std.proofs.Common.{rules, ◌≡◌, ◌+◌, length, get_or, sym, ap, ◌∙◌}
-use Rattle.std.specs.Str.Parse.{IsNumeral, digits_value}
+use Rattle.sre_lines.proofs.Terms.{rules, ◌≡◌, ◌+◌, length, get_or, sym, ap, ◌∙◌, IsNumeral, digits_value}
 use Rattle.std.proofs.lemmas.Fmt.{digits_value-decimal}
 use Rattle.sre_lines.proofs.Causes.{digits_model, too_large}
 use Rattle.sre_lines.proofs.cause.number_fault.Goals.{else-digits-gt1-via-then-digits-gt1+else-digits-eq48}

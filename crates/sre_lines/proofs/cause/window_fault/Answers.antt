@@ -1,7 +1,5 @@
 -- A range that is rejected has no two dots together after its first part, or a number with a fault.
-use Rattle.std.proofs.Common.{rules, ◌≡◌, ◌≢◌, [], true, false, inl, inr}
-use Rattle.std.specs.Prelude.{codes}
-use Rattle.sre_lines.specs.Causes.{IsPlace}
+use Rattle.sre_lines.proofs.Terms.{rules, ◌≡◌, ◌≢◌, [], true, false, inl, inr, codes, IsPlace}
 use Rattle.sre_lines.proofs.Cuts.{unequal}
 use Rattle.sre_lines.proofs.Causes.{no_dot, no_next_dot, not_directly, ends_of, window_of_ends, nothing}
 use Rattle.sre_lines.proofs.cause.window_fault.Goals as goal

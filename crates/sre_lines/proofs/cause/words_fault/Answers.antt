@@ -1,6 +1,5 @@
 -- The words before what is left are read, and the next one is another, or has a fault.
-use Rattle.std.proofs.Common.{rules}
-use Rattle.std.specs.Prelude.{codes}
+use Rattle.sre_lines.proofs.Terms.{rules, codes}
 use Rattle.sre_lines.proofs.Cuts.{unequal}
 use Rattle.sre_lines.proofs.Causes.{none_read, one_read, all_read, first_fault, last_fault}
 use Rattle.sre_lines.proofs.Causes.{where_none, where_some}

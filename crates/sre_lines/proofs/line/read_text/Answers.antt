@@ -1,6 +1,5 @@
 -- A field that is rejected has no form's letter, or bytes that are no text of the form.
-use Rattle.std.proofs.Common.{rules}
-use Rattle.sre_lines.specs.Fields.{IsText}
+use Rattle.sre_lines.proofs.Terms.{rules, IsText}
 use Rattle.sre_lines.proofs.Lines.{no_form, no_text}
 use Rattle.sre_lines.proofs.line.read_text.Goals as goal
 

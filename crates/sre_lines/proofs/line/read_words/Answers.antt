@@ -1,7 +1,5 @@
 -- What is left of the field holds the words that are not read yet.
-use Rattle.std.proofs.Common.{rules, ◌<◌, ◌^◌}
-use Rattle.std.proofs.lemmas.List.Elements.{All-nil, All-push}
-use Rattle.std.specs.Prelude.{codes}
+use Rattle.sre_lines.proofs.Terms.{rules, ◌<◌, ◌^◌, All-nil, All-push, codes}
 use Rattle.sre_lines.proofs.Cuts.{unequal}
 use Rattle.sre_lines.proofs.Words.{all_left, others_left, no_first_word, no_last_word, last_word}
 use Rattle.sre_lines.proofs.Words.{last_fits}

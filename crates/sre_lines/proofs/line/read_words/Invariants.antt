@@ -1,5 +1,4 @@
-use Rattle.std.proofs.Common.{length}
-use Rattle.sre_lines.specs.Fields.{AreWords}
+use Rattle.sre_lines.proofs.Terms.{length, AreWords}
 use Rattle.sre_lines.proofs.Words.{IsLeft}
 use Rattle.sre_lines.proofs.line.read_words.Given as goal
 

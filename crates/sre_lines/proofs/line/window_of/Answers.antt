@@ -1,6 +1,5 @@
 -- A field that is rejected is neither `all` nor two numbers with two dots between them.
-use Rattle.std.proofs.Common.{◌≡◌, ◌≢◌, true, false}
-use Rattle.std.specs.Prelude.{codes}
+use Rattle.sre_lines.proofs.Terms.{◌≡◌, ◌≢◌, true, false, codes}
 use Rattle.sre_lines.proofs.Cuts.{unequal}
 use Rattle.sre_lines.proofs.Lines.{no_dot_is_no_window, no_span_is_no_window, no_second_dot, dots_meet}
 use Rattle.sre_lines.proofs.line.window_of.Goals as goal

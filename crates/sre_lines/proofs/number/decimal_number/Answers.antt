@@ -1,6 +1,5 @@
 -- A field that is rejected is not what any number is written as.
-use Rattle.std.proofs.Common.{rules}
-use Rattle.sre_lines.specs.Fields.{BeginsAsNumber}
+use Rattle.sre_lines.proofs.Terms.{rules, BeginsAsNumber}
 use Rattle.sre_lines.proofs.Numbers.{read_is_written, refused_is_not_written, no_text_is_not_written}
 use Rattle.sre_lines.proofs.Numbers.{no_number_is_not_written}
 use Rattle.sre_lines.proofs.number.decimal_number.Goals as goal

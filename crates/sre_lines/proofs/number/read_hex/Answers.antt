@@ -1,6 +1,5 @@
 -- A pair that is rejected is not what a byte is written as.
-use Rattle.std.proofs.Common.{◌<◌, arith, rules}
-use Rattle.std.proofs.lemmas.List.Elements.{All-push}
+use Rattle.sre_lines.proofs.Terms.{◌<◌, arith, rules, All-push}
 use Rattle.sre_lines.proofs.Pairs.{no_pair_is_no_text, one_pair_more}
 use Rattle.sre_lines.proofs.number.read_hex.Goals as goal
 

@@ -1,6 +1,4 @@
-use Rattle.std.proofs.Common.{◌≡◌, ◌*◌, ◌<◌, take}
-use Rattle.std.specs.Prelude.{All}
-use Rattle.sre_lines.specs.Fields.{hex_text}
+use Rattle.sre_lines.proofs.Terms.{◌≡◌, ◌*◌, ◌<◌, take, All, hex_text}
 use Rattle.sre_lines.proofs.number.read_hex.Given as goal
 
 -- the pairs so far are the bytes so far

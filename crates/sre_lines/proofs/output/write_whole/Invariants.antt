@@ -1,6 +1,5 @@
 -- What is no longer left was appended.
-use Rattle.std.proofs.Common.{◌≡◌, ℕ, List, ◌++◌}
-use Rattle.std.specs.Io.KnownBytes.{Appends}
+use Rattle.sre_lines.proofs.Terms.{◌≡◌, ℕ, List, ◌++◌, Appends}
 use Rattle.sre_lines.proofs.output.write_whole.Given as goal
 
 abbrev pub invariant-writes : goal.invariant-writes

@@ -1,6 +1,5 @@
 -- The table is the one that is named, or its file gives none.
-use Rattle.std.proofs.Common.{refl}
-use Rattle.std.specs.Fn.{FnReturnsAt}
+use Rattle.sre_lines.proofs.Terms.{refl, FnReturnsAt}
 use Rattle.sre_lines.proofs.Parts.{tabled, tableless, by_name}
 use Rattle.sre_lines.proofs.program.answer_call.Goals as goal
 

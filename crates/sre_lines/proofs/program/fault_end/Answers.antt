@@ -1,6 +1,5 @@
 -- The line of the fault's number is the one that is no case.
-use Rattle.std.proofs.Common.{subst}
-use Rattle.sre_lines.specs.Lines.{IsNoCase}
+use Rattle.sre_lines.proofs.Terms.{subst, IsNoCase}
 use Rattle.sre_lines.proofs.LineAt.{one_line}
 use Rattle.sre_lines.proofs.program.fault_end.Goals as goal
 

@@ -1,6 +1,5 @@
 -- The table is written in the file that was read.
-use Rattle.std.proofs.Common.{rules, Ok}
-use Rattle.std.specs.Fn.{FnReturnsAt}
+use Rattle.sre_lines.proofs.Terms.{rules, Ok, FnReturnsAt}
 use Rattle.sre_lines.proofs.Parts.{where_value}
 use Rattle.sre_lines.proofs.program.read_named.Goals as goal
 

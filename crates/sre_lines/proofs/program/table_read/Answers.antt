@@ -1,6 +1,5 @@
 -- Where a file is no table, that is reported, with its cause on request.
-use Rattle.std.proofs.Common.{inl, inr, refl, ap, ◌∙◌, [], ◌∷◌, Err}
-use Rattle.sre_lines.specs.declared.cases.CaseFault.TheVariants.{NotATable, NoMemory}
+use Rattle.sre_lines.proofs.Terms.{inl, inr, refl, ap, ◌∙◌, [], ◌∷◌, Err, NotATable, NoMemory}
 use Rattle.sre_lines.proofs.Parts.{no_table}
 use Rattle.sre_lines.proofs.program.table_read.Goals as goal
 

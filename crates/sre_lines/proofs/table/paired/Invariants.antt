@@ -1,5 +1,4 @@
-use Rattle.std.proofs.Common.{◌≡◌, ◌*◌, take}
-use Rattle.sre_lines.specs.TableFiles.{numbers_of}
+use Rattle.sre_lines.proofs.Terms.{◌≡◌, ◌*◌, take, numbers_of}
 use Rattle.sre_lines.proofs.table.paired.Given as goal
 
 -- the pairs so far are the numbers so far

@@ -1,8 +1,6 @@
 -- Lists without a fault fail only where an allocation did.
-use Rattle.std.proofs.Common.{[]}
+use Rattle.sre_lines.proofs.Terms.{[], lists_fault, table_with, table_fault}
 use Rattle.sre_chars.specs.Tables.{table_of}
-use Rattle.sre_chars.specs.Lists.{lists_fault, table_with}
-use Rattle.sre_chars.specs.Errors.{table_fault}
 use Rattle.sre_lines.proofs.TableFaults.{table_never, digits_never, no_fault, fault_in}
 use Rattle.sre_lines.proofs.table.table_of.Goals as goal
 

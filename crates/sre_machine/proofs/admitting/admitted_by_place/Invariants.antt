@@ -1,5 +1,4 @@
-use Rattle.std.proofs.Common.{◌≡◌, ◌≤◌, length}
-use Rattle.sre_request.specs.Admitting.{AllAdmitted}
+use Rattle.sre_machine.proofs.Terms.{◌≡◌, ◌≤◌, length, AllAdmitted}
 use Rattle.sre_machine.proofs.admitting.admitted_by_place.Given as goal
 
 abbrev pub invariant-place : goal.invariant-place

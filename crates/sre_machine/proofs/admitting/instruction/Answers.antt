@@ -1,5 +1,4 @@
-use Rattle.std.proofs.Common.{rules}
-use Rattle.sre_model.specs.Grammar.{Opcode}
+use Rattle.sre_machine.proofs.Terms.{rules, Opcode}
 use Rattle.sre_machine.proofs.AdmittedHere.{next_admits, skip_admits, run_admits, loop_admits, possessive_admits}
 use Rattle.sre_machine.proofs.AdmittedHere.{test_admits}
 use Rattle.sre_machine.proofs.admitting.instruction.Goals as goal

@@ -1,10 +1,6 @@
-use Rattle.std.proofs.Common.{ℕ, ◌≡◌, ◌-◌, ◌<◌, List, length, slice_get, ap, subst, arith, rules}
-use Rattle.sre_model.specs.Standing.{AreWords}
-use Rattle.sre_model.proofs.Words.{are_words}
-use Rattle.sre_turns.specs.AskedPlaces.{AlternativesAsk}
-use Rattle.sre_machine.specs.declared.asked_places.AskedMarks.{AskedMarks}
-use Rattle.sre_machine.specs.declared.asked_places.AskedPlace.{AskedPlace}
-use Rattle.sre_machine.specs.AskedLists.{range_of, asks_for_any, told_or_any, asks_of, InstructionAsks}
+use Rattle.sre_machine.proofs.Terms.{ℕ, ◌≡◌, ◌-◌, ◌<◌, List, length, slice_get, ap, subst, arith, rules, AreWords}
+use Rattle.sre_machine.proofs.Terms.{are_words, AlternativesAsk, AskedMarks, AskedPlace, range_of, asks_for_any}
+use Rattle.sre_machine.proofs.Terms.{told_or_any, asks_of, InstructionAsks}
 use Rattle.sre_machine.proofs.AskedLists.{MarksFit, asked_more, marks_more, none_before, all_untold, marks_untold}
 use Rattle.sre_machine.proofs.AskedLists.{none_told}
 use Rattle.sre_machine.proofs.asked_places.ask_places.Goals as goal

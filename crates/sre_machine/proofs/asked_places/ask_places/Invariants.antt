@@ -1,5 +1,4 @@
-use Rattle.std.proofs.Common.{◌≡◌, ◌≤◌, length}
-use Rattle.sre_machine.specs.AskedLists.{AllAsked, AreMarks}
+use Rattle.sre_machine.proofs.Terms.{◌≡◌, ◌≤◌, length, AllAsked, AreMarks}
 use Rattle.sre_machine.proofs.AskedLists.{NoneBefore}
 use Rattle.sre_machine.proofs.asked_places.ask_places.Given as goal
 

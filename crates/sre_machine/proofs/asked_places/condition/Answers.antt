@@ -1,5 +1,4 @@
-use Rattle.std.proofs.Common.{◌+◌, ap, refl}
-use Rattle.sre_model.specs.Grammar.{word}
+use Rattle.sre_machine.proofs.Terms.{◌+◌, ap, refl, word}
 use Rattle.sre_machine.proofs.AskedHere.{had_at}
 use Rattle.sre_machine.proofs.asked_places.condition.Goals as goal
 

@@ -1,7 +1,4 @@
-use Rattle.std.proofs.Common.{◌≡◌, List, Bool, subst, sym, rules}
-use Rattle.sre_turns.specs.AskedPlaces.{AreIdle}
-use Rattle.sre_machine.specs.declared.asked_places.AskedPlace.{AskedPlace}
-use Rattle.sre_machine.specs.AskedLists.{asks_of, HaveAll}
+use Rattle.sre_machine.proofs.Terms.{◌≡◌, List, Bool, subst, sym, rules, AreIdle, AskedPlace, asks_of, HaveAll}
 use Rattle.sre_machine.proofs.AskedLists.{idle_told, says_nothing, says_more}
 use Rattle.sre_machine.proofs.asked_places.list_idle.Goals as goal
 

@@ -1,5 +1,4 @@
-use Rattle.std.proofs.Common.{◌≡◌, ◌-◌, length}
-use Rattle.sre_machine.specs.AskedLists.{AllAsked}
+use Rattle.sre_machine.proofs.Terms.{◌≡◌, ◌-◌, length, AllAsked}
 use Rattle.sre_machine.proofs.AskedLists.{SaysOfNone}
 use Rattle.sre_machine.proofs.asked_places.list_idle.Given as goal
 

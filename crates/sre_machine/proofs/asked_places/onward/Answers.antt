@@ -1,6 +1,4 @@
-use Rattle.std.proofs.Common.{arith}
-use Rattle.sre_model.specs.Standing.{AreWords}
-use Rattle.sre_model.proofs.Words.{are_words}
+use Rattle.sre_machine.proofs.Terms.{arith, AreWords, are_words}
 use Rattle.sre_machine.proofs.AskedHere.{any_asked, literal_asks, skip_asks}
 use Rattle.sre_machine.proofs.asked_places.onward.Goals as goal
 

@@ -1,6 +1,4 @@
-use Rattle.sre_code.specs.AsciiSet.{contains}
-use Rattle.sre_turns.specs.declared.Point.TheVariants.{Instruction}
-use Rattle.sre_request.specs.Runs.{run_of}
+use Rattle.sre_machine.proofs.Terms.{contains, Instruction, run_of}
 use Rattle.sre_machine.proofs.NothingBefore.{told_there, nothing_before}
 use Rattle.sre_machine.proofs.barring.bars.Goals as goal
 

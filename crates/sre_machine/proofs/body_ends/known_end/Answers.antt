@@ -1,7 +1,5 @@
-use Rattle.std.proofs.Common.{◌≡◌, ap, ◌∙◌, true, rules, Option, Some, None, IfNone}
-use Rattle.sre_code.specs.Codes.{items_of}
-use Rattle.sre_turns.specs.Fruit.{is_inside}
-use Rattle.sre_machine.specs.declared.trying.Keeping.TheVariants.{Unmarked}
+use Rattle.sre_machine.proofs.Terms.{◌≡◌, ap, ◌∙◌, true, rules, Option, Some, None, IfNone, items_of, is_inside}
+use Rattle.sre_machine.proofs.Terms.{Unmarked}
 use Rattle.sre_machine.proofs.KnownEnds.{known_there, none_there}
 use Rattle.sre_machine.proofs.Opening.{forks_not}
 use Rattle.sre_machine.proofs.body_ends.known_end.Goals as goal

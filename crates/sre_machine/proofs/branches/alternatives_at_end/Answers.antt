@@ -1,6 +1,5 @@
-use Rattle.sre_request.specs.Runs.{run_of}
-use Rattle.sre_turns.proofs.semantics.StepsInBranches.{alternatives_there, alternatives_none, alternatives_both}
-use Rattle.sre_turns.proofs.semantics.StepsInBranches.{positive}
+use Rattle.sre_machine.proofs.Terms.{run_of, alternatives_there, alternatives_both, positive}
+use Rattle.sre_turns.proofs.semantics.StepsInBranches.{alternatives_none}
 use Rattle.sre_machine.proofs.branches.alternatives_at_end.Goals as goal
 
 pub word-length-requires : goal.word-length-requires

@@ -1,10 +1,7 @@
-use Rattle.std.proofs.Common.{◌<◌, ◌+◌, subst}
-use Rattle.sre_model.proofs.Words.{word_of}
-use Rattle.sre_request.specs.Runs.{run_of}
-use Rattle.sre_turns.proofs.bound.Faring.{alternatives_free}
-use Rattle.sre_turns.proofs.semantics.Moving.{exhausted_back, continues_goes, later_continues, both_exhausted}
+use Rattle.sre_machine.proofs.Terms.{◌<◌, ◌+◌, subst, word_of, run_of, alternatives_free, exhausted_back}
+use Rattle.sre_machine.proofs.Terms.{later_continues, both_exhausted, alternatives_run, alternatives_both}
+use Rattle.sre_turns.proofs.semantics.Moving.{continues_goes}
 use Rattle.sre_turns.proofs.semantics.Moving.{both_continue}
-use Rattle.sre_turns.proofs.semantics.StepsInBranches.{alternatives_run, alternatives_both}
 use Rattle.sre_machine.proofs.branches.alternatives_before.Goals as goal
 
 pub returns-in_default : goal.returns-in_default

@@ -1,6 +1,4 @@
-use Rattle.std.proofs.Common.{arith}
-use Rattle.sre_request.specs.Runs.{run_of}
-use Rattle.sre_turns.proofs.semantics.StepsAtItems.{mark_operand, mark_refuses, mark_run}
+use Rattle.sre_machine.proofs.Terms.{arith, run_of, mark_operand, mark_refuses, mark_run}
 use Rattle.sre_machine.proofs.branches.begins_otherwise.Goals as goal
 
 pub operand-number-requires : goal.operand-number-requires

@@ -1,7 +1,4 @@
-use Rattle.std.proofs.Common.{length, ◌-◌}
-use Rattle.sre_turns.specs.declared.Point.TheVariants.{Instruction}
-use Rattle.sre_turns.specs.Machine.{HasRun, Refuses}
-use Rattle.sre_request.specs.Runs.{run_of}
+use Rattle.sre_machine.proofs.Terms.{length, ◌-◌, Instruction, HasRun, Refuses, run_of}
 use Rattle.sre_machine.proofs.branches.begins_otherwise.Given as goal
 
 abbrev pub invariant-mark : goal.invariant-mark

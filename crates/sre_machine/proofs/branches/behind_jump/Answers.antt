@@ -1,7 +1,5 @@
-use Rattle.std.proofs.Common.{sym}
+use Rattle.sre_machine.proofs.Terms.{sym, run_of, reached_within}
 use Rattle.sre_model.proofs.CodesRead.{word_known}
-use Rattle.sre_request.specs.Runs.{run_of}
-use Rattle.sre_turns.proofs.semantics.Moving.{reached_within}
 use Rattle.sre_turns.proofs.semantics.StepsAtItems.{jump_continues}
 use Rattle.sre_machine.proofs.branches.behind_jump.Goals as goal
 

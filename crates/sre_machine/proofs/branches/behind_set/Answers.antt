@@ -1,5 +1,4 @@
-use Rattle.sre_request.specs.Runs.{run_of}
-use Rattle.sre_turns.proofs.semantics.Moving.{continues_run, continues_then}
+use Rattle.sre_machine.proofs.Terms.{run_of, continues_run, continues_then}
 use Rattle.sre_machine.proofs.branches.behind_set.Goals as goal
 
 pub behind_jump-requires : goal.behind_jump-requires

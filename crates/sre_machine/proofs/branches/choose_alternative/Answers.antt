@@ -1,7 +1,4 @@
-use Rattle.std.proofs.Common.{◌+◌}
-use Rattle.sre_request.specs.Runs.{run_of}
-use Rattle.sre_turns.specs.declared.Point.TheVariants.{Alternatives}
-use Rattle.sre_turns.proofs.semantics.Moving.{both_choose, later_continues}
+use Rattle.sre_machine.proofs.Terms.{◌+◌, run_of, Alternatives, both_choose, later_continues}
 use Rattle.sre_machine.proofs.branches.choose_alternative.Goals as goal
 
 pub returns : goal.returns

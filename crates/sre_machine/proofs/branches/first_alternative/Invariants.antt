@@ -1,7 +1,4 @@
-use Rattle.std.proofs.Common.{length, ◌-◌}
-use Rattle.sre_turns.specs.declared.Point.TheVariants.{Alternatives}
-use Rattle.sre_turns.specs.Machine.{HasRun, Continues}
-use Rattle.sre_request.specs.Runs.{run_of}
+use Rattle.sre_machine.proofs.Terms.{length, ◌-◌, Alternatives, HasRun, Continues, run_of}
 use Rattle.sre_machine.proofs.branches.first_alternative.Given as goal
 
 abbrev pub invariant-alternative : goal.invariant-alternative

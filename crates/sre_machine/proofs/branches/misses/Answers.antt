@@ -1,6 +1,4 @@
-use Rattle.std.proofs.lemmas.Bool.{not-true}
-use Rattle.sre_request.specs.Runs.{run_of}
-use Rattle.sre_turns.proofs.semantics.StepsAtItems.{test_there, test_misses}
+use Rattle.sre_machine.proofs.Terms.{not-true, run_of, test_there, test_misses}
 use Rattle.sre_machine.proofs.branches.misses.Goals as goal
 
 pub takes-requires-clause-stands : goal.takes-requires-clause-stands

@@ -1,8 +1,5 @@
-use Rattle.std.proofs.lemmas.Bool.{not-true}
-use Rattle.std.proofs.Common.{arith}
-use Rattle.sre_model.specs.Tree.{GreedyRun}
-use Rattle.sre_request.specs.Runs.{run_of}
-use Rattle.sre_turns.proofs.semantics.StepsInRuns.{run_there, operands_within, run_misses}
+use Rattle.sre_machine.proofs.Terms.{not-true, arith, GreedyRun, run_of, run_there, operands_within}
+use Rattle.sre_turns.proofs.semantics.StepsInRuns.{run_misses}
 use Rattle.sre_machine.proofs.branches.misses_run.Goals as goal
 
 pub operand-least-requires : goal.operand-least-requires

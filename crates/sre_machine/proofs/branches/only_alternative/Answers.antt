@@ -1,10 +1,5 @@
-use Rattle.std.proofs.Common.{◌≡◌, ◌<◌, ◌+◌, subst, arith}
-use Rattle.sre_turns.specs.Machine.{Continues}
-use Rattle.sre_turns.specs.declared.Point.TheVariants.{Instruction}
-use Rattle.sre_model.proofs.Words.{word_of}
-use Rattle.sre_request.specs.Runs.{run_of}
-use Rattle.sre_turns.proofs.semantics.Moving.{continues_then, continues_run}
-use Rattle.sre_turns.proofs.semantics.StepsInBranches.{alternatives_run}
+use Rattle.sre_machine.proofs.Terms.{◌≡◌, ◌<◌, ◌+◌, subst, arith, Continues, Instruction, word_of, run_of}
+use Rattle.sre_machine.proofs.Terms.{continues_then, continues_run, alternatives_run}
 use Rattle.sre_turns.proofs.semantics.Strides.{only_yields}
 use Rattle.sre_machine.proofs.branches.only_alternative.Goals as goal
 

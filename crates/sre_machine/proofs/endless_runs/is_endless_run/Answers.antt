@@ -1,9 +1,6 @@
-use Rattle.std.proofs.Common.{◌≡◌, ◌+◌, inl, inr, arith}
-use Rattle.std.proofs.lemmas.Bool.Decides.{nat_tests}
-use Rattle.sre_model.specs.Tree.{GreedyRun, LazyRun, PossessiveRun}
+use Rattle.sre_machine.proofs.Terms.{◌≡◌, ◌+◌, inl, inr, arith, nat_tests, GreedyRun, LazyRun, PossessiveRun, run_of}
+use Rattle.sre_machine.proofs.Terms.{run_there, operands_within}
 use Rattle.sre_model.proofs.Words.{same_word}
-use Rattle.sre_request.specs.Runs.{run_of}
-use Rattle.sre_turns.proofs.semantics.StepsInRuns.{run_there, operands_within}
 use Rattle.sre_machine.proofs.EndlessRuns.{endless_there}
 use Rattle.sre_machine.proofs.endless_runs.is_endless_run.Goals as goal
 

@@ -1,6 +1,4 @@
-use Rattle.std.proofs.Common.{◌≤◌, arith}
-use Rattle.sre_request.specs.Runs.{run_of}
-use Rattle.sre_turns.proofs.semantics.StepsInRuns.{longer_there}
+use Rattle.sre_machine.proofs.Terms.{◌≤◌, arith, run_of, longer_there}
 use Rattle.sre_machine.proofs.LaterRuns.{last_end, others_wait}
 use Rattle.sre_machine.proofs.endless_runs.later_run.Goals as goal
 

@@ -1,6 +1,4 @@
-use Rattle.std.proofs.Common.{◌+◌, arith}
-use Rattle.sre_model.proofs.Passing.{stands_at_own}
-use Rattle.sre_request.specs.Runs.{run_of}
+use Rattle.sre_machine.proofs.Terms.{◌+◌, arith, stands_at_own, run_of}
 use Rattle.sre_machine.proofs.endless_runs.later_start.Goals as goal
 
 pub returns-then-not-takes_next : goal.returns-then-not-takes_next

@@ -1,8 +1,5 @@
-use Rattle.sre_request.specs.Runs.{run_of}
-use Rattle.sre_turns.proofs.bound.Faring.{shorter_free}
-use Rattle.sre_turns.proofs.semantics.StepsInRuns.{shorter_none, shorter_past, shorter_skips}
-use Rattle.sre_turns.proofs.semantics.StepsInBranches.{positive}
-use Rattle.sre_turns.proofs.semantics.Moving.{both_skips}
+use Rattle.sre_machine.proofs.Terms.{run_of, shorter_free, shorter_none, shorter_past, shorter_skips, positive}
+use Rattle.sre_machine.proofs.Terms.{both_skips}
 use Rattle.sre_machine.proofs.greedy_runs.first_in_place.Goals as goal
 
 pub back_one-cursor-requires-clause-past : goal.back_one-cursor-requires-clause-past

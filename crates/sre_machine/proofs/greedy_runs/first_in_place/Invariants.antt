@@ -1,6 +1,4 @@
-use Rattle.sre_turns.specs.declared.Point.TheVariants.{Instruction, Shorter}
-use Rattle.sre_turns.specs.Machine.{SkipsBoth}
-use Rattle.sre_request.specs.Runs.{run_of}
+use Rattle.sre_machine.proofs.Terms.{Instruction, Shorter, SkipsBoth, run_of}
 use Rattle.sre_machine.proofs.greedy_runs.first_in_place.Given as goal
 
 abbrev pub invariant-count : goal.invariant-count

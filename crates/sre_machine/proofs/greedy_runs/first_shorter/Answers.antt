@@ -1,12 +1,7 @@
-use Rattle.std.proofs.Common.{◌-◌, refl, subst}
-use Rattle.sre_turns.specs.declared.Point.TheVariants.{Instruction, Shorter}
-use Rattle.sre_turns.specs.Machine.{SkipsBoth, Demands, DemandsAny}
-use Rattle.sre_request.specs.Runs.{run_of}
-use Rattle.sre_turns.proofs.bound.Faring.{shorter_free}
-use Rattle.sre_turns.proofs.semantics.StepsInRuns.{shorter_none, shorter_past, shorter_skips}
-use Rattle.sre_turns.proofs.semantics.StepsInBranches.{positive}
+use Rattle.sre_machine.proofs.Terms.{◌-◌, refl, subst, Instruction, Shorter, SkipsBoth, DemandsAny, run_of}
+use Rattle.sre_machine.proofs.Terms.{shorter_free, shorter_none, shorter_past, shorter_skips, positive, both_skips}
+use Rattle.sre_turns.specs.Machine.{Demands}
 use Rattle.sre_turns.proofs.semantics.StepsAtItems.{other_character}
-use Rattle.sre_turns.proofs.semantics.Moving.{both_skips}
 use Rattle.sre_machine.proofs.greedy_runs.first_shorter.Goals as goal
 
 pub returns-then-count-eq0 : goal.returns-then-count-eq0

@@ -1,6 +1,5 @@
-use Rattle.sre_turns.specs.declared.Point.TheVariants.{Shorter}
-use Rattle.sre_turns.specs.Machine.{HasRun, Skips}
-use Rattle.sre_request.specs.Runs.{run_of}
+use Rattle.sre_machine.proofs.Terms.{Shorter, HasRun, run_of}
+use Rattle.sre_turns.specs.Machine.{Skips}
 use Rattle.sre_machine.proofs.greedy_runs.first_shorter.Given as goal
 
 abbrev pub invariant-count : goal.invariant-count

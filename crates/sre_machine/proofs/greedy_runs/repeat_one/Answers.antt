@@ -1,8 +1,6 @@
-use Rattle.sre_model.specs.Tree.{GreedyRun}
-use Rattle.sre_request.specs.Runs.{run_of}
-use Rattle.sre_turns.proofs.bound.Faring.{shorter_free}
-use Rattle.sre_turns.proofs.semantics.StepsInRuns.{run_there, run_short, run_both, run_runs, run_only, run_refuses}
-use Rattle.sre_turns.proofs.semantics.Moving.{both_pass, both_exhausted, exhausted_back}
+use Rattle.sre_machine.proofs.Terms.{GreedyRun, run_of, shorter_free, run_there, both_pass, both_exhausted}
+use Rattle.sre_machine.proofs.Terms.{exhausted_back}
+use Rattle.sre_turns.proofs.semantics.StepsInRuns.{run_short, run_both, run_runs, run_only, run_refuses}
 use Rattle.sre_machine.proofs.greedy_runs.repeat_one.Goals as goal
 
 pub run_operands-operands-requires : goal.run_operands-operands-requires

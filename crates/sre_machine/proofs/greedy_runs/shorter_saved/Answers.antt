@@ -1,6 +1,4 @@
-use Rattle.sre_request.specs.Runs.{run_of}
-use Rattle.sre_turns.proofs.semantics.StepsInRuns.{shorter_none, shorter_past, shorter_skips}
-use Rattle.sre_turns.proofs.semantics.StepsInBranches.{positive}
+use Rattle.sre_machine.proofs.Terms.{run_of, shorter_none, shorter_past, shorter_skips, positive}
 use Rattle.sre_machine.proofs.greedy_runs.shorter_saved.Goals as goal
 
 pub returns-then-count-eq0 : goal.returns-then-count-eq0

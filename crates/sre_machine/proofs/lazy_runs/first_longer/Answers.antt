@@ -1,10 +1,6 @@
-use Rattle.std.proofs.Common.{◌≡◌, ◌+◌, ◌∙◌, sym, subst}
-use Rattle.sre_turns.specs.declared.Point.TheVariants.{Instruction, Longer}
-use Rattle.sre_turns.specs.Machine.{HasRun, SkipsBoth}
-use Rattle.sre_request.specs.Runs.{run_of}
-use Rattle.sre_turns.proofs.bound.Faring.{longer_free}
-use Rattle.sre_turns.proofs.semantics.Moving.{both_skips, skips_then}
-use Rattle.sre_turns.proofs.semantics.StepsInRuns.{longer_there}
+use Rattle.sre_machine.proofs.Terms.{◌≡◌, ◌+◌, ◌∙◌, sym, subst, Instruction, Longer, HasRun, SkipsBoth, run_of}
+use Rattle.sre_machine.proofs.Terms.{longer_free, both_skips, longer_there}
+use Rattle.sre_turns.proofs.semantics.Moving.{skips_then}
 use Rattle.sre_machine.proofs.lazy_runs.first_longer.Goals as goal
 
 pub run_operands-operands-requires : goal.run_operands-operands-requires

@@ -1,8 +1,4 @@
-use Rattle.std.proofs.Common.{◌-◌}
-use Rattle.sre_turns.specs.declared.Point.TheVariants.{Instruction, Longer}
-use Rattle.sre_turns.specs.Machine.{SkipsBoth}
-use Rattle.sre_model.specs.Runs.{Run}
-use Rattle.sre_request.specs.Runs.{run_of}
+use Rattle.sre_machine.proofs.Terms.{◌-◌, Instruction, Longer, SkipsBoth, Run, run_of}
 use Rattle.sre_machine.proofs.lazy_runs.first_longer.Given as goal
 
 abbrev pub invariant-count : goal.invariant-count

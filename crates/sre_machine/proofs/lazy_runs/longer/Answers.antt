@@ -1,5 +1,4 @@
-use Rattle.sre_request.specs.Runs.{run_of}
-use Rattle.sre_turns.proofs.semantics.StepsInRuns.{longer_there}
+use Rattle.sre_machine.proofs.Terms.{run_of, longer_there}
 use Rattle.sre_machine.proofs.lazy_runs.longer.Goals as goal
 
 pub run_operands-tail-requires : goal.run_operands-tail-requires

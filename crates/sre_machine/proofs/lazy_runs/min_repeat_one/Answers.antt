@@ -1,9 +1,5 @@
-use Rattle.std.proofs.Common.{◌<◌, ◌-◌, arith}
-use Rattle.sre_model.specs.Tree.{LazyRun}
-use Rattle.sre_request.specs.Runs.{run_of}
-use Rattle.sre_turns.proofs.bound.Faring.{longer_free}
-use Rattle.sre_turns.proofs.semantics.Moving.{both_pass}
-use Rattle.sre_turns.proofs.semantics.StepsInRuns.{run_there, lazy_cut, lazy_short, lazy_both, lazy_runs}
+use Rattle.sre_machine.proofs.Terms.{◌<◌, ◌-◌, arith, LazyRun, run_of, longer_free, both_pass, run_there}
+use Rattle.sre_turns.proofs.semantics.StepsInRuns.{lazy_cut, lazy_short, lazy_both, lazy_runs}
 use Rattle.sre_machine.proofs.lazy_runs.min_repeat_one.Goals as goal
 
 pub run_operands-operands-requires : goal.run_operands-operands-requires

@@ -1,7 +1,5 @@
-use Rattle.std.proofs.Common.{◌<◌, ◌≤◌, ◌+◌, sym, ◌∙◌, arith}
-use Rattle.sre_request.specs.Runs.{run_of}
-use Rattle.sre_model.proofs.Passing.{stands_at_own}
-use Rattle.sre_turns.proofs.semantics.StepsInRuns.{longer_past, longer_full, longer_end, longer_unlike}
+use Rattle.sre_machine.proofs.Terms.{◌<◌, ◌≤◌, ◌+◌, sym, ◌∙◌, arith, run_of, stands_at_own, longer_past}
+use Rattle.sre_turns.proofs.semantics.StepsInRuns.{longer_full, longer_end, longer_unlike}
 use Rattle.sre_turns.proofs.semantics.StepsInRuns.{longer_skips, longer_passes}
 use Rattle.sre_machine.proofs.lazy_runs.one_longer.Goals as goal
 

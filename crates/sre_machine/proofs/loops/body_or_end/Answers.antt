@@ -1,10 +1,7 @@
-use Rattle.std.proofs.Common.{ap, refl, ◌∙◌, Some}
-use Rattle.sre_model.specs.Tree.{Greedy}
-use Rattle.sre_turns.specs.MovesInLoops.{next_frame}
-use Rattle.sre_turns.specs.Machine.{with_loop}
-use Rattle.sre_request.specs.Runs.{run_of}
-use Rattle.sre_turns.proofs.semantics.StepsInLoops.{until_refused, until_alone, until_greedy, saved_on, entered_on}
-use Rattle.sre_turns.proofs.semantics.Strides.{body_reached, in_loop}
+use Rattle.sre_machine.proofs.Terms.{ap, refl, ◌∙◌, Some, Greedy, next_frame, with_loop, run_of, until_refused}
+use Rattle.sre_machine.proofs.Terms.{until_alone, entered_on, body_reached}
+use Rattle.sre_turns.proofs.semantics.StepsInLoops.{until_greedy, saved_on}
+use Rattle.sre_turns.proofs.semantics.Strides.{in_loop}
 use Rattle.sre_machine.proofs.loops.body_or_end.Goals as goal
 
 pub refuses-requires : goal.refuses-requires

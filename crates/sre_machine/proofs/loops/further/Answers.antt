@@ -1,11 +1,6 @@
-use Rattle.std.proofs.Common.{sym, refl, arith}
-use Rattle.sre_model.specs.Tree.{Greedy}
-use Rattle.sre_turns.specs.Machine.{with_loop}
-use Rattle.sre_request.specs.Requests.{asked_of}
-use Rattle.sre_request.specs.Runs.{run_of}
+use Rattle.sre_machine.proofs.Terms.{sym, refl, arith, Greedy, with_loop, asked_of, run_of, asked_by_stop, until_below}
+use Rattle.sre_machine.proofs.Terms.{until_done, entered_on, until_operands}
 use Rattle.sre_machine.proofs.LoopCounts.{in_progress, may_go_on}
-use Rattle.sre_turns.proofs.memoization.Hopeless.{asked_by_stop}
-use Rattle.sre_turns.proofs.semantics.StepsInLoops.{until_below, until_done, entered_on, until_operands}
 use Rattle.sre_turns.proofs.memoization.WaitingTwice.{later_dropped}
 use Rattle.sre_machine.proofs.Failing.{plain_words}
 use Rattle.sre_machine.proofs.loops.further.Goals as goal

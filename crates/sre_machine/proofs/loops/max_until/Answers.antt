@@ -1,8 +1,4 @@
-use Rattle.std.proofs.Common.{sym, subst}
-use Rattle.sre_turns.specs.Board.{BoardValue}
-use Rattle.sre_turns.specs.declared.Point.TheVariants.{Instruction}
-use Rattle.sre_turns.specs.Machine.{IsAt, Goes}
-use Rattle.sre_request.specs.Runs.{run_of}
+use Rattle.sre_machine.proofs.Terms.{sym, subst, BoardValue, Instruction, IsAt, Goes, run_of}
 use Rattle.sre_turns.proofs.semantics.StepsInLoops.{taken_off}
 use Rattle.sre_machine.proofs.loops.max_until.Goals as goal
 

@@ -1,12 +1,10 @@
-use Rattle.std.proofs.Common.{sym, ap, ◌∙◌, Some, arith}
+use Rattle.sre_machine.proofs.Terms.{sym, ap, ◌∙◌, Some, arith, next_frame, run_of, until_below, until_done}
+use Rattle.sre_machine.proofs.Terms.{until_refused, until_alone, until_operands}
 use Rattle.sre_model.specs.Tree.{Lazy}
-use Rattle.sre_turns.specs.MovesInLoops.{next_frame}
-use Rattle.sre_request.specs.Runs.{run_of}
 use Rattle.sre_machine.proofs.LoopCounts.{in_progress}
-use Rattle.sre_turns.proofs.semantics.StepsInLoops.{until_below, until_done, until_runs, until_refused, until_alone}
+use Rattle.sre_turns.proofs.semantics.StepsInLoops.{until_runs}
 use Rattle.sre_turns.proofs.semantics.StepsInLoops.{until_lazy}
 use Rattle.sre_turns.proofs.semantics.StepsInLoops.{lazy_board, entered_board}
-use Rattle.sre_turns.proofs.semantics.StepsInLoops.{until_operands}
 use Rattle.sre_machine.proofs.loops.min_until.Goals as goal
 
 pub returns-then-frame-least : goal.returns-then-frame-least

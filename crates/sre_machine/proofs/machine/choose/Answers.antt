@@ -1,5 +1,4 @@
-use Rattle.sre_request.specs.Runs.{run_of}
-use Rattle.sre_turns.proofs.semantics.Moving.{both_choose}
+use Rattle.sre_machine.proofs.Terms.{run_of, both_choose}
 use Rattle.sre_machine.proofs.machine.choose.Goals as goal
 
 pub returns : goal.returns

@@ -1,7 +1,5 @@
-use Rattle.std.proofs.Common.{arith}
-use Rattle.sre_request.specs.Runs.{run_of}
-use Rattle.sre_turns.proofs.semantics.StepsAtItems.{mark_operand, mark_refuses, mark_run, literal_operand}
-use Rattle.sre_turns.proofs.semantics.StepsAtItems.{literal_demands}
+use Rattle.sre_machine.proofs.Terms.{arith, run_of, mark_operand, mark_refuses, mark_run, literal_demands}
+use Rattle.sre_turns.proofs.semantics.StepsAtItems.{literal_operand}
 use Rattle.sre_machine.proofs.machine.first_literal.Goals as goal
 
 pub operand-number-requires : goal.operand-number-requires

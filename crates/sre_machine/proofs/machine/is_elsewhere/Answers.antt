@@ -1,7 +1,5 @@
-use Rattle.std.proofs.Common.{◌≡◌, ◌+◌, true, false, Bool, not, refl, sym, ◌∙◌, subst}
-use Rattle.sre_model.specs.Grammar.{Word}
-use Rattle.sre_request.specs.Runs.{run_of}
-use Rattle.sre_turns.proofs.semantics.StepsAtItems.{at_operand, at_known}
+use Rattle.sre_machine.proofs.Terms.{◌≡◌, ◌+◌, true, false, Bool, not, refl, sym, ◌∙◌, subst, Word, run_of, at_operand}
+use Rattle.sre_turns.proofs.semantics.StepsAtItems.{at_known}
 use Rattle.sre_machine.proofs.Elsewhere.{at_refuses}
 use Rattle.sre_machine.proofs.machine.is_elsewhere.Goals as goal
 

@@ -1,9 +1,6 @@
-use Rattle.std.proofs.lemmas.Bool.{true≢false}
-use Rattle.std.proofs.Common.{sym, refl}
+use Rattle.sre_machine.proofs.Terms.{true≢false, sym, refl, Instruction, Again, run_of, alternatives_free, shorter_free}
+use Rattle.sre_machine.proofs.Terms.{longer_free}
 use Rattle.sre_turns.specs.declared.Next.TheVariants as next
-use Rattle.sre_turns.specs.declared.Point.TheVariants.{Instruction, Again}
-use Rattle.sre_request.specs.Runs.{run_of}
-use Rattle.sre_turns.proofs.bound.Faring.{alternatives_free, shorter_free, longer_free}
 use Rattle.sre_turns.proofs.semantics.GoingBack.{back_none, back_arrives, back_at, back_run, back_region}
 use Rattle.sre_turns.proofs.bound.Faring.{nothing_waits}
 use Rattle.sre_machine.proofs.MarksPassed.{choice_turned, retreats, passed_failed, passed_kept, passed_unkept}

@@ -1,5 +1,4 @@
-use Rattle.std.proofs.Common.{◌≡◌, length}
-use Rattle.sre_machine.specs.Turns.{GoesBack}
+use Rattle.sre_machine.proofs.Terms.{◌≡◌, length, GoesBack}
 use Rattle.sre_machine.proofs.machine.newest_choice.Given as goal
 
 abbrev pub invariant-choice : goal.invariant-choice

@@ -1,5 +1,4 @@
-use Rattle.sre_request.specs.Runs.{run_of}
-use Rattle.sre_turns.proofs.semantics.Moving.{reached_within}
+use Rattle.sre_machine.proofs.Terms.{run_of, reached_within}
 use Rattle.sre_machine.proofs.machine.opcode.Goals as goal
 
 pub word-requires : goal.word-requires

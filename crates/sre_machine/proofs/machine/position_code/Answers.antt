@@ -1,7 +1,5 @@
-use Rattle.std.proofs.Common.{◌+◌, sym, ◌∙◌, subst}
-use Rattle.sre_model.specs.Grammar.{Word}
-use Rattle.sre_request.specs.Runs.{run_of}
-use Rattle.sre_turns.proofs.semantics.StepsAtItems.{at_step, at_refused, at_operand}
+use Rattle.sre_machine.proofs.Terms.{◌+◌, sym, ◌∙◌, subst, Word, run_of, at_operand}
+use Rattle.sre_turns.proofs.semantics.StepsAtItems.{at_step, at_refused}
 use Rattle.sre_machine.proofs.machine.position_code.Goals as goal
 
 pub operand-requires : goal.operand-requires

@@ -1,9 +1,6 @@
-use Rattle.std.proofs.Common.{◌<◌, ◌≤◌, sym, subst, arith}
-use Rattle.sre_turns.specs.declared.Point.TheVariants.{Instruction}
-use Rattle.sre_turns.specs.Machine.{Advances}
+use Rattle.sre_machine.proofs.Terms.{◌<◌, ◌≤◌, sym, subst, arith, Instruction, Advances, run_of, test_there}
 use Rattle.sre_turns.specs.declared.Next.TheVariants as next
-use Rattle.sre_request.specs.Runs.{run_of}
-use Rattle.sre_turns.proofs.semantics.StepsAtItems.{test_there, test_read, test_unlike, test_past}
+use Rattle.sre_turns.proofs.semantics.StepsAtItems.{test_read, test_unlike, test_past}
 use Rattle.sre_machine.proofs.machine.test.Goals as goal
 
 pub returns-then-position-end : goal.returns-then-position-end

@@ -1,5 +1,4 @@
-use Rattle.std.proofs.Common.{subst, sym, arith}
-use Rattle.sre_turns.specs.MovesAtReferences.{Named}
+use Rattle.sre_machine.proofs.Terms.{subst, sym, arith, Named}
 use Rattle.sre_machine.proofs.Failing.{asked_last}
 use Rattle.sre_machine.proofs.marked.asked_end.Goals as goal
 

@@ -1,6 +1,4 @@
-use Rattle.std.proofs.Common.{sym, ap, ◌∙◌, Some, arith}
-use Rattle.sre_turns.specs.MovesInLoops.{next_frame}
-use Rattle.sre_request.specs.Runs.{run_of}
+use Rattle.sre_machine.proofs.Terms.{sym, ap, ◌∙◌, Some, arith, next_frame, run_of}
 use Rattle.sre_machine.proofs.LoopCounts.{in_possessive}
 use Rattle.sre_turns.proofs.semantics.StepsInPossessiveLoops.{again_done, again_owed, again_further}
 use Rattle.sre_turns.proofs.semantics.StepsInPossessiveLoops.{begun_board}

@@ -1,6 +1,4 @@
-use Rattle.sre_model.specs.Tree.{PossessiveRun}
-use Rattle.sre_request.specs.Runs.{run_of}
-use Rattle.sre_turns.proofs.semantics.StepsInRuns.{run_there}
+use Rattle.sre_machine.proofs.Terms.{PossessiveRun, run_of, run_there}
 use Rattle.sre_turns.proofs.semantics.StepsInPossessiveRuns.{longest_short, longest_step}
 use Rattle.sre_machine.proofs.possessive_runs.possessive_repeat_one.Goals as goal
 

@@ -1,7 +1,5 @@
-use Rattle.std.proofs.Common.{◌≡◌, ◌-◌, true, false, sym, subst, ◌∙◌}
+use Rattle.sre_machine.proofs.Terms.{◌≡◌, ◌-◌, true, false, sym, subst, ◌∙◌, run_of, on_board}
 use Rattle.sre_model.specs.Subject.{same_folded}
-use Rattle.sre_request.specs.Runs.{run_of}
-use Rattle.sre_turns.proofs.semantics.Moving.{on_board}
 use Rattle.sre_turns.proofs.semantics.StepsAtReferences.{reference_there, reference_missing, reference_past}
 use Rattle.sre_turns.proofs.semantics.StepsAtReferences.{reference_unlike}
 use Rattle.sre_turns.proofs.semantics.StepsAtReferences.{reference_step}

@@ -1,7 +1,6 @@
-use Rattle.std.proofs.Common.{arith, ◌∙◌}
+use Rattle.sre_machine.proofs.Terms.{arith, ◌∙◌, run_of, look_operand, look_step}
 use Rattle.sre_model.specs.Tree.{Positive}
-use Rattle.sre_request.specs.Runs.{run_of}
-use Rattle.sre_turns.proofs.semantics.StepsInRegions.{look_operand, ahead_early, look_step}
+use Rattle.sre_turns.proofs.semantics.StepsInRegions.{ahead_early}
 use Rattle.sre_machine.proofs.regions.assert.Goals as goal
 
 pub operand-skip-requires : goal.operand-skip-requires

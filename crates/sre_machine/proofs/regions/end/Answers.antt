@@ -1,6 +1,5 @@
-use Rattle.std.proofs.Common.{[], ◌∷◌, true, false, sym, ap, subst}
+use Rattle.sre_machine.proofs.Terms.{[], ◌∷◌, true, false, sym, ap, subst, run_of}
 use Rattle.sre_turns.specs.Machine.{Closes}
-use Rattle.sre_request.specs.Runs.{run_of}
 use Rattle.sre_turns.proofs.semantics.StepsInRegions.{region_closes}
 use Rattle.sre_machine.proofs.regions.end.Goals as goal
 

@@ -1,6 +1,4 @@
-use Rattle.std.proofs.Common.{◌+◌, ap, sym}
-use Rattle.sre_model.proofs.Words.{word_of}
-use Rattle.sre_request.specs.Runs.{run_of}
+use Rattle.sre_machine.proofs.Terms.{◌+◌, ap, sym, word_of, run_of}
 use Rattle.sre_machine.proofs.run_operands.run_operands.Goals as goal
 
 pub returns : goal.returns

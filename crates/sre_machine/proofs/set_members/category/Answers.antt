@@ -1,5 +1,4 @@
-use Rattle.std.proofs.Common.{◌+◌, sym, subst}
-use Rattle.sre_model.specs.Grammar.{Word}
+use Rattle.sre_machine.proofs.Terms.{◌+◌, sym, subst, Word}
 use Rattle.sre_code.proofs.AsciiMembers.{category_holds}
 use Rattle.sre_machine.proofs.set_members.category.Goals as goal
 

@@ -1,9 +1,6 @@
-use Rattle.std.proofs.Common.{◌+◌, ◌<◌, sym, subst, arith}
-use Rattle.sre_turns.specs.Machine.{HasRun}
-use Rattle.sre_turns.specs.declared.Point.TheVariants.{Alternatives}
-use Rattle.sre_request.specs.Runs.{run_of}
-use Rattle.sre_turns.proofs.semantics.StepsInBranches.{branch_run}
-use Rattle.sre_turns.proofs.semantics.Strides.{body_reached, strides_before}
+use Rattle.sre_machine.proofs.Terms.{◌+◌, ◌<◌, sym, subst, arith, HasRun, Alternatives, run_of, branch_run}
+use Rattle.sre_machine.proofs.Terms.{body_reached}
+use Rattle.sre_turns.proofs.semantics.Strides.{strides_before}
 use Rattle.sre_machine.proofs.strides.next_body.Goals as goal
 
 pub read-character-requires-clause-stands : goal.read-character-requires-clause-stands

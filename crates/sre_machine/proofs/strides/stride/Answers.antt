@@ -1,14 +1,6 @@
-use Rattle.std.proofs.Common.{◌≡◌, ◌+◌, Some, ap, sym, ◌∙◌, subst, arith}
-use Rattle.sre_model.specs.Grammar.{Word}
-use Rattle.sre_model.specs.Ways.{unlimited}
-use Rattle.sre_turns.specs.Machine.{HasRun}
-use Rattle.sre_turns.specs.MovesInLoops.{next_frame}
-use Rattle.sre_turns.specs.Strides.{Strides, MayRepeat}
-use Rattle.sre_turns.specs.declared.Frame.{Frame}
-use Rattle.sre_turns.specs.declared.Point.TheVariants.{Alternatives}
-use Rattle.sre_request.specs.Runs.{run_of}
-use Rattle.sre_turns.proofs.semantics.StepsInBranches.{branch_run}
-use Rattle.sre_turns.proofs.semantics.Strides.{strides_none, strides_on, strides_ends, repeats_on, body_reached}
+use Rattle.sre_machine.proofs.Terms.{◌≡◌, ◌+◌, Some, ap, sym, ◌∙◌, subst, arith, Word, unlimited, HasRun, next_frame}
+use Rattle.sre_machine.proofs.Terms.{Strides, MayRepeat, Frame, Alternatives, run_of, branch_run, body_reached}
+use Rattle.sre_turns.proofs.semantics.Strides.{strides_none, strides_on, strides_ends, repeats_on}
 use Rattle.sre_machine.proofs.strides.stride.Goals as goal
 
 pub body-init : goal.body-init

@@ -1,8 +1,5 @@
-use Rattle.std.proofs.Common.{◌≤◌, ◌-◌}
-use Rattle.sre_code.specs.AsciiSet.{contains}
-use Rattle.sre_turns.specs.Strides.{MayRepeat, Strides, TellsBodies}
-use Rattle.sre_request.specs.Requests.{end_of}
-use Rattle.sre_request.specs.Runs.{run_of}
+use Rattle.sre_machine.proofs.Terms.{◌≤◌, ◌-◌, contains, MayRepeat, Strides, end_of, run_of}
+use Rattle.sre_turns.specs.Strides.{TellsBodies}
 use Rattle.sre_machine.proofs.strides.stride.Given as goal
 
 abbrev pub invariant-body : goal.invariant-body

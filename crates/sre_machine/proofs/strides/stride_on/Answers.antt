@@ -1,7 +1,4 @@
-use Rattle.std.proofs.Common.{◌+◌}
-use Rattle.sre_request.specs.Runs.{run_of}
-use Rattle.sre_turns.proofs.semantics.Moving.{reached_within}
-use Rattle.sre_turns.proofs.semantics.Strides.{body_reached}
+use Rattle.sre_machine.proofs.Terms.{◌+◌, run_of, reached_within, body_reached}
 use Rattle.sre_machine.proofs.strides.stride_on.Goals as goal
 
 pub word-requires : goal.word-requires

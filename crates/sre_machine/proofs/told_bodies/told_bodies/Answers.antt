@@ -1,7 +1,4 @@
-use Rattle.std.proofs.Common.{arith}
-use Rattle.sre_code.specs.AsciiSet.{contains}
-use Rattle.sre_request.specs.Runs.{run_of}
-use Rattle.sre_turns.proofs.semantics.StepsInBranches.{alternatives_there, alternatives_run, positive}
+use Rattle.sre_machine.proofs.Terms.{arith, contains, run_of, alternatives_there, alternatives_run, positive}
 use Rattle.sre_turns.proofs.semantics.Strides.{tells_first, tells_next, tells_last}
 use Rattle.sre_machine.proofs.ToldBodies.{left_over}
 use Rattle.sre_machine.proofs.told_bodies.told_bodies.Goals as goal

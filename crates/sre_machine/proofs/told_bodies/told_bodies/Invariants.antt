@@ -1,9 +1,5 @@
-use Rattle.std.proofs.Common.{length, ◌-◌}
-use Rattle.sre_code.specs.AsciiSet.{contains}
-use Rattle.sre_turns.specs.Machine.{HasRun}
+use Rattle.sre_machine.proofs.Terms.{length, ◌-◌, contains, HasRun, Alternatives, run_of}
 use Rattle.sre_turns.specs.Strides.{TellsAlternatives}
-use Rattle.sre_turns.specs.declared.Point.TheVariants.{Alternatives}
-use Rattle.sre_request.specs.Runs.{run_of}
 use Rattle.sre_machine.proofs.told_bodies.told_bodies.Given as goal
 
 abbrev pub invariant-alternative : goal.invariant-alternative

@@ -1,12 +1,7 @@
-use Rattle.std.proofs.Common.{◌≡◌, ◌⊎◌, ◌+◌, ℕ, List, sym, ap, ◌∙◌, subst}
+use Rattle.sre_machine.proofs.Terms.{◌≡◌, ◌⊎◌, ◌+◌, ℕ, List, sym, ap, ◌∙◌, subst, Word, Opcode, HasTest, contains}
+use Rattle.sre_machine.proofs.Terms.{items_of, run_of, test_there}
 use Rattle.sre_chars.specs.declared.constants.SreOpcode.TheVariants as opcode
-use Rattle.sre_model.specs.Grammar.{Word, Opcode}
-use Rattle.sre_model.specs.Standing.{HasTest}
-use Rattle.sre_code.specs.AsciiSet.{contains}
-use Rattle.sre_code.specs.Codes.{items_of}
 use Rattle.sre_request.specs.AsciiSets.{TakesAscii}
-use Rattle.sre_request.specs.Runs.{run_of}
-use Rattle.sre_turns.proofs.semantics.StepsAtItems.{test_there}
 use Rattle.sre_turns.proofs.semantics.Strides.{tells_test}
 use Rattle.sre_machine.proofs.told_bodies.told_by.Goals as goal
 

@@ -1,5 +1,4 @@
-use Rattle.std.proofs.Common.{inl, arith}
-use Rattle.sre_code.specs.AsciiSet.{contains}
+use Rattle.sre_machine.proofs.Terms.{inl, arith, contains}
 use Rattle.sre_machine.proofs.ToldBodies.{left_over, left_or_common}
 use Rattle.sre_machine.proofs.told_bodies.with_test.Goals as goal
 

@@ -1,5 +1,4 @@
-use Rattle.sre_turns.specs.declared.Point.TheVariants.{Again}
-use Rattle.std.proofs.Common.{inl, arith}
+use Rattle.sre_machine.proofs.Terms.{Again, inl, arith}
 use Rattle.sre_machine.proofs.Failing.{turn_goes_on, turn_left, turn_ended}
 use Rattle.sre_machine.proofs.AtOnce.{paid_so}
 use Rattle.sre_machine.proofs.trying.again_or_back.Goals as goal

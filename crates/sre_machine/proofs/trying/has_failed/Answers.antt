@@ -1,6 +1,4 @@
-use Rattle.std.proofs.Common.{◌≡◌, ◌∙◌, ap}
-use Rattle.sre_code.specs.Codes.{items_of}
-use Rattle.sre_request.specs.Runs.{run_of}
+use Rattle.sre_machine.proofs.Terms.{◌≡◌, ◌∙◌, ap, items_of, run_of}
 use Rattle.sre_machine.proofs.Recalling.{recalls_prepared}
 use Rattle.sre_machine.proofs.Opening.{prepared_at}
 use Rattle.sre_machine.proofs.Tried.{leaves_prepared, tries_prepared}

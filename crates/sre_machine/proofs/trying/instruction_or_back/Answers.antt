@@ -1,5 +1,4 @@
-use Rattle.std.proofs.Common.{rules}
-use Rattle.sre_turns.specs.declared.Point.TheVariants.{Instruction}
+use Rattle.sre_machine.proofs.Terms.{rules, Instruction}
 use Rattle.sre_machine.proofs.Failing.{turn_goes_on, turn_tried, turn_left, turn_ended}
 use Rattle.sre_machine.proofs.AtOnce.{paid_so}
 use Rattle.sre_machine.proofs.trying.instruction_or_back.Goals as goal

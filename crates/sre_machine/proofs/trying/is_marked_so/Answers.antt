@@ -1,7 +1,5 @@
-use Rattle.std.proofs.Common.{ℕ, List, Option, None, slice_index_or, ap, ◌∙◌}
-use Rattle.sre_model.specs.Marks.{Marks}
+use Rattle.sre_machine.proofs.Terms.{ℕ, List, Option, None, slice_index_or, ap, ◌∙◌, Marks, run_of}
 use Rattle.sre_turns.proofs.memoization.Asked.{from_alike}
-use Rattle.sre_request.specs.Runs.{run_of}
 use Rattle.sre_machine.proofs.Failing.{asked_few}
 use Rattle.sre_machine.proofs.trying.is_marked_so.Goals as goal
 

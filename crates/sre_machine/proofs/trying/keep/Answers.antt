@@ -1,9 +1,5 @@
-use Rattle.std.proofs.Common.{◌∙◌, ap}
-use Rattle.sre_code.specs.Codes.{items_of}
-use Rattle.sre_model.specs.Marks.{no_marks}
+use Rattle.sre_machine.proofs.Terms.{◌∙◌, ap, items_of, no_marks, run_of, no_reference}
 use Rattle.sre_machine.proofs.Failing.{fails_kept}
-use Rattle.sre_request.specs.Runs.{run_of}
-use Rattle.sre_turns.proofs.memoization.Hopeless.{no_reference}
 use Rattle.sre_machine.proofs.Recalling.{recalls_kept}
 use Rattle.sre_machine.proofs.Keeping.{holds_tried}
 use Rattle.sre_machine.proofs.trying.keep.Goals as goal

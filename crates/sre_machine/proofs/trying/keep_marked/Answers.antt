@@ -1,10 +1,5 @@
-use Rattle.std.proofs.Common.{inl, ap, sym, subst, ◌∙◌}
-use Rattle.sre_code.specs.Codes.{items_of}
-use Rattle.sre_model.specs.Marks.{Marks}
-use Rattle.sre_board.specs.Failures.{Remembers}
-use Rattle.sre_turns.specs.AskedPlaces.{AreIdle}
-use Rattle.sre_request.specs.Runs.{run_of}
-use Rattle.sre_machine.specs.Memos.{MemoValue, Covers, Recalls}
+use Rattle.sre_machine.proofs.Terms.{inl, ap, sym, subst, ◌∙◌, items_of, Marks, Remembers, AreIdle, run_of, MemoValue}
+use Rattle.sre_machine.proofs.Terms.{Covers, Recalls}
 use Rattle.sre_machine.proofs.Failing.{fails_kept}
 use Rattle.sre_machine.proofs.trying.keep_marked.Goals as goal
 

@@ -1,6 +1,4 @@
-use Rattle.std.proofs.Common.{ap}
-use Rattle.sre_code.specs.Codes.{items_of}
-use Rattle.sre_request.specs.Runs.{run_of}
+use Rattle.sre_machine.proofs.Terms.{ap, items_of, run_of}
 use Rattle.sre_machine.proofs.Recalling.{recalls_met}
 use Rattle.sre_machine.proofs.trying.meet_marks.Goals as goal
 

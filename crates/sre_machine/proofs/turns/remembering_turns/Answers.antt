@@ -1,16 +1,12 @@
-use Rattle.std.proofs.Common.{◌∙◌, inl, inr, refl, arith, ap}
-use Rattle.sre_turns.specs.Limits.{raised}
+use Rattle.sre_machine.proofs.Terms.{◌∙◌, inl, inr, refl, arith, ap, raised, run_of, accepted_first, refused_over}
+use Rattle.sre_machine.proofs.Terms.{MemoValue, KeepsBodyEnd}
 use Rattle.sre_turns.specs.declared.Next.TheVariants as next
 use Rattle.sre_model.proofs.TurnBounds.{last_spent}
-use Rattle.sre_request.specs.Runs.{run_of}
-use Rattle.sre_turns.proofs.semantics.Start.{accepted_first, refused_over}
 use Rattle.sre_machine.proofs.Recalling.{recalls_waited}
-use Rattle.sre_machine.specs.Memos.{MemoValue}
 use Rattle.sre_machine.proofs.Paying.{pays_nothing}
 use Rattle.sre_machine.proofs.Following.{turns_on, turns_stop, turns_settle, unscanned, stands_there}
 use Rattle.sre_machine.proofs.Following.{same_memo, kept_memo}
 use Rattle.sre_machine.proofs.Ending.{kept_then, ended_then}
-use Rattle.sre_machine.specs.Turns.{KeepsBodyEnd}
 use Rattle.sre_machine.proofs.turns.remembering_turns.Goals as goal
 
 pub keep_ends-requires-clause-ends : goal.keep_ends-requires-clause-ends

@@ -1,5 +1,4 @@
-use Rattle.std.proofs.Common.{◌+◌, ◌-◌}
-use Rattle.sre_machine.specs.Spending.{TurnsSoFar}
+use Rattle.sre_machine.proofs.Terms.{◌+◌, ◌-◌, TurnsSoFar}
 use Rattle.sre_machine.proofs.turns.remembering_turns.Given as goal
 
 abbrev pub invariant-turn : goal.invariant-turn

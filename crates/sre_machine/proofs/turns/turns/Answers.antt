@@ -1,7 +1,5 @@
 use Rattle.sre_turns.specs.declared.Next.TheVariants as next
-use Rattle.sre_turns.specs.declared.Point.TheVariants.{Instruction, Again}
-use Rattle.sre_request.specs.Runs.{run_of}
-use Rattle.sre_turns.proofs.semantics.Start.{accepted_first, refused_over}
+use Rattle.sre_machine.proofs.Terms.{Instruction, Again, run_of, accepted_first, refused_over}
 use Rattle.sre_machine.proofs.Taken.{point_taken, later_taken}
 use Rattle.sre_machine.proofs.turns.turns.Goals as goal
 

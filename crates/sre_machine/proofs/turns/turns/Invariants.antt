@@ -1,7 +1,4 @@
-use Rattle.std.proofs.Common.{◌+◌, ◌-◌, ◌≤◌}
-use Rattle.sre_turns.specs.Machine.{StandsWithin}
-use Rattle.sre_machine.specs.Memos.{Recalls}
-use Rattle.sre_request.specs.Runs.{run_of}
+use Rattle.sre_machine.proofs.Terms.{◌+◌, ◌-◌, ◌≤◌, StandsWithin, Recalls, run_of}
 use Rattle.sre_machine.proofs.turns.turns.Given as goal
 
 abbrev pub invariant-turn : goal.invariant-turn

@@ -1,9 +1,5 @@
-use Rattle.std.proofs.Common.{◌≡◌, List, ℕ, refl, ap, ◌∙◌, subst}
+use Rattle.sre_machine.proofs.Terms.{◌≡◌, List, ℕ, refl, ap, ◌∙◌, subst, Opcode, items_of, run_of, mark_refuses}
 use Rattle.sre_chars.specs.declared.constants.SreOpcode.TheVariants as opcode
-use Rattle.sre_model.specs.Grammar.{Opcode}
-use Rattle.sre_code.specs.Codes.{items_of}
-use Rattle.sre_request.specs.Runs.{run_of}
-use Rattle.sre_turns.proofs.semantics.StepsAtItems.{mark_refuses}
 use Rattle.sre_machine.proofs.VainRuns.{demanded_there}
 use Rattle.sre_machine.proofs.vain_runs.demanded_at.Goals as goal
 

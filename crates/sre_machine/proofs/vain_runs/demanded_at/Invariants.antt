@@ -1,6 +1,4 @@
-use Rattle.std.proofs.Common.{ℕ, length, ◌-◌}
-use Rattle.sre_turns.specs.Machine.{Refuses}
-use Rattle.sre_request.specs.Runs.{run_of}
+use Rattle.sre_machine.proofs.Terms.{ℕ, length, ◌-◌, Refuses, run_of}
 use Rattle.sre_machine.proofs.vain_runs.demanded_at.Given as goal
 
 abbrev pub invariant-mark : goal.invariant-mark

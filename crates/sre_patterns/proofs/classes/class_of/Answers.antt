@@ -1,6 +1,4 @@
-use Rattle.std.proofs.Common.{arith}
-use Rattle.regex_hir.proofs.MeaningLemmas.{meaning-Bytes, meaning-Chars}
-use Rattle.sre_code.specs.Codes.{uni_of}
+use Rattle.sre_patterns.proofs.Terms.{arith, meaning-Bytes, meaning-Chars, uni_of}
 use Rattle.sre_patterns.proofs.Tests.{serves-bytes, serves-chars}
 use Rattle.sre_patterns.proofs.classes.class_of.Goals as goal
 

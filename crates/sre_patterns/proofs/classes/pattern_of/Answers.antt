@@ -1,6 +1,4 @@
-use Rattle.std.proofs.Common.{subst}
-use Rattle.sre_model.specs.Grammar.{Opcode}
-use Rattle.sre_code.specs.Codes.{items_of, uni_of}
+use Rattle.sre_patterns.proofs.Terms.{subst, Opcode, items_of, uni_of}
 use Rattle.sre_patterns.proofs.Tests.{plain-literal}
 use Rattle.sre_patterns.proofs.classes.pattern_of.Goals as goal
 

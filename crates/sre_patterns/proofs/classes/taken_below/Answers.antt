@@ -1,7 +1,4 @@
-use Rattle.std.proofs.Common.{◌∙◌, ◌≡◌, ◌+◌, refl, sym, subst, true, false, arith}
-use Rattle.sre_model.specs.Characters.{holds}
-use Rattle.sre_code.specs.Codes.{uni_of}
-use Rattle.sre_patterns.specs.Patterns.{HasJust}
+use Rattle.sre_patterns.proofs.Terms.{◌∙◌, ◌≡◌, ◌+◌, refl, sym, subst, true, false, arith, holds, uni_of, HasJust}
 use Rattle.sre_patterns.proofs.Tests.{just-begun, just-on, just-off, at-one}
 use Rattle.sre_patterns.proofs.classes.taken_below.Goals.{then-takes+in_ok-push, else-takes}
 use Rattle.sre_patterns.proofs.classes.taken_below.Goals as goal

@@ -1,9 +1,4 @@
-use Rattle.std.proofs.Common.{ℕ}
-use Rattle.sre_model.specs.Tree.{Test}
-use Rattle.sre_model.specs.Characters.{holds}
-use Rattle.sre_model.specs.Standing.{TestStands}
-use Rattle.sre_code.specs.Codes.{items_of, uni_of}
-use Rattle.sre_patterns.specs.Patterns.{HasJust}
+use Rattle.sre_patterns.proofs.Terms.{ℕ, Test, holds, TestStands, items_of, uni_of, HasJust}
 use Rattle.sre_patterns.proofs.classes.taken_below.Given as goal
 
 abbrev pub invariant-loop-character : goal.invariant-loop-character

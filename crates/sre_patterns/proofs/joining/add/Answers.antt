@@ -1,7 +1,4 @@
-use Rattle.std.proofs.Common.{map}
-use Rattle.regex_hir.specs.Re.{cat, empty}
-use Rattle.regex_hir.specs.Meaning.{meaning}
-use Rattle.regex_hir.proofs.MeaningLemmas.{meaning-Empty}
+use Rattle.sre_patterns.proofs.Terms.{map, cat, empty, meaning, meaning-Empty}
 use Rattle.sre_patterns.proofs.Onto.{cat-wider, empty-first, pushed, wider-same}
 use Rattle.sre_patterns.proofs.joining.add.Goals as goal
 

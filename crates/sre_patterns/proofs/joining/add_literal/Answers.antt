@@ -1,9 +1,8 @@
-use Rattle.std.proofs.Common.{◌≡◌, ◌++◌, ◌∷◌, [], List, ℕ, ap, ◌∙◌, sym, map, Vec, Global}
-use Rattle.regex_hir.specs.Re.{Re, literal, cat}
-use Rattle.regex_hir.specs.Meaning.{meaning}
+use Rattle.sre_patterns.proofs.Terms.{◌≡◌, ◌++◌, ◌∷◌, [], List, ℕ, ap, ◌∙◌, sym, map, Re, literal, cat, meaning}
+use Rattle.sre_patterns.proofs.Terms.{cat_onto}
+use Rattle.std.proofs.Common.{Vec, Global}
 use Rattle.regex_hir.specs.declared.hir.Hir.TheVariants as hir
 use Rattle.regex_hir.proofs.MeaningLemmas.{meaning-Literal}
-use Rattle.sre_patterns.specs.Patterns.{cat_onto}
 use Rattle.sre_patterns.proofs.Onto.{cat-wider, pushed, wider-same, literals-join}
 use Rattle.sre_patterns.proofs.joining.add_literal.Goals as goal
 

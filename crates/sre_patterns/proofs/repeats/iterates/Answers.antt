@@ -1,6 +1,4 @@
-use Rattle.std.proofs.Common.{arith}
-use Rattle.std.proofs.lemmas.Bool.Decides.{nat_tests}
-use Rattle.regex_hir.specs.Meaning.{meaning}
+use Rattle.sre_patterns.proofs.Terms.{arith, nat_tests, meaning}
 use Rattle.regex_hir.proofs.MatchesLemmas.{IsMinLen-le}
 use Rattle.sre_patterns.proofs.repeats.iterates.Goals as goal
 

@@ -1,5 +1,4 @@
-use Rattle.std.proofs.Common.{subst}
-use Rattle.sre_model.specs.Grammar.{Opcode}
+use Rattle.sre_patterns.proofs.Terms.{subst, Opcode}
 use Rattle.sre_patterns.proofs.SettledTests.{category-settles}
 use Rattle.sre_patterns.proofs.settled.settled_item.Goals as goal
 

@@ -1,15 +1,8 @@
-use Rattle.std.proofs.Common.{◌+◌, ◌-◌, ◌∙◌, ap, sym, subst, [], ◌∷◌, map, length, ◌<◌, refl, arith, inl}
-use Rattle.std.proofs.Common.{inr, true}
-use Rattle.std.proofs.lemmas.List.{map-append}
-use Rattle.regex_hir.specs.Re.{alt}
-use Rattle.regex_hir.specs.Meaning.{meaning}
-use Rattle.regex_hir.proofs.MeaningLemmas.{meaning-Empty, meaning-Bytes, meaning-Alternation}
-use Rattle.sre_model.specs.Tree.{Fail}
-use Rattle.sre_model.specs.Grammar.{Word, Opcode}
-use Rattle.sre_code.specs.Codes.{items_of, uni_of}
-use Rattle.sre_patterns.specs.Covers.{IsWider}
+use Rattle.sre_patterns.proofs.Terms.{◌+◌, ◌-◌, ◌∙◌, ap, sym, subst, [], ◌∷◌, map, length, ◌<◌, refl, arith, inl, inr}
+use Rattle.sre_patterns.proofs.Terms.{true, map-append, alt, meaning, meaning-Empty, meaning-Bytes, Fail, Word, Opcode}
+use Rattle.sre_patterns.proofs.Terms.{items_of, uni_of, IsWider, view_of, HasItems}
+use Rattle.regex_hir.proofs.MeaningLemmas.{meaning-Alternation}
 use Rattle.sre_patterns.proofs.Composed.{covers-atomic, covers-look, covers-reference}
-use Rattle.sre_patterns.specs.Patterns.{view_of, HasItems}
 use Rattle.sre_patterns.proofs.Onto.{alt-all}
 use Rattle.sre_patterns.proofs.Items.{items-to, loop-read, atomic-read, at-item, marks, loops, atomics, looks}
 use Rattle.sre_patterns.proofs.Items.{references, run-kind, look-sign, refers, has-run}

@@ -1,7 +1,5 @@
-use Rattle.std.proofs.Common.{◌+◌, ◌*◌, ◌-◌, length, map}
-use Rattle.regex_hir.specs.Meaning.{meaning}
-use Rattle.sre_code.specs.Codes.{items_of}
-use Rattle.sre_patterns.specs.Purposes.{Serves}
+use Rattle.sre_patterns.proofs.Terms.{◌+◌, ◌-◌, length, map, meaning, items_of, Serves}
+use Rattle.std.proofs.Common.{◌*◌}
 use Rattle.sre_patterns.proofs.Branches.{BranchSoFar}
 use Rattle.sre_patterns.proofs.Sequences.{SoFar}
 use Rattle.sre_patterns.proofs.translate.+items.Given as goal

@@ -1,8 +1,5 @@
-use Rattle.std.proofs.Common.{arith}
-use Rattle.regex_hir.specs.Re.{empty}
-use Rattle.sre_code.specs.Codes.{items_of, uni_of}
+use Rattle.sre_patterns.proofs.Terms.{arith, empty, items_of, uni_of, view_of}
 use Rattle.sre_patterns.proofs.Fronts.{start-empty, start-then, start-wider}
-use Rattle.sre_patterns.specs.Patterns.{view_of}
 use Rattle.sre_patterns.proofs.Sequences.{no-jump, item-long, word-next, item-next, more}
 use Rattle.sre_patterns.proofs.translate.front.Goals as goal
 

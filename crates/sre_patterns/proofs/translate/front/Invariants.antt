@@ -1,8 +1,4 @@
-use Rattle.std.proofs.Common.{◌-◌, map}
-use Rattle.regex_hir.specs.Meaning.{meaning}
-use Rattle.sre_code.specs.Codes.{items_of, uni_of}
-use Rattle.sre_patterns.specs.Covers.{CoversStart}
-use Rattle.sre_patterns.specs.Patterns.{view_of}
+use Rattle.sre_patterns.proofs.Terms.{◌-◌, map, meaning, items_of, uni_of, CoversStart, view_of}
 use Rattle.sre_patterns.proofs.Sequences.{SoFar}
 use Rattle.sre_patterns.proofs.translate.front.Given as goal
 

@@ -1,10 +1,6 @@
-use Rattle.std.proofs.Common.{◌∙◌, ap, refl, sym}
+use Rattle.sre_patterns.proofs.Terms.{◌∙◌, ap, refl, sym, At, uni_of, view_of, look_for}
 use Rattle.regex_hir.proofs.MeaningLemmas.{meaning-Look}
-use Rattle.sre_model.specs.Tree.{At}
-use Rattle.sre_code.specs.Codes.{uni_of}
 use Rattle.sre_patterns.proofs.Composed.{covers-at}
-use Rattle.sre_patterns.specs.Patterns.{view_of}
-use Rattle.sre_patterns.specs.Purposes.{look_for}
 use Rattle.sre_patterns.proofs.Items.{at-item}
 use Rattle.sre_patterns.proofs.Serving.{serves-look, serves-covered}
 use Rattle.sre_patterns.proofs.translate.position.Goals as goal

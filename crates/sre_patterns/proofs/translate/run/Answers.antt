@@ -1,6 +1,4 @@
-use Rattle.std.proofs.Common.{arith}
-use Rattle.sre_code.specs.Codes.{uni_of}
-use Rattle.sre_patterns.specs.Patterns.{view_of}
+use Rattle.sre_patterns.proofs.Terms.{arith, uni_of, view_of}
 use Rattle.sre_patterns.proofs.Items.{runs}
 use Rattle.sre_patterns.proofs.Serving.{serves-run}
 use Rattle.sre_patterns.proofs.SidesSeen.{rises}

@@ -1,6 +1,4 @@
-use Rattle.std.proofs.Common.{◌+◌, Some, None, true, false, inr}
-use Rattle.sre_engine.specs.Requests.{end_of}
-use Rattle.sre_engine.specs.Iterators.{request_of, shown_of}
+use Rattle.sre_recipes.proofs.Terms.{◌+◌, Some, None, true, false, inr, end_of, request_of, shown_of}
 use Rattle.sre_recipes.proofs.Following.{search_spends}
 use Rattle.sre_recipes.proofs.bounds.next_span_within.Goals as goal
 

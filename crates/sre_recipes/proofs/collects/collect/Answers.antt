@@ -1,10 +1,5 @@
-use Rattle.std.proofs.Common.{◌≤◌, List, refl, sym, ◌∙◌, subst, arith}
-use Rattle.sre_engine.specs.Codes.{words_of}
-use Rattle.sre_engine.specs.Found.{Match}
-use Rattle.sre_engine.specs.Requests.{string_of, start_of, end_of, code_of}
-use Rattle.sre_engine.specs.Iterators.{request_of, shown_of}
-use Rattle.sre_engine.specs.Answers.{match_shown}
-use Rattle.sre_recipes.specs.Spans.{IsSpan}
+use Rattle.sre_recipes.proofs.Terms.{◌≤◌, List, refl, sym, ◌∙◌, subst, arith, words_of, Match, string_of, start_of}
+use Rattle.sre_recipes.proofs.Terms.{end_of, code_of, request_of, shown_of, match_shown, IsSpan}
 use Rattle.sre_recipes.proofs.Following.{follow_on, follow_end}
 use Rattle.sre_recipes.proofs.Steps.{kept_first, kept_on, next_start, is_found, is_shown}
 use Rattle.sre_recipes.proofs.Telling.{all_taken, tells, twice_not}

@@ -1,10 +1,5 @@
-use Rattle.std.proofs.Common.{◌≡◌, ◌≤◌, ℕ, false}
-use Rattle.sre_engine.specs.Codes.{words_of}
-use Rattle.sre_engine.specs.Requests.{string_of, end_of, start_of, code_of, asked_of}
-use Rattle.sre_engine.specs.Iterators.{request_of, has_ended, most_items}
-use Rattle.sre_recipes.specs.declared.bounds.Bounds.{Bounds}
-use Rattle.sre_recipes.specs.Followed.{Followed}
-use Rattle.sre_recipes.specs.Limits.{FollowedRest}
+use Rattle.sre_recipes.proofs.Terms.{◌≡◌, ◌≤◌, ℕ, false, words_of, string_of, end_of, start_of, code_of, asked_of}
+use Rattle.sre_recipes.proofs.Terms.{request_of, has_ended, most_items, Bounds, Followed, FollowedRest}
 use Rattle.sre_recipes.proofs.Steps.{Kept}
 use Rattle.sre_recipes.proofs.collects.collect.Given as goal
 

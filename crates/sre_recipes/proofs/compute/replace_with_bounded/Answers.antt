@@ -1,8 +1,5 @@
-use Rattle.std.proofs.Common.{sym, ◌∙◌, subst}
-use Rattle.sre_engine.specs.Found.{walk}
-use Rattle.sre_engine.specs.Requests.{string_of, start_of, end_of, asked_of}
+use Rattle.sre_recipes.proofs.Terms.{sym, ◌∙◌, subst, walk, string_of, start_of, end_of, asked_of, first_of}
 use Rattle.sre_recipes.specs.Computed.{Computes, ReplacedInOrder}
-use Rattle.sre_recipes.specs.Bounded.{first_of}
 use Rattle.sre_recipes.proofs.compute.replace_with_bounded.Goals as goal
 
 pub returns-then-branch-clause-ok : goal.returns-then-branch-clause-ok

@@ -1,6 +1,4 @@
-use Rattle.std.proofs.Common.{List, sym, ap, ◌∙◌, subst, arith}
-use Rattle.sre_engine.specs.Found.{Match}
-use Rattle.sre_engine.specs.Requests.{string_of, end_of, code_of}
+use Rattle.sre_recipes.proofs.Terms.{List, sym, ap, ◌∙◌, subst, arith, Match, string_of, end_of, code_of}
 use Rattle.sre_finder.specs.SpanIters.{request_of, left_of}
 use Rattle.sre_recipes.proofs.Passing.{stays_on}
 use Rattle.sre_recipes.proofs.every.collect_spans.Goals as goal

@@ -1,10 +1,5 @@
-use Rattle.std.proofs.Common.{◌≤◌, ℕ}
-use Rattle.sre_engine.specs.Tree.{Tree}
-use Rattle.sre_engine.specs.Grammar.{Whole}
-use Rattle.sre_engine.specs.Codes.{words_of}
-use Rattle.sre_engine.specs.Requests.{string_of, start_of, end_of, code_of}
+use Rattle.sre_recipes.proofs.Terms.{◌≤◌, ℕ, Tree, Whole, words_of, string_of, start_of, end_of, code_of, StandsAt}
 use Rattle.sre_finder.specs.SpanIters.{request_of, left_of, most_spans}
-use Rattle.sre_recipes.specs.Spans.{StandsAt}
 use Rattle.sre_recipes.proofs.Passing.{Stays}
 use Rattle.sre_recipes.proofs.every.collect_spans.Given as goal
 

@@ -1,7 +1,5 @@
-use Rattle.std.proofs.Common.{ℕ, Ok, ap, ◌∙◌}
-use Rattle.sre_engine.specs.Requests.{string_of, code_of}
-use Rattle.sre_finder.specs.SpanIters.{request_of, shown_of, last_asked}
-use Rattle.sre_recipes.specs.Spans.{IsSpan}
+use Rattle.sre_recipes.proofs.Terms.{ℕ, Ok, ap, ◌∙◌, string_of, code_of, last_asked, IsSpan}
+use Rattle.sre_finder.specs.SpanIters.{request_of, shown_of}
 use Rattle.sre_recipes.proofs.Passing.{is_behind, finds_behind, finds_shown, found_forward}
 use Rattle.sre_recipes.proofs.every.next_found.Goals as goal
 

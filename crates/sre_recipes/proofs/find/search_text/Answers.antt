@@ -1,8 +1,4 @@
-use Rattle.std.proofs.Common.{◌∙◌, ap, subst, sym}
-use Rattle.sre_engine.specs.Grammar.{Whole}
-use Rattle.sre_engine.specs.Found.{found}
-use Rattle.sre_engine.specs.Codes.{words_of}
-use Rattle.sre_engine.specs.Requests.{code_of, asked_of}
+use Rattle.sre_recipes.proofs.Terms.{◌∙◌, ap, subst, sym, Whole, found, words_of, code_of, asked_of}
 use Rattle.sre_recipes.proofs.find.search_text.Goals as goal
 
 pub returns-clause-answer : goal.returns-clause-answer

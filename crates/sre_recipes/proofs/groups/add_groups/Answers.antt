@@ -1,8 +1,5 @@
-use Rattle.std.proofs.Common.{◌≡◌, ◌<◌, ◌≤◌, ◌+◌, ◌++◌, ◌∷◌, [], ℕ, List, Option, map, ap, ◌∙◌, arith}
-use Rattle.std.proofs.lemmas.List.{map-append}
-use Rattle.sre_engine.specs.Answers.{match_shown}
-use Rattle.sre_recipes.specs.Slices.{numbered_group}
-use Rattle.std.specs.Option.{option_map}
+use Rattle.sre_recipes.proofs.Terms.{◌≡◌, ◌<◌, ◌≤◌, ◌+◌, ◌++◌, ◌∷◌, [], ℕ, List, Option, map, ap, ◌∙◌, arith}
+use Rattle.sre_recipes.proofs.Terms.{map-append, match_shown, numbered_group, option_map}
 use Rattle.sre_recipes.proofs.Written.{counted_step}
 use Rattle.sre_recipes.proofs.groups.add_groups.Goals as goal
 

@@ -1,8 +1,4 @@
-use Rattle.std.proofs.Common.{◌≡◌, ◌≤◌, ◌-◌, ◌++◌, map}
-use Rattle.std.specs.List.{range_with_len}
-use Rattle.sre_engine.specs.Answers.{match_shown}
-use Rattle.sre_recipes.specs.Slices.{numbered_group}
-use Rattle.std.specs.Option.{option_map}
+use Rattle.sre_recipes.proofs.Terms.{◌≡◌, ◌≤◌, ◌-◌, ◌++◌, map, range_with_len, match_shown, numbered_group, option_map}
 use Rattle.sre_recipes.proofs.groups.add_groups.Given as goal
 
 abbrev pub invariant-group : goal.invariant-group

@@ -1,11 +1,6 @@
-use Rattle.std.proofs.Common.{◌≡◌, ◌++◌, ℕ, map, ap, sym, ◌∙◌, subst}
-use Rattle.sre_engine.specs.Tree.{Tree}
-use Rattle.sre_engine.specs.Codes.{words_of}
-use Rattle.sre_engine.specs.Requests.{string_of, start_of, end_of, code_of, asked_of}
-use Rattle.sre_engine.specs.Answers.{match_shown}
-use Rattle.sre_engine.specs.Iterators.{request_of, shown_of, left_of}
-use Rattle.sre_recipes.specs.Lexed.{token_matches, reached, lexeme_of, lexeme_shown}
-use Rattle.sre_recipes.specs.Adjoining.{adjoining, unless_empty}
+use Rattle.sre_recipes.proofs.Terms.{◌≡◌, ◌++◌, ℕ, map, ap, sym, ◌∙◌, subst, Tree, words_of, string_of, start_of}
+use Rattle.sre_recipes.proofs.Terms.{end_of, code_of, asked_of, match_shown, request_of, shown_of, left_of}
+use Rattle.sre_recipes.proofs.Terms.{token_matches, reached, lexeme_of, lexeme_shown, adjoining, unless_empty}
 use Rattle.sre_recipes.proofs.Adjoining.{walk_tokens}
 use Rattle.sre_recipes.proofs.Begun.{all_left}
 use Rattle.sre_recipes.proofs.Steps.{walk_step, kept_first, kept_on, next_start, stands_there}

@@ -1,12 +1,6 @@
-use Rattle.std.proofs.Common.{◌≡◌, ◌++◌, map}
-use Rattle.sre_engine.specs.Tree.{Tree}
-use Rattle.sre_engine.specs.Grammar.{Whole}
-use Rattle.sre_engine.specs.Codes.{words_of}
-use Rattle.sre_engine.specs.Requests.{string_of, start_of, end_of, code_of, asked_of}
-use Rattle.sre_engine.specs.Iterators.{request_of, left_of, most_items}
-use Rattle.sre_recipes.specs.Lexed.{token_matches, reached, lexeme_of, lexeme_shown}
-use Rattle.sre_recipes.specs.Adjoining.{adjoining}
-use Rattle.sre_recipes.specs.Spans.{StandsAt}
+use Rattle.sre_recipes.proofs.Terms.{◌≡◌, ◌++◌, map, Tree, Whole, words_of, string_of, start_of, end_of, code_of}
+use Rattle.sre_recipes.proofs.Terms.{asked_of, request_of, left_of, most_items, token_matches, reached, lexeme_of}
+use Rattle.sre_recipes.proofs.Terms.{lexeme_shown, adjoining, StandsAt}
 use Rattle.sre_recipes.proofs.Steps.{Kept}
 use Rattle.sre_recipes.proofs.lexer.tokens_of.Given as goal
 

@@ -1,8 +1,7 @@
-use Rattle.std.proofs.Common.{◌≡◌, ◌<◌, ◌≤◌, ◌+◌, ◌++◌, ◌∷◌, [], ℕ, List, Option, map, ap, ◌∙◌, sym, arith, zero-add}
-use Rattle.std.proofs.lemmas.List.{map-append}
-use Rattle.std.specs.Option.{option_map}
-use Rattle.sre_engine.specs.Answers.{match_shown}
-use Rattle.sre_recipes.specs.Matches.{Placed, match_seen, placed_group}
+use Rattle.sre_recipes.proofs.Terms.{◌≡◌, ◌<◌, ◌≤◌, ◌+◌, ◌++◌, ◌∷◌, [], ℕ, List, Option, map, ap, ◌∙◌, sym, arith}
+use Rattle.sre_recipes.proofs.Terms.{map-append, option_map, match_shown, match_seen, placed_group}
+use Rattle.std.proofs.Common.{zero-add}
+use Rattle.sre_recipes.specs.Matches.{Placed}
 use Rattle.sre_recipes.proofs.Written.{counted_step}
 use Rattle.sre_recipes.proofs.matches.add_group_matches.Goals as goal
 

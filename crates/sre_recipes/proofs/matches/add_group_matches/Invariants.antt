@@ -1,8 +1,5 @@
-use Rattle.std.proofs.Common.{◌≡◌, ◌≤◌, ◌-◌, ◌++◌, map}
-use Rattle.std.specs.List.{range_with_len}
-use Rattle.std.specs.Option.{option_map}
-use Rattle.sre_engine.specs.Answers.{match_shown}
-use Rattle.sre_recipes.specs.Matches.{match_seen, placed_group}
+use Rattle.sre_recipes.proofs.Terms.{◌≡◌, ◌≤◌, ◌-◌, ◌++◌, map, range_with_len, option_map, match_shown, match_seen}
+use Rattle.sre_recipes.proofs.Terms.{placed_group}
 use Rattle.sre_recipes.proofs.matches.add_group_matches.Given as goal
 
 abbrev pub invariant-group : goal.invariant-group

@@ -1,5 +1,4 @@
-use Rattle.std.proofs.Common.{◌≡◌, ◌++◌, take}
-use Rattle.sre_engine.specs.Answers.{match_shown}
+use Rattle.sre_recipes.proofs.Terms.{◌≡◌, ◌++◌, take, match_shown}
 use Rattle.sre_recipes.specs.Templates.{written}
 use Rattle.sre_recipes.proofs.replace.append_replacement.Given as goal
 

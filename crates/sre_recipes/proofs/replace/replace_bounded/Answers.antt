@@ -1,5 +1,4 @@
-use Rattle.std.proofs.Common.{ap, ◌∙◌}
-use Rattle.std.specs.Str.{chars}
+use Rattle.sre_recipes.proofs.Terms.{ap, ◌∙◌, chars}
 use Rattle.std.proofs.lemmas.Str.{chars-nil}
 use Rattle.sre_recipes.proofs.replace.replace_bounded.Goals as goal
 

@@ -1,5 +1,4 @@
-use Rattle.std.proofs.Common.{◌≡◌, ◌≤◌, ℕ, arith, ap, sym, ◌∙◌}
-use Rattle.sre_chars.specs.declared.string.StringCursor.{StringCursor}
+use Rattle.sre_recipes.proofs.Terms.{◌≡◌, ◌≤◌, ℕ, arith, ap, sym, ◌∙◌, StringCursor}
 use Rattle.sre_recipes.proofs.Cuts.{nothing_between}
 use Rattle.sre_recipes.proofs.slice.whole_text.Goals as goal
 

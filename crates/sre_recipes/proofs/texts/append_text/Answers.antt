@@ -1,6 +1,5 @@
-use Rattle.std.proofs.Common.{◌≡◌, ◌++◌, ℕ, List, ap, sym, ◌∙◌, subst}
+use Rattle.sre_recipes.proofs.Terms.{◌≡◌, ◌++◌, ℕ, List, ap, sym, ◌∙◌, subst, chars, IsUtf8}
 use Rattle.std.proofs.lemmas.Str.{chars-append, IsUtf8-append}
-use Rattle.std.specs.Str.{chars, IsUtf8}
 use Rattle.sre_recipes.proofs.texts.append_text.Goals as goal
 
 pub returns-clause-ok : goal.returns-clause-ok

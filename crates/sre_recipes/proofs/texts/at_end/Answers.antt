@@ -1,6 +1,4 @@
-use Rattle.std.proofs.Common.{◌≡◌, ◌∙◌, sym, arith, length}
-use Rattle.std.proofs.lemmas.Bool.{eqb-true, eq-eqb}
-use Rattle.sre_chars.specs.Texts.{offset_of}
+use Rattle.sre_recipes.proofs.Terms.{◌≡◌, ◌∙◌, sym, arith, length, eqb-true, eq-eqb, offset_of}
 use Rattle.sre_recipes.proofs.Cuts.{none_after, some_before_end}
 use Rattle.sre_recipes.proofs.texts.at_end.Goals as goal
 

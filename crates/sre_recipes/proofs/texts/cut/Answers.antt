@@ -1,8 +1,5 @@
-use Rattle.std.proofs.Common.{sym, ap, ◌∙◌}
+use Rattle.sre_recipes.proofs.Terms.{sym, ap, ◌∙◌, slice_range, chars, offset_of}
 use Rattle.std.proofs.lemmas.Str.{chars_from_encodes}
-use Rattle.std.specs.List.{slice_range}
-use Rattle.std.specs.Str.{chars}
-use Rattle.sre_chars.specs.Texts.{offset_of}
 use Rattle.sre_chars.proofs.TextPlaces.{offset_boundary}
 use Rattle.sre_recipes.proofs.Cuts.{offset_order, slice_encodes}
 use Rattle.sre_recipes.proofs.texts.cut.Goals as goal

@@ -1,8 +1,5 @@
-use Rattle.std.proofs.Common.{◌≡◌, ◌<◌, ◌-◌, Some, length, reverse, slice_get, slice_index_or, subst, arith}
-use Rattle.sre_model.specs.Marks.{no_marks}
-use Rattle.sre_turns.specs.Board.{BoardValue}
-use Rattle.sre_board.specs.Choices.{choice_of}
-use Rattle.sre_board.specs.Trail.{states}
+use Rattle.sre_board.proofs.Terms.{◌≡◌, ◌<◌, ◌-◌, Some, length, reverse, slice_get, slice_index_or, subst, arith}
+use Rattle.sre_board.proofs.Terms.{no_marks, BoardValue, choice_of, states}
 use Rattle.sre_board.proofs.OpenSpots.{newest_at, chosen_at, fits_at}
 use Rattle.sre_board.proofs.board.Board.saved.Goals as goal
 

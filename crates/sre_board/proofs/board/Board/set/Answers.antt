@@ -1,5 +1,4 @@
-use Rattle.std.proofs.Common.{arith}
-use Rattle.std.proofs.lemmas.Result.{IfOk-weaker}
+use Rattle.sre_board.proofs.Terms.{arith, IfOk-weaker}
 use Rattle.sre_board.proofs.Choosing.{fits-more, set_held}
 use Rattle.sre_board.proofs.board.Board.set.Goals as goal
 

@@ -1,5 +1,4 @@
-use Rattle.std.proofs.Common.{arith}
-use Rattle.std.proofs.lemmas.Bool.Decides.{nat_tests}
+use Rattle.sre_board.proofs.Terms.{arith, nat_tests}
 use Rattle.sre_board.proofs.ChainLaws.{first_empty, later_some}
 use Rattle.sre_board.proofs.chains.Chains.is_empty.Goals as goal
 

@@ -1,6 +1,5 @@
-use Rattle.std.proofs.Common.{◌≡◌, ◌-◌, ◌+◌, ◌/◌, ◌%◌, ◌<◌, None, ap, sym, ◌∙◌, length, arith}
-use Rattle.std.proofs.lemmas.List.{get_or_read}
-use Rattle.sre_board.specs.Ends.{EndsTable, table_of, end_at, page_at}
+use Rattle.sre_board.proofs.Terms.{◌≡◌, ◌-◌, ◌+◌, ◌/◌, ◌%◌, ◌<◌, None, ap, sym, ◌∙◌, length, arith, get_or_read}
+use Rattle.sre_board.proofs.Terms.{EndsTable, table_of, end_at, page_at}
 use Rattle.sre_board.proofs.Pages.{past_pages, no_page, end_there}
 use Rattle.sre_board.proofs.ends.Ends.end.Goals as goal
 

@@ -1,5 +1,4 @@
-use Rattle.std.proofs.Common.{◌≡◌, Some, slice_get, slice_index_or, [], ap, ◌∙◌, rules}
-use Rattle.sre_turns.specs.Board.{choice, Trying}
+use Rattle.sre_board.proofs.Terms.{◌≡◌, Some, slice_get, slice_index_or, [], ap, ◌∙◌, rules, choice, Trying}
 use Rattle.sre_board.proofs.OpenSpots.{gone_else, gone_tried, more_tried, kept_tried, gone_to_end, gone_to_region}
 use Rattle.sre_board.proofs.OpenSpots.{passed_over}
 use Rattle.sre_board.proofs.ends.Ends.keep_open.Goals.{in-Some-tried_of+in_ok-keep_spot, in_default-tried_of}

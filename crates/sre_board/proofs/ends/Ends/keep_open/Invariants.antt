@@ -1,5 +1,4 @@
-use Rattle.std.proofs.Common.{◌-◌, length}
-use Rattle.sre_board.specs.Ends.{HoldsOpenMore, KeepsOpenEnds}
+use Rattle.sre_board.proofs.Terms.{◌-◌, length, HoldsOpenMore, KeepsOpenEnds}
 use Rattle.sre_board.proofs.OpenSpots.{GoneOver}
 use Rattle.sre_board.proofs.ends.Ends.keep_open.Given as goal
 

@@ -1,5 +1,4 @@
-use Rattle.std.proofs.Common.{true, IfOk, Ok, Err, Result, [], slice_index_or}
-use Rattle.sre_turns.specs.Moves.{spot_at}
+use Rattle.sre_board.proofs.Terms.{true, IfOk, Ok, Err, Result, [], slice_index_or, spot_at}
 use Rattle.sre_board.proofs.EndsKept.{no_number, has_end}
 use Rattle.sre_board.proofs.ends.Ends.keep_spot.Goals as goal
 

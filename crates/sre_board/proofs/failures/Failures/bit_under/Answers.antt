@@ -1,8 +1,5 @@
-use Rattle.std.proofs.Common.{◌∙◌, ap, sym, arith, [], Some, slice_index_or}
-use Rattle.sre_turns.specs.Moves.{spot_at}
-use Rattle.sre_model.specs.Marks.{Marks}
+use Rattle.sre_board.proofs.Terms.{◌∙◌, ap, sym, arith, [], Some, slice_index_or, spot_at, Marks, Kept}
 use Rattle.sre_model.proofs.CountingRuns.{beq_same}
-use Rattle.sre_board.specs.Failures.{Kept}
 use Rattle.sre_board.proofs.OneEntry.{no_index, bit_here}
 use Rattle.sre_board.proofs.failures.Failures.bit_under.Goals as goal
 

@@ -1,7 +1,5 @@
-use Rattle.std.proofs.Common.{◌≡◌, ◌∙◌, ap, sym, refl, arith, get_or, slice_get}
-use Rattle.std.proofs.lemmas.Option.{slice_get_within, slice_get_read, get_or_from_slice_get}
-use Rattle.sre_board.specs.Failures.{Kept}
-use Rattle.sre_board.specs.declared.failures.Row.{Row}
+use Rattle.sre_board.proofs.Terms.{◌≡◌, ◌∙◌, ap, sym, refl, arith, get_or, slice_get, slice_get_within, slice_get_read}
+use Rattle.sre_board.proofs.Terms.{get_or_from_slice_get, Kept, Row}
 use Rattle.sre_board.proofs.RowNumbers.{no_row_at}
 use Rattle.sre_board.proofs.failures.Failures.row.Goals as goal
 

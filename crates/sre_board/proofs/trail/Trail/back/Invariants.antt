@@ -1,5 +1,4 @@
-use Rattle.std.proofs.Common.{◌≡◌, ◌+◌, ◌≤◌, length, take}
-use Rattle.sre_board.specs.Trail.{states}
+use Rattle.sre_board.proofs.Terms.{◌≡◌, ◌+◌, ◌≤◌, length, take, states}
 use Rattle.sre_board.proofs.trail.Trail.back.Given as goal
 
 abbrev pub invariant-back : goal.invariant-back

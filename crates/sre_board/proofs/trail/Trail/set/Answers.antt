@@ -1,5 +1,4 @@
-use Rattle.std.proofs.Common.{arith}
-use Rattle.std.proofs.lemmas.Result.{IfOk-weaker}
+use Rattle.sre_board.proofs.Terms.{arith, IfOk-weaker}
 use Rattle.sre_board.proofs.Undo.{length-of, length-past, set_law}
 use Rattle.sre_board.proofs.trail.Trail.set.Goals as goal
 

@@ -1,5 +1,4 @@
-use Rattle.std.proofs.Common.{◌<◌, length, arith}
-use Rattle.std.proofs.lemmas.Result.{IfOk-weaker}
+use Rattle.sre_board.proofs.Terms.{◌<◌, length, arith, IfOk-weaker}
 use Rattle.sre_board.proofs.Undo.{length-of, length-past, set_odd}
 use Rattle.sre_board.proofs.trail.Trail.set_behind.Goals as goal
 

@@ -1,9 +1,5 @@
-use Rattle.std.proofs.Common.{rules, ◌≡◌, true, sym, subst}
-use Rattle.sre_code.specs.Codes.{words_of, uni_of}
-use Rattle.sre_engine.specs.Requests.{code_of, asked_of}
-use Rattle.sre_engine.specs.Searches.{has_found}
-use Rattle.sre_finder.specs.Kepts.{Suits}
-use Rattle.sre_c.specs.Replies.{Finds}
+use Rattle.sre_c.proofs.Terms.{rules, ◌≡◌, true, sym, subst, words_of, code_of, asked_of, has_found, Suits, Finds}
+use Rattle.sre_code.specs.Codes.{uni_of}
 use Rattle.sre_c.proofs.Finding.{finds_any, finds_within}
 use Rattle.sre_c.proofs.asks.KeptAsks.search.Goals as goal
 

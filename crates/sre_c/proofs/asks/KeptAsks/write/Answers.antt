@@ -1,8 +1,5 @@
-use Rattle.std.proofs.Common.{refl, sym, subst}
-use Rattle.sre_code.specs.Codes.{items_of}
-use Rattle.sre_engine.specs.Codes.{words_of, uni_of}
-use Rattle.sre_engine.specs.FirstSets.{SetsOf}
-use Rattle.sre_engine.specs.Requests.{code_of}
+use Rattle.sre_c.proofs.Terms.{refl, sym, subst, items_of, uni_of, SetsOf, code_of}
+use Rattle.sre_engine.specs.Codes.{words_of}
 use Rattle.sre_c.proofs.KnownSets.{sets_of, sets_in}
 use Rattle.sre_c.proofs.asks.KeptAsks.write.Goals as goal
 

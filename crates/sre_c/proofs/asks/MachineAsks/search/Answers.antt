@@ -1,8 +1,4 @@
-use Rattle.std.proofs.Common.{rules, ◌≡◌, true, subst}
-use Rattle.sre_code.specs.Codes.{words_of}
-use Rattle.sre_engine.specs.Requests.{code_of, asked_of}
-use Rattle.sre_engine.specs.Searches.{has_found}
-use Rattle.sre_c.specs.Replies.{Finds}
+use Rattle.sre_c.proofs.Terms.{rules, ◌≡◌, true, subst, words_of, code_of, asked_of, has_found, Finds}
 use Rattle.sre_c.proofs.Finding.{finds_any, finds_within}
 use Rattle.sre_c.proofs.asks.MachineAsks.search.Goals as goal
 

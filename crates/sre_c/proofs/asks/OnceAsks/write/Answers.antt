@@ -1,6 +1,5 @@
-use Rattle.sre_code.specs.Codes.{items_of}
-use Rattle.sre_engine.specs.Codes.{words_of, uni_of}
-use Rattle.sre_engine.specs.Requests.{code_of}
+use Rattle.sre_c.proofs.Terms.{items_of, uni_of, code_of}
+use Rattle.sre_engine.specs.Codes.{words_of}
 use Rattle.sre_c.proofs.asks.OnceAsks.write.Goals as goal
 
 pub write_in-requires-clause-suits : goal.write_in-requires-clause-suits

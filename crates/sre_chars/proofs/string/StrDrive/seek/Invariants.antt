@@ -1,5 +1,4 @@
-use Rattle.std.proofs.Common.{◌-◌, ◌≤◌}
-use Rattle.sre_chars.specs.Texts.{NoneIs}
+use Rattle.sre_chars.proofs.Terms.{◌-◌, ◌≤◌, NoneIs}
 use Rattle.sre_chars.proofs.string.StrDrive.seek.Given as goal
 
 -- no character that was passed is the one

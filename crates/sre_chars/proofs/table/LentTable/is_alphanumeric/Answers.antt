@@ -1,6 +1,4 @@
-use Rattle.std.proofs.Common.{sym}
-use Rattle.sre_chars.specs.Tables.{table_of}
-use Rattle.sre_chars.specs.Lists.{entries_in}
+use Rattle.sre_chars.proofs.Terms.{sym, table_of, entries_in}
 use Rattle.sre_chars.proofs.RisingLists.{is_alphanumeric-past_ascii}
 use Rattle.sre_chars.proofs.table.LentTable.is_alphanumeric.Goals as goal
 

@@ -1,5 +1,4 @@
-use Rattle.std.proofs.Common.{rules, ◌≡◌, ℕ, List, ◌-◌, true, false, sym, arith}
-use Rattle.std.specs.Prelude.{nat_le}
+use Rattle.sre_chars.proofs.Terms.{rules, ◌≡◌, ℕ, List, ◌-◌, true, false, sym, arith, nat_le}
 use Rattle.std.specs.List.Sorted.{IsPartitionPoint}
 use Rattle.std.proofs.lemmas.List.Sorted.{IsPartitionPoint-from_clause, IsPartitionedBy-leb}
 use Rattle.sre_chars.proofs.RisingLists.{last_up_to-none, last_up_to-at}

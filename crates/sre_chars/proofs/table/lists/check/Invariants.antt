@@ -1,5 +1,4 @@
-use Rattle.std.proofs.Common.{◌≡◌, drop, map}
-use Rattle.sre_chars.specs.Errors.{list_fault}
+use Rattle.sre_chars.proofs.Terms.{◌≡◌, drop, map, list_fault}
 use Rattle.sre_chars.proofs.table.lists.check.Given as goal
 
 -- the first fault of the list is the first of what is left

@@ -1,5 +1,4 @@
-use Rattle.std.proofs.Common.{◌≡◌, ◌-◌, ◌∙◌, arith, refl, ap, subst, get_or}
-use Rattle.std.specs.Str.{IsUtf8}
+use Rattle.sre_chars.proofs.Terms.{◌≡◌, ◌-◌, ◌∙◌, arith, refl, ap, subst, get_or, IsUtf8}
 use Rattle.sre_chars.proofs.AsciiSteps.{byte_before, later_before}
 use Rattle.sre_chars.proofs.Beginnings.{place_at, place_in}
 use Rattle.sre_chars.proofs.text.RefStrStrDrive.back_over.Goals as goal

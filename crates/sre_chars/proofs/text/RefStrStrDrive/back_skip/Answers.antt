@@ -1,6 +1,4 @@
-use Rattle.std.proofs.Common.{◌≡◌, arith, sym, ◌∙◌, ◌-◌, ap, subst}
-use Rattle.std.specs.Str.{IsCharBoundary}
-use Rattle.sre_chars.specs.Texts.{begun}
+use Rattle.sre_chars.proofs.Terms.{◌≡◌, arith, sym, ◌∙◌, ◌-◌, ap, subst, IsCharBoundary, begun}
 use Rattle.sre_chars.proofs.Beginnings.{place_at, place_in}
 use Rattle.sre_chars.proofs.text.RefStrStrDrive.back_skip.Goals as goal
 

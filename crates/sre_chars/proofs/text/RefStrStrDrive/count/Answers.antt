@@ -1,5 +1,4 @@
-use Rattle.std.proofs.Common.{ap, ◌∙◌, length}
-use Rattle.std.specs.Str.{chars}
+use Rattle.sre_chars.proofs.Terms.{ap, ◌∙◌, length, chars}
 use Rattle.sre_chars.proofs.Beginnings.{count_chars}
 use Rattle.sre_chars.proofs.text.RefStrStrDrive.count.Goals as goal
 

@@ -1,7 +1,6 @@
-use Rattle.std.proofs.Common.{refl, ◌∙◌, inl, inr}
+use Rattle.sre_code.proofs.Terms.{refl, ◌∙◌, inl, inr, category}
 use Rattle.sre_code.proofs.CategorySets.{by_each, by_none}
 use Rattle.sre_code.specs.AsciiSet.{contains}
-use Rattle.sre_chars.specs.Categories.{category}
 use Rattle.sre_code.proofs.ascii_set.AsciiSet.of_category.Goals as goal
 
 pub returns-in-DIGIT : goal.returns-in-DIGIT

@@ -1,5 +1,4 @@
-use Rattle.std.proofs.Math.Logic.{∥∥₁_map}
-use Rattle.sre_model.proofs.Props.{kept_tree}
+use Rattle.sre_code.proofs.Terms.{∥∥₁_map, kept_tree}
 use Rattle.sre_code.proofs.code.Code.from_checked.Goals as goal
 use Rattle.sre_code.proofs.code.Code.from_checked.Goals.{in-Ok, in-Err}
 

@@ -1,8 +1,5 @@
-use Rattle.std.proofs.Common.{List, ℕ, sym, subst}
-use Rattle.std.proofs.Math.Logic.{∥∥₁_map}
-use Rattle.sre_model.specs.Grammar.{AreItems}
+use Rattle.sre_code.proofs.Terms.{List, ℕ, sym, subst, ∥∥₁_map, AreItems, kept_tree}
 use Rattle.sre_code.specs.Codes.{items_of}
-use Rattle.sre_model.proofs.Props.{kept_tree}
 use Rattle.sre_code.proofs.code.Code.items.Goals as goal
 
 pub returns-clause-same : goal.returns-clause-same

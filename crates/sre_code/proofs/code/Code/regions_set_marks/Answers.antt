@@ -1,8 +1,4 @@
-use Rattle.std.proofs.Common.{◌≡◌, false, List, ℕ, subst}
-use Rattle.sre_model.specs.Tree.{Tree}
-use Rattle.sre_model.specs.Grammar.{WholeItems}
-use Rattle.sre_model.specs.MarksSet.{marks_in_regions}
-use Rattle.sre_model.specs.References.{refers}
+use Rattle.sre_code.proofs.Terms.{◌≡◌, false, List, ℕ, subst, Tree, WholeItems, marks_in_regions, refers}
 use Rattle.sre_code.specs.Codes.{items_of}
 use Rattle.sre_code.proofs.code.Code.regions_set_marks.Goals as goal
 

@@ -1,8 +1,5 @@
-use Rattle.std.proofs.Common.{List, ℕ, subst}
-use Rattle.sre_model.specs.Tree.{Tree}
-use Rattle.sre_model.specs.Grammar.{WholeItems}
+use Rattle.sre_code.proofs.Terms.{List, ℕ, subst, Tree, WholeItems, IsSummary}
 use Rattle.sre_code.specs.Codes.{items_of}
-use Rattle.sre_code.specs.Summaries.{IsSummary}
 use Rattle.sre_code.proofs.code.Code.summary.Goals as goal
 
 pub returns : goal.returns

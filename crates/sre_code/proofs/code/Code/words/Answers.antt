@@ -1,6 +1,4 @@
-use Rattle.std.proofs.Math.Logic.{∥∥₁_map}
-use Rattle.sre_model.proofs.Props.{kept_tree}
-use Rattle.sre_model.proofs.Unique.{whole_same}
+use Rattle.sre_code.proofs.Terms.{∥∥₁_map, kept_tree, whole_same}
 use Rattle.sre_model.proofs.CutOff.{cut_off}
 use Rattle.sre_code.proofs.code.Code.words.Goals as goal
 

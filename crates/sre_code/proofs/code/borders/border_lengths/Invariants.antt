@@ -1,5 +1,4 @@
-use Rattle.std.proofs.Common.{◌≡◌, length}
-use Rattle.sre_code.specs.Borders.{RightUpTo}
+use Rattle.sre_code.proofs.Terms.{◌≡◌, length, RightUpTo}
 use Rattle.sre_code.proofs.code.borders.border_lengths.Given as goal
 
 abbrev pub invariant-front : goal.invariant-front

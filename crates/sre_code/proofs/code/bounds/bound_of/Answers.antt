@@ -1,6 +1,4 @@
-use Rattle.std.proofs.Common.{arith, ◌*◌, ◌+◌, max, subst, sym}
-use Rattle.sre_code.specs.Prices.{cost_at}
-use Rattle.sre_code.specs.Saturating.{Held}
+use Rattle.sre_code.proofs.Terms.{arith, ◌*◌, ◌+◌, max, subst, sym, cost_at, Held}
 use Rattle.sre_code.proofs.Saturating.{held_same, held_times, held_plus, held_max}
 use Rattle.sre_code.proofs.code.bounds.bound_of.Goals as goal
 

@@ -1,5 +1,4 @@
-use Rattle.std.proofs.Common.{sym, subst}
-use Rattle.sre_model.specs.Grammar.{Reads}
+use Rattle.sre_code.proofs.Terms.{sym, subst, Reads}
 use Rattle.sre_code.proofs.CodeBounds.{bound_told}
 use Rattle.sre_code.proofs.code.bounds.step_bound.Goals as goal
 

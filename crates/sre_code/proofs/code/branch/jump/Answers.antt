@@ -1,5 +1,4 @@
-use Rattle.std.proofs.Common.{sym, ◌∙◌}
-use Rattle.std.proofs.lemmas.Result.{err_from_is_err_and}
+use Rattle.sre_code.proofs.Terms.{sym, ◌∙◌, err_from_is_err_and}
 use Rattle.sre_code.proofs.ReadBranches.{jump_past, jump_cut, jump_gives}
 use Rattle.sre_code.proofs.code.branch.jump.Goals as goal
 

@@ -1,9 +1,4 @@
-use Rattle.std.proofs.Common.{ℕ, ◌≡◌, List, subst}
-use Rattle.sre_model.specs.Tree.{Tree}
-use Rattle.sre_model.specs.Grammar.{WholeItems}
-use Rattle.sre_model.specs.Width.{width}
-use Rattle.sre_code.specs.Hinted.{Confirmed}
-use Rattle.sre_code.specs.Descent.{HasWhole}
+use Rattle.sre_code.proofs.Terms.{ℕ, ◌≡◌, List, subst, Tree, WholeItems, width, Confirmed, HasWhole}
 use Rattle.sre_code.proofs.ReadFronts.{front_refused, front_confirmed}
 use Rattle.sre_code.proofs.code.check.check_in.Goals as goal
 

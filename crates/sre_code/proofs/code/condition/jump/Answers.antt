@@ -1,5 +1,4 @@
-use Rattle.std.proofs.Common.{arith}
-use Rattle.std.proofs.lemmas.Result.{err_from_is_err_and}
+use Rattle.sre_code.proofs.Terms.{arith, err_from_is_err_and}
 use Rattle.sre_code.proofs.ReadConditions.{jump_cut, jump_short}
 use Rattle.sre_code.proofs.code.condition.jump.Goals as goal
 

@@ -1,5 +1,4 @@
-use Rattle.std.proofs.Common.{length, List, ◌-◌}
-use Rattle.sre_model.specs.Tree.{SetItem}
+use Rattle.sre_code.proofs.Terms.{length, List, ◌-◌, SetItem}
 use Rattle.sre_code.specs.FirstSets.{IsSetUpTo}
 use Rattle.sre_code.proofs.FirstSets.{AlternativesLeft}
 use Rattle.sre_code.proofs.code.first_set.each_begins_in.Given as goal

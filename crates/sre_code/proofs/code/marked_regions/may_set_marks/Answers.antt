@@ -1,5 +1,4 @@
-use Rattle.std.proofs.Common.{arith}
-use Rattle.std.proofs.lemmas.Grind.{common_steps}
+use Rattle.sre_code.proofs.Terms.{arith, common_steps}
 use Rattle.sre_code.proofs.MarksOutside.{scanned_next, scanned_all}
 use Rattle.sre_code.proofs.code.marked_regions.may_set_marks.Goals as goal
 

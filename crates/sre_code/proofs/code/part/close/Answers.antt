@@ -1,6 +1,5 @@
-use Rattle.std.proofs.Common.{Ok, sym, subst}
+use Rattle.sre_code.proofs.Terms.{Ok, sym, subst, Part}
 use Rattle.sre_code.specs.Steps.{Closing}
-use Rattle.sre_code.specs.declared.code.step.Part.{Part}
 use Rattle.sre_code.proofs.code.part.close.Goals as goal
 
 pub returns-in-Absent : goal.returns-in-Absent

@@ -1,5 +1,4 @@
-use Rattle.std.proofs.Common.{◌+◌, refl, arith}
-use Rattle.sre_model.proofs.Words.{word_within}
+use Rattle.sre_code.proofs.Terms.{◌+◌, refl, arith, word_within}
 use Rattle.sre_code.proofs.Prefixes.{adjacent_more}
 use Rattle.sre_code.proofs.code.prefix.behind_adjacent.Goals as goal
 

@@ -1,5 +1,4 @@
-use Rattle.std.proofs.Common.{◌+◌, ◌≡◌, true, false, refl, arith}
-use Rattle.sre_model.proofs.Words.{word_within}
+use Rattle.sre_code.proofs.Terms.{◌+◌, ◌≡◌, true, false, refl, arith, word_within}
 use Rattle.sre_code.proofs.Prefixes.{spread_more, spread_stops}
 use Rattle.sre_code.proofs.code.prefix.behind_spread.Goals as goal
 

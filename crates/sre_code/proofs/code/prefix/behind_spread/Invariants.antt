@@ -1,5 +1,4 @@
-use Rattle.std.proofs.Common.{length, drop, ◌≤◌}
-use Rattle.sre_model.specs.Claims.{behind_spread}
+use Rattle.sre_code.proofs.Terms.{length, drop, ◌≤◌, behind_spread}
 use Rattle.sre_code.proofs.Prefixes.{SameLeft}
 use Rattle.sre_code.proofs.code.prefix.behind_spread.Given as goal
 

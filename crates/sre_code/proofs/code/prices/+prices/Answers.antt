@@ -2,8 +2,7 @@ use Rattle.sre_code.proofs.PriceScans.{loop_law, possessive_law, branch_ends, br
 use Rattle.sre_code.proofs.PriceScans.{onto_start, onto_next, scan_stops, scan_ends}
 use Rattle.sre_code.proofs.PriceScans.{Onto, priced_as}
 use Rattle.sre_code.specs.declared.code.prices.Kind.TheVariants as kind
-use Rattle.sre_code.specs.Prices.{IsHeld, BodyPriced, PricedAt}
-use Rattle.std.proofs.Common.{◌+◌, ◌∙◌, Some, arith, sym, subst}
+use Rattle.sre_code.proofs.Terms.{IsHeld, BodyPriced, PricedAt, ◌+◌, ◌∙◌, Some, arith, sym, subst}
 use Rattle.sre_code.proofs.code.prices.+prices.Goals as goal
 
 pub looped-returns-in-Some-clause-told : goal.looped-returns-in-Some-clause-told

@@ -1,5 +1,4 @@
-use Rattle.std.proofs.Common.{◌+◌, ◌*◌, arith, sym, subst}
-use Rattle.sre_code.specs.Prices.{steps_at, cost_at, IsHeld, loop_price}
+use Rattle.sre_code.proofs.Terms.{◌+◌, ◌*◌, arith, sym, subst, steps_at, cost_at, IsHeld, loop_price}
 use Rattle.sre_code.proofs.Saturating.{held_same, held_plus, held_times}
 use Rattle.sre_code.proofs.PricedItems.{held_closed}
 use Rattle.sre_code.proofs.code.prices.loop_price.Goals as goal

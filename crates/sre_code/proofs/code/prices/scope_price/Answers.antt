@@ -1,5 +1,4 @@
-use Rattle.std.proofs.Common.{refl, arith}
-use Rattle.sre_code.specs.Prices.{steps_at, cost_at}
+use Rattle.sre_code.proofs.Terms.{refl, arith, steps_at, cost_at}
 use Rattle.sre_code.proofs.Saturating.{held_same, held_plus}
 use Rattle.sre_code.proofs.code.prices.scope_price.Goals as goal
 

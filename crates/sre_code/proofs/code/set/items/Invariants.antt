@@ -1,5 +1,4 @@
-use Rattle.std.proofs.Common.{◌-◌}
-use Rattle.sre_code.specs.Reading.{SameSets}
+use Rattle.sre_code.proofs.Terms.{◌-◌, SameSets}
 use Rattle.sre_code.proofs.code.set.items.Given as goal
 
 abbrev pub invariant-items : goal.invariant-items

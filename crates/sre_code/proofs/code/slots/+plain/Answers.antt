@@ -1,6 +1,4 @@
-use Rattle.std.proofs.Common.{arith, refl, sym, subst, ◌+◌}
-use Rattle.std.proofs.lemmas.Grind.{common_steps}
-use Rattle.sre_code.specs.SlotScans.{ToldAt}
+use Rattle.sre_code.proofs.Terms.{arith, refl, sym, subst, ◌+◌, common_steps, ToldAt}
 use Rattle.sre_code.proofs.ScanningLoops.{scanned_start, scanned_next, scan_stops, scan_ends, nothing_left, loop_stops}
 use Rattle.sre_code.proofs.ScanningLoops.{loop_passed}
 use Rattle.sre_code.proofs.code.slots.+plain.Goals as goal

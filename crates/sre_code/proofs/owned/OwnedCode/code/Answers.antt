@@ -1,7 +1,4 @@
-use Rattle.std.proofs.Common.{sym, subst}
-use Rattle.sre_model.specs.Tree.{Tree}
-use Rattle.sre_model.specs.Grammar.{Whole}
-use Rattle.sre_code.specs.Hinted.{Confirmed}
+use Rattle.sre_code.proofs.Terms.{sym, subst, Tree, Whole, Confirmed}
 use Rattle.sre_code.proofs.owned.OwnedCode.code.Goals as goal
 
 pub from_checked-requires-clause-checked : goal.from_checked-requires-clause-checked

@@ -1,7 +1,4 @@
-use Rattle.std.proofs.Common.{List, ℕ, sym, subst}
-use Rattle.sre_model.specs.Tree.{Tree}
-use Rattle.sre_model.specs.Grammar.{Whole}
-use Rattle.sre_code.specs.Hinted.{Confirmed}
+use Rattle.sre_code.proofs.Terms.{List, ℕ, sym, subst, Tree, Whole, Confirmed}
 use Rattle.sre_code.proofs.owned.OwnedCode.new.Goals as goal
 
 pub invariant_of-result : goal.invariant_of-result

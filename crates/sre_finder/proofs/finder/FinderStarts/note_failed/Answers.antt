@@ -1,5 +1,4 @@
-use Rattle.std.proofs.Common.{◌≡◌, ◌∙◌, sym, subst, rules}
-use Rattle.sre_finder.specs.Finders.{EndStands}
+use Rattle.sre_finder.proofs.Terms.{◌≡◌, ◌∙◌, sym, subst, rules, EndStands}
 use Rattle.sre_finder.proofs.Covered.{filters_same}
 use Rattle.sre_finder.proofs.finder.FinderStarts.note_failed.Goals as goal
 

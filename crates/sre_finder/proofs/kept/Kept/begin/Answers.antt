@@ -1,5 +1,4 @@
-use Rattle.std.proofs.Common.{refl, sym, subst}
-use Rattle.sre_finder.specs.Kepts.{Suits}
+use Rattle.sre_finder.proofs.Terms.{refl, sym, subst, Suits}
 use Rattle.sre_finder.proofs.Covered.{suits_same}
 use Rattle.sre_finder.proofs.kept.Kept.begin.Goals.{then-ne, else-ne}
 use Rattle.sre_finder.proofs.kept.Kept.begin.Goals as goal

@@ -1,5 +1,4 @@
-use Rattle.std.proofs.Common.{refl}
-use Rattle.sre_finder.specs.Finders.{Filters}
+use Rattle.sre_finder.proofs.Terms.{refl, Filters}
 use Rattle.sre_finder.proofs.Covered.{filters_same}
 use Rattle.sre_finder.proofs.kept.Kept.into_finder.Goals as goal
 

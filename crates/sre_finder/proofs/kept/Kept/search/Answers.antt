@@ -1,7 +1,4 @@
-use Rattle.std.proofs.Common.{refl, sym, subst}
-use Rattle.sre_code.specs.Codes.{words_of, uni_of}
-use Rattle.sre_request.specs.Requests.{string_of, code_of}
-use Rattle.sre_finder.specs.Finders.{EndStands}
+use Rattle.sre_finder.proofs.Terms.{refl, sym, subst, words_of, uni_of, string_of, code_of, EndStands}
 use Rattle.sre_finder.proofs.Covered.{suits_same}
 use Rattle.sre_finder.proofs.kept.Kept.search.Goals as goal
 

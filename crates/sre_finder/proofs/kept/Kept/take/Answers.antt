@@ -1,6 +1,4 @@
-use Rattle.std.proofs.Common.{◌∙◌, sym, subst}
-use Rattle.sre_code.specs.Codes.{words_of, uni_of}
-use Rattle.sre_finder.specs.Kepts.{Suits}
+use Rattle.sre_finder.proofs.Terms.{◌∙◌, sym, subst, words_of, uni_of, Suits}
 use Rattle.sre_finder.proofs.kept.Kept.take.Goals.{then-eq, else-eq}
 use Rattle.sre_finder.proofs.kept.Kept.take.Goals as goal
 

@@ -1,10 +1,6 @@
-use Rattle.std.proofs.Common.{refl, ap, subst, arith}
-use Rattle.regex_hir.specs.Meaning.{meaning}
-use Rattle.sre_code.proofs.Checked.{items_whole}
-use Rattle.sre_request.specs.Requests.{code_of, asked_of}
-use Rattle.sre_automata.specs.Told.{Tells, NoneLeft, NoneUpTo}
-use Rattle.sre_finder.specs.Views.{SeenAs}
-use Rattle.sre_finder.specs.Finders.{Covering, Filters, NoneLeftOfAny}
+use Rattle.sre_finder.proofs.Terms.{refl, ap, subst, arith, meaning, items_whole, code_of, asked_of, NoneLeft, NoneUpTo}
+use Rattle.sre_finder.proofs.Terms.{SeenAs, Covering, Filters, NoneLeftOfAny}
+use Rattle.sre_automata.specs.Told.{Tells}
 use Rattle.sre_finder.proofs.Covered.{filters_same, no_start_left, no_start_below, none_left_of_any}
 use Rattle.sre_finder.proofs.prefilter.Prefilter.ask.Goals as goal
 

@@ -1,8 +1,4 @@
-use Rattle.std.proofs.Common.{refl, ap, subst}
-use Rattle.sre_code.proofs.Checked.{items_whole}
-use Rattle.sre_request.specs.Requests.{code_of, asked_of}
-use Rattle.sre_finder.specs.Views.{SeenAs}
-use Rattle.sre_finder.specs.Finders.{NoneLeftOfAny}
+use Rattle.sre_finder.proofs.Terms.{refl, ap, subst, items_whole, code_of, asked_of, SeenAs, NoneLeftOfAny}
 use Rattle.sre_finder.proofs.Covered.{filters_same, none_left_of_any}
 use Rattle.sre_finder.proofs.prefilter.Prefilter.lacks_literal.Goals as goal
 

@@ -1,6 +1,4 @@
-use Rattle.std.proofs.Common.{refl}
-use Rattle.sre_code.specs.Codes.{words_of, uni_of}
-use Rattle.sre_request.specs.Requests.{code_of}
+use Rattle.sre_finder.proofs.Terms.{refl, words_of, uni_of, code_of}
 use Rattle.sre_finder.proofs.Covered.{filters_kept}
 use Rattle.sre_finder.proofs.searched.KeptStarts.beyond.Goals as goal
 

@@ -1,5 +1,4 @@
-use Rattle.std.proofs.Common.{◌≡◌, ◌∙◌, ap, rules}
-use Rattle.sre_code.specs.Codes.{words_of, uni_of}
+use Rattle.sre_finder.proofs.Terms.{◌≡◌, ◌∙◌, ap, rules, words_of, uni_of}
 use Rattle.sre_finder.proofs.Covered.{covering_moved, exactly_moved}
 use Rattle.sre_finder.proofs.span_finder.SpanFinder.into_kept.Goals as goal
 

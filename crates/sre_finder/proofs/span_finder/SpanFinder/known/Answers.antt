@@ -1,14 +1,9 @@
-use Rattle.std.proofs.Common.{◌≡◌, ◌≤◌, false, ap, sym, subst, ◌∙◌, arith, rules}
-use Rattle.regex_hir.specs.Meaning.{meaning}
-use Rattle.sre_model.specs.Tree.{Tree}
-use Rattle.sre_model.specs.Grammar.{Whole}
+use Rattle.sre_finder.proofs.Terms.{◌≡◌, ◌≤◌, false, ap, sym, subst, ◌∙◌, arith, rules, meaning, Tree, Whole, words_of}
+use Rattle.sre_finder.proofs.Terms.{items_of, items_whole, string_of, start_of, code_of, asked_of, IsBetween, SeenAs}
+use Rattle.sre_finder.proofs.Terms.{Exactly}
 use Rattle.sre_model.proofs.TreeOf.{tree_of}
-use Rattle.sre_code.specs.Codes.{words_of, items_of}
-use Rattle.sre_code.proofs.Checked.{items_whole, whole_of}
-use Rattle.sre_request.specs.Requests.{string_of, start_of, code_of, asked_of}
-use Rattle.sre_automata.specs.Told.{FindsFirst, IsBetween}
-use Rattle.sre_finder.specs.Views.{SeenAs}
-use Rattle.sre_finder.specs.Spans.{Exactly}
+use Rattle.sre_code.proofs.Checked.{whole_of}
+use Rattle.sre_automata.specs.Told.{FindsFirst}
 use Rattle.sre_finder.proofs.Spans.{first_reached, span_reached, span_between, nothing_found, exact_same}
 use Rattle.sre_finder.proofs.span_finder.SpanFinder.known.Goals.{in-Nothing, in-Between, in-Unknown}
 use Rattle.sre_finder.proofs.span_finder.SpanFinder.known.Goals as goal

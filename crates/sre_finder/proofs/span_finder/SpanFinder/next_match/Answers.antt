@@ -1,6 +1,4 @@
-use Rattle.std.proofs.Common.{◌≡◌, ◌&&◌, nat_eq}
-use Rattle.sre_request.specs.Requests.{start_of, must_advance_of}
-use Rattle.sre_finder.specs.Spans.{StepsFrom}
+use Rattle.sre_finder.proofs.Terms.{◌≡◌, ◌&&◌, nat_eq, start_of, must_advance_of, StepsFrom}
 use Rattle.sre_finder.proofs.Spans.{shown_behind}
 use Rattle.sre_finder.proofs.span_finder.SpanFinder.next_match.Goals as goal
 

@@ -1,7 +1,4 @@
-use Rattle.std.proofs.Common.{◌≡◌, sym, subst, ◌∙◌, arith}
-use Rattle.sre_model.specs.Found.{found}
-use Rattle.sre_request.specs.Requests.{string_of, start_of, asked_of}
-use Rattle.sre_engine.specs.Answers.{answer_of}
+use Rattle.sre_finder.proofs.Terms.{◌≡◌, sym, subst, ◌∙◌, arith, found, string_of, start_of, asked_of, answer_of}
 use Rattle.sre_finder.proofs.Spans.{steps_span, step_answers}
 use Rattle.sre_finder.proofs.span_finder.SpanFinder.run.Goals as goal
 

@@ -1,6 +1,4 @@
-use Rattle.std.proofs.Common.{◌+◌, refl, subst, arith}
-use Rattle.sre_request.specs.Requests.{string_of, start_of, asked_of}
-use Rattle.sre_engine.specs.Starts.{NoneBetween}
+use Rattle.sre_finder.proofs.Terms.{◌+◌, refl, subst, arith, string_of, start_of, asked_of, NoneBetween}
 use Rattle.sre_engine.proofs.LeadingStarts.{found_none_behind}
 use Rattle.sre_finder.proofs.span_finder.SpanFinder.step.Goals as goal
 

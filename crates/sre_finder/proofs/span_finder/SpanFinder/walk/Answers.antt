@@ -1,6 +1,4 @@
-use Rattle.std.proofs.Common.{◌∙◌, sym, subst, ap₂, arith}
-use Rattle.sre_request.specs.Requests.{string_of, start_of, asked_of}
-use Rattle.sre_finder.specs.Finders.{EndStands}
+use Rattle.sre_finder.proofs.Terms.{◌∙◌, sym, subst, ap₂, arith, string_of, start_of, asked_of, EndStands}
 use Rattle.sre_finder.proofs.span_finder.SpanFinder.walk.Goals as goal
 
 pub invariant_of-result : goal.invariant_of-result

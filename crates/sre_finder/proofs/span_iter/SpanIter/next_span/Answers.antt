@@ -1,11 +1,6 @@
-use Rattle.std.proofs.Common.{◌≡◌, ◌&&◌, nat_eq, Some, ap₂, sym, subst, ◌∙◌, arith}
-use Rattle.std.proofs.Math.Logic.{∥∥₁_elim}
-use Rattle.sre_model.specs.Grammar.{Whole}
-use Rattle.sre_model.specs.Found.{found}
-use Rattle.sre_code.specs.Codes.{words_of, hints_of}
-use Rattle.sre_code.proofs.Checked.{code_tree}
-use Rattle.sre_request.specs.Requests.{string_of, start_of, code_of, must_advance_of, asked_of}
-use Rattle.sre_finder.specs.Spans.{match_with, StepsFrom, GoesOnBehind, FindsSpan}
+use Rattle.sre_finder.proofs.Terms.{◌≡◌, ◌&&◌, nat_eq, Some, ap₂, sym, subst, ◌∙◌, arith, ∥∥₁_elim, Whole, found}
+use Rattle.sre_finder.proofs.Terms.{words_of, hints_of, code_tree, string_of, start_of, code_of, must_advance_of}
+use Rattle.sre_finder.proofs.Terms.{asked_of, match_with, StepsFrom, GoesOnBehind, FindsSpan}
 use Rattle.sre_finder.proofs.Covered.{end_once}
 use Rattle.sre_finder.proofs.Spans.{gives_first, found_behind, span_falls}
 use Rattle.sre_finder.proofs.span_iter.SpanIter.next_span.Goals as goal

@@ -1,5 +1,4 @@
-use Rattle.std.proofs.Math.Logic.{∥∥₁_elim}
-use Rattle.sre_request.specs.Requests.{string_of}
+use Rattle.sre_finder.proofs.Terms.{∥∥₁_elim, string_of}
 use Rattle.sre_finder.proofs.span_iter.SpanIter.show.Goals as goal
 
 pub show_at-requires-clause-stands : goal.show_at-requires-clause-stands

@@ -1,19 +1,11 @@
 -- `discard` drops a slot that owns nothing.
-use Rattle.std.proofs.Common.{◌≡◌, List, [], ◌∷◌, ◌++◌, refl, sym, subst}
-use mir.Val.{Val, vunit}
-use base.Logic.{SProp, ent, id⊢}
-use prog.Wp.{WpFn}
-use types.Kit.{‵, raw, ◌⊛◌, ◌$◌, ◌∵◌, !, qed, by, keep, split, fjoin, feq_i, suffices}
-use types.Run.{of_opd, unit_lit, returns, enter}
-use types.ByLocal.{alloc_all, pass_all, free_all, look_at, sets}
-use contract.Running.{tables}
-use denote.Exit.{yes}
-use denote.RattleType.{RattleType, owns}
-use denote.Signature.{types_at, plain}
-use denote.Steps.{nothing}
-use denote.Triple.Entry.{alive}
-use denote.Triple.Walked.{Stays, stay_dropped, walk_of, Goes-dropped}
-use Rattle.std.proofs.raw_atomic.Walks.{proved_at, leaves}
+use Rattle.sre_handle.proofs.Terms.{◌≡◌, List, [], ◌∷◌, ◌++◌, refl, sym, subst, Val, SProp, ent, id⊢, WpFn, ‵, raw, ◌⊛◌}
+use Rattle.sre_handle.proofs.Terms.{◌$◌, ◌∵◌, !, qed, by, keep, split, fjoin, feq_i, suffices, of_opd, returns, enter}
+use Rattle.sre_handle.proofs.Terms.{alloc_all, pass_all, free_all, look_at, sets, tables, yes, RattleType, owns}
+use Rattle.sre_handle.proofs.Terms.{types_at, plain, nothing, alive, Stays, stay_dropped, walk_of, Goes-dropped}
+use Rattle.sre_handle.proofs.Terms.{proved_at, leaves}
+use mir.Val.{vunit}
+use types.Run.{unit_lit}
 use Rattle.sre_handle.proofs.Words.{word, word_good, one_word}
 use Rattle.sre_handle.specs.contracts.kept_slot.KeptSlot as slot
 use Rattle.sre_handle.specs.contracts.kept_slot.KeptSlot.discard as f

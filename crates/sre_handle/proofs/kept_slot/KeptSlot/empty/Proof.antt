@@ -1,21 +1,9 @@
 -- `empty` owns nothing.
-use Rattle.std.proofs.Common.{◌≡◌, [], ◌∷◌, refl}
-use mir.Val.{Val}
-use base.Logic.{SProp, emp}
-use types.Kit.{‵, raw, ◌⊛◌, ◌$◌, ◌∵◌, !, qed, by, keep, split, fjoin, use0}
-use types.Run.{lit, no_more, and_then, returns, enter}
-use types.ByLocal.{alloc_all, pass_all, free_all, look_at, sets}
-use types.Part.{agg}
-use contract.Monad.{fact, fact_i}
-use contract.Running.{tables}
-use denote.RattleType.{owns}
-use denote.Signature.{types_at}
-use denote.RawPtr.{null_ptr}
-use denote.Steps.{nothing}
-use denote.Triple.Entry.{alive}
-use denote.Triple.Walked.{walk_of}
-use Rattle.std.proofs.raw_atomic.Walks.{proved_at, leaves}
-use Rattle.std.specs.declared.option.Option.TheVariants.{None}
+use Rattle.sre_handle.proofs.Terms.{◌≡◌, [], ◌∷◌, refl, Val, SProp, emp, ‵, raw, ◌⊛◌, ◌$◌, ◌∵◌, !, qed, by, keep, split}
+use Rattle.sre_handle.proofs.Terms.{fjoin, use0, no_more, and_then, returns, enter, alloc_all, pass_all, free_all}
+use Rattle.sre_handle.proofs.Terms.{look_at, sets, agg, fact, fact_i, tables, owns, types_at, null_ptr, nothing, alive}
+use Rattle.sre_handle.proofs.Terms.{walk_of, proved_at, leaves, None}
+use types.Run.{lit}
 use Rattle.sre_handle.proofs.Words.{word, word_good, Pointed, made}
 use Rattle.sre_handle.specs.contracts.kept_slot.KeptSlot.empty as f
 use Rattle.sre_handle.proofs.kept_slot.KeptSlot.empty.Statement.{statement}

@@ -1,27 +1,15 @@
 -- `into_raw_box` hands on what the slot owns.
-use Rattle.std.proofs.Common.{◌≡◌, T, List, [], ◌∷◌, ◌++◌, refl, sym, subst, ℕ}
-use mir.Syntax.{ty_ptr, tcons, tnil}
-use mir.Val.{Val}
-use base.Logic.{SProp, ent, emp, id⊢}
-use prog.Wp.{WpFn}
-use types.Kit.{‵, raw, ◌⊛◌, ◌$◌, ◌∵◌, !, qed, by, move, keep, split, fsplit, fjoin, fpick, rewrite, suffices, use0}
-use types.Run.{stop, fld, of_opd, no_more, and_then, returns, enter}
-use types.ByLocal.{alloc_all, pass_all, free_all, look_at, get, get_in, sets}
-use types.Part.{agg, sub, whole}
-use contract.Monad.{fact, fact_i}
-use contract.Running.{tables}
-use denote.Exit.{yes}
-use denote.RattleType.{RattleType, owns}
-use denote.Signature.{types_at, plain}
-use denote.Steps.{nothing, heard}
-use denote.Triple.Entry.{alive}
-use denote.Triple.Walked.{Stays, stay_dropped, walk_of, Goes-dropped}
-use Rattle.std.proofs.raw_atomic.Walks.{proved_at, leaves}
+use Rattle.sre_handle.proofs.Terms.{◌≡◌, T, List, [], ◌∷◌, ◌++◌, refl, sym, subst, ty_ptr, tcons, tnil, Val, SProp, ent}
+use Rattle.sre_handle.proofs.Terms.{emp, id⊢, WpFn, ‵, raw, ◌⊛◌, ◌$◌, ◌∵◌, !, qed, by, move, keep, split, fsplit, fjoin}
+use Rattle.sre_handle.proofs.Terms.{rewrite, suffices, use0, stop, fld, of_opd, no_more, and_then, returns, enter}
+use Rattle.sre_handle.proofs.Terms.{alloc_all, pass_all, free_all, look_at, get, get_in, sets, agg, sub, whole, fact}
+use Rattle.sre_handle.proofs.Terms.{fact_i, tables, yes, RattleType, owns, types_at, plain, nothing, heard, alive}
+use Rattle.sre_handle.proofs.Terms.{Stays, stay_dropped, walk_of, Goes-dropped, proved_at, leaves, None, Some, Suits}
+use Rattle.std.proofs.Common.{ℕ}
+use types.Kit.{fpick}
 use Rattle.std.specs.Prelude.{IsSome, IfSome}
 use Rattle.std.specs.declared.option.Option.{Option}
-use Rattle.std.specs.declared.option.Option.TheVariants.{None, Some}
 use Rattle.sre_chars.specs.Tables.{Table}
-use Rattle.sre_finder.specs.Kepts.{Suits}
 use Rattle.sre_finder.specs.contracts.kept.Kept as kept
 use Rattle.sre_handle.proofs.Words.{ptr_good, word, word_good, Pointed, made, one_word}
 use Rattle.sre_handle.specs.Slots.{held}

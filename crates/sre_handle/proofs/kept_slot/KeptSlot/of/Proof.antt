@@ -1,27 +1,13 @@
 -- `of` keeps what the pointer owns.
-use Rattle.std.proofs.Common.{◌≡◌, List, [], ◌∷◌, ◌++◌, refl, sym, subst}
-use mir.Syntax.{ty_ptr, tcons, tnil}
-use mir.Val.{Val}
+use Rattle.sre_handle.proofs.Terms.{◌≡◌, List, [], ◌∷◌, ◌++◌, refl, sym, subst, ty_ptr, tcons, tnil, Val, SProp, ent}
+use Rattle.sre_handle.proofs.Terms.{emp, id⊢, WpFn, ‵, raw, ◌⊛◌, ◌$◌, ◌∵◌, !, qed, by, move, keep, split, fsplit, fjoin}
+use Rattle.sre_handle.proofs.Terms.{suffices, use0, stop, fld, of_opd, no_more, and_then, returns, enter, alloc_all}
+use Rattle.sre_handle.proofs.Terms.{pass_all, free_all, look_at, get, get_in, sets, agg, sub, whole, fact, fact_i}
+use Rattle.sre_handle.proofs.Terms.{tables, yes, RattleType, owns, types_at, plain, nothing, heard, alive, Stays}
+use Rattle.sre_handle.proofs.Terms.{stay_dropped, walk_of, Goes-dropped, proved_at, leaves, Some, Suits, heap_box}
 use base.Fml.{fex}
-use base.Logic.{SProp, ent, emp, id⊢}
-use prog.Wp.{WpFn}
-use types.Kit.{‵, raw, ◌⊛◌, ◌$◌, ◌∵◌, !, qed, by, move, keep, split, fsplit, fjoin, fpack, suffices, use0}
-use types.Run.{stop, fld, of_opd, no_more, and_then, returns, enter}
-use types.ByLocal.{alloc_all, pass_all, free_all, look_at, get, get_in, sets}
-use types.Part.{agg, sub, whole}
-use contract.Monad.{fact, fact_i}
-use contract.Running.{tables}
-use denote.Exit.{yes}
-use denote.RattleType.{RattleType, owns}
-use denote.Signature.{types_at, plain}
-use denote.Steps.{nothing, heard}
-use denote.Triple.Entry.{alive}
-use denote.Triple.Walked.{Stays, stay_dropped, walk_of, Goes-dropped}
-use Rattle.std.proofs.raw_atomic.Walks.{proved_at, leaves}
-use Rattle.std.specs.declared.option.Option.TheVariants.{Some}
-use Rattle.sre_finder.specs.Kepts.{Suits}
+use types.Kit.{fpack}
 use Rattle.sre_finder.specs.contracts.kept.Kept as kept
-use Rattle.sre_handle.specs.Heap.{heap_box}
 use Rattle.sre_handle.specs.contracts.raw_box.RawBox as raw_box
 use Rattle.sre_handle.proofs.Words.{ptr_good, word, word_good, Pointed, made, one_word}
 use Rattle.sre_handle.specs.contracts.kept_slot.KeptSlot.of as f

@@ -1,45 +1,25 @@
 -- `into_box` gives `from_raw` what the pointer owns.
-use Rattle.std.proofs.Common.{◌≡◌, List, [], ◌∷◌, ◌++◌, refl, sym, subst}
-use mir.Syntax.{Dict, a_type, impl, tnil, tcons, dnil}
+use Rattle.sre_handle.proofs.Terms.{◌≡◌, List, [], ◌∷◌, ◌++◌, refl, sym, subst, Dict, a_type, impl, tnil, tcons, dnil}
+use Rattle.sre_handle.proofs.Terms.{Val, inst_fn, full_share, SProp, ent, emp, id⊢, ftrue, flft, WpFn, ‵, raw, ◌⊛◌}
+use Rattle.sre_handle.proofs.Terms.{some, later, ◌$◌, ◌∵◌, !, qed, by, move, keep, drop, split, join, group, fsplit}
+use Rattle.sre_handle.proofs.Terms.{pick, suffices, use0, use1, await, rewrite, feq_i, stop, fld, of_opd, no_more}
+use Rattle.sre_handle.proofs.Terms.{and_then, returns, enter, alloc_all, pass_all, free_all, look_at, get, get_in, sets}
+use Rattle.sre_handle.proofs.Terms.{sub, whole, lft_new, Lfts, fact, fact_i, ◌⊑◌, ⊑_static, tables, yes, no, Is}
+use Rattle.sre_handle.proofs.Terms.{RattleType, owns, types_at, plain, ptr_val, nothing, param, arg, layout, param_laws}
+use Rattle.sre_handle.proofs.Terms.{arg_laws, glues, Lasts, lasts, triple_of, framed, Stays, stay_dropped, walk_of}
+use Rattle.sre_handle.proofs.Terms.{Goes-dropped, Goes-blank, one, proved_at, leaves, ghosts, dict, passed}
 use mir.Raw.{raw as bare}
-use mir.Val.{Val}
-use mir.MapTy.{inst_fn}
-use base.Fraction.{full_share}
-use base.Logic.{SProp, ent, emp, id⊢}
-use base.Fml.{ftrue, flft}
-use prog.Wp.{WpFn}
-use types.Kit.{‵, raw, ◌⊛◌, some, later, at_ret, ◌$◌, ◌∵◌, !, qed, by, move, keep, drop, split, join, group, fsplit}
-use types.Kit.{fsplit3, fjoin3, pick, suffices, use0, use1, await, rewrite, feq_i}
-use types.Run.{stop, fld, of_opd, no_more, and_then, first, blocks, exec, returns, enter}
-use types.ByLocal.{alloc_all, pass_all, free_all, look_at, get, get_in, sets, lands_last, env}
-use types.Part.{sub, whole}
-use types.Tokens.{lft_new}
-use contract.Lifetimes.{Lfts}
-use contract.Monad.{fact, fact_i}
-use contract.BorrowLft.{◌⊑◌, ⊑_static}
-use contract.Running.{tables}
-use denote.Exit.{yes, no}
-use denote.Laws.{Is, shows}
-use denote.RattleType.{RattleType, owns}
-use denote.Signature.{types_at, plain}
-use denote.RawPtr.{ptr_val}
-use denote.Steps.{nothing, peeks}
-use denote.Param.{param, arg, layout, layouts}
-use denote.Param.Laws.{param_laws, arg_laws}
-use denote.Param.NoDrop.{glues}
-use denote.Triple.Clauses.{Lasts, lasts}
-use denote.Triple.Spec.{triple_of}
+use types.Kit.{at_ret}
+use types.Kit.{fsplit3, fjoin3}
+use types.Run.{first, blocks, exec}
+use types.ByLocal.{lands_last, env}
+use denote.Laws.{shows}
+use denote.Steps.{peeks}
+use denote.Param.{layouts}
 use denote.Triple.Call.{calls_at_last}
-use denote.Triple.Table.{framed}
-use denote.Triple.Walked.{Stays, stay_dropped, walk_of, Goes-dropped}
-use Rattle.std.proofs.alloc.Calls.{Goes-blank}
 use Rattle.std.proofs.VecSteps.Shapes.{after}
-use Rattle.std.proofs.cell.Inside.{one}
-use Rattle.std.proofs.raw_atomic.Walks.{proved_at, leaves}
 use Rattle.std.specs.contracts.alloc.Global as heap
 use Rattle.std.proofs.alloc.Global.TheLaws as heap_laws
-use Rattle.std.specs.contracts.impls.GlobalAllocator.TheImpl.{ghosts, dict}
-use Rattle.std.proofs.impls.GlobalAllocator.TheImpl.Met.{passed}
 use Rattle.std.specs.contracts.boxed.Box as box
 use Rattle.std.proofs.boxed.Box.TheLaws as box_laws
 use Rattle.std.specs.contracts.boxed.Box.from_raw as callee

@@ -1,54 +1,33 @@
 -- `of` keeps what `into_raw` hands out.
-use Rattle.std.proofs.Common.{◌≡◌, List, [], ◌∷◌, ◌++◌, refl, sym, ap, subst}
-use mir.Syntax.{Dict, a_type, impl, tnil, tcons, dcons, dnil}
-use mir.Val.{Val}
-use mir.MapTy.{inst_fn}
+use Rattle.sre_handle.proofs.Terms.{◌≡◌, List, [], ◌∷◌, ◌++◌, refl, sym, subst, Dict, a_type, impl, tnil, tcons, dnil}
+use Rattle.sre_handle.proofs.Terms.{Val, inst_fn, full_share, SProp, ent, emp, id⊢, ftrue, flft, WpFn, ‵, raw, ◌⊛◌}
+use Rattle.sre_handle.proofs.Terms.{some, later, ◌$◌, ◌∵◌, !, qed, by, move, keep, drop, split, join, group, fsplit}
+use Rattle.sre_handle.proofs.Terms.{fjoin, pick, suffices, use0, use1, await, rewrite, of_opd, no_more, and_then}
+use Rattle.sre_handle.proofs.Terms.{returns, enter, alloc_all, pass_all, free_all, look_at, get, sets, agg, lft_new}
+use Rattle.sre_handle.proofs.Terms.{fact, fact_i, ◌⊑◌, ⊑_static, tables, no, RattleType, owns, types_at, plain, Ptr}
+use Rattle.sre_handle.proofs.Terms.{RawPtr, nothing, param, arg, layout, param_laws, arg_laws, glues, Lasts, lasts}
+use Rattle.sre_handle.proofs.Terms.{triple_of, framed, Stays, stay_dropped, walk_of, Goes-blank, one, proved_at, leaves}
+use Rattle.sre_handle.proofs.Terms.{ghosts, dict, passed, heap_box, Lfts}
+use Rattle.std.proofs.Common.{ap}
+use mir.Syntax.{dcons}
 use mir.Raw.{raw as bare}
-use base.Fraction.{full_share}
-use base.Logic.{SProp, ent, emp, id⊢}
-use base.Fml.{ftrue, flft}
-use prog.Wp.{WpFn}
-use types.Kit.{‵, raw, ◌⊛◌, some, later, ◌$◌, ◌∵◌, !, qed, by, move, keep, drop, split, join, group, fsplit, fjoin}
-use types.Kit.{pick, suffices, use0, use1, await, rewrite, feq_l}
-use types.Run.{of_opd, no_more, and_then, returns, enter}
-use types.ByLocal.{alloc_all, pass_all, free_all, look_at, get, sets, lands_as}
-use types.Part.{agg}
-use types.Tokens.{lft_new}
-use contract.Monad.{fact, fact_i}
-use contract.BorrowLft.{◌⊑◌, ⊑_static}
-use contract.Running.{tables}
-use denote.Exit.{no}
-use denote.RattleType.{RattleType, owns}
-use denote.Signature.{types_at, plain}
-use denote.RawPtr.{Ptr, RawPtr}
-use denote.Steps.{nothing, only}
-use denote.Param.{param, arg, layout, bounded}
-use denote.Param.Laws.{param_laws, arg_laws}
-use denote.Param.NoDrop.{glues}
-use denote.Triple.Clauses.{Lasts, lasts}
-use denote.Triple.Spec.{triple_of}
+use types.Kit.{feq_l}
+use types.ByLocal.{lands_as}
+use denote.Steps.{only}
+use denote.Param.{bounded}
 use denote.Triple.Call.{calls_at}
-use denote.Triple.Table.{framed}
-use denote.Triple.Walked.{Stays, stay_dropped, walk_of}
-use Rattle.std.proofs.alloc.Calls.{Goes-blank}
-use Rattle.std.proofs.cell.Inside.{one}
-use Rattle.std.proofs.raw_atomic.Walks.{proved_at, leaves}
 use Rattle.std.specs.contracts.alloc.Global as heap
 use Rattle.std.proofs.alloc.Global.TheLaws as heap_laws
-use Rattle.std.specs.contracts.impls.GlobalAllocator.TheImpl.{ghosts, dict}
-use Rattle.std.proofs.impls.GlobalAllocator.TheImpl.Met.{passed}
 use Rattle.std.specs.contracts.boxed.Box as box
 use Rattle.std.proofs.boxed.Box.TheLaws as box_laws
 use Rattle.std.specs.contracts.boxed.Box.into_raw as callee
 use Rattle.std.proofs.boxed.Box.into_raw.Met.{met}
-use Rattle.sre_handle.specs.Heap.{heap_box}
 use Rattle.sre_handle.proofs.Words.{ptr_good, word, word_good, Pointed, made}
 use Rattle.sre_handle.specs.contracts.raw_box.RawBox.of.{ended, clauses}
 use Rattle.sre_handle.specs.contracts.raw_box.RawBox.of.Key.{name as #self}
 use Rattle.sre_handle.proofs.raw_box.RawBox.of.Statement.{statement}
 use Rattle.sre_handle.proofs.raw_box.RawBox.of.Code as code
 use Rattle.sre_handle.proofs.Destruct++none.drop.Code as none
-use contract.Lifetimes.{Lfts}
 
 pub of_spec : {M : Type 1} → statement M
 unfolding none.code

@@ -1,9 +1,7 @@
-use Rattle.std.proofs.Common.{◌≡◌, Bool, Result, Ok, Err, IfOk}
-use Rattle.sre_engine.specs.Tree.{Tree}
-use Rattle.sre_engine.specs.Grammar.{Whole}
+use Rattle.sre_lines.proofs.Terms.{◌≡◌, Bool, Result, Ok, Err, Tree, Whole, words_of, code_of}
+use Rattle.std.proofs.Common.{IfOk}
 use Rattle.sre_engine.specs.Found.{found}
-use Rattle.sre_engine.specs.Codes.{words_of}
-use Rattle.sre_engine.specs.Requests.{asked_of, code_of}
+use Rattle.sre_engine.specs.Requests.{asked_of}
 use Rattle.sre_engine.specs.Answers.{answer_of}
 use Rattle.sre_lines.proofs.cases.searched.search.Goals as goal
 

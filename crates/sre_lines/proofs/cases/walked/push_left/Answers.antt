@@ -1,9 +1,6 @@
 -- One more span is written of the matches that were left.
-use Rattle.std.proofs.Common.{rules, ◌∙◌, string_bytes, sym, subst}
-use Rattle.sre_engine.specs.Grammar.{Whole}
-use Rattle.sre_engine.specs.Codes.{words_of}
-use Rattle.sre_engine.specs.Requests.{code_of}
-use Rattle.sre_finder.specs.SpanIters.{GivesSpan, request_of, left_of}
+use Rattle.sre_lines.proofs.Terms.{rules, ◌∙◌, string_bytes, sym, subst, Whole, words_of, code_of, request_of, left_of}
+use Rattle.sre_finder.specs.SpanIters.{GivesSpan}
 use Rattle.sre_lines.proofs.WalkTexts.{one_written}
 use Rattle.sre_lines.proofs.cases.walked.push_left.Goals as goal
 

@@ -1,7 +1,4 @@
-use Rattle.std.proofs.Common.{◌≡◌, string_bytes}
-use Rattle.sre_engine.specs.Codes.{words_of}
-use Rattle.sre_engine.specs.Requests.{code_of}
-use Rattle.sre_finder.specs.SpanIters.{request_of, left_of}
+use Rattle.sre_lines.proofs.Terms.{◌≡◌, string_bytes, words_of, code_of, request_of, left_of}
 use Rattle.sre_lines.proofs.WalkTexts.{Written}
 use Rattle.sre_lines.proofs.cases.walked.push_left.Given as goal
 

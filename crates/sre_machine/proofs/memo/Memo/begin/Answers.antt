@@ -1,10 +1,5 @@
-use Rattle.std.proofs.Common.{◌≡◌, ap, sym, ◌∙◌, subst, List, ℕ}
-use Rattle.sre_code.specs.Codes.{items_of}
-use Rattle.sre_model.specs.Standing.{AreWords}
-use Rattle.sre_request.specs.Runs.{run_of}
-use Rattle.sre_turns.specs.AskedPlaces.{AreIdle}
+use Rattle.sre_machine.proofs.Terms.{◌≡◌, ap, sym, ◌∙◌, subst, List, ℕ, items_of, AreWords, run_of, AreIdle, Covers}
 use Rattle.sre_turns.proofs.memoization.SameComes.{none_idle}
-use Rattle.sre_machine.specs.Memos.{Covers}
 use Rattle.sre_machine.proofs.AskedGroups.{covers_all}
 use Rattle.sre_machine.proofs.Recalling.{recalls_none}
 use Rattle.sre_machine.proofs.memo.Memo.begin.Goals as goal

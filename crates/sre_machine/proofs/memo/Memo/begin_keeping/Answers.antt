@@ -1,16 +1,9 @@
-use Rattle.std.proofs.Common.{◌≡◌, ◌-◌, ◌^◌, Bool, true, false, not, min, ap, ◌∙◌, subst, refl, arith}
-use Rattle.sre_model.specs.LooksBehind.{backs}
-use Rattle.sre_model.specs.References.{refers}
+use Rattle.sre_machine.proofs.Terms.{◌≡◌, ◌-◌, Bool, true, false, not, min, ap, ◌∙◌, subst, refl, arith, backs, refers}
+use Rattle.sre_machine.proofs.Terms.{Tree, Whole, tree_of, words_of, items_of, Code, whole_of, whole_items, code_of}
+use Rattle.sre_machine.proofs.Terms.{run_of}
+use Rattle.std.proofs.Common.{◌^◌}
 use Rattle.sre_model.specs.MarksSet.{marks_in_regions}
-use Rattle.sre_model.specs.Tree.{Tree}
-use Rattle.sre_model.specs.Grammar.{Whole}
-use Rattle.sre_model.proofs.TreeOf.{tree_of}
 use Rattle.sre_turns.proofs.memoization.Bodies.{markless_regions}
-use Rattle.sre_code.specs.Codes.{words_of, items_of}
-use Rattle.sre_code.specs.declared.code.Code.{Code}
-use Rattle.sre_code.proofs.Checked.{whole_of, whole_items}
-use Rattle.sre_request.specs.Requests.{code_of}
-use Rattle.sre_request.specs.Runs.{run_of}
 use Rattle.sre_machine.proofs.memo.Memo.begin_keeping.Goals as goal
 
 pub returns-clause-markless : goal.returns-clause-markless

@@ -1,10 +1,5 @@
-use Rattle.std.proofs.Common.{IfNone, subst}
-use Rattle.sre_chars.specs.declared.string.StringCursor.{StringCursor}
-use Rattle.sre_turns.specs.Fruit.{is_inside}
-use Rattle.sre_turns.specs.Moves.{spot_at}
-use Rattle.sre_board.specs.Ends.{TellsEnd}
+use Rattle.sre_machine.proofs.Terms.{IfNone, subst, StringCursor, is_inside, spot_at, TellsEnd, MemoValue}
 use Rattle.sre_board.proofs.EndsKept.{none_told}
-use Rattle.sre_machine.specs.Memos.{MemoValue}
 use Rattle.sre_machine.proofs.memo.Memo.end.Goals as goal
 
 pub returns-clause-none : goal.returns-clause-none

@@ -1,7 +1,4 @@
-use Rattle.std.proofs.Common.{ap, subst}
-use Rattle.sre_board.specs.Ends.{HoldsOpenEnds}
-use Rattle.sre_board.specs.Failures.{Kept}
-use Rattle.sre_machine.specs.Memos.{MemoValue}
+use Rattle.sre_machine.proofs.Terms.{ap, subst, HoldsOpenEnds, Kept, MemoValue}
 use Rattle.sre_machine.proofs.memo.Memo.keep_ends.Goals as goal
 
 pub returns-in_default-clause-held : goal.returns-in_default-clause-held

@@ -1,6 +1,4 @@
-use Rattle.std.proofs.Common.{ap}
-use Rattle.sre_request.specs.Runs.{run_of}
-use Rattle.sre_machine.specs.Memos.{MemoValue}
+use Rattle.sre_machine.proofs.Terms.{ap, run_of, MemoValue}
 use Rattle.sre_machine.proofs.Recalling.{recalls_begun}
 use Rattle.sre_machine.proofs.memo.Memo.looks.Goals as goal
 

@@ -1,7 +1,4 @@
-use Rattle.std.proofs.Common.{ap, subst, sym}
-use Rattle.sre_request.specs.Runs.{run_of}
-use Rattle.sre_turns.specs.AskedPlaces.{AreIdle}
-use Rattle.sre_machine.specs.Memos.{MemoValue, Covers}
+use Rattle.sre_machine.proofs.Terms.{ap, subst, sym, run_of, AreIdle, MemoValue, Covers}
 use Rattle.sre_machine.proofs.Recalling.{recalls_none, recalls_begun}
 use Rattle.sre_machine.proofs.memo.Memo.open.Goals as goal
 

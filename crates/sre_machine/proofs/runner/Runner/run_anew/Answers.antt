@@ -1,5 +1,4 @@
-use Rattle.std.proofs.Common.{ap}
-use Rattle.sre_machine.specs.Spending.{decision_of}
+use Rattle.sre_machine.proofs.Terms.{ap, decision_of}
 use Rattle.sre_machine.proofs.Following.{anew_stops, anew_settles}
 use Rattle.sre_machine.proofs.Halting.{never_found}
 use Rattle.sre_machine.proofs.runner.Runner.run_anew.Goals as goal

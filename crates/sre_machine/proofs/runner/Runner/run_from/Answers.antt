@@ -1,7 +1,5 @@
-use Rattle.std.proofs.Common.{◌≡◌, ◌+◌, ◌-◌, ◌∙◌, arith, ap}
-use Rattle.sre_machine.specs.Allowances.{left_of}
+use Rattle.sre_machine.proofs.Terms.{◌≡◌, ◌+◌, ◌-◌, ◌∙◌, arith, ap, left_of, decision_of, found_of}
 use Rattle.sre_machine.specs.Runners.{RunnerValue}
-use Rattle.sre_machine.specs.Spending.{decision_of, found_of}
 use Rattle.sre_machine.proofs.Following.{again_stops, again_settles, if_ok}
 use Rattle.sre_machine.proofs.runner.Runner.run_from.Goals as goal
 

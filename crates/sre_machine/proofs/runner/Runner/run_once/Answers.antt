@@ -1,14 +1,6 @@
-use Rattle.std.proofs.Common.{◌≡◌, ◌∙◌, ◌*◌, refl, ap, subst, ℕ, List, arith}
-use Rattle.sre_code.specs.Codes.{items_of}
-use Rattle.sre_code.proofs.Checked.{whole_of}
-use Rattle.sre_model.specs.Marks.{no_marks}
-use Rattle.sre_model.specs.Standing.{AreWords}
-use Rattle.sre_model.specs.Prefixes.{behind_items}
-use Rattle.sre_model.proofs.TreeOf.{tree_of, whole-read}
-use Rattle.sre_turns.specs.Board.{bare}
-use Rattle.sre_turns.proofs.semantics.Start.{first_limit}
-use Rattle.sre_request.specs.Runs.{run_of}
-use Rattle.sre_machine.specs.Paying.{Remembering}
+use Rattle.sre_machine.proofs.Terms.{◌≡◌, ◌∙◌, ◌*◌, refl, ap, subst, ℕ, List, arith, items_of, whole_of, no_marks}
+use Rattle.sre_machine.proofs.Terms.{AreWords, behind_items, tree_of, bare, first_limit, run_of, Remembering}
+use Rattle.sre_model.proofs.TreeOf.{whole-read}
 use Rattle.sre_turns.proofs.bound.TreePrices.{steps_behind}
 use Rattle.sre_machine.proofs.Following.{begins_run, run_stops, run_settles, if_ok, rested}
 use Rattle.sre_machine.specs.Spending.{told_of}

@@ -1,8 +1,4 @@
-use Rattle.sre_model.specs.Marks.{no_marks}
-use Rattle.sre_turns.specs.Machine.{outcomes}
-use Rattle.sre_model.specs.Prefixes.{behind_items}
-use Rattle.sre_request.specs.Runs.{run_of}
-use Rattle.sre_model.proofs.TreeOf.{tree_of}
+use Rattle.sre_machine.proofs.Terms.{no_marks, outcomes, behind_items, run_of, tree_of}
 use Rattle.sre_model.specs.Cost.{cost, ending}
 use Rattle.sre_machine.proofs.runner.Runner.run_once.Given as goal
 

@@ -1,5 +1,4 @@
-use Rattle.std.proofs.Common.{◌≡◌, ◌++◌, List, refl}
-use Rattle.std.specs.List.{slice_range}
+use Rattle.sre_recipes.proofs.Terms.{◌≡◌, ◌++◌, List, refl, slice_range}
 use Rattle.sre_recipes.specs.Captured.{captures_shown}
 use Rattle.sre_recipes.specs.Slices.{captured}
 use Rattle.sre_recipes.proofs.Written.{two_more}

@@ -1,7 +1,5 @@
-use Rattle.std.proofs.Common.{◌≡◌, ◌∙◌, ap, subst}
-use Rattle.sre_engine.specs.Found.{Asked}
-use Rattle.sre_engine.specs.Requests.{string_of, start_of}
-use Rattle.sre_finder.specs.SpanIters.{request_of, GivesSpan}
+use Rattle.sre_recipes.proofs.Terms.{◌≡◌, ◌∙◌, ap, subst, Asked, string_of, start_of, GivesSpan}
+use Rattle.sre_finder.specs.SpanIters.{request_of}
 use Rattle.sre_recipes.proofs.Finding.{reaches}
 use Rattle.sre_recipes.proofs.found.FoundTexts.next_text.Goals as goal
 

@@ -1,10 +1,8 @@
-use Rattle.std.proofs.Common.{◌≡◌, ◌∙◌, ℕ, List, length, IfOk, ap, subst, rules}
-use Rattle.sre_engine.specs.Grammar.{Whole}
-use Rattle.sre_engine.specs.Found.{Match}
-use Rattle.sre_engine.specs.Codes.{words_of, uni_of}
-use Rattle.sre_engine.specs.Requests.{string_of, end_of, code_of, asked_of}
+use Rattle.sre_recipes.proofs.Terms.{◌≡◌, ◌∙◌, ℕ, List, length, IfOk, ap, subst, Whole, Match, words_of, string_of}
+use Rattle.sre_recipes.proofs.Terms.{end_of, code_of, asked_of, rest_of}
+use Rattle.std.proofs.Common.{rules}
+use Rattle.sre_engine.specs.Codes.{uni_of}
 use Rattle.sre_finder.specs.SpanIters.{request_of, left_of}
-use Rattle.sre_recipes.specs.Patterns.{rest_of}
 use Rattle.sre_recipes.proofs.Passing.{whole_asks, whole_left}
 use Rattle.sre_recipes.proofs.pattern.Pattern.collect.Goals as goal
 

@@ -1,6 +1,4 @@
-use Rattle.std.proofs.Common.{subst}
-use Rattle.std.specs.List.Sorted.{IsNonDecreasingBy}
-use Rattle.sre_chars.specs.Lists.{entries_in}
+use Rattle.sre_chars.proofs.Terms.{subst, IsNonDecreasingBy, entries_in}
 use Rattle.sre_chars.proofs.RisingLists.{non_decreasing-of_pairs}
 use Rattle.sre_chars.proofs.table.entries.Entries.last_up_to.Goals as goal
 
