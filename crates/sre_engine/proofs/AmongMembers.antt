@@ -3,9 +3,7 @@ use Rattle.sre_engine.proofs.Terms.{◌≡◌, ◌+◌, ◌&&◌, ℕ, List, tru
 use Rattle.sre_engine.proofs.Terms.{arith, inl, inr, nat_lt, cases_lt, nat_tests, StringCursor, Tree, SetItem, no_marks}
 use Rattle.sre_engine.proofs.Terms.{is_member, char_at, Whole, IsCode, HasSet, Asked, subject_of, at_start, words_of}
 use Rattle.sre_engine.proofs.Terms.{uni_of, hints_of, Code, code_tree, code_confirmed, IsFirstSet, is_among}
-use Rattle.sre_engine.proofs.Terms.{NoneBetween, NoneUntil}
-use Rattle.sre_model.specs.Claims.{HasFirstSet}
-use Rattle.sre_engine.specs.Members.{NextMember}
+use Rattle.sre_engine.proofs.Terms.{NoneBetween, NoneUntil, HasFirstSet, NextMember}
 use Rattle.sre_engine.proofs.Answering.{none_joined}
 use Rattle.sre_engine.proofs.FirstMembers.{unmembered}
 

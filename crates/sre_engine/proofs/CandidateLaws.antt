@@ -2,9 +2,7 @@
 use Rattle.sre_engine.proofs.Terms.{◌≡◌, ◌≤◌, ◌<◌, ◌+◌, ℕ, Bool, cond, false, true, List, length, Some, refl, arith}
 use Rattle.sre_engine.proofs.Terms.{Ghosts, StringCursor, Tree, Whole, Asked, words_of, Code, Request, end_of, code_of}
 use Rattle.sre_engine.proofs.Terms.{asked_of, run_of, items_whole, MayBegin, IsCandidate, Failed, IsPrefix, NoPlace}
-use Rattle.sre_engine.proofs.Terms.{NoMatch, NoneUntil, Candidate}
-use Rattle.sre_engine.specs.Candidates.{IsBare, bare_candidate}
-use Rattle.sre_engine.specs.Starts.{PassesTo}
+use Rattle.sre_engine.proofs.Terms.{NoMatch, NoneUntil, Candidate, IsBare, bare_candidate, PassesTo}
 use Rattle.sre_engine.proofs.Answering.{none_here, none_joined}
 use Rattle.sre_engine.proofs.Searching.{unplaced_between}
 

@@ -1,10 +1,9 @@
 -- A request asks the same with and without a list of its code's FIRST sets: what a search says of one holds of the
 -- other.
 use Rattle.sre_engine.proofs.Terms.{ℕ, Bool, List, Result, Ok, Ghosts, items_of, AllAdmitted, carrying, Admitted}
-use Rattle.sre_engine.proofs.Terms.{Request, Allowance, Halt, Shown, SearchCosts, Charged, Answered}
-use Rattle.std.proofs.Common.{Bor}
+use Rattle.sre_engine.proofs.Terms.{Request, Allowance, Halt, Shown, SearchCosts, Charged, Answered, Bor}
+use Rattle.sre_engine.proofs.Terms.{AnsweredAtOnce}
 use Rattle.std.specs.declared.alloc.Allocator.{Ghosts as Memory}
-use Rattle.sre_engine.specs.Searches.{AnsweredAtOnce}
 
 module _ {S : Type 0} {text : Ghosts S} (r : Request S text) (list : Bor (List Admitted))
     (all : AllAdmitted (items_of r.pattern_codes) list.now) where

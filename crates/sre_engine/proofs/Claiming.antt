@@ -3,13 +3,12 @@ use Rattle.sre_engine.proofs.Terms.{◌≡◌, ◌≤◌, ◌<◌, ◌+◌, ◌-
 use Rattle.sre_engine.proofs.Terms.{cond, length, slice_range, nat_eq, nat_lt, nat_le, Option, Some, None, refl, sym}
 use Rattle.sre_engine.proofs.Terms.{ap, ◌∙◌, subst, arith, length-drop, and_parts, leb-true, nat_tests, Tree, Empty}
 use Rattle.sre_engine.proofs.Terms.{Then, One, Mark, Literal, Plain, width, word, skip, behind_block, Whole, spells}
-use Rattle.sre_engine.proofs.Terms.{behind_items, is_empty, prefix_of, overlaps_of, opcode_within}
-use Rattle.std.proofs.Common.{◌/◌, ◌%◌, take, drop, is_some}
+use Rattle.sre_engine.proofs.Terms.{behind_items, is_empty, prefix_of, overlaps_of, opcode_within, ◌/◌, ◌%◌, take, drop}
+use Rattle.sre_engine.proofs.Terms.{is_some, has_block, has_flag, has_prefix, prefix_length, prefix_skip, prefix_words}
+use Rattle.sre_engine.proofs.Terms.{overlap_words, are_overlaps, behind_adjacent, behind_spread, then_spread}
+use Rattle.sre_engine.proofs.Terms.{behind_literals, behind_prefix, confirmed_width, confirmed_prefix, is_literal}
+use Rattle.sre_engine.proofs.Terms.{is_at_end}
 use Rattle.sre_chars.specs.declared.constants.SreOpcode.TheVariants as opcode
-use Rattle.sre_model.specs.Grammar.{has_block}
-use Rattle.sre_model.specs.Claims.{has_flag, has_prefix, prefix_length, prefix_skip, prefix_words, overlap_words}
-use Rattle.sre_model.specs.Claims.{are_overlaps, behind_adjacent, behind_spread, then_spread, behind_literals}
-use Rattle.sre_model.specs.Claims.{behind_prefix, confirmed_width, confirmed_prefix, is_literal, is_at_end}
 
 -- Lists of words and trees
 

@@ -2,10 +2,8 @@
 use Rattle.sre_engine.proofs.Terms.{◌≡◌, ℕ, ◌+◌, ◌*◌, ◌≤◌, ◌⊎◌, inl, inr, false, true, Refused, [], refl, arith, Result}
 use Rattle.sre_engine.proofs.Terms.{Ok, Err, IfErr, IsErrAnd, sym, subst, add-mul, mul-le-mul_right, Ghosts}
 use Rattle.sre_engine.proofs.Terms.{StringCursor, Request, start_of, run_of, most_steps, MemoValue, Remembering}
-use Rattle.sre_engine.proofs.Terms.{rows_from, each_of, search_cost, most_tolls, most_waits, SearchCosts}
-use Rattle.std.proofs.Common.{one-mul}
-use Rattle.sre_board.proofs.AccountLaws.{account_few}
-use Rattle.sre_machine.specs.Paying.{run_cost, RunStops, RunSettles, HoldsBits}
+use Rattle.sre_engine.proofs.Terms.{rows_from, each_of, search_cost, most_tolls, most_waits, SearchCosts, one-mul}
+use Rattle.sre_engine.proofs.Terms.{account_few, run_cost, RunStops, RunSettles, HoldsBits}
 
 -- what j runs cost, and what k more of them cost
 sum_of : (j k a s t m : ℕ) → ((j + k) * a + (s + t)) * m ≡ (j * a + s) * m + (k * a + t) * m

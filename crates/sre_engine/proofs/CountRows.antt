@@ -1,9 +1,7 @@
 -- Worked rows of what the counts of a search are bounded by, by computation.
-use Rattle.std.specs.Prelude.{refl, ◌≡◌, List, ℕ, Some, None, true, false, [], ◌∷◌, codes}
-use Rattle.sre_model.specs.Tree.{Single}
-use Rattle.sre_engine.proofs.Terms.{Asked, subject_of, stands_at, how_many, prefix_of, Hints, width_fits, may_start}
-use Rattle.sre_engine.proofs.Terms.{IsFirstSet, is_among}
-use Rattle.sre_model.specs.Shown.{window, whole}
+use Rattle.sre_engine.proofs.Terms.{refl, ◌≡◌, List, ℕ, Some, None, true, false, [], ◌∷◌, codes, Single, Asked}
+use Rattle.sre_engine.proofs.Terms.{subject_of, stands_at, how_many, prefix_of, Hints, width_fits, may_start}
+use Rattle.sre_engine.proofs.Terms.{IsFirstSet, is_among, window, whole}
 
 -- xabab, whole and without its first and last letter
 abbrev text : Asked

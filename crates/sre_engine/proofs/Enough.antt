@@ -5,12 +5,8 @@ use Rattle.sre_engine.proofs.Terms.{Ok, Err, ap, ◌∙◌, subst, arith, mul-le
 use Rattle.sre_engine.proofs.Terms.{Asked, IsRemembered, step_bound, most_steps, Request, start_of, end_of, asked_of}
 use Rattle.sre_engine.proofs.Terms.{code_of, words_of, items_of, Code, is_limited, left_of, Allowance, Halt}
 use Rattle.sre_engine.proofs.Terms.{Remembering, each_of, items_whole, Charged, SearchCosts, search_cost, most_tolls}
-use Rattle.sre_engine.proofs.Terms.{most_waits}
-use Rattle.std.proofs.Common.{IfOk}
+use Rattle.sre_engine.proofs.Terms.{most_waits, IfOk, kept_positions, sides, cost_of, AreEnough, KeepsToSteps}
 use Rattle.std.specs.declared.alloc.Allocator.{Ghosts as Memory}
-use Rattle.sre_model.specs.Remembered.{kept_positions, sides}
-use Rattle.sre_model.specs.TreePrices.{cost_of}
-use Rattle.sre_engine.specs.Counts.{AreEnough, KeepsToSteps}
 use Rattle.sre_machine.specs.declared.turns.Halt.TheVariants as halt
 
 -- runs from as many starts as there are, from where a memo begins, cost no more

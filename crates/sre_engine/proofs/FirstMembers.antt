@@ -2,9 +2,8 @@
 use Rattle.sre_engine.proofs.Terms.{◌≡◌, ℕ, List, Bool, true, false, ◌&&◌, nat_eq, nat_lt, None, refl, sym, ◌∙◌, subst}
 use Rattle.sre_engine.proofs.Terms.{arith, nat_tests, Tree, Empty, Then, One, Mark, Trees, Only, Or, Literal, In, Plain}
 use Rattle.sre_engine.proofs.Terms.{SetItem, is_member, set_mark, Subject, char_at, passes, after, NoWay, NoneOf}
-use Rattle.sre_engine.proofs.Terms.{words_of, hints_of, Code, code_tree, code_confirmed}
-use Rattle.sre_model.specs.Tree.{Branch}
-use Rattle.sre_model.specs.Claims.{behind_marks, TestIn, EachTestIn, FirstIn}
+use Rattle.sre_engine.proofs.Terms.{words_of, hints_of, Code, code_tree, code_confirmed, Branch, behind_marks, TestIn}
+use Rattle.sre_engine.proofs.Terms.{EachTestIn, FirstIn}
 
 module _ (s : Subject) (set : List SetItem) (p : ℕ) (no : after s (is_member s.table set) p ≡ false) where
   -- behind marks

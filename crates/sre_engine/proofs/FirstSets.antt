@@ -3,11 +3,9 @@ use Rattle.sre_engine.proofs.Terms.{◌≢◌, ◌≡◌, ◌+◌, ◌-◌, ◌�
 use Rattle.sre_engine.proofs.Terms.{List, length, refl, sym, ap, ◌∙◌, subst, arith, nat_tests, AsciiSet, contains, Tree}
 use Rattle.sre_engine.proofs.Terms.{Trees, Only, Or, Test, holds, Subject, char_at, passes, Word, word, skip}
 use Rattle.sre_engine.proofs.Terms.{ReadsBranch, NoWay, NoneOf, NotPassed, TreeStands, HasTree, HasAlternatives, Leads}
-use Rattle.sre_engine.proofs.Terms.{TakesAscii, same_word, word_of, opcode_within, stands_up_to, NotAmong}
+use Rattle.sre_engine.proofs.Terms.{TakesAscii, same_word, word_of, opcode_within, stands_up_to, NotAmong, word_within}
+use Rattle.sre_engine.proofs.Terms.{alternative_long, only_none, or_none}
 use Rattle.sre_chars.specs.declared.constants.SreOpcode.TheVariants as opcode
-use Rattle.sre_model.proofs.Words.{word_within}
-use Rattle.sre_model.proofs.Places.{alternative_long}
-use Rattle.sre_model.proofs.FirstCharacters.{only_none, or_none}
 
 -- a test that takes the ASCII characters of a set alone does not pass where none of them is, and none past ASCII
 among_taken : (s : Subject) (set : AsciiSet) (t : Test) (p : ℕ)

@@ -2,9 +2,8 @@
 use Rattle.sre_engine.proofs.Terms.{◌≡◌, ◌≤◌, ◌<◌, ◌+◌, ◌-◌, ◌^◌, ℕ, List, Bool, length, Option, Some, None, sym, ap}
 use Rattle.sre_engine.proofs.Terms.{◌∙◌, arith, inl, inr, slice_range, length-drop, cases_lt, Tree, width, Whole}
 use Rattle.sre_engine.proofs.Terms.{IsCode, Asked, found, prefix_of, overlaps_of, words_of, hints_of, Code, code_tree}
-use Rattle.sre_engine.proofs.Terms.{code_confirmed, IsPrefix, FitsAt, IsLast, Overlapping}
-use Rattle.std.proofs.Common.{SomeIff, length-take}
-use Rattle.sre_code.proofs.Borders.{overlaps_right}
+use Rattle.sre_engine.proofs.Terms.{code_confirmed, IsPrefix, FitsAt, IsLast, Overlapping, SomeIff, length-take}
+use Rattle.sre_engine.proofs.Terms.{overlaps_right}
 use Rattle.sre_engine.proofs.Steps.{overlapping}
 use Rattle.sre_engine.proofs.Answering.{NoneBefore, none_joined}
 use Rattle.sre_engine.proofs.Claiming.{Claimed, claim, claim_some, claim_few, claim_room, claim_overlaps, claim_spells}

@@ -4,15 +4,12 @@ use Rattle.sre_engine.proofs.Terms.{Some, None, IfSome, refl, sym, ap, ◌∙◌
 use Rattle.sre_engine.proofs.Terms.{nat_tests, at_number, SreAtCode, SreOpcode, Tree, Empty, Then, One, At, Mark, Test}
 use Rattle.sre_engine.proofs.Terms.{RunKind, GreedyRun, LazyRun, PossessiveRun, Word, Opcode, Reads, Role, ToRun, role}
 use Rattle.sre_engine.proofs.Terms.{begins_test, TreeStands, same_word, same_opcode, HasRole, stands_up_to}
-use Rattle.sre_engine.proofs.Terms.{whole_stands, LeadsToTest, LeadsToCode, Wants, WantsFirst, First}
+use Rattle.sre_engine.proofs.Terms.{whole_stands, LeadsToTest, LeadsToCode, Wants, WantsFirst, First, Item, ReadsItem}
+use Rattle.sre_engine.proofs.Terms.{item_opcode, run_opcode, test_opcode, ToTest, is_test_role, opcode_low, item_role}
+use Rattle.sre_engine.proofs.Terms.{role_same, test_kind, test_role, run_role, first_test, first_code, is_passed}
+use Rattle.sre_engine.proofs.Terms.{IsPast, Ahead, IsTestAt}
 use Rattle.sre_chars.specs.declared.constants.SreOpcode.TheVariants as opcode
-use Rattle.sre_model.specs.Tree.{Item, Run}
-use Rattle.sre_model.specs.Grammar.{ReadsItem, item_opcode, run_opcode, test_opcode}
-use Rattle.sre_model.specs.Roles.{ToTest, is_test_role}
-use Rattle.sre_model.proofs.Words.{opcode_low}
-use Rattle.sre_model.proofs.Families.{item_role, role_same, test_kind, test_role, run_role}
-use Rattle.sre_engine.specs.Beginnings.{first_test, first_code}
-use Rattle.sre_engine.specs.Leading.{is_passed, IsPast, Ahead, IsTestAt}
+use Rattle.sre_model.specs.Tree.{Run}
 
 -- The items before a first test, or a first position code
 

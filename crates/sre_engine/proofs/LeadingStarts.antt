@@ -2,10 +2,7 @@
 use Rattle.sre_engine.proofs.Terms.{◌≡◌, ◌≤◌, ◌<◌, ◌+◌, ℕ, Bool, true, List, Option, Some, None, refl, sym, ap, ◌∙◌}
 use Rattle.sre_engine.proofs.Terms.{arith, StringCursor, Tree, Test, char_at, holds, unlimited, longest_run, Asked}
 use Rattle.sre_engine.proofs.Terms.{subject_of, at_start, found, TestStands, RunLeads, FrontStands, RunStands}
-use Rattle.sre_engine.proofs.Terms.{NoneBetween, NoneUntil, none-found}
-use Rattle.std.proofs.Common.{MatchOption}
-use Rattle.sre_model.proofs.Passing.{read_passes}
-use Rattle.sre_model.proofs.LeadingRuns.{none_in_run}
+use Rattle.sre_engine.proofs.Terms.{NoneBetween, NoneUntil, none-found, MatchOption, read_passes, none_in_run}
 use Rattle.sre_engine.proofs.Answering.{NoneBefore, none_joined}
 
 module _ (a : Asked) (t : Tree) where

@@ -1,8 +1,7 @@
 -- What a search says within a budget of steps, by what it says of its answer.
 use Rattle.sre_engine.proofs.Terms.{◌≡◌, ◌≢◌, Bool, true, false, Some, None, Ok, Err, refl, Ghosts, no_marks, Request}
-use Rattle.sre_engine.proofs.Terms.{code_of, Shown, MayTakeMemory, Answered, RunsOnceAnchored}
-use Rattle.sre_engine.specs.Counts.{BeginsAgain}
-use Rattle.sre_engine.specs.Within.{AnsweredWithin}
+use Rattle.sre_engine.proofs.Terms.{code_of, Shown, MayTakeMemory, Answered, RunsOnceAnchored, BeginsAgain}
+use Rattle.sre_engine.proofs.Terms.{AnsweredWithin}
 
 module _ {S E F : Type 0} {text : Ghosts S} (r : Request S text) (s : Shown) where
   -- an answer

@@ -5,11 +5,9 @@ use Rattle.sre_engine.proofs.Terms.{StringCursor, Tree, no_marks, Whole, found, 
 use Rattle.sre_engine.proofs.Terms.{hints_of, Request, start_of, end_of, code_of, asked_of, stands_in, run_of}
 use Rattle.sre_engine.proofs.Terms.{is_limited, left_of, Halted, Allowance, Halt, code_tree, items_whole, Shown}
 use Rattle.sre_engine.proofs.Terms.{SpentUpTo, IsCandidate, Failed, Charged, SearchCosts, IsLast, FitsAt, NoMatch}
-use Rattle.sre_engine.proofs.Terms.{Answered, CountsInside, Candidate}
+use Rattle.sre_engine.proofs.Terms.{Answered, CountsInside, Candidate, Recalls, Begins, RunnerValue, IsReady, Began}
+use Rattle.sre_engine.proofs.Terms.{AttemptDecides, AttemptCosts, ComparesFew}
 use Rattle.std.specs.declared.alloc.Allocator.{Ghosts as Memory}
-use Rattle.sre_machine.specs.Memos.{Recalls, Begins}
-use Rattle.sre_machine.specs.Runners.{RunnerValue, IsReady, Began, AttemptDecides, AttemptCosts}
-use Rattle.sre_engine.specs.Candidates.{ComparesFew}
 use Rattle.sre_engine.proofs.Answering.{NoneBefore, none_joined, none_yet, none_at, some_at, span_at, found_first}
 use Rattle.sre_engine.proofs.Costing.{CostsSince, since_begin, since_run, since_stopped, since_ended}
 use Rattle.sre_engine.proofs.LeadingStarts.{found_none_behind}

@@ -4,12 +4,9 @@ use Rattle.sre_engine.proofs.Terms.{◌⊎◌, inl, inr, ◌||◌, SreOpcode, Tr
 use Rattle.sre_engine.proofs.Terms.{LazyRun, PossessiveRun, Marks, Subject, passes, Word, Opcode, skip, ToRun, role}
 use Rattle.sre_engine.proofs.Terms.{ways, longest_run, NoWay, TreeStands, Leads, contains, AsciiSet, TakesAscii}
 use Rattle.sre_engine.proofs.Terms.{same_word, same_opcode, HasRole, role_here, stands_up_to, PassesRun, NotAmong}
+use Rattle.sre_engine.proofs.Terms.{most_from, is_end, run_has, is_run}
 use Rattle.sre_chars.specs.declared.constants.SreOpcode.TheVariants as opcode
 use Rattle.sre_model.specs.Tree.{Run}
-use Rattle.sre_model.specs.Ways.{most_from}
-use Rattle.sre_model.specs.FirstCharacters.{is_end}
-use Rattle.sre_model.proofs.Longest.{run_has}
-use Rattle.sre_model.proofs.Families.{is_run}
 use Rattle.sre_engine.proofs.FirstSets.{union_lacks, taken_bars}
 
 -- a run, by its opcode

@@ -3,11 +3,8 @@ use Rattle.sre_engine.proofs.Terms.{◌≡◌, ◌≤◌, ◌<◌, ◌+◌, ◌-
 use Rattle.sre_engine.proofs.Terms.{cond, length, slice_index, nat_lt, nat_eq, refl, sym, ap, ◌∙◌, subst, arith}
 use Rattle.sre_engine.proofs.Terms.{and_parts, nat_tests, Tree, Then, One, Mark, Literal, Plain, Marks, set_mark}
 use Rattle.sre_engine.proofs.Terms.{Subject, char_at, passes, Way, here, ways, Reads, NoWay, spells, behind_items}
-use Rattle.sre_engine.proofs.Terms.{stands_at, how_many, EachFar, Fits, Stands}
-use Rattle.std.specs.List.{flat_map}
-use Rattle.std.proofs.lemmas.List.{append-nil}
-use Rattle.sre_model.proofs.Each.{each-cond}
-use Rattle.sre_model.proofs.WideWays.{Far, on-far, shorter, ways-far}
+use Rattle.sre_engine.proofs.Terms.{stands_at, how_many, EachFar, Fits, Stands, flat_map, append-nil, each-cond, Far}
+use Rattle.sre_engine.proofs.Terms.{on-far, shorter, ways-far}
 
 -- a mark is none of the first literals
 marked_never : (k : ℕ) (b : Bool) → (nat_eq (suc k) 0 && b) ≡ true → ⊥

@@ -4,10 +4,8 @@ use Rattle.sre_engine.proofs.Terms.{cond, length, nat_eq, Option, Some, None, re
 use Rattle.sre_engine.proofs.Terms.{nat_tests, StringCursor, Tree, Empty, Then, At, is_anchored, Marks, no_marks, Way}
 use Rattle.sre_engine.proofs.Terms.{here, ways, width, Whole, Asked, Match, subject_of, is_accepted, at_start, found}
 use Rattle.sre_engine.proofs.Terms.{Decides, outcomes, Run, spells, behind_items, is_empty, stands_at, how_many}
-use Rattle.sre_engine.proofs.Terms.{words_of, Code, none-found, EachFar, IsPrefix, Stands, NoPlace, NoneBetween}
-use Rattle.std.specs.List.{filter}
-use Rattle.sre_model.specs.Found.{first_accepted}
-use Rattle.sre_model.proofs.WideWays.{narrow_none}
+use Rattle.sre_engine.proofs.Terms.{words_of, Code, none-found, EachFar, IsPrefix, Stands, NoPlace, NoneBetween, filter}
+use Rattle.sre_engine.proofs.Terms.{first_accepted, narrow_none}
 use Rattle.sre_engine.proofs.Answering.{NoneBefore, none_here, none_joined}
 use Rattle.sre_engine.proofs.PrefixWays.{spelled_none, spelled_far, spelled_ways, stand_fit, stand_parts}
 

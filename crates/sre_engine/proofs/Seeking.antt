@@ -1,8 +1,7 @@
 -- Where no word of a prefix is matched, the scan continues after the next first word, or after the next position of
 -- another one.
 use Rattle.sre_engine.proofs.Terms.{ℕ, ◌+◌, ◌-◌, ◌≡◌, ◌≢◌, ◌<◌, ◌≤◌, List, length, slice_index, refl, sym, subst, true}
-use Rattle.sre_engine.proofs.Terms.{false, arith, StringCursor, Run, NoPlace, Front, Here, FirstSame}
-use Rattle.sre_engine.specs.Scans.{GoesTo}
+use Rattle.sre_engine.proofs.Terms.{false, arith, StringCursor, Run, NoPlace, Front, Here, FirstSame, GoesTo}
 use Rattle.sre_engine.proofs.Steps.{Inside, join_places, more, fresh}
 
 -- no words end somewhere on in the window

@@ -1,8 +1,7 @@
 -- How the steps of a search's runs add up.
 use Rattle.sre_engine.proofs.Terms.{◌≡◌, ℕ, ◌+◌, ◌-◌, ◌*◌, ◌≤◌, ◌<◌, ◌≢◌, arith, add-mul, mul-le-mul_right, Tree, Whole}
-use Rattle.sre_engine.proofs.Terms.{Asked, subject_of, behind_items, RunsWithin, words_of, Code, SpentUpTo}
-use Rattle.std.proofs.Math.Nat.{mul-le-mul}
-use Rattle.sre_model.specs.TurnBounds.{turns_of, most_each}
+use Rattle.sre_engine.proofs.Terms.{Asked, subject_of, behind_items, RunsWithin, words_of, Code, SpentUpTo, mul-le-mul}
+use Rattle.sre_engine.proofs.Terms.{turns_of, most_each}
 
 -- a run, and those that begin again where it began
 pub once_spent : (a : Asked) (code : Code) (n p given left runs : ℕ) → p ≤ a.end

@@ -1,9 +1,7 @@
 -- One scan with overlap words.
 use Rattle.sre_engine.proofs.Terms.{ℕ, ◌+◌, ◌-◌, ◌*◌, ◌≡◌, ◌≢◌, ◌<◌, ◌≤◌, ◌⊎◌, List, length, slice_index, ⊎_elim, Bool}
 use Rattle.sre_engine.proofs.Terms.{true, false, sym, ◌∙◌, ap, subst, arith, cases_lt, Sought, StringCursor, Run}
-use Rattle.sre_engine.proofs.Terms.{Overlapping, Fits, Stands, NoPlace, Front, Here, FirstSame}
-use Rattle.sre_code.specs.Borders.{Right}
-use Rattle.sre_engine.specs.Scans.{Border, Longest}
+use Rattle.sre_engine.proofs.Terms.{Overlapping, Fits, Stands, NoPlace, Front, Here, FirstSame, Right, Border, Longest}
 
 -- a scan inside one character: i matched words end at q, and none of the places passed since b counts
 pub record Inside (t p : List ℕ) (a e q b i c : ℕ) : Type 0 where

@@ -1,7 +1,6 @@
 -- Where a scan for a prefix continues, by what is known of starts without a match.
 use Rattle.sre_engine.proofs.Terms.{◌≡◌, ◌≤◌, ◌<◌, ℕ, List, length, Bool, refl, sym, subst, arith, inr, ⊎_elim, Asked}
-use Rattle.sre_engine.proofs.Terms.{Code, IsPrefix, NoPlace, Here, NoMatch}
-use Rattle.sre_engine.specs.Scans.{MovesOn}
+use Rattle.sre_engine.proofs.Terms.{Code, IsPrefix, NoPlace, Here, NoMatch, MovesOn}
 use Rattle.sre_engine.proofs.Answering.{none_joined}
 use Rattle.sre_engine.proofs.Searching.{unplaced_between}
 

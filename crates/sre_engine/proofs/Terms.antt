@@ -1,36 +1,77 @@
 -- The words and the lemmas from elsewhere which several proofs of this crate cite.
-pub use Rattle.std.proofs.Common.{Bool, Err, IfErr, IfSome, IsErrAnd, IsSomeAnd, IsTrue, List, None, Ok, OnErr, Option}
-pub use Rattle.std.proofs.Common.{Result, Some, [], add-mul, ap, arith, cond, false, inl, inr, length, length-drop, map}
-pub use Rattle.std.proofs.Common.{nat_eq, nat_le, nat_lt, not, refl, rules, slice_index, slice_range, subst, suc, sym}
-pub use Rattle.std.proofs.Common.{true, true≢false, vec_len, zero, ℕ, ⊎_elim, ◌&&◌, ◌*◌, ◌++◌, ◌+◌, ◌-◌, ◌<◌, ◌^◌, ◌||◌}
-pub use Rattle.std.proofs.Common.{◌∙◌, ◌∷◌, ◌≡◌, ◌≢◌, ◌≤◌, ◌⊎◌}
+pub use Rattle.std.proofs.Common.{Bool, Bor, Err, IfErr, IfOk, IfSome, IsErrAnd, IsSomeAnd, IsTrue, List, MatchOption}
+pub use Rattle.std.proofs.Common.{None, Ok, OnErr, Option, Result, Some, SomeIff, [], add-mul, ap, arith, cond, drop}
+pub use Rattle.std.proofs.Common.{false, inl, inr, is_some, length, length-drop, length-take, map, nat_eq, nat_le}
+pub use Rattle.std.proofs.Common.{nat_lt, not, one-mul, refl, rules, slice_index, slice_range, subst, suc, sym, take}
+pub use Rattle.std.proofs.Common.{true, true≢false, vec_len, zero, ◌%◌, ◌&&◌, ◌*◌, ◌++◌, ◌+◌, ◌-◌, ◌/◌, ◌<◌, ◌^◌, ◌||◌}
+pub use Rattle.std.proofs.Common.{◌∙◌, ◌∷◌, ◌≡◌, ◌≢◌, ◌≤◌, ◌⊎◌, ℕ, ⊎_elim}
 pub use Rattle.std.proofs.Math.Logic.{∥∥₁_elim}
-pub use Rattle.std.proofs.Math.Nat.{mul-le-mul_right}
+pub use Rattle.std.proofs.Math.Nat.{mul-le-mul, mul-le-mul_right}
 pub use Rattle.std.proofs.lemmas.Bool.{and_parts, cases_lt, leb-true}
 pub use Rattle.std.proofs.lemmas.Bool.Decides.{nat_tests}
+pub use Rattle.std.proofs.lemmas.List.{append-nil, length-map}
+pub use Rattle.std.specs.List.{filter, flat_map}
+pub use Rattle.std.specs.Prelude.{codes}
+pub use Rattle.sre_board.proofs.AccountLaws.{account_few}
+pub use Rattle.sre_code.proofs.AsciiMembers.{told}
+pub use Rattle.sre_code.proofs.Borders.{overlaps_right}
 pub use Rattle.sre_code.proofs.Checked.{code_confirmed, code_tree, items_whole, whole_items, whole_of}
-pub use Rattle.sre_model.proofs.Families.{HasRole, role_here}
-pub use Rattle.sre_model.proofs.FirstCharacters.{leads_tree, run_operand, run_there, stands_up_to, tree_within}
-pub use Rattle.sre_model.proofs.FirstCharacters.{whole_stands}
+pub use Rattle.sre_code.specs.Borders.{Right}
+pub use Rattle.sre_machine.specs.Memos.{Begins, Recalls}
+pub use Rattle.sre_machine.specs.Paying.{HoldsBits, RunSettles, RunStops, run_cost}
+pub use Rattle.sre_machine.specs.Runners.{AttemptCosts, AttemptDecides, Began, IsReady, RunnerValue}
+pub use Rattle.sre_model.proofs.Bounds.{longest_run-fits}
+pub use Rattle.sre_model.proofs.Each.{each-cond}
+pub use Rattle.sre_model.proofs.Families.{HasRole, is_run, item_role, role_here, role_same, run_role, test_kind}
+pub use Rattle.sre_model.proofs.Families.{test_role}
+pub use Rattle.sre_model.proofs.FirstCharacters.{at_bars_there, at_leads, at_operand, atomic_leads, body_leads}
+pub use Rattle.sre_model.proofs.FirstCharacters.{body_operand, branch_bars, branch_there, leads_further, leads_start}
+pub use Rattle.sre_model.proofs.FirstCharacters.{leads_tree, look_leads, look_operand, mark_leads, only_none, or_none}
+pub use Rattle.sre_model.proofs.FirstCharacters.{run_operand, run_there, stands_up_to, tree_within, whole_stands}
 pub use Rattle.sre_model.proofs.FoundLaws.{none-found}
-pub use Rattle.sre_model.proofs.LeadingWords.{RunAhead}
+pub use Rattle.sre_model.proofs.LeadingRuns.{none_in_run}
+pub use Rattle.sre_model.proofs.LeadingWords.{RunAhead, ahead_within, behind_test, front_test, mark_ahead, run_operands}
+pub use Rattle.sre_model.proofs.LeadingWords.{run_stands, run_test, test_ahead, test_further, whole_ahead}
+pub use Rattle.sre_model.proofs.Longest.{run_has}
+pub use Rattle.sre_model.proofs.Passing.{read_passes}
+pub use Rattle.sre_model.proofs.Places.{alternative_long}
 pub use Rattle.sre_model.proofs.TreeOf.{tree_of}
-pub use Rattle.sre_model.proofs.WideWays.{EachFar}
-pub use Rattle.sre_model.proofs.Words.{opcode_within, same_opcode, same_word, word_of}
-pub use Rattle.sre_engine.specs.Answers.{MayTakeMemory, Shown, match_shown}
-pub use Rattle.sre_engine.specs.Beginnings.{IsAsciiOf, has_ascii}
-pub use Rattle.sre_engine.specs.Candidates.{Failed, IsCandidate, MayBegin}
+pub use Rattle.sre_model.proofs.WalkLaws.{most_matches-falls, walk-bound, walk-in_order, walk-next}
+pub use Rattle.sre_model.proofs.WideWays.{EachFar, Far, narrow_none, on-far, shorter, ways-far}
+pub use Rattle.sre_model.proofs.Words.{opcode_low, opcode_within, same_opcode, same_word, word_of, word_within}
+pub use Rattle.sre_model.specs.Claims.{EachTestIn, FirstIn, HasFirstSet, TestIn, are_overlaps, behind_adjacent}
+pub use Rattle.sre_model.specs.Claims.{behind_literals, behind_marks, behind_prefix, behind_spread, confirmed_prefix}
+pub use Rattle.sre_model.specs.Claims.{confirmed_width, has_flag, has_prefix, is_at_end, is_literal, overlap_words}
+pub use Rattle.sre_model.specs.Claims.{prefix_length, prefix_skip, prefix_words, then_spread}
+pub use Rattle.sre_model.specs.FirstCharacters.{is_end}
+pub use Rattle.sre_model.specs.Found.{first_accepted}
+pub use Rattle.sre_model.specs.Grammar.{ReadsItem, has_block, item_opcode, run_opcode, test_opcode}
+pub use Rattle.sre_model.specs.Remembered.{kept_positions, sides}
+pub use Rattle.sre_model.specs.Roles.{ToBranch, ToGroupAtomically, ToRepeat, ToRepeatPossessively, ToTest, is_test_role}
+pub use Rattle.sre_model.specs.Shown.{whole, window}
+pub use Rattle.sre_model.specs.Tree.{Branch, Item, Single}
+pub use Rattle.sre_model.specs.TreePrices.{cost_of}
+pub use Rattle.sre_model.specs.TurnBounds.{most_each, turns_of}
+pub use Rattle.sre_model.specs.Ways.{most_from}
+pub use Rattle.sre_turns.specs.Board.{BoardValue}
+pub use mathlib.Core.List.{append_assoc, map-append}
+pub use Rattle.sre_engine.specs.Answers.{MayTakeMemory, Shown, answer_of, match_shown}
+pub use Rattle.sre_engine.specs.Beginnings.{IsAsciiOf, first_code, first_test, has_ascii}
+pub use Rattle.sre_engine.specs.Candidates.{ComparesFew, Failed, IsBare, IsCandidate, MayBegin, bare_candidate}
 pub use Rattle.sre_engine.specs.Costs.{Charged, SearchCosts, most_tolls, most_waits, search_cost}
-pub use Rattle.sre_engine.specs.Counts.{CountsUpTo, SpentUpTo, StepsCount, may_start, prefix_stands, width_fits}
-pub use Rattle.sre_engine.specs.FirstSets.{SetsOf}
-pub use Rattle.sre_engine.specs.Leading.{LeadsToCode, LeadsToTest, Wants, WantsFirst}
+pub use Rattle.sre_engine.specs.Counts.{AreEnough, BeginsAgain, CountsUpTo, KeepsToSteps, SpentUpTo, StepsCount}
+pub use Rattle.sre_engine.specs.Counts.{may_start, prefix_stands, runs_of, width_fits}
+pub use Rattle.sre_engine.specs.FirstSets.{Sets, SetsOf}
+pub use Rattle.sre_engine.specs.Leading.{Ahead, IsPast, IsTestAt, LeadsToCode, LeadsToTest, Wants, WantsFirst}
+pub use Rattle.sre_engine.specs.Leading.{is_passed}
 pub use Rattle.sre_engine.specs.Listed.{match_of}
-pub use Rattle.sre_engine.specs.Members.{IsFirstSet, is_among}
+pub use Rattle.sre_engine.specs.Members.{IsFirstSet, NextMember, is_among}
 pub use Rattle.sre_engine.specs.Prefixed.{FitsAt, IsLast, IsPrefix}
-pub use Rattle.sre_engine.specs.Scans.{FirstSame, Fits, Front, Here, NoMatch, NoPlace, Overlapping, Stands}
-pub use Rattle.sre_engine.specs.Searches.{Answered, CountsInside, RunsOnceAnchored}
+pub use Rattle.sre_engine.specs.Scans.{Border, FirstSame, Fits, Front, GoesTo, Here, Longest, MovesOn, NoMatch, NoPlace}
+pub use Rattle.sre_engine.specs.Scans.{Overlapping, Stands}
+pub use Rattle.sre_engine.specs.Searches.{Answered, AnsweredAtOnce, CountsInside, RunsOnceAnchored}
 pub use Rattle.sre_engine.specs.Starts.{BarredUpTo, Bars, IsElsewhere, IsLacking, NextStart, NoneBetween, NoneUntil}
-pub use Rattle.sre_engine.specs.Starts.{NotAmong, PassesRun, WantedFrom}
+pub use Rattle.sre_engine.specs.Starts.{NotAmong, PassesRun, PassesTo, WantedFrom}
 pub use Rattle.sre_engine.specs.Terms.{Admitted, AllAdmitted, Allowance, AreInOrder, AreTold, AsciiSet, Asked, At}
 pub use Rattle.sre_engine.specs.Terms.{BEGINNING_LINE, Code, Decides, Empty, FrontStands, Ghosts, GreedyRun, Halt}
 pub use Rattle.sre_engine.specs.Terms.{Halted, HasAlternatives, HasSet, HasTree, Hints, In, IsCode, IsRemembered}
@@ -49,5 +90,7 @@ pub use Rattle.sre_engine.specs.Terms.{step_bound, string_of, subject_of, uni_of
 pub use Rattle.sre_engine.specs.Terms.{words_of}
 unfoldable pub use Rattle.sre_engine.specs.Terms.{items_of}
 pub use Rattle.sre_engine.specs.Walks.{GoesOn}
+pub use Rattle.sre_engine.specs.Within.{AnsweredWithin}
 pub use Rattle.sre_engine.specs.declared.engine.candidates.Candidate.{Candidate}
 pub use Rattle.sre_engine.specs.declared.engine.first_characters.First.{First}
+pub use Rattle.sre_engine.specs.declared.engine.first_characters.Wanted.TheVariants.{Characters, Set}

@@ -3,8 +3,7 @@ use Rattle.sre_engine.proofs.Terms.{◌≡◌, ◌≤◌, ◌+◌, ◌-◌, ℕ,
 use Rattle.sre_engine.proofs.Terms.{refl, sym, ap, ◌∙◌, subst, arith, SetItem, Asked, asked_after, how_many, words_of}
 use Rattle.sre_engine.proofs.Terms.{hints_of, Code, Ghosts, Request, start_of, end_of, code_of, must_advance_of}
 use Rattle.sre_engine.proofs.Terms.{asked_of, Shown, match_shown, CountsUpTo, StepsCount, width_fits, prefix_stands}
-use Rattle.sre_engine.proofs.Terms.{CountsInside, GoesOn}
-use mathlib.Core.List.{append_assoc, map-append}
+use Rattle.sre_engine.proofs.Terms.{CountsInside, GoesOn, append_assoc, map-append}
 use Rattle.sre_engine.proofs.MayStart.{may_run}
 use Rattle.sre_engine.proofs.CountLaws.{how_many_weaker}
 use Rattle.sre_engine.proofs.PrefixWays.{how_many_add, how_many_grows}

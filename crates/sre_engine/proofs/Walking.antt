@@ -1,9 +1,7 @@
 -- A step of an iteration gives its first match, and leaves the iteration from that match's end on.
 use Rattle.sre_engine.proofs.Terms.{◌≡◌, ◌<◌, ◌∷◌, Bool, true, Some, sym, ap, ◌∙◌, subst, Ghosts, Tree, Asked, found}
 use Rattle.sre_engine.proofs.Terms.{asked_after, walk, most_matches, Request, string_of, start_of, stands_in, Shown}
-use Rattle.sre_engine.proofs.Terms.{match_shown, GoesOn}
-use Rattle.sre_model.proofs.WalkLaws.{walk-next, most_matches-falls}
-use Rattle.sre_engine.specs.Answers.{answer_of}
+use Rattle.sre_engine.proofs.Terms.{match_shown, GoesOn, walk-next, most_matches-falls, answer_of}
 
 -- the cursor at its end stands where the window starts then
 pub stands_next : {S : Type 0} {text : Ghosts S} (r : Request S text) (s : Shown) (u : Request S text) → GoesOn r s u

@@ -1,12 +1,8 @@
 -- That FIRST sets are those of a code holds in one way, as the invariants of iterators need it: a test at an address is
 -- the only one there, and so is a repeat.
-use Rattle.std.proofs.Common.{ℕ, ◌-◌, ◌+◌, ◌≡◌, ap, List, Option, Some, None, IfSome}
-use Rattle.std.proofs.Props.{props}
-use mathlib.Core.HLevel.{is_prop→PathP}
-use Rattle.sre_engine.specs.Terms.{Tree, Test, In, TestStands, HasTest, FrontStands, RunLeads, RunStands}
-use Rattle.sre_model.specs.Grammar.{TestOperands}
-use Rattle.sre_model.proofs.Props.{set_prop}
-use Rattle.sre_model.proofs.Unique.{test_same}
+use Rattle.sre_engine.specs.Terms.{ℕ, ◌-◌, ◌+◌, ◌≡◌, ap, List, Option, Some, None, IfSome, props, is_prop→PathP, Tree}
+use Rattle.sre_engine.specs.Terms.{Test, In, TestStands, HasTest, FrontStands, RunLeads, RunStands, TestOperands}
+use Rattle.sre_engine.specs.Terms.{set_prop, test_same}
 use Rattle.sre_engine.specs.Starts.{TestsThere}
 use Rattle.sre_engine.specs.FirstSets.{Opens, Sets, SetsOf}
 use Rattle.sre_engine.specs.declared.engine.first_characters.Wanted.{Wanted}

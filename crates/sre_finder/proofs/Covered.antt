@@ -3,19 +3,9 @@ use Rattle.sre_finder.proofs.Terms.{◌≡◌, ◌≤◌, ◌<◌, ◌+◌, ℕ,
 use Rattle.sre_finder.proofs.Terms.{arith, Re, meaning, Hir, Tree, WholeItems, no_marks, ways, Asked, subject_of}
 use Rattle.sre_finder.proofs.Terms.{at_start, first_accepted, words_of, uni_of, Code, ExactTree, view_of, Encoding}
 use Rattle.sre_finder.proofs.Terms.{NoneLeft, NoneUpTo, NoneBetween, SeenAs, Covering, Filters, EndStands}
-use Rattle.sre_finder.proofs.Terms.{NoneLeftOfAny, Suits}
-use Rattle.std.proofs.Common.{Option, IfSome}
-use Rattle.regex_hir.specs.Matches.{Matches}
-use Rattle.sre_chars.specs.Tables.{Table}
-use Rattle.sre_chars.specs.declared.string.StringCursor.{StringCursor}
-use Rattle.sre_model.specs.Grammar.{behind_block}
+use Rattle.sre_finder.proofs.Terms.{NoneLeftOfAny, Suits, Option, IfSome, Matches, Table, StringCursor, behind_block}
+use Rattle.sre_finder.proofs.Terms.{CoversStart, SetsOf, CoveringAny, SamePatterns, Kept, Prefilter, ExactlyAny}
 use Rattle.sre_code.specs.Codes.{items_of}
-use Rattle.sre_patterns.specs.Covers.{CoversStart}
-use Rattle.sre_engine.specs.FirstSets.{SetsOf}
-use Rattle.sre_finder.specs.Finders.{CoveringAny, SamePatterns}
-use Rattle.sre_finder.specs.declared.kept.Kept.{Kept}
-use Rattle.sre_finder.specs.declared.prefilter.Prefilter.{Prefilter}
-use Rattle.sre_finder.specs.Spans.{ExactlyAny}
 
 module _ (encoding : Encoding) (a : Asked) (t : Tree) (re : Re) (place : ℕ → ℕ) (hay : List ℕ)
     (covers : CoversStart (view_of encoding) a.table re t) (seen : SeenAs encoding a.text place a.end hay) where

@@ -1,9 +1,7 @@
 -- What a finder knows of its code.
 -- Definitions for the contracts of this crate.
 use Rattle.sre_finder.specs.Terms.{◌≡◌, ⊤, ℕ, List, Option, Some, None, Re, meaning, Hir, StringCursor, Tree}
-use Rattle.sre_finder.specs.Terms.{WholeItems, items_of, uni_of, Code, view_of, Encoding}
-use Rattle.sre_patterns.specs.Covers.{CoversStart}
-use Rattle.sre_automata.specs.Told.{NoneLeft}
+use Rattle.sre_finder.specs.Terms.{WholeItems, items_of, uni_of, Code, view_of, Encoding, CoversStart, NoneLeft}
 use Rattle.sre_finder.specs.declared.prefilter.Prefilter.{Prefilter}
 
 -- a pattern covers each start of a code's tree

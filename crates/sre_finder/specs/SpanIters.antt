@@ -2,10 +2,7 @@
 -- Definitions for the contracts of this crate.
 use Rattle.sre_finder.specs.Terms.{◌≡◌, ℕ, true, false, List, Option, Some, None, Ghosts, Tree, Whole, Marks, Match}
 use Rattle.sre_finder.specs.Terms.{found, walk, most_matches, words_of, Request, code_of, asked_of, Encoding, Refused}
-use Rattle.sre_finder.specs.Terms.{Shown, MayTakeMemory}
-use Rattle.std.specs.Prelude.{◌+◌, Bool, cond, [], ◌∷◌, Result, Ok, Err}
-use Rattle.sre_model.specs.Found.{Asked}
-use Rattle.sre_engine.specs.declared.engine.state.SreError.{SreError}
+use Rattle.sre_finder.specs.Terms.{Shown, MayTakeMemory, ◌+◌, Bool, cond, [], ◌∷◌, Result, Ok, Err, Asked, SreError}
 use Rattle.sre_finder.specs.declared.span_iter.Span.{Span}
 use Rattle.sre_finder.specs.declared.span_iter.SpanIter.{SpanIter}
 use Rattle.sre_finder.specs.Spans.{match_with, GoesOnBehind}

@@ -3,9 +3,7 @@
 use Rattle.sre_finder.specs.Terms.{◌≡◌, ◌≤◌, ⊤, ℕ, nat_eq, Option, Some, None, Re, meaning, Hir, Ghosts, StringCursor}
 use Rattle.sre_finder.specs.Terms.{Tree, Whole, WholeItems, Marks, Match, found, words_of, items_of, uni_of, Code}
 use Rattle.sre_finder.specs.Terms.{Request, string_of, start_of, end_of, code_of, asked_of, stands_in, Shown}
-use Rattle.sre_finder.specs.Terms.{match_shown, view_of, Encoding}
-use Rattle.regex_hir.specs.Matches.{IsMinLen}
-use Rattle.sre_patterns.specs.Exact.{ExactTree}
+use Rattle.sre_finder.specs.Terms.{match_shown, view_of, Encoding, IsMinLen, ExactTree}
 use Rattle.sre_finder.specs.declared.span_finder.Known.{Known}
 use Rattle.sre_finder.specs.declared.span_finder.Known.TheVariants as known
 

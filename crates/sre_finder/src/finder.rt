@@ -2,13 +2,8 @@
 
 ghost use Rattle.sre_finder.specs.Terms.{◌≡◌, ◌≤◌, IfOk, OnErr, None, Refused, Tree, Whole, no_marks, walk};
 ghost use Rattle.sre_finder.specs.Terms.{most_matches, words_of, start_of, code_of, asked_of, MayTakeMemory};
-ghost use Rattle.sre_finder.specs.Terms.{KeepsToSteps, runs_of, Answered, AnsweredWithin};
-ghost use Rattle.std.specs.Prelude.{map};
-ghost use Rattle.std.specs.Vec.{vec_len};
-ghost use Rattle.sre_model.specs.WalkBounds.{AreInOrder};
-ghost use Rattle.sre_engine.specs.Counts.{CountsOfWalk};
-ghost use Rattle.sre_engine.specs.Searches.{RunsOnceAnchored};
-ghost use Rattle.sre_engine.specs.Listed.{match_of};
+ghost use Rattle.sre_finder.specs.Terms.{KeepsToSteps, runs_of, Answered, AnsweredWithin, map, vec_len, AreInOrder};
+ghost use Rattle.sre_finder.specs.Terms.{CountsOfWalk, RunsOnceAnchored, match_of};
 ghost use Rattle.sre_finder.specs.Finders.{EndStands};
 
 use crate::haystack::Haystack;

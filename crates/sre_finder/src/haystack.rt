@@ -1,8 +1,7 @@
 //! Texts whose bytes a DFA can read: bytes and UTF-8.
 
-ghost use Rattle.sre_finder.specs.Terms.{◌≡◌, ◌≤◌, ◌<◌, ℕ, IfSome, length, Bytes, Ascii, Utf8};
-ghost use Rattle.std.specs.Str.{chars};
-ghost use Rattle.sre_chars.specs.Texts.{StandsInText, offset_of};
+ghost use Rattle.sre_finder.specs.Terms.{◌≡◌, ◌≤◌, ◌<◌, ℕ, IfSome, length, Bytes, Ascii, Utf8, chars, StandsInText};
+ghost use Rattle.sre_finder.specs.Terms.{offset_of};
 ghost use Rattle.sre_finder.specs.Views.{SeenAs};
 
 use sre_chars::string::{StrDrive, StringCursor, cursor_at};

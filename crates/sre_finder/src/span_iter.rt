@@ -2,9 +2,8 @@
 
 ghost use Rattle.sre_finder.specs.Terms.{◌≡◌, ◌≤◌, ◌<◌, nat_eq, true, false, Some, IfOk, IfSome, OnErr, Refused, Tree};
 ghost use Rattle.sre_finder.specs.Terms.{Whole, no_marks, found, items_of, words_of, string_of, start_of, end_of};
-ghost use Rattle.sre_finder.specs.Terms.{code_of, asked_of, stands_in, answer_of, match_shown, SetsOf};
-ghost use Rattle.std.specs.Prelude.{◌&&◌};
-ghost use Rattle.sre_engine.specs.OneSetsOf.{one_sets_of};
+ghost use Rattle.sre_finder.specs.Terms.{code_of, asked_of, stands_in, answer_of, match_shown, SetsOf, ◌&&◌};
+ghost use Rattle.sre_finder.specs.Terms.{one_sets_of};
 ghost use Rattle.sre_finder.specs.Finders.{EndStands};
 
 use crate::haystack::Haystack;

@@ -1,11 +1,10 @@
 use Rattle.sre_engine.proofs.Terms.{◌≡◌, ◌⊎◌, ◌+◌, ℕ, List, inl, inr, refl, ap, subst, Option, None, Some, IfSome}
 use Rattle.sre_engine.proofs.Terms.{rules, arith, SreOpcode, SreAtCode, at_number, Tree, Subject, Word, Opcode, NoWay}
 use Rattle.sre_engine.proofs.Terms.{TreeStands, Leads, ToCheckPosition, ToMark, role, HasRole, role_here, leads_tree}
-use Rattle.sre_engine.proofs.Terms.{tree_within, IsElsewhere}
+use Rattle.sre_engine.proofs.Terms.{tree_within, IsElsewhere, ToRepeat, ToRepeatPossessively, ToGroupAtomically}
+use Rattle.sre_engine.proofs.Terms.{leads_start, leads_further, mark_leads, atomic_leads, look_operand, look_leads}
+use Rattle.sre_engine.proofs.Terms.{at_operand, at_leads, at_bars_there, body_operand, body_leads}
 use Rattle.sre_chars.specs.declared.constants.SreOpcode.TheVariants as opcode
-use Rattle.sre_model.specs.Roles.{ToRepeat, ToRepeatPossessively, ToGroupAtomically}
-use Rattle.sre_model.proofs.FirstCharacters.{leads_start, leads_further, mark_leads, atomic_leads, look_operand}
-use Rattle.sre_model.proofs.FirstCharacters.{look_leads, at_operand, at_leads, at_bars_there, body_operand, body_leads}
 use Rattle.sre_engine.proofs.Leading.{test_start, code_start, test_stuck, code_stuck, test_past, code_past, code_read}
 use Rattle.sre_engine.proofs.Leading.{loop_role}
 use Rattle.sre_engine.proofs.engine.first_characters.follow.Goals as goal

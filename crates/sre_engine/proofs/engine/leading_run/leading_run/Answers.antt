@@ -1,10 +1,9 @@
 use Rattle.sre_engine.proofs.Terms.{ℕ, ◌≡◌, ◌+◌, ◌-◌, ◌<◌, false, length, Option, Some, None, refl, sym, ◌∙◌, subst}
 use Rattle.sre_engine.proofs.Terms.{arith, rules, Tree, Opcode, Whole, WholeItems, words_of, Code, run_of, tree_of}
-use Rattle.sre_engine.proofs.Terms.{RunAhead, whole_of, whole_items}
+use Rattle.sre_engine.proofs.Terms.{RunAhead, whole_of, whole_items, whole_ahead, ahead_within, run_operands}
+use Rattle.sre_engine.proofs.Terms.{run_stands, test_ahead, test_further, behind_test, mark_ahead}
 use Rattle.std.specs.Option.{is_some}
 use Rattle.sre_chars.specs.declared.constants.SreOpcode.TheVariants as opcode
-use Rattle.sre_model.proofs.LeadingWords.{whole_ahead, ahead_within, run_operands, run_stands, test_ahead, test_further}
-use Rattle.sre_model.proofs.LeadingWords.{behind_test, mark_ahead}
 use Rattle.sre_engine.proofs.engine.leading_run.leading_run.Goals as goal
 use Rattle.sre_engine.proofs.engine.leading_run.leading_run.Goals.{Else-not-is_test}
 use Rattle.sre_engine.proofs.engine.leading_run.leading_run.Given.{Over}

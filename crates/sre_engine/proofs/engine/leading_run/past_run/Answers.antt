@@ -1,8 +1,6 @@
 use Rattle.sre_engine.proofs.Terms.{ℕ, ◌≡◌, ◌+◌, ◌<◌, ◌∙◌, sym, ap, subst, arith, Test, unlimited, longest_run}
 use Rattle.sre_engine.proofs.Terms.{TestStands, RunStands, subject_of, end_of, asked_of, run_of, NoneBetween, tree_of}
-use Rattle.sre_engine.proofs.Terms.{whole_of}
-use Rattle.sre_model.proofs.Bounds.{longest_run-fits}
-use Rattle.sre_model.proofs.LeadingWords.{run_test, front_test}
+use Rattle.sre_engine.proofs.Terms.{whole_of, longest_run-fits, run_test, front_test}
 use Rattle.sre_engine.proofs.LeadingStarts.{none_until, none_past_run, none_behind_front}
 use Rattle.sre_engine.proofs.engine.leading_run.past_run.Goals as goal
 

@@ -1,5 +1,4 @@
-use Rattle.sre_engine.proofs.Terms.{◌-◌, end_of, run_of, WantedFrom}
-use Rattle.sre_engine.specs.declared.engine.first_characters.Wanted.TheVariants.{Set}
+use Rattle.sre_engine.proofs.Terms.{◌-◌, end_of, run_of, WantedFrom, Set}
 use Rattle.sre_engine.proofs.engine.next_start.first_in_set.Given as goal
 
 abbrev pub invariant-character : goal.invariant-character

@@ -1,8 +1,6 @@
 use Rattle.sre_engine.proofs.Terms.{◌≡◌, ℕ, List, subst, sym, OnErr, items_of, AllAdmitted, Admitted, string_of}
 use Rattle.sre_engine.proofs.Terms.{start_of, code_of, stands_in, MayTakeMemory, Charged, SetsOf, Answered}
-use Rattle.sre_engine.proofs.Terms.{RunsOnceAnchored}
-use Rattle.sre_engine.specs.Counts.{runs_of}
-use Rattle.sre_engine.specs.FirstSets.{Sets}
+use Rattle.sre_engine.proofs.Terms.{RunsOnceAnchored, runs_of, Sets}
 use Rattle.sre_engine.proofs.Carrying.{answered_alike, charged_alike}
 use Rattle.sre_engine.proofs.engine.walk.search_admitted.Goals as goal
 

@@ -1,7 +1,6 @@
 use Rattle.sre_engine.proofs.Terms.{◌≡◌, ◌≤◌, ◌++◌, map, length, ap, sym, ◌∙◌, subst, walk, most_matches, AreInOrder}
-use Rattle.sre_engine.proofs.Terms.{words_of, hints_of, start_of, code_of, asked_of, match_of, code_tree}
-use Rattle.std.proofs.lemmas.List.{length-map}
-use Rattle.sre_model.proofs.WalkLaws.{walk-bound, walk-in_order}
+use Rattle.sre_engine.proofs.Terms.{words_of, hints_of, start_of, code_of, asked_of, match_of, code_tree, length-map}
+use Rattle.sre_engine.proofs.Terms.{walk-bound, walk-in_order}
 use Rattle.sre_engine.proofs.engine.whole_walk.all_matches_by.Goals as goal
 
 pub returns-in-Ok-clause-bound : goal.returns-in-Ok-clause-bound

@@ -1,6 +1,5 @@
 use Rattle.sre_finder.proofs.Terms.{refl, ap, subst, arith, meaning, items_whole, code_of, asked_of, NoneLeft, NoneUpTo}
-use Rattle.sre_finder.proofs.Terms.{SeenAs, Covering, Filters, NoneLeftOfAny}
-use Rattle.sre_automata.specs.Told.{Tells}
+use Rattle.sre_finder.proofs.Terms.{SeenAs, Covering, Filters, NoneLeftOfAny, Tells}
 use Rattle.sre_finder.proofs.Covered.{filters_same, no_start_left, no_start_below, none_left_of_any}
 use Rattle.sre_finder.proofs.prefilter.Prefilter.ask.Goals as goal
 

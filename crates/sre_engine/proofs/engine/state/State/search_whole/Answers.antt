@@ -1,7 +1,6 @@
 use Rattle.sre_engine.proofs.Terms.{◌≡◌, ◌≤◌, ◌+◌, ◌-◌, ◌||◌, ℕ, true, false, not, nat_eq, Some, None, length, refl}
 use Rattle.sre_engine.proofs.Terms.{sym, ap, ◌∙◌, subst, arith, rules, StringCursor, no_marks, at_start, code_of}
-use Rattle.sre_engine.proofs.Terms.{asked_of, stands_in, Stands}
-use Rattle.sre_turns.specs.Board.{BoardValue}
+use Rattle.sre_engine.proofs.Terms.{asked_of, stands_in, Stands, BoardValue}
 use Rattle.sre_engine.proofs.Answering.{NoneBefore, found_first}
 use Rattle.sre_engine.proofs.Looking.{answered_no}
 use Rattle.sre_engine.proofs.Steps.{complete}
