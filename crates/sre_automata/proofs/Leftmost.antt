@@ -1,5 +1,5 @@
 -- What the ends and the starts of a DFA's matches imply for a pattern's.
-use Rattle.std.proofs.Common.{◌≡◌, ◌≤◌, ◌<◌, ◌+◌, ℕ, List, length, All, Option, Some, None, option_map}
+use Rattle.std.proofs.Common.{◌≡◌, ◌≤◌, ◌<◌, ℕ, List, length, All, Option, Some, None, option_map}
 use Rattle.std.proofs.Common.{refl, sym, ap, ◌∙◌, subst, arith, inl, inr, Fits, w8, get_or}
 use Rattle.std.proofs.Math.Logic.{∥∥₁_elim}
 use Rattle.std.proofs.lemmas.Bool.{cases_lt}
@@ -70,25 +70,6 @@ module _ (nfa : Nfa) (re : Re) (hay : List ℕ) (paths : HasPaths nfa re) (bytes
           | (inr more) ↦ found.3 i j low (omega (arith, high, more)) (paths hay i j match)
         ];
       }
-
-pub none_between_here : (nfa : Nfa) (hay : List ℕ) (from : ℕ) → NoneBetween nfa hay from from
-none_between_here nfa hay from = record { after = omega arith; none = λ i p q. absurd (omega (arith, p, q)) }
-
-pub none_between_next : (nfa : Nfa) (hay : List ℕ) (from at : ℕ) → NoneBetween nfa hay from at
-    → end_from nfa hay (length hay) nfa.start at ≡ None → NoneBetween nfa hay from (at + 1)
-none_between_next nfa hay from at before e = record {
-  after = omega (arith, before.after);
-  none = λ i p q. elim (cases_lt i at) [
-    | (inl below) ↦ before.none i p below
-    | (inr past) ↦
-        let here : i ≡ at = omega (arith, past, q) in
-        ap (run nfa hay (length hay) nfa.start) here ∙ no_trace (run nfa hay (length hay) nfa.start at) e
-  ];
-}
-  where
-    no_trace : (o : Option Trace) → option_map (λ (t : Trace). t.end) o ≡ None → o ≡ None
-    no_trace None e = refl
-    no_trace (Some t) e = absurd (cc e)
 
 -- where none begins in between, the search finds the same from there
 module _ (nfa : Nfa) (re : Re) (hay : List ℕ) (is : Implements nfa re) (from at : ℕ) (gap : NoneBetween nfa hay from at)

@@ -99,12 +99,3 @@ line_sought r cursor next true e at s = record {
       (omega (arith, from, to)));
 }
 line_sought r cursor next false e at s = absurd (cc)
-
-pub no_line_sought : (r : Run) (cursor next : StringCursor) (found : Bool) → found ≡ false
-    → Sought r.subject.text 10 cursor.position r.subject.end found next.position
-    → HeldNowhere r BEGINNING_LINE cursor.position
-no_line_sought r cursor next true e s = absurd (cc)
-no_line_sought r cursor next false e s = record {
-  each = λ q from to. no_line r.subject q (omega (arith, from)) (s.1 (q - 1) (omega (arith, from))
-      (omega (arith, from, to)));
-}
