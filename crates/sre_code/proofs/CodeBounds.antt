@@ -90,16 +90,6 @@ module _ (places : ℕ) (t : Tree) (n : ℕ) where
         );
   }
 
-  -- where nothing is counted, or items are nested too deep
-  pub uncounted_told : CountedTold t None → BoundTold places t n None
-  uncounted_told none = record {
-    none = λ a w kept nested.
-        absurd (none (record { unmarked = kept.unmarked; no_reference = kept.no_reference; few = kept.slots }));
-  }
-
-  pub deep_told : most_nested < nesting t → BoundTold places t n None
-  deep_told deep = record { none = λ a w kept nested. absurd (omega (arith, deep, nested)) }
-
 pub bound_told : (ws : List ℕ) (n longest : ℕ) (c : Counted) (p : Prices) (r : Option ℕ) (t : Tree)
     → CountedTold t (Some c) → TreePriced n most_nested t (Some p)
     → ((x : Prices) → AreHeld x p → NumberBy (length ws) c.slots (bound_of x c.sides (min longest n) (n + 1)) n r)

@@ -149,23 +149,6 @@ module _ (e depth : ℕ) (ws : List ℕ) (i by : ℕ) (to : by ≡ word ws (i + 
   same_end : i + 1 + by ≡ skip ws (i + 1)
   same_end = ap (λ n. i + 1 + n) to
 
-  pub scope_law : (b : ℕ) (p q : Price) → BodyPriced e depth ws b (i + by) (Some p)
-      → ((x : Price) → IsHeld x p → IsHeld (scope_price x) q)
-      → ScopePriced e depth ws i b (Some (record { behind = i + by + 1; price = q }))
-  scope_law b p q told holds = record {
-    each = λ body j at w plain.
-        let priced = told.each body (subst (λ n. Reads ws b n body) (omega (arith, at, same_end)) w) plain in (
-          omega (arith, at, same_end),
-          (scope_price priced.0, scope_priced e body priced.0 priced.1, holds priced.0 priced.2),
-        );
-  }
-
-  pub scope_deep : (b : ℕ) → BodyPriced e depth ws b (i + by) None → ScopePriced e depth ws i b None
-  scope_deep b told = record {
-    each = λ body j at w plain.
-        told.each body (subst (λ n. Reads ws b n body) (omega (arith, at, same_end)) w) plain;
-  }
-
   module _ (least greatest slots : ℕ) (first : least ≡ word ws (i + 2)) (second : greatest ≡ word ws (i + 3))
       (is : slots ≡ loop_slots least greatest) where
     pub loop_law : (p q : Price) → BodyPriced e depth ws (i + 4) (i + 1 + by) (Some p)
@@ -248,19 +231,6 @@ alternative_cost e t x is s b =
     (is.cost s (1 + b) ∙ ap (λ c. s * c + x.apart) one ∙ omega arith)
 
 module _ (e depth : ℕ) (ws : List ℕ) (first : ℕ) where
-  pub branch_start : BranchOnto e ws first first (closed_price 1 0 0)
-  branch_start = record {
-    far = omega arith;
-    each = λ ts j w plain. record {
-      cost = 1;
-      each = 0;
-      apart = 0;
-      held =
-          held_closed 1 0 0 1 0 0 (held_same 1 (omega arith)) (held_same 0 (omega arith)) (held_same 0 (omega arith));
-      left = inr (ts, w, plain, omega arith, λ s b. omega arith);
-    };
-  }
-
   module _ (q : ℕ) (p : Price) (o : BranchOnto e ws first q p) where
     pub branch_ends : word ws q ≡ 0
         → BranchPriced e depth ws first (Some (record { behind = q + 1; price = p }))

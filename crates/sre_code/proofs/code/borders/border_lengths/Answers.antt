@@ -5,7 +5,7 @@ use Rattle.sre_code.proofs.code.borders.border_lengths.Goals as goal
 
 pub front-preserved : goal.front-preserved
 front-preserved g c = (
-  set_right c.args.words.now c.front.lengths.items c.front.n c.next_border.result c.front.invariant.0
-      c.next_border.ensures (omega (arith, c.front-test.true, c.front.invariant.1)),
+  set_right _ _ _ _ c.front.invariant.0 c.next_border.ensures
+      (omega (arith, c.front-test.true, c.front.invariant.1)),
   length-set c.front.lengths.items c.front.n c.next_border.result ∙ c.front.invariant.1,
 )

@@ -5,31 +5,27 @@ use Rattle.sre_code.proofs.code.borders.next_border.Goals.{then-border-test+else
 
 pub border-init : goal.border-init
 border-init c = record {
-  border = starts c.args.prefix.now c.args.overlaps.now c.args.n c.requires.some c.requires.right;
-  most = starts_most c.args.prefix.now c.args.overlaps.now c.args.n c.requires.some c.requires.right;
+  border = starts _ _ _ c.requires.some c.requires.right;
+  most = starts_most _ _ _ c.requires.some c.requires.right;
 }
 
 pub border-preserved : goal.border-preserved
 border-preserved c = record {
-  border = goes_down c.args.prefix.now c.args.overlaps.now c.args.n c.border.border c.border.invariant.border
-      c.border-test.true c.requires.right;
-  most = goes_down_most c.args.prefix.now c.args.overlaps.now c.args.n c.border.border c.border.invariant.border
-      c.border.invariant.most c.border-test.true c.if-prefix-border.true c.requires.right;
+  border = goes_down _ _ _ _ c.border.invariant.border c.border-test.true c.requires.right;
+  most = goes_down_most _ _ _ _ c.border.invariant.border c.border.invariant.most c.border-test.true
+      c.if-prefix-border.true c.requires.right;
 }
 
 pub border-smaller : goal.border-smaller
-border-smaller c =
-    falls c.args.prefix.now c.args.overlaps.now c.args.n c.border.border c.border.invariant.border c.border-test.true
-    c.requires.right
+border-smaller c = falls _ _ _ _ c.border.invariant.border c.border-test.true c.requires.right
 
 pub returns-then-prefix-border-2 : goal.returns-then-prefix-border-2
 returns-then-prefix-border-2 c =
-    one_longer c.args.prefix.now c.args.n c.border.border c.border.invariant.border c.border.invariant.most
-    c.if-prefix-border-2.true
+    one_longer _ _ _ c.border.invariant.border c.border.invariant.most c.if-prefix-border-2.true
 
 pub returns-else-prefix-border-2 : goal.returns-else-prefix-border-2
 returns-else-prefix-border-2 c =
-    none_longer c.args.prefix.now c.args.n c.border.border c.border.invariant.most c.if-prefix-border-2.false
+    none_longer _ _ _ c.border.invariant.most c.if-prefix-border-2.false
     (elim c.border-test.branch [
       | then-border-test+else-prefix-border w ↦ absurd (c.if-prefix-border-2.false w.if-prefix-border.false)
       | else-border-test w ↦ omega (arith, w.border-test.false)

@@ -1,11 +1,9 @@
-use Rattle.std.proofs.Common.{arith, ◌*◌}
+use Rattle.std.proofs.Common.{arith}
 use Rattle.sre_code.proofs.Saturating.{held_same, held_times}
 use Rattle.sre_code.proofs.code.bounds.bits_by.Goals as goal
 
 pub returns : goal.returns
 returns c =
-    let s = c.args.slots in
-    let f = c.args.positions in
-    held_times (s * 2) f c.saturating_mul.result f c.saturating_mul-2.result
-    (held_times s 2 s 2 c.saturating_mul.result (held_same s (omega arith)) (held_same 2 (omega arith))
-    c.saturating_mul.ensures) (held_same f (omega arith)) c.saturating_mul-2.ensures
+    let two = held_times c.args.slots 2 _ 2 _ (held_same c.args.slots (omega arith)) (held_same 2 (omega arith))
+        c.saturating_mul.ensures in
+    held_times _ _ _ _ _ two (held_same c.args.positions (omega arith)) c.saturating_mul-2.ensures

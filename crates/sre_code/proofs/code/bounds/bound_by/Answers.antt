@@ -1,16 +1,13 @@
-use Rattle.std.proofs.Common.{arith, ◌*◌, ◌+◌, ◌/◌}
+use Rattle.std.proofs.Common.{arith, ◌+◌, ◌/◌}
 use Rattle.sre_code.proofs.Saturating.{held_same, held_times, held_plus}
 use Rattle.sre_code.proofs.code.bounds.bound_by.Goals as goal
 
 pub returns : goal.returns
 returns c = λ x y most cost.
-    let n = c.args.positions in
-    let k = c.args.longest / 8 + 1 in
+    let longer = held_same (c.args.longest / 8 + 1) (omega arith) in
     let both = held_plus x y _ _ _ most cost c.saturating_add.ensures in
-    let each = held_plus (x + y) 1 _ 1 _ both (held_same 1 (omega arith)) c.saturating_add-each.ensures in
-    let long = held_times (x + y + 1) k _ k _ each (held_same k (omega arith)) c.saturating_mul-long.ensures in
-    let more =
-    held_plus ((x + y + 1) * k) 32 _ 32 _ long (held_same 32 (omega arith)) c.saturating_add-2.ensures in
-    let all =
-    held_times n ((x + y + 1) * k + 32) n _ _ (held_same n (omega arith)) more c.saturating_mul.ensures in
+    let each = held_plus _ 1 _ 1 _ both (held_same 1 (omega arith)) c.saturating_add-each.ensures in
+    let long = held_times _ _ _ _ _ each longer c.saturating_mul-long.ensures in
+    let more = held_plus _ 32 _ 32 _ long (held_same 32 (omega arith)) c.saturating_add-2.ensures in
+    let all = held_times _ _ _ _ _ (held_same c.args.positions (omega arith)) more c.saturating_mul.ensures in
     record { is = omega (arith, all.is) }

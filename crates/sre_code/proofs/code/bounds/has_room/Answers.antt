@@ -3,5 +3,4 @@ use Rattle.sre_code.proofs.code.bounds.has_room.Goals as goal
 
 pub returns : goal.returns
 returns c =
-    room_test c.args.places c.args.positions c.args.slots c.bits_by.result c.saturating_mul-words.result
-    c.bits_by.ensures c.saturating_mul-words.ensures
+    room_test c.args.places c.args.positions c.args.slots _ _ c.bits_by.ensures c.saturating_mul-words.ensures

@@ -6,10 +6,8 @@ pub returns-in_err-opcode : goal.returns-in_err-opcode
 returns-in_err-opcode c =
     let p = err_from_is_err_and c.from_residual.result c.from_residual.ensures.1 in
     let past = c.in_err-opcode.ensures in
-    rw (p.1, p.2) (
-      jump_past c.args.words.now c.args.bounds.end c.args.bounds.tail c.args.least c.args.width c.args.place past.0,
-      past.1,
-    )
+    rw (p.1, p.2)
+    (jump_past _ c.args.bounds.end c.args.bounds.tail c.args.least c.args.width c.args.place past.0, past.1)
 
 pub returns-in_err-skip : goal.returns-in_err-skip
 returns-in_err-skip c =

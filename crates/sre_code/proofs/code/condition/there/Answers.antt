@@ -6,6 +6,4 @@ pub returns-in_err-opcode : goal.returns-in_err-opcode
 returns-in_err-opcode c =
     let p = err_from_is_err_and c.from_residual.result c.from_residual.ensures.1 in
     let cut = c.in_err-opcode.ensures in
-    rw (p.1, p.2)
-    (there_cut c.args.words.now c.args.tail c.args.place c.args.width c.in_err-opcode.field-0.0
-    c.if-place-tail.false cut.0 cut.1)
+    rw (p.1, p.2) (there_cut _ _ _ _ _ c.if-place-tail.false cut.0 cut.1)

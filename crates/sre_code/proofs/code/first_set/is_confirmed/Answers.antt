@@ -13,25 +13,22 @@ pub returns-then-words-eq1 : goal.returns-then-words-eq1
 returns-then-words-eq1 c = λ tree whole.
     elim c.then-words-eq1.branch [
       | then-words-eq1-via-then-words-eq1 w ↦
-          no_set_with_prefix c.args.words.now c.args.uni.now tree c.args.end c.requires.block w.if-words-eq1.true
-      | then-words-eq1-via-else-words-eq1+then-words-eq0 w ↦
-          no_set_flag c.args.words.now c.args.uni.now tree w.if-words-eq0.true
+          no_set_with_prefix _ _ tree _ c.requires.block w.if-words-eq1.true
+      | then-words-eq1-via-else-words-eq1+then-words-eq0 w ↦ no_set_flag c.args.words.now _ tree w.if-words-eq0.true
       | then-words-eq1-via-else-words-eq1+else-words-eq0+then-end-lt6 w ↦
-          no_set_room c.args.words.now c.args.uni.now tree c.args.end c.requires.block w.if-end-lt6.true
+          no_set_room _ _ tree _ c.requires.block w.if-end-lt6.true
     ]
 
 pub returns-then-words-end : goal.returns-then-words-end
-returns-then-words-end c = λ tree whole.
-    no_set_failure c.args.words.now c.args.uni.now tree c.args.end c.requires.block c.if-words-end.true
+returns-then-words-end c = λ tree whole. no_set_failure _ _ tree _ c.requires.block c.if-words-end.true
 
 pub ascii_members-requires : goal.ascii_members-requires
-ascii_members-requires c =
-    set_there c.args.words.now c.args.end c.requires.block c.if-words-end.false c.in-Ok.ensures
+ascii_members-requires c = set_there _ _ c.requires.block c.if-words-end.false c.in-Ok.ensures
 
 pub first_in-requires : goal.first_in-requires
 first_in-requires c = record {
   set = record {
-    has = set_there c.args.words.now c.args.end c.requires.block c.if-words-end.false c.in-Ok.ensures;
+    has = set_there _ _ c.requires.block c.if-words-end.false c.in-Ok.ensures;
     long = omega (arith, c.if-end-lt6.false);
     within = omega (arith, c.requires.block.within);
     told = told c.args.words.now 5 c.ascii_members.result c.ascii_members.ensures;
@@ -40,6 +37,5 @@ first_in-requires c = record {
 
 pub returns : goal.returns
 returns c = λ tree whole.
-    first_set_told c.args.words.now c.args.uni.now tree c.args.items.now c.args.end c.behind_marks.result
-    c.first_in.result c.requires.block c.requires.ends c.if-words-eq1.false c.if-words-eq0.false
+    first_set_told _ _ tree _ _ _ _ c.requires.block c.requires.ends c.if-words-eq1.false c.if-words-eq0.false
     c.if-end-lt6.false c.if-words-end.false c.in-Ok.ensures c.behind_marks.ensures c.first_in.ensures whole

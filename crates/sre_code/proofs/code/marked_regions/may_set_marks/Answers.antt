@@ -4,10 +4,9 @@ use Rattle.sre_code.proofs.code.marked_regions.may_set_marks.Goals as goal
 
 pub word-preserved : goal.word-preserved
 word-preserved c =
-    scanned_next c.args.items.now c.word.place c.word.farthest c.max-farthest.result c.word.invariant
+    scanned_next _ _ _ c.max-farthest.result c.word.invariant
     (grind (arith, common_steps)) (λ e r. let far = c.closing_at.ensures e r in grind (arith, common_steps))
     (c.is_mark_before.ensures c.if-is_mark_before.false)
 
 pub returns : goal.returns
-returns c none =
-    scanned_all c.args.items.now c.word.place c.word.farthest (omega (arith, c.word-test.false)) c.word.invariant
+returns c none = scanned_all c.args.items.now c.word.place _ (omega (arith, c.word-test.false)) c.word.invariant

@@ -6,4 +6,4 @@ pub returns-in_err-opcode : goal.returns-in_err-opcode
 returns-in_err-opcode c =
     let p = err_from_is_err_and c.from_residual.result c.from_residual.ensures.1 in
     let cut = c.in_err-opcode.ensures in
-    rw (p.1, p.2) (whole_cut c.args.words.now c.args.width c.args.place c.in_err-opcode.field-0.0 cut.0 cut.1)
+    rw (p.1, p.2) (whole_cut _ _ _ _ cut.0 cut.1)

@@ -3,10 +3,10 @@ use Rattle.sre_code.proofs.code.repeat.until.Goals as goal
 
 pub returns-in-MAX_UNTIL : goal.returns-in-MAX_UNTIL
 returns-in-MAX_UNTIL c =
-    body_max c.args.words.now c.args.end c.args.least c.args.place c.args.width c.saturating_mul.result
-    c.if-place-end.false (rw c.in-MAX_UNTIL.is at c.in_ok-opcode.ensures).1 c.saturating_mul.ensures
+    body_max _ _ _ _ c.args.width _ c.if-place-end.false (rw c.in-MAX_UNTIL.is at c.in_ok-opcode.ensures).1
+    c.saturating_mul.ensures
 
 pub returns-in-MIN_UNTIL : goal.returns-in-MIN_UNTIL
 returns-in-MIN_UNTIL c =
-    body_min c.args.words.now c.args.end c.args.least c.args.place c.args.width c.saturating_mul-in-MIN_UNTIL.result
-    c.if-place-end.false (rw c.in-MIN_UNTIL.is at c.in_ok-opcode.ensures).1 c.saturating_mul-in-MIN_UNTIL.ensures
+    body_min _ _ _ _ c.args.width _ c.if-place-end.false (rw c.in-MIN_UNTIL.is at c.in_ok-opcode.ensures).1
+    c.saturating_mul-in-MIN_UNTIL.ensures

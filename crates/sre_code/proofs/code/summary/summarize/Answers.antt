@@ -8,20 +8,16 @@ instruction-init c = noted_start c.args.words.now
 
 pub returns-in_default : goal.returns-in_default
 returns-in_default c = λ t w.
-    noted_stops c.args.words.now t w c.instruction.place c.instruction.sum c.instruction.invariant (omega arith)
-    (none_unknown c.args.words.now c.instruction.place c.in_default.ensures.0)
+    noted_stops _ t w _ _ c.instruction.invariant (omega arith) (none_unknown _ _ c.in_default.ensures.0)
 
 pub returns-in_default-next : goal.returns-in_default-next
 returns-in_default-next c = λ t w.
-    noted_stops c.args.words.now t w c.instruction.place c.instruction.sum c.instruction.invariant (omega arith)
-    c.in_default-next.ensures
+    noted_stops _ t w _ _ c.instruction.invariant (omega arith) c.in_default-next.ensures
 
 pub instruction-preserved : goal.instruction-preserved
 instruction-preserved c =
-    noted_next c.args.words.now c.instruction.place c.in-Some.behind c.in-Ok.code c.instruction.sum
-    c.noted-sum.result c.instruction.invariant (omega arith) c.in-Some.ensures.1 c.in-Ok.ensures.1
+    noted_next _ _ _ c.in-Ok.code _ _ c.instruction.invariant (omega arith) c.in-Some.ensures.1 c.in-Ok.ensures.1
     c.noted-sum.ensures
 
 pub returns : goal.returns
-returns c = λ t w.
-    noted_ends c.args.words.now t w c.instruction.place c.instruction.sum c.instruction.invariant (omega arith)
+returns c = λ t w. noted_ends _ t w _ _ c.instruction.invariant (omega arith)
