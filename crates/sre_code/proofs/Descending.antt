@@ -17,17 +17,16 @@ use Rattle.sre_code.specs.declared.code.step.Open.{Open}
 use Rattle.sre_code.specs.declared.code.step.Reached.{Reached}
 use Rattle.sre_growth.specs.Refusal.{Refused}
 
-rest_moved : (ws : List ℕ) (i i2 d d2 W : ℕ) (fs fs2 : List Open) → i ≡ i2 → d ≡ d2 → fs ≡ fs2 → Rest ws i d fs W
-    → Rest ws i2 d2 fs2 W
-rest_moved ws i i2 d d2 W fs fs2 e f g r =
-    let P : ℕ → Type 0 = λ n. Rest ws n d fs W in
-    let Q : ℕ → Type 0 = λ n. Rest ws i2 n fs W in
-    let S : List Open → Type 0 = λ xs. Rest ws i2 d2 xs W in
-    subst S g (subst Q f (subst P e r))
+rest_moved : (ws : List ℕ) (i i2 d d2 : ℕ) (fs fs2 : List Open) → i ≡ i2 → d ≡ d2 → fs ≡ fs2
+    → Same (Rest ws i d fs) (Rest ws i2 d2 fs2)
+rest_moved ws i i2 d d2 fs fs2 e f g =
+    subst (λ (xs : List Open). Same (Rest ws i d fs) (Rest ws i2 d2 xs)) g
+    (subst (λ (n : ℕ). Same (Rest ws i d fs) (Rest ws i2 n fs)) f
+    (subst (λ (n : ℕ). Same (Rest ws i d fs) (Rest ws n d fs)) e (record { to = λ W r. r; from = λ W r. r })))
 
 after_from : (ws : List ℕ) (s : Step) (fs : List Open) (W j w : ℕ) → Remains ws s j w → Rest ws j w fs W
     → After ws s fs W
-after_from ws (Past p v) fs W j w e r = rest_moved ws j p w v W fs fs e.0 e.1 refl r
+after_from ws (Past p v) fs W j w e r = (rest_moved ws j p w v fs fs e.0 e.1 refl).to W r
 after_from ws (Opens part p) fs W j w m r = (j, w, m, r)
 
 after_to : (ws : List ℕ) (s : Step) (fs : List Open) (W : ℕ) → After ws s fs W
@@ -43,14 +42,14 @@ no_more : (n a : ℕ) → a ≡ capped n → capped (capped n + 0) ≡ a
 no_more n a e = omega arith
 
 closes_wide : (ws : List ℕ) (part : Part) (k u u2 j w : ℕ) → u ≡ u2 → Closes ws part k u j w → Closes ws part k u2 j w
-closes_wide ws part k u u2 j w e c = let P : ℕ → Type 0 = λ n. Closes ws part k n j w in subst P e c
+closes_wide ws part k u u2 j w e c = subst (λ (n : ℕ). Closes ws part k n j w) e c
 
 -- the item comes first, and then the rest of the part
 item_first : (ws : List ℕ) (s : Step) (part : Part) (a : ℕ) (fs : List Open) (W i j w k : ℕ) (t : Tree)
     → IsInside ws part i → Exactly ws s (ItemAt ws i) → Reads ws i k t → Closes ws part k (capped (a + width t)) j w
     → Rest ws j w fs W → After ws s (record { part = part; width = a } ∷ fs) W
 item_first ws s part a fs W i j w k Empty inside x r c rest =
-    let P : ℕ → Type 0 = λ n. Closes ws part n (capped (a + 0)) j w in absurd (inside.none _ j w (subst P (sym r) c))
+    absurd (inside.none _ j w (subst (λ (n : ℕ). Closes ws part n (capped (a + 0)) j w) (sym r) c))
 item_first ws s part a fs W i j w k (Then it t) inside x r c rest =
     after_from ws s (record { part = part; width = a } ∷ fs) W r.0 (item_width it)
     (x.complete r.0 (item_width it) (it, r.1, refl))
@@ -83,8 +82,7 @@ item_turns ws s a top d fs i ae inside x = record {
 item_refuses : (ws : List ℕ) (part : Part) (i k u j w : ℕ) (t : Tree) → IsInside ws part i → Nowhere (ItemAt ws i)
     → Reads ws i k t → Closes ws part k u j w → ⊥
 item_refuses ws part i k u j w Empty inside n r c =
-    let P : ℕ → Type 0 = λ n. Closes ws part n u j w in
-    inside.none u j w (subst P (sym r) c)
+    inside.none u j w (subst (λ (n : ℕ). Closes ws part n u j w) (sym r) c)
 item_refuses ws part i k u j w (Then it t) inside n r c = n.none r.0 (item_width it) (it, r.1, refl)
 
 item_stops : (ws : List ℕ) (top : Open) (d : ℕ) (fs : List Open) (i : ℕ) → IsInside ws top.part i
@@ -97,13 +95,12 @@ closed_here : (ws : List ℕ) (top : Open) (d a : ℕ) (fs : List Open) (W i : �
     → IsEnd ws top.part i → Rest ws i d (top ∷ fs) W → (j : ℕ) × (w : ℕ) × Closes ws top.part i a j w × Rest ws j w fs W
 closed_here ws top d a fs W i ae end r =
     let empty : r.2.1.0 ≡ Empty = end.only r.2.0 _ r.0 r.1 r.2.1.0 r.2.1.1 r.2.1.2 in
-    let at : i ≡ r.2.0 = let P : Tree → Type 0 = λ t. Reads ws i r.2.0 t in subst P empty r.2.1.1 in
-    let P : ℕ → Type 0 = λ n. Closes ws top.part n a r.0 r.1 in (
+    let at : i ≡ r.2.0 = subst (λ (t : Tree). Reads ws i r.2.0 t) empty r.2.1.1 in
+    let wide = ap (λ t. capped (capped (top.width + d) + width t)) empty ∙ no_more (top.width + d) a ae in (
       r.0,
       r.1,
-      subst P (sym at)
-          (closes_wide ws top.part r.2.0 _ a r.0 r.1
-          (ap (λ t. capped (capped (top.width + d) + width t)) empty ∙ no_more (top.width + d) a ae) r.2.1.2),
+      subst (λ (n : ℕ). Closes ws top.part n a r.0 r.1) (sym at)
+          (closes_wide ws top.part r.2.0 _ a r.0 r.1 wide r.2.1.2),
       r.3,
     )
 
@@ -139,15 +136,11 @@ reverse_push fs f = reverse-append fs (f ∷ [])
 
 pushed : (ws : List ℕ) (s : Step) (old new : List Open) (q : Reached) → Stacks s old new q
     → Same (After ws s (reverse old)) (StackRest ws q.place q.width new)
-pushed ws (Past p v) old new q e = record {
-  to = λ W r. rest_moved ws p q.place v q.width W _ _ (sym e.0) (sym e.1) (ap reverse (sym e.2)) r;
-  from = λ W r. rest_moved ws q.place p q.width v W _ _ e.0 e.1 (ap reverse e.2) r;
-}
+pushed ws (Past p v) old new q e =
+    rest_moved ws p q.place v q.width (reverse old) (reverse new) (sym e.0) (sym e.1) (ap reverse (sym e.2))
 pushed ws (Opens part p) old new q e =
-    let same : reverse new ≡ opened part ∷ reverse old = ap reverse e.2 ∙ reverse_push old (opened part) in record {
-      to = λ W r. rest_moved ws p q.place 0 q.width W _ _ (sym e.0) (sym e.1) (sym same) r;
-      from = λ W r. rest_moved ws q.place p q.width 0 W _ _ e.0 e.1 same r;
-    }
+    let same : reverse new ≡ opened part ∷ reverse old = ap reverse e.2 ∙ reverse_push old (opened part) in
+    rest_moved ws p q.place 0 q.width (opened part ∷ reverse old) (reverse new) (sym e.0) (sym e.1) (sym same)
 
 same_then : (A B C : ℕ → Type 0) → Same A B → Same B C → Same A C
 same_then A B C x y = record { to = λ W a. y.to W (x.to W a); from = λ W d. x.from W (y.from W d) }
@@ -180,8 +173,8 @@ step_closes M ws r a top s old new (Err e) ae end l x m = memory ws _ e m
 item_pushed : (ws : List ℕ) (s : Step) (f : Open) (old new : List Open) (q : Reached)
     → Stacks s (old ++ f ∷ []) new q → Same (After ws s (f ∷ reverse old)) (StackRest ws q.place q.width new)
 item_pushed ws s f old new q e =
-    let P : List Open → Type 0 = λ xs. Same (After ws s xs) (StackRest ws q.place q.width new) in
-    subst P (reverse_push old f) (pushed ws s (old ++ f ∷ []) new q e)
+    subst (λ (xs : List Open). Same (After ws s xs) (StackRest ws q.place q.width new)) (reverse_push old f)
+    (pushed ws s (old ++ f ∷ []) new q e)
 
 pub step_reads : (M : Type 0) (ws : List ℕ) (r : Reached) (a : ℕ) (top : Open) (s : Step) (old new : List Open)
     (q : Result Reached CodeError)
@@ -208,41 +201,35 @@ step_no_item ws i d top old e inside x f =
     record { never = λ _. stops; grows = λ m. absurd (f.1 m); within = f.0 }
 
 -- the descent
-body_from : (ws : List ℕ) (i W : ℕ) → WholeFrom ws i W → Rest ws i 0 (opened Whole ∷ []) W
-body_from ws i W b =
-    let last : length ws - 1 + 1 ≡ length ws = omega (arith, opcode_within ws (length ws - 1) opcode.SUCCESS b.1) in (
-      length ws - 1 + 1,
-      W,
-      (length ws - 1, (b.0.0, b.0.1, (b.1, last, refl, omega (arith, b.0.2, width_held b.0.0)))),
-      refl,
-    )
-
-body_to : (ws : List ℕ) (i W : ℕ) → Rest ws i 0 (opened Whole ∷ []) W → WholeFrom ws i W
-body_to ws i W r =
-    let c = r.2.1.2 in
-    let last : r.2.0 ≡ length ws - 1 = omega (arith, c.1) in (
-      (
-        r.2.1.0,
-        reads_moved ws i i r.2.0 (length ws - 1) r.2.1.0 refl last r.2.1.1,
-        omega (arith, c.3, r.3, width_held r.2.1.0),
-      ),
-      opcode_moved ws r.2.0 (length ws - 1) opcode.SUCCESS last c.0,
-    )
+body_open : (ws : List ℕ) (i : ℕ) → Same (WholeFrom ws i) (Rest ws i 0 (opened Whole ∷ []))
+body_open ws i = record {
+  to = λ W b.
+      let last : length ws - 1 + 1 ≡ length ws = omega (arith, opcode_within ws (length ws - 1) opcode.SUCCESS b.1) in (
+        length ws - 1 + 1,
+        W,
+        (length ws - 1, (b.0.0, b.0.1, (b.1, last, refl, omega (arith, b.0.2, width_held b.0.0)))),
+        refl,
+      );
+  from = λ W r.
+      let c = r.2.1.2 in
+      let last : r.2.0 ≡ length ws - 1 = omega (arith, c.1) in (
+        (
+          r.2.1.0,
+          reads_moved ws i i r.2.0 (length ws - 1) r.2.1.0 refl last r.2.1.1,
+          omega (arith, c.3, r.3, width_held r.2.1.0),
+        ),
+        opcode_moved ws r.2.0 (length ws - 1) opcode.SUCCESS last c.0,
+      );
+}
 
 pub descent_starts : (ws : List ℕ) (i : ℕ) (q : Reached) (items : List Open) → q.place ≡ i → q.width ≡ 0
     → items ≡ [] ++ opened Whole ∷ [] → Same (WholeFrom ws i) (StackRest ws q.place q.width items)
-descent_starts ws i q items p v e = record {
-  to = λ W b. rest_moved ws i q.place 0 q.width W _ _ (sym p) (sym v) (sym (ap reverse e)) (body_from ws i W b);
-  from = λ W r. body_to ws i W (rest_moved ws q.place i q.width 0 W _ _ p v (ap reverse e) r);
-}
+descent_starts ws i q items p v e =
+    same_then _ _ _ (body_open ws i) (rest_moved ws i q.place 0 q.width _ _ (sym p) (sym v) (sym (ap reverse e)))
 
 popped : (ws : List ℕ) (i d : ℕ) (top : Open) (items old : List Open) → items ≡ old ++ top ∷ []
     → Same (StackRest ws i d items) (Rest ws i d (top ∷ reverse old))
-popped ws i d top items old e =
-    let same : reverse items ≡ top ∷ reverse old = ap reverse e ∙ reverse_push old top in record {
-      to = λ W r. rest_moved ws i i d d W _ _ refl refl same r;
-      from = λ W r. rest_moved ws i i d d W _ _ refl refl (sym same) r;
-    }
+popped ws i d top items old e = rest_moved ws i i d d _ _ refl refl (ap reverse e ∙ reverse_push old top)
 
 pub descent_goes_on : (ws : List ℕ) (start : ℕ) (r q : Reached) (top : Open) (items old new : List Open)
     → Same (WholeFrom ws start) (StackRest ws r.place r.width items) → items ≡ old ++ top ∷ []
@@ -267,8 +254,7 @@ descent_stops ws start i d top items old e inv same t =
 pub descent_ends : (ws : List ℕ) (start : ℕ) (r : Reached) (items : List Open)
     → Same (WholeFrom ws start) (StackRest ws r.place r.width items) → items ≡ [] → HasWhole ws start r.width
 descent_ends ws start r items inv e = record {
-  body =
-      inv.from r.width (rest_moved ws r.place r.place r.width r.width r.width [] _ refl refl (sym (ap reverse e)) refl);
+  body = inv.from r.width ((rest_moved ws r.place r.place r.width r.width _ [] refl refl (ap reverse e)).from _ refl);
 }
 
 -- what the descent says of items

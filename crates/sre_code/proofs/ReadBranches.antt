@@ -14,7 +14,7 @@ use Rattle.sre_code.specs.declared.code.step.Bounds.{Bounds}
 use Rattle.sre_model.proofs.Widths.{least_held}
 
 pub jump_moved : (ws : List ℕ) (k k2 j : ℕ) → k ≡ k2 → JumpsTo ws k j → JumpsTo ws k2 j
-jump_moved ws k k2 j e r = let P : ℕ → Type 0 = λ n. JumpsTo ws n j in subst P e r
+jump_moved ws k k2 j e r = subst (λ (n : ℕ). JumpsTo ws n j) e r
 
 -- the two forms of what comes after an alternative
 abbrev Last : List ℕ → ℕ → ℕ → ℕ → ℕ → Type 0
@@ -31,10 +31,8 @@ after ws q tail least w (inr later) f g = g later
 more_moved : (ws : List ℕ) (q q2 j j2 least least2 w : ℕ) → q ≡ q2 → j ≡ j2 → least ≡ least2 → More ws q j least w
     → More ws q2 j2 least2 w
 more_moved ws q q2 j j2 least least2 w e f g m =
-    let P : ℕ → Type 0 = λ n. More ws n j least w in
-    let Q : ℕ → Type 0 = λ n. More ws q2 n least w in
-    let R : ℕ → Type 0 = λ n. More ws q2 j2 n w in
-    subst R g (subst Q f (subst P e m))
+    subst (λ (n : ℕ). More ws q2 j2 n w) g
+    (subst (λ (n : ℕ). More ws q2 n least w) f (subst (λ (n : ℕ). More ws n j least w) e m))
 
 -- alternatives are one that ends at k, its JUMP, and what comes after
 abbrev Parted : List ℕ → ℕ → ℕ → ℕ → ℕ → ℕ → Type 0
@@ -101,9 +99,7 @@ pub branch_exactly : (ws : List ℕ) (i : ℕ) (b : Bounds) → Opcode ws i opco
     → Exactly ws (Opens (Alternative b.end b.tail 4294967295) (i + 2)) (ItemAt ws i)
 branch_exactly ws i b h x =
     let e = x.opens 4294967295 in
-    let P : ℕ → Type 0 = λ n. Exactly ws (Opens (Alternative b.end b.tail 4294967295) n) (ItemAt ws i) in
-    let at : i + 1 + 1 ≡ i + 2 = omega arith in
-    subst P at (record {
+    subst (λ (n : ℕ). Exactly ws (Opens (Alternative b.end b.tail 4294967295) n) (ItemAt ws i)) (omega arith) (record {
       sound = λ j w r. let ts = e.sound j w r in (Branch ts.0, (h, ts.1), omega (arith, ts.2, least_held ts.0));
       complete = λ j w y. let f = is_branch ws i j y.0 (role_here ws i opcode.BRANCH ToBranch h refl) y.1 in
           let wide : w ≡ least_width f.0 = y.2 ∙ ap item_width f.1 in
@@ -150,12 +146,13 @@ trees_left ws q tail least j w ne c =
 pub more_next : (ws : List ℕ) (q tail least : ℕ) (b : Bounds) → word ws q ≢ 0 → BoundsExactly ws q b → b.tail ≡ tail
     → Exactly ws (Opens (Alternative b.end tail least) (q + 1)) (MoreAt ws q tail least)
 more_next ws q tail least b ne bounds same =
-    let Q : ℕ → Type 0 = λ n. Exactly ws (Opens (Alternative b.end n least) (q + 1)) (TreesAt ws q least) in
-    let x = subst Q same (bounds.opens least) in record {
-      sound = λ j w r. let ts = x.sound j w r in let at : j ≡ tail = r.1.2.3 in
-          let P : ℕ → Type 0 = λ n. TreesAt ws q least n w in (inr (subst P at ts), at);
-      complete = λ j w c. let P : ℕ → Type 0 = λ n. TreesAt ws q least n w in
-          x.complete j w (subst P (sym c.1) (trees_left ws q tail least j w ne c));
+    let x =
+    subst (λ (n : ℕ). Exactly ws (Opens (Alternative b.end n least) (q + 1)) (TreesAt ws q least)) same
+    (bounds.opens least) in record {
+      sound = λ j w r. (inr (subst (λ (n : ℕ). TreesAt ws q least n w) r.1.2.3 (x.sound j w r)), r.1.2.3);
+      complete = λ j w c.
+          let left = trees_left ws q tail least j w ne c in
+          x.complete j w (subst (λ (n : ℕ). TreesAt ws q least n w) (sym c.1) left);
     }
 
 pub more_nowhere : (ws : List ℕ) (q tail least : ℕ) → word ws q ≢ 0 → NoTrees ws q → Nowhere (MoreAt ws q tail least)
@@ -214,11 +211,10 @@ pub jump_gives : (ws : List ℕ) (e tail least u m i : ℕ) (r : Result Step Cod
     → Opcode ws i opcode.JUMP → tail ≡ skip ws (i + 1) → EndGives ws (i + 2) (MoreAt ws (i + 2) tail m) r
     → EndGives ws i (Closes ws (Alternative e tail least) i u) r
 jump_gives ws e tail least u m i (Ok s) me same h te x =
-    let P : ℕ → Type 0 = λ n. Exactly ws s (MoreAt ws (i + 2) tail n) in
-    (leaves_before ws i (i + 2) s (omega arith) x.0, jump_exactly ws e tail least u i s same h te (subst P me x.1))
+    let more = subst (λ (n : ℕ). Exactly ws s (MoreAt ws (i + 2) tail n)) me x.1 in
+    (leaves_before ws i (i + 2) s (omega arith) x.0, jump_exactly ws e tail least u i s same h te more)
 jump_gives ws e tail least u m i (Err f) me same h te x =
-    let P : ℕ → Type 0 = λ n. Nowhere (MoreAt ws (i + 2) tail n) in
-    (jump_nowhere ws e tail least u i (subst P me x.0), x.1)
+    (jump_nowhere ws e tail least u i (subst (λ (n : ℕ). Nowhere (MoreAt ws (i + 2) tail n)) me x.0), x.1)
 
 -- what `bounds` answers
 pub ruleset bounds_laws = (bounds_exactly, trees_short, trees_past, trees_cut)
