@@ -4,6 +4,7 @@ use Rattle.sre_code.proofs.Terms.{refl, sym, ◌∙◌, ap, subst, slice_range, 
 use Rattle.sre_code.proofs.Terms.{contains, AsciiSet, category_number, Table, category, SreCatCode, SetItem, Charset}
 use Rattle.sre_code.proofs.Terms.{is_member, Word, Opcode, SetStands, HasSet, single_says, range_says, category_says}
 use Rattle.sre_code.proofs.Terms.{charset_says, AsciiLeft}
+use Rattle.std.proofs.Math.Bool.{and_comm}
 use Rattle.sre_chars.specs.Tables.{is_between}
 use Rattle.sre_chars.specs.declared.constants.SreOpcode.TheVariants as opcode
 use Rattle.sre_model.specs.Characters.{item_holds, verdict}
@@ -21,17 +22,14 @@ says_so ws table i c next says has l e x =
 
 pub literal_holds : (ws : List ℕ) (i v : ℕ) (members : AsciiSet) → Opcode ws i opcode.LITERAL → Word ws (i + 1) v
     → ((c : ℕ) → contains members c ≡ (nat_lt c 128 && nat_eq c v)) → HoldsFor ws i members (i + 2)
-literal_holds ws i v members w o h = record {
-  each = λ table c l. says_so ws table i c (i + 2) (nat_eq c v) (contains members c) l (h c)
-      (single_says ws table i c v w o);
-}
+literal_holds ws i v members w o h =
+    record { each = λ table c l. says_so ws table i c (i + 2) _ _ l (h c) (single_says ws table i c v w o) }
 
 pub range_holds : (ws : List ℕ) (i low high : ℕ) (members : AsciiSet) → Opcode ws i opcode.RANGE
     → Word ws (i + 1) low → Word ws (i + 2) high
     → ((c : ℕ) → contains members c ≡ (nat_lt c 128 && is_between low high c)) → HoldsFor ws i members (i + 3)
 range_holds ws i low high members w ol oh h = record {
-  each = λ table c l. says_so ws table i c (i + 3) (is_between low high c) (contains members c) l (h c)
-      (range_says ws table i c low high (is_between low high c) w ol oh refl);
+  each = λ table c l. says_so ws table i c (i + 3) _ _ l (h c) (range_says ws table i c low high _ w ol oh refl);
 }
 
 pub category_holds : (ws : List ℕ) (i : ℕ) (code : SreCatCode) (members : AsciiSet) → Opcode ws i opcode.CATEGORY
@@ -40,17 +38,15 @@ pub category_holds : (ws : List ℕ) (i : ℕ) (code : SreCatCode) (members : As
     → HoldsFor ws i members (i + 2)
 category_holds ws i code members w o h = record {
   each = λ table c l.
-      says_so ws table i c (i + 2) (category table (category_number code) c) (contains members c) l (h table c)
-      (category_says ws table i c (category table (category_number code) c) code w o refl);
+      says_so ws table i c (i + 2) _ _ l (h table c) (category_says ws table i c _ code w o refl);
 }
 
 pub charset_holds : (ws : List ℕ) (i : ℕ) (members : AsciiSet) → Opcode ws i opcode.CHARSET
     → ((table : Table) (c : ℕ) → c < 128
     → contains members c ≡ item_holds table (Charset (slice_range ws (i + 1) (i + 9))) c)
     → HoldsFor ws i members (i + 9)
-charset_holds ws i members w h = record {
-  each = λ table c l. charset_says ws table i c (contains members c) w (h table c l);
-}
+charset_holds ws i members w h =
+    record { each = λ table c l. charset_says ws table i c (contains members c) w (h table c l) }
 
 -- a set at its beginning, behind an item, behind NEGATE, and at its end
 pub ascii_all : (ws : List ℕ) (start : ℕ) (members left none : AsciiSet) → ((c : ℕ) → contains members c ≡ false)
@@ -112,12 +108,6 @@ ascii_turned ws start i taken members left l w = record {
       );
 }
 
-turned_about : (left taken : Bool) → (left && taken) ≡ (taken && left)
-turned_about true true = refl
-turned_about true false = refl
-turned_about false true = refl
-turned_about false false = refl
-
 pub ascii_whole : (ws : List ℕ) (start i : ℕ) (taken : Bool) (members left after : AsciiSet)
     → AsciiLeft ws start i taken members left → Opcode ws i opcode.FAILURE
     → ((c : ℕ) → contains after c ≡ (contains members c || (not taken && contains left c)))
@@ -126,7 +116,7 @@ pub ascii_whole : (ws : List ℕ) (start i : ℕ) (taken : Bool) (members left a
 ascii_whole ws start i taken members left after l w a table j set s c k =
     let f = l.each table c k j set s in
     let none = nothing_left ws i j f.0 w f.1 in
-    a c ∙ ap (λ b. contains members c || b) (sym (turned_about (contains left c) (not taken)))
+    a c ∙ ap (λ b. contains members c || b) (and_comm (not taken) (contains left c))
     ∙ sym (f.2 ∙ ap (λ rest. contains members c || (contains left c && verdict table taken rest c)) none)
 
 -- what a reader of a set tells is told of each set that stands there

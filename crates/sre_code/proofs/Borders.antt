@@ -4,6 +4,7 @@ use Rattle.std.proofs.Common.{drop, Bool, true, false, cond, nat_eq, ◌&&◌, �
 use Rattle.std.proofs.Common.{arith, slice_set}
 use Rattle.std.proofs.lemmas.List.{get_or-take, get_or-drop, length-take, length-drop, ext_get_or}
 use Rattle.std.proofs.lemmas.List.{get_or-set_other, get_or-set_same}
+use Rattle.std.proofs.lemmas.Bool.{and_parts}
 use Rattle.std.proofs.lemmas.Bool.Decides.{nat_tests}
 use Rattle.std.proofs.lemmas.Slice.Eq.{bytes_eq-Decides}
 use Rattle.sre_model.specs.Claims.{is_border, border_up_to, border_length, are_overlaps}
@@ -14,10 +15,8 @@ shorter : (p : List ℕ) (n k m : ℕ) → Border p n k → Border p n m → m <
 shorter p n k m a b lt = record {
   below = lt;
   same = λ i li.
-      let x : slice_index p i ≡ slice_index p (n - m + i) = b.same i li in
-      let y : slice_index p (k - m + i) ≡ slice_index p (n - k + (k - m + i)) = a.same (k - m + i) (omega arith) in
       let e : n - k + (k - m + i) ≡ n - m + i = omega (arith, a.below) in
-      x ∙ sym (y ∙ ap (slice_index p) e);
+      b.same i li ∙ sym (a.same (k - m + i) (omega arith) ∙ ap (slice_index p) e);
 }
 
 -- and a border of a border is one
@@ -25,11 +24,8 @@ through : (p : List ℕ) (n k m : ℕ) → Border p n k → Border p k m → Bor
 through p n k m a b = record {
   below = omega (arith, a.below, b.below);
   same = λ i li.
-      let x : slice_index p i ≡ slice_index p (k - m + i) = b.same i li in
-      let y : slice_index p (k - m + i) ≡ slice_index p (n - k + (k - m + i)) =
-      a.same (k - m + i) (omega (arith, b.below)) in
       let e : n - k + (k - m + i) ≡ n - m + i = omega (arith, a.below, b.below) in
-      x ∙ y ∙ ap (slice_index p) e;
+      b.same i li ∙ a.same (k - m + i) (omega (arith, b.below)) ∙ ap (slice_index p) e;
 }
 
 empty_border : (p : List ℕ) (n : ℕ) → 0 < n → Border p n 0
@@ -71,8 +67,7 @@ pub record Most (p : List ℕ) (n k : ℕ) : Type 0 where
 most_of : (p : List ℕ) (n k : ℕ) → Most p n k → (m : ℕ) → Border p (n + 1) m → m ≤ k + 1
 most_of p n k most zero b = omega arith
 most_of p n k most (suc m) b =
-    let P : ℕ → Type 0 = λ x. Border p (n + 1) x in
-    let s = shrunk p n m (subst P (omega arith) b) in
+    let s = shrunk p n m (subst (Border p (n + 1)) (omega arith) b) in
     omega (arith, most.most m s.0 s.1)
 
 pub one_longer : (p : List ℕ) (n k : ℕ) → Border p n k → Most p n k → slice_index p k ≡ slice_index p n
@@ -83,8 +78,7 @@ none_of : (p : List ℕ) (n k : ℕ) → Most p n k → slice_index p k ≢ slic
     → Border p (n + 1) m → m ≤ 0
 none_of p n k most ne z zero b = omega arith
 none_of p n k most ne z (suc m) b =
-    let P : ℕ → Type 0 = λ x. Border p (n + 1) x in
-    let s = shrunk p n m (subst P (omega arith) b) in
+    let s = shrunk p n m (subst (Border p (n + 1)) (omega arith) b) in
     let at : k ≡ m = omega (arith, most.most m s.0 s.1) in
     absurd (ne (ap (slice_index p) at ∙ s.1))
 
@@ -107,30 +101,25 @@ strictly p n k m most b e ne = ⊎_elim
 -- the search for it
 pub starts : (p : List ℕ) (o : List ℕ) (n : ℕ) → 0 < n → RightUpTo p o n → Border p n (slice_index o (n - 1))
 starts p o n lt r =
-    let P : ℕ → Type 0 = λ x. Border p x (slice_index o (n - 1)) in
-    subst P (omega arith) (r.each (n - 1) (omega arith)).border
+    subst (λ (x : ℕ). Border p x (slice_index o (n - 1))) (omega arith) (r.each (n - 1) (omega arith)).border
 
 pub starts_most : (p : List ℕ) (o : List ℕ) (n : ℕ) → 0 < n → RightUpTo p o n → Most p n (slice_index o (n - 1))
 starts_most p o n lt r = record {
-  most = λ m b e.
-      let P : ℕ → Type 0 = λ x. Border p x m in
-      (r.each (n - 1) (omega arith)).most m (subst P (omega arith) b);
+  most = λ m b e. (r.each (n - 1) (omega arith)).most m (subst (λ (x : ℕ). Border p x m) (omega arith) b);
 }
 
 pub goes_down : (p : List ℕ) (o : List ℕ) (n k : ℕ) → Border p n k → 0 < k → RightUpTo p o n
     → Border p n (slice_index o (k - 1))
 goes_down p o n k a lt r =
-    let P : ℕ → Type 0 = λ x. Border p x (slice_index o (k - 1)) in
-    through p n k (slice_index o (k - 1)) a
-    (subst P (omega arith) (r.each (k - 1) (omega (arith, a.below))).border)
+    let next = (r.each (k - 1) (omega (arith, a.below))).border in
+    through p n k (slice_index o (k - 1)) a (subst (λ (x : ℕ). Border p x (slice_index o (k - 1))) (omega arith) next)
 
 pub goes_down_most : (p : List ℕ) (o : List ℕ) (n k : ℕ) → Border p n k → Most p n k → 0 < k
     → slice_index p k ≢ slice_index p n → RightUpTo p o n → Most p n (slice_index o (k - 1))
 goes_down_most p o n k a most lt ne r = record {
   most = λ m b e.
-      let P : ℕ → Type 0 = λ x. Border p x m in
-      let less : m < k = strictly p n k m most b e ne in
-      (r.each (k - 1) (omega (arith, a.below))).most m (subst P (omega arith) (shorter p n k m a b less));
+      let less = shorter p n k m a b (strictly p n k m most b e ne) in
+      (r.each (k - 1) (omega (arith, a.below))).most m (subst (λ (x : ℕ). Border p x m) (omega arith) less);
 }
 
 pub falls : (p : List ℕ) (o : List ℕ) (n k : ℕ) → Border p n k → 0 < k → RightUpTo p o n
@@ -146,9 +135,7 @@ one_front p = record { border = empty_border p 1 (omega arith); most = λ m b. o
 
 first_front : (p o : List ℕ) (j : ℕ) → slice_index o 0 ≡ 0 → j ≡ 0 → Longest p (j + 1) (slice_index o j)
 first_front p o j e z =
-    let P : ℕ → Type 0 = λ x. Longest p 1 x in
-    let Q : ℕ → Type 0 = λ x. Longest p (x + 1) (slice_index o x) in
-    subst Q (sym z) (subst P (sym e) (one_front p))
+    subst (λ (x : ℕ). Longest p (x + 1) (slice_index o x)) (sym z) (subst (Longest p 1) (sym e) (one_front p))
 
 pub first_right : (p o : List ℕ) → slice_index o 0 ≡ 0 → RightUpTo p o 1
 first_right p o e = record { each = λ j lt. first_front p o j e (omega arith) }
@@ -162,9 +149,7 @@ more_right p o n k r l e = record {
   each = λ j lt. ⊎_elim
       (λ (less : j < n). r.each j less)
       (λ (same : j ≡ n).
-      let P : ℕ → Type 0 = λ x. Longest p (n + 1) x in
-      let Q : ℕ → Type 0 = λ x. Longest p (x + 1) (slice_index o x) in
-      subst Q (sym same) (subst P (sym e) l))
+      subst (λ (x : ℕ). Longest p (x + 1) (slice_index o x)) (sym same) (subst (Longest p (n + 1)) (sym e) l))
       (below_or j n lt);
 }
 
@@ -240,24 +225,17 @@ module _ (p : List ℕ) (n : ℕ) (le : n ≤ length p) where
   longest_is : (k : ℕ) → 0 < n → Longest p n k → k ≡ border_length (take n p)
   longest_is k lt l = longest_same p n k (border_length (take n p)) l (longest_of lt)
 
-both_true : (a b : Bool) → (a && b) ≡ true → (a ≡ true) × (b ≡ true)
-both_true true true e = (refl, refl)
-both_true true false e = absurd (cc)
-both_true false b e = absurd (cc)
-
 -- overlap words, one by one
 overlaps_sound : (p o : List ℕ) (n : ℕ) → are_overlaps p n o ≡ true
     → (j : ℕ) → j < length o → slice_index o j ≡ border_length (take (n + j) p)
 overlaps_sound p [] n h j lt = absurd (omega arith)
 overlaps_sound p (x ∷ xs) n h zero lt =
-    let first : nat_eq x (border_length (take n p)) ≡ true =
-    (both_true (nat_eq x (border_length (take n p))) (are_overlaps p (n + 1) xs) h).0 in
+    let first = (and_parts (nat_eq x (border_length (take n p))) (are_overlaps p (n + 1) xs) h).0 in
     let same : x ≡ border_length (take n p) = grind (arith, nat_tests) in
     let at : n ≡ n + 0 = omega arith in
     same ∙ ap (λ m. border_length (take m p)) at
 overlaps_sound p (x ∷ xs) n h (suc j) lt =
-    let rest : are_overlaps p (n + 1) xs ≡ true =
-    (both_true (nat_eq x (border_length (take n p))) (are_overlaps p (n + 1) xs) h).1 in
+    let rest = (and_parts (nat_eq x (border_length (take n p))) (are_overlaps p (n + 1) xs) h).1 in
     let at : n + 1 + j ≡ n + suc j = omega arith in
     overlaps_sound p xs (n + 1) rest j (omega arith) ∙ ap (λ m. border_length (take m p)) at
 
@@ -273,6 +251,16 @@ overlaps_complete p (x ∷ xs) n f =
     f (suc j) (omega arith) ∙ ap (λ m. border_length (take m p)) on) in
     rw (first, rest) refl
 
+-- overlap words that are right
+pub overlaps_right : (p o : List ℕ) → length o ≡ length p → are_overlaps p 1 o ≡ true → Right p o
+overlaps_right p o long e = record {
+  each = λ j lt.
+      let at : 1 + j ≡ j + 1 = omega arith in
+      let same : slice_index o j ≡ border_length (take (j + 1) p) =
+      overlaps_sound p o 1 e j (omega arith) ∙ ap (λ m. border_length (take m p)) at in
+      subst (λ k. Longest p (j + 1) k) (sym same) (longest_of p (j + 1) (omega arith) (omega arith));
+}
+
 -- what the check of overlap words says, in terms of border lengths
 pub overlaps_told : (p o : List ℕ) (r : Bool) → length o ≡ length p → (r ≡ true → Right p o) → (Right p o → r ≡ true)
     → r ≡ are_overlaps p 1 o
@@ -285,23 +273,7 @@ overlaps_told p o false long f g = by_test (are_overlaps p 1 o) refl
   where
     by_test : (b : Bool) → are_overlaps p 1 o ≡ b → false ≡ b
     by_test false e = refl
-    by_test true e = absurd (let wrong : false ≡ true = g (record {
-      each = λ j lt.
-          let at : 1 + j ≡ j + 1 = omega arith in
-          let same : slice_index o j ≡ border_length (take (j + 1) p) =
-          overlaps_sound p o 1 e j (omega arith) ∙ ap (λ m. border_length (take m p)) at in
-          subst (λ k. Longest p (j + 1) k) (sym same) (longest_of p (j + 1) (omega arith) (omega arith));
-    }) in cc)
-
--- overlap words that are right
-pub overlaps_right : (p o : List ℕ) → length o ≡ length p → are_overlaps p 1 o ≡ true → Right p o
-overlaps_right p o long e = record {
-  each = λ j lt.
-      let at : 1 + j ≡ j + 1 = omega arith in
-      let same : slice_index o j ≡ border_length (take (j + 1) p) =
-      overlaps_sound p o 1 e j (omega arith) ∙ ap (λ m. border_length (take m p)) at in
-      subst (λ k. Longest p (j + 1) k) (sym same) (longest_of p (j + 1) (omega arith) (omega arith));
-}
+    by_test true e = absurd (let wrong : false ≡ true = g (overlaps_right p o long e) in cc)
 
 -- a further overlap word leaves those before it
 pub set_right : (p o : List ℕ) (n k : ℕ) → RightUpTo p o n → Longest p (n + 1) k → n < length o

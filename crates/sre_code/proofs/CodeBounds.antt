@@ -1,8 +1,9 @@
--- The number computed for a code is the one specified for its tree.
-use Rattle.sre_code.proofs.Terms.{ℕ, ◌+◌, ◌-◌, ◌*◌, ◌/◌, ◌^◌, ◌≡◌, ◌<◌, ◌≤◌, false, min, max, List, length, Option}
-use Rattle.sre_code.proofs.Terms.{Some, None, refl, sym, ap, ◌∙◌, subst, arith, IfSome, Tree, most_slots, nesting}
-use Rattle.sre_code.proofs.Terms.{cost_of, most_steps, refers, WholeItems, Whole, behind_block, CountedTold, room_by}
-use Rattle.sre_code.proofs.Terms.{cost_at, IsPrice, AreHeld, TreePriced, Prices}
+-- The numbers computed for a code are those of its tree.
+use Rattle.sre_code.proofs.Terms.{◌≡◌, ℕ, List, Option, Some, None, IfSome, sym, subst, Tree, WholeItems, Whole}
+use Rattle.sre_code.proofs.Terms.{behind_block, ◌+◌, ◌-◌, ◌*◌, ◌/◌, ◌^◌, ◌≤◌, false, min, max, length, refl, ap, ◌∙◌}
+use Rattle.sre_code.proofs.Terms.{arith, most_slots, cost_of, most_steps, refers, CountedTold, room_by, cost_at}
+use Rattle.sre_code.proofs.Terms.{IsPrice, AreHeld, TreePriced, Prices}
+use Rattle.sre_code.specs.MostSlots.{AreMostSlots, HasTooManySlots, SlotsTold}
 use Rattle.sre_model.specs.Found.{Asked}
 use Rattle.sre_model.specs.LooksBehind.{backs, longest_lookbehind}
 use Rattle.sre_model.specs.Remembered.{kept_positions, words_at_place, IsRemembered, sides, step_bound}
@@ -10,6 +11,21 @@ use Rattle.sre_model.proofs.WiderWindows.{IsInside, remembered_inside, bound_ins
 use Rattle.sre_code.specs.StepBounds.{IsWindow, IsWholeText, IsStepBound, HasNoStepBound, most_nested}
 use Rattle.sre_code.specs.Bounds.{IsCounted, BoundTold, NumberBy, AreWhole, bound_by, bound_of}
 use Rattle.sre_code.specs.declared.code.bounds.Counted.{Counted}
+
+-- The counter states computed for a code are those of its tree.
+
+-- what is told of each tree, by whether a number is
+pub slots_some : (ws items : List ℕ) (r : Option ℕ) → items ≡ behind_block ws
+    → ((t : Tree) → WholeItems items t → SlotsTold t r) → IfSome r (λ n. (t : Tree) → Whole ws t → AreMostSlots n t)
+slots_some ws items (Some n) same each = λ t w. each t (subst (λ (is : List ℕ). WholeItems is t) (sym same) w.1)
+slots_some ws items None same each = tt
+
+pub slots_none : (ws items : List ℕ) (r : Option ℕ) → items ≡ behind_block ws
+    → ((t : Tree) → WholeItems items t → SlotsTold t r) → r ≡ None → (t : Tree) → Whole ws t → HasTooManySlots t
+slots_none ws items r same each is t w =
+    subst (SlotsTold t) is (each t (subst (λ (is : List ℕ). WholeItems is t) (sym same) w.1))
+
+-- The number computed for a code is the one specified for its tree.
 
 -- the bound as it is written, of positions from start to end
 abbrev written : Tree → ℕ → ℕ → ℕ

@@ -1,21 +1,23 @@
--- A step of the descent preserves what is left to read.
+-- The descent, and the INFO block at the front.
 use Rattle.sre_code.proofs.Terms.{ℕ, ◌+◌, ◌-◌, ◌≡◌, ◌≢◌, ◌<◌, List, [], ◌∷◌, length, Result, Ok, Err, refl, sym, ◌∙◌}
 use Rattle.sre_code.proofs.Terms.{ap, subst, arith, Tree, Empty, Then, Reads, WholeItems, AreItems, capped, width}
 use Rattle.sre_code.proofs.Terms.{item_width, IsFault, ItemAt, Closes, Exactly, Nowhere, IsEnd, IsInside, Leaves}
 use Rattle.sre_code.proofs.Terms.{Unclosed, StackRest, Same, work, Fails, WholeFrom, HasWhole, CodeError, Memory, Part}
-use Rattle.sre_code.proofs.Terms.{Step, Past, Opens, opcode_within, opcode_moved, reads_moved, width_held}
-use Rattle.std.proofs.Common.{◌++◌, reverse}
-use Rattle.std.proofs.Common.{length-append}
+use Rattle.sre_code.proofs.Terms.{Step, Past, Opens, opcode_within, opcode_moved, reads_moved, width_held, drop, Table}
+use Rattle.sre_code.proofs.Terms.{behind_block, Whole, IsCode, Confirmed, Hints}
+use Rattle.std.proofs.Common.{◌++◌, reverse, length-append}
 use Rattle.std.proofs.lemmas.List.{reverse-append}
-use Rattle.sre_chars.specs.declared.constants.SreOpcode.TheVariants as opcode
 use Rattle.sre_code.specs.Refusals.{place_of}
 use Rattle.sre_code.specs.Steps.{Remains, next}
-use Rattle.sre_code.specs.Descent.{opened, Rest, After, Never, Stacks, Pushes}
-use Rattle.sre_code.specs.Descent.{StepsOn, ReadsOn}
-use Rattle.sre_code.specs.declared.code.step.Part.TheVariants.{Whole}
+use Rattle.sre_code.specs.Descent.{opened, Rest, After, Never, Stacks, Pushes, StepsOn, ReadsOn}
+use Rattle.sre_code.specs.declared.code.step.Part.TheVariants.{Whole as WholePart}
 use Rattle.sre_code.specs.declared.code.step.Open.{Open}
 use Rattle.sre_code.specs.declared.code.step.Reached.{Reached}
 use Rattle.sre_growth.specs.Refusal.{Refused}
+use Rattle.sre_code.specs.Fronts.{Fronts}
+use Rattle.sre_chars.specs.declared.constants.SreOpcode.TheVariants as opcode
+
+-- A step of the descent preserves what is left to read.
 
 rest_moved : (ws : List ℕ) (i i2 d d2 : ℕ) (fs fs2 : List Open) → i ≡ i2 → d ≡ d2 → fs ≡ fs2
     → Same (Rest ws i d fs) (Rest ws i2 d2 fs2)
@@ -201,7 +203,7 @@ step_no_item ws i d top old e inside x f =
     record { never = λ _. stops; grows = λ m. absurd (f.1 m); within = f.0 }
 
 -- the descent
-body_open : (ws : List ℕ) (i : ℕ) → Same (WholeFrom ws i) (Rest ws i 0 (opened Whole ∷ []))
+body_open : (ws : List ℕ) (i : ℕ) → Same (WholeFrom ws i) (Rest ws i 0 (opened WholePart ∷ []))
 body_open ws i = record {
   to = λ W b.
       let last : length ws - 1 + 1 ≡ length ws = omega (arith, opcode_within ws (length ws - 1) opcode.SUCCESS b.1) in (
@@ -223,7 +225,7 @@ body_open ws i = record {
 }
 
 pub descent_starts : (ws : List ℕ) (i : ℕ) (q : Reached) (items : List Open) → q.place ≡ i → q.width ≡ 0
-    → items ≡ [] ++ opened Whole ∷ [] → Same (WholeFrom ws i) (StackRest ws q.place q.width items)
+    → items ≡ [] ++ opened WholePart ∷ [] → Same (WholeFrom ws i) (StackRest ws q.place q.width items)
 descent_starts ws i q items p v e =
     same_then _ _ _ (body_open ws i) (rest_moved ws i q.place 0 q.width _ _ (sym p) (sym v) (sym (ap reverse e)))
 
@@ -270,3 +272,33 @@ pub ruleset read_on_laws = (step_closes, step_reads, step_no_close, step_no_item
 
 -- what `descend` answers
 pub ruleset descend_laws = (descent_starts, descent_goes_on, descent_falls, descent_stops, descent_ends)
+
+-- The INFO block at the front, and what a check says of bytecode whose items it has read.
+
+-- what follows of the items for all the words
+module _ (ws : List ℕ) (n : ℕ) (f : Fronts ws n) where
+  pub front_code : (W : ℕ) → HasWhole (drop n ws) 0 W → IsCode ws
+  front_code W h =
+      let items = descent_items (drop n ws) W h in
+      (items.0, (f.fits, subst (λ (xs : List ℕ). WholeItems xs items.0) f.behind items.1))
+
+  behind : (t : Tree) → Whole ws t → WholeItems (drop n ws) t
+  behind t w = subst (λ (xs : List ℕ). WholeItems xs t) (sym f.behind) w.1
+
+  pub front_refused : {M : Type 0} (items : List ℕ) (e : CodeError) (t : Tree) → items ≡ drop n ws
+      → Fails M items (WholeFrom items 0) e → e ≢ Memory → ¬ (Whole ws t)
+  front_refused items e t same x ne w =
+      descent_refused items e t x ne (subst (λ (xs : List ℕ). WholeItems xs t) (sym same) (behind t w))
+
+  -- what is confirmed of a tree of that width is confirmed of the words' tree
+  pub front_confirmed : (W : ℕ) (table : Table) (hints : Hints) → HasWhole (drop n ws) 0 W
+      → ((t : Tree) → WholeItems (drop n ws) t → W ≡ width t → Confirmed ws table t hints)
+      → ∥ ((t : Tree) × Whole ws t × Confirmed ws table t hints) ∥₁
+  front_confirmed W table hints h each =
+      let t = h.body.0.0 in
+      let whole : WholeItems (behind_block ws) t =
+      subst (λ (xs : List ℕ). WholeItems xs t) f.behind (h.body.0.1, h.body.1) in
+      ∣ (t, (f.fits, whole), each t (h.body.0.1, h.body.1) h.body.0.2) ∣₁
+
+-- what `check_in` answers
+pub ruleset front_laws = (front_code, front_refused)

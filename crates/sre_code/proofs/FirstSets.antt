@@ -13,7 +13,7 @@ use Rattle.sre_model.specs.Claims.{TestIn, EachTestIn, FirstIn}
 use Rattle.sre_model.proofs.Words.{word_moved}
 use Rattle.sre_model.proofs.SetWords.{same_words_set, same_set_words}
 use Rattle.sre_code.specs.FirstSets.{Tells, TellsEach}
-use Rattle.sre_code.proofs.Prefixes.{literal_tree, not_at_end}
+use Rattle.sre_code.proofs.Claimed.{literal_tree, not_at_end}
 use Rattle.sre_code.proofs.Claimed.{flag_set, flag_clear, by_one}
 
 -- nothing holds

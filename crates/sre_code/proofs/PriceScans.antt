@@ -15,9 +15,9 @@ use Rattle.sre_model.specs.TreePrices.{branch_steps, branch_cost}
 use Rattle.sre_code.specs.Prices.{passed}
 use Rattle.sre_code.specs.Prices.{with_alternative, ArePriced}
 use Rattle.sre_code.specs.Prices.{LoopPriced, PossessivePriced, ScopePriced, BranchPriced}
-use Rattle.sre_code.proofs.Saturating.{held_same}
+use Rattle.sre_code.proofs.PricedItems.{held_same}
 use Rattle.sre_code.proofs.ScanningLoops.{same_slots}
-use Rattle.sre_code.proofs.Prices.{joined_steps, joined_cost, scope_priced, loop_priced, possessive_priced}
+use Rattle.sre_code.proofs.PricedItems.{joined_steps, joined_cost, scope_priced, loop_priced, possessive_priced}
 use Rattle.sre_code.proofs.PricedItems.{held_straight, held_closed, item_priced}
 
 -- items of which some are passed, whose prices are these; the tree of the rest

@@ -1,18 +1,181 @@
--- What is computed of items, one after the other, and of the alternatives of a branch, are the prices of their trees.
-use Rattle.sre_code.proofs.Terms.{ℕ, ◌+◌, ◌*◌, ◌^◌, ◌≡◌, ◌<◌, ◌≤◌, inl, Bool, true, false, List, Option, Some, None}
-use Rattle.sre_code.proofs.Terms.{refl, sym, ap, ◌∙◌, subst, arith, true≢false, Tree, Item, Fail, One, At, Mark, Branch}
-use Rattle.sre_code.proofs.Terms.{Loop, Run, PossessiveLoop, Atomic, Look, Sign, Test, RunKind, GreedyRun, LazyRun}
-use Rattle.sre_code.proofs.Terms.{PossessiveRun, Operands, ReadsItem, Role, of_item, refers, by_references, item_steps}
-use Rattle.sre_code.proofs.Terms.{item_cost, HasRole, item_here, test_here, Held, own_words, Behind, IsItemPrice}
-use Rattle.sre_code.proofs.Terms.{IsHeld, straight_price, closed_price, run_price, ItemPriced, kind_of, PricedBy}
-use Rattle.sre_code.proofs.Terms.{PricedAt, Price, PricedItem, Kind}
+-- Prices: numbers that saturate, how prices add up, and what is computed of items.
+use Rattle.sre_code.proofs.Terms.{ℕ, ◌+◌, ◌-◌, ◌*◌, ◌/◌, ◌^◌, ◌≡◌, ◌<◌, ◌≤◌, ◌⊎◌, inl, inr, max, min, sym, ap, ◌∙◌}
+use Rattle.sre_code.proofs.Terms.{arith, nat_le, mul-le-mul_left, nat_tests, room_by, Held, Bool, true, false, ◌&&◌}
+use Rattle.sre_code.proofs.Terms.{cond, refl, Tree, Item, Fail, Loop, Run, PossessiveLoop, Atomic, Order, Test, RunKind}
+use Rattle.sre_code.proofs.Terms.{loop_slots, steps_of, item_steps, cost_of, item_cost, steps_at, cost_at, IsPrice}
+use Rattle.sre_code.proofs.Terms.{IsItemPrice, joined, straight_price, closed_price, run_price, scope_price, loop_price}
+use Rattle.sre_code.proofs.Terms.{possessive_price, Price, List, Option, Some, None, subst, true≢false, One, At, Mark}
+use Rattle.sre_code.proofs.Terms.{Branch, Look, Sign, GreedyRun, LazyRun, PossessiveRun, Operands, ReadsItem, Role}
+use Rattle.sre_code.proofs.Terms.{of_item, refers, by_references, HasRole, item_here, test_here, own_words, Behind}
+use Rattle.sre_code.proofs.Terms.{IsHeld, ItemPriced, kind_of, PricedBy, PricedAt, PricedItem, Kind}
+use Rattle.std.proofs.Math.Nat.{mul-le-mul_right}
 use Rattle.sre_model.specs.TreePrices.{scan_price}
-use Rattle.sre_code.specs.Prices.{run_ends}
-use Rattle.sre_code.specs.Prices.{StraightPriced, RunPriced}
+use Rattle.sre_code.specs.Prices.{run_ends, StraightPriced, RunPriced}
+use Rattle.sre_code.proofs.Walking.{role_behind, one_behind}
 use Rattle.sre_code.specs.declared.code.prices.Kind.TheVariants as kind
-use Rattle.sre_code.proofs.Saturating.{held_same}
-use Rattle.sre_code.proofs.Instructions.{role_behind, one_behind}
-use Rattle.sre_code.proofs.Prices.{one_step_price, fail_price, run_priced}
+
+-- Numbers that saturate at 64 bits, and what they come to.
+
+pub held_same : (x : ℕ) → x < 2 ^ 64 → Held x x
+held_same x lt = record { is = omega arith }
+
+pub held_plus : (x y r q u : ℕ) → Held x r → Held y q → u ≡ min (r + q) (2 ^ 64 - 1) → Held (x + y) u
+held_plus x y r q u h k e = record { is = omega (arith, h.is, k.is, e) }
+
+pub held_max : (x y r q : ℕ) → Held x r → Held y q → Held (max x y) (max r q)
+held_max x y r q h k = record { is = omega (arith, h.is, k.is) }
+
+-- zero, one or more
+some_or_none : (n : ℕ) → (n ≡ 0) ⊎ (1 ≤ n)
+some_or_none n = grind arith
+
+above_or_within : (x m : ℕ) → (x ≤ m) ⊎ (m ≤ x)
+above_or_within x m = grind arith
+
+above_first : (m x y : ℕ) → m ≤ x → 1 ≤ y → m ≤ x * y
+above_first m x y l k = omega (arith, mul-le-mul_left x k)
+
+above_second : (m x y : ℕ) → m ≤ y → 1 ≤ x → m ≤ x * y
+above_second m x y l k = omega (arith, mul-le-mul_right y k)
+
+both_above : (m a b : ℕ) → m ≤ a → m ≤ b → min a m ≡ min b m
+both_above m a b l k = omega arith
+
+zero_first : (m q y : ℕ) → min (0 * q) m ≡ min (0 * y) m
+zero_first m q y = omega arith
+
+zero_second : (m q x : ℕ) → min (q * 0) m ≡ min (x * 0) m
+zero_second m q x = omega arith
+
+times_by : (m x y : ℕ) → 1 ≤ m → (x ≤ m) ⊎ (m ≤ x) → (y ≤ m) ⊎ (m ≤ y) → (x ≡ 0) ⊎ (1 ≤ x) → (y ≡ 0) ⊎ (1 ≤ y)
+    → min (min x m * min y m) m ≡ min (x * y) m
+times_by m x y some (inl a) (inl b) p q =
+    let xs : min x m ≡ x = omega arith in
+    let ys : min y m ≡ y = omega arith in
+    ap (λ z. min (z * min y m) m) xs ∙ ap (λ z. min (x * z) m) ys
+times_by m x y some a b (inl p) q =
+    let none : min x m ≡ 0 = omega arith in
+    ap (λ z. min (z * min y m) m) none ∙ zero_first m (min y m) y ∙ ap (λ z. min (z * y) m) (sym p)
+times_by m x y some a b (inr p) (inl q) =
+    let none : min y m ≡ 0 = omega arith in
+    ap (λ z. min (min x m * z) m) none ∙ zero_second m (min x m) x ∙ ap (λ z. min (x * z) m) (sym q)
+times_by m x y some (inr a) b (inr p) (inr q) =
+    both_above m (min x m * min y m) (x * y) (above_first m (min x m) (min y m) (omega arith) (omega arith))
+    (above_first m x y a q)
+times_by m x y some a (inr b) (inr p) (inr q) =
+    both_above m (min x m * min y m) (x * y) (above_second m (min x m) (min y m) (omega arith) (omega arith))
+    (above_second m x y b p)
+
+pub held_times : (x y r q u : ℕ) → Held x r → Held y q → u ≡ min (r * q) (2 ^ 64 - 1) → Held (x * y) u
+held_times x y r q u h k e =
+    let m : ℕ = 2 ^ 64 - 1 in
+    record {
+      is =
+          e ∙ ap (λ z. min (z * q) m) h.is ∙ ap (λ z. min (min x m * z) m) k.is
+          ∙ times_by m x y (omega arith) (above_or_within x m) (above_or_within y m) (some_or_none x) (some_or_none y);
+    }
+
+same_test : (a b n : ℕ) → (a ≤ n → b ≤ n) → (b ≤ n → a ≤ n) → nat_le a n ≡ nat_le b n
+same_test a b n f g = grind (arith, nat_tests)
+
+-- there is room by what is held where there is
+pub room_test : (p f s bits words : ℕ) → Held (s * 2 * f) bits → words ≡ min (p * (bits / 64 + 1)) (2 ^ 64 - 1)
+    → nat_le words (2 ^ 30) ≡ nat_le (room_by p f s) (2 ^ 30)
+room_test p f s bits words h e = by (above_or_within (s * 2 * f) (2 ^ 64 - 1)) (some_or_none p)
+  where
+    by : (s * 2 * f ≤ 2 ^ 64 - 1) ⊎ (2 ^ 64 - 1 ≤ s * 2 * f) → (p ≡ 0) ⊎ (1 ≤ p)
+        → nat_le words (2 ^ 30) ≡ nat_le (room_by p f s) (2 ^ 30)
+    by (inl a) q =
+        let same : bits ≡ s * 2 * f = omega (arith, h.is) in
+        let all : words ≡ min (p * (s * 2 * f / 64 + 1)) (2 ^ 64 - 1) =
+        e ∙ ap (λ z. min (p * (z / 64 + 1)) (2 ^ 64 - 1)) same in
+        same_test words (room_by p f s) (2 ^ 30) (held_few (room_by p f s) words all)
+        (held_more (room_by p f s) words all)
+      where
+        held_few : (x r : ℕ) → r ≡ min x (2 ^ 64 - 1) → r ≤ 2 ^ 30 → x ≤ 2 ^ 30
+        held_few x r e l = omega arith
+
+        held_more : (x r : ℕ) → r ≡ min x (2 ^ 64 - 1) → x ≤ 2 ^ 30 → r ≤ 2 ^ 30
+        held_more x r e l = omega arith
+    by (inr a) (inl q) =
+        let none : words ≡ min (0 * (bits / 64 + 1)) (2 ^ 64 - 1) =
+        e ∙ ap (λ z. min (z * (bits / 64 + 1)) (2 ^ 64 - 1)) q in
+        let not : room_by p f s ≡ 0 * (s * 2 * f / 64 + 1) = ap (λ z. room_by z f s) q in
+        same_test words (room_by p f s) (2 ^ 30) (λ l. omega (arith, not)) (λ l. omega (arith, none))
+    by (inr a) (inr q) =
+        let held : bits ≡ 2 ^ 64 - 1 = omega (arith, h.is) in
+        let far : 2 ^ 40 ≤ p * (bits / 64 + 1) = above_second (2 ^ 40) p (bits / 64 + 1) (omega arith) q in
+        let further : 2 ^ 40 ≤ room_by p f s = above_second (2 ^ 40) p (s * 2 * f / 64 + 1) (omega arith) q in
+        same_test words (room_by p f s) (2 ^ 30) (λ l. absurd (omega (arith, e, far)))
+        (λ l. absurd (omega (arith, further)))
+
+-- Prices add up to what the specification says that trees cost.
+
+-- items, and others behind them
+steps_by : (m n b : ℕ) (p q : Bool) → m + cond p (n + cond q b 0) 0 ≡ m + cond p n 0 + cond (p && q) b 0
+steps_by m n b true true = omega arith
+steps_by m n b true false = omega arith
+steps_by m n b false q = omega arith
+
+cost_by : (c k n d f b : ℕ) (q : Bool)
+    → c + k * (n + cond q b 0) + (d + f * b) ≡ c + k * n + d + (f + cond q k 0) * b
+cost_by c k n d f b true = omega arith
+cost_by c k n d f b false = omega arith
+
+pub joined_steps : (x y : Price) (b : ℕ) → steps_at x (steps_at y b) ≡ steps_at (joined x y) b
+joined_steps x y b = steps_by x.steps y.steps b x.is_open y.is_open
+
+pub joined_cost : (x y : Price) (b : ℕ) → cost_at x (steps_at y b) + cost_at y b ≡ cost_at (joined x y) b
+joined_cost x y b = cost_by x.cost x.each y.steps y.cost y.each b y.is_open
+
+-- what takes one step, and what ends all others
+pub one_step_price : (e : ℕ) (x : Item) → ((b : ℕ) → item_steps x b ≡ 1 + b) → ((s b : ℕ) → item_cost e s x b ≡ 0)
+    → IsItemPrice e x (straight_price 1)
+one_step_price e x steps cost = record { steps = steps; cost = λ s b. omega (arith, cost s b) }
+
+pub fail_price : (e : ℕ) → IsItemPrice e Fail (closed_price 0 0 0)
+fail_price e = record { steps = λ b. refl; cost = λ s b. omega arith }
+
+-- a repeat of one character, by how many ends it has, and by its scan
+pub run_priced : (e low high : ℕ) (kind : RunKind) (t : Test) (n m : ℕ)
+    → ((s b : ℕ) → item_cost e s (Run kind low high t) b ≡ s * (n * (b + 2) + m))
+    → IsItemPrice e (Run kind low high t) (run_price n m)
+run_priced e low high kind t n m is = record { steps = λ b. refl; cost = λ s b. omega (arith, is s b) }
+
+module _ (e : ℕ) (body : Tree) (x : Price) (is : IsPrice e body x) where
+  pub scope_priced : IsItemPrice e (Atomic body) (scope_price x)
+  scope_priced = record {
+    steps = λ b. omega (arith, is.steps 2);
+    cost = λ s b. omega (arith, is.cost 1 2);
+  }
+
+  pub loop_priced : (o : Order) (low high : ℕ)
+      → IsItemPrice e (Loop o low high body) (loop_price (loop_slots low high) x)
+  loop_priced o low high = record {
+    steps = λ b. refl;
+    cost = λ s b.
+        of (loop_slots low high) s b (steps_of body 1) (steps_at x 1) (cost_at x 1) x.apart
+        (cost_of e (loop_slots low high * s) body 1) (is.steps 1) (is.cost (loop_slots low high * s) 1);
+  }
+    where
+      of : (n s b m k c a d : ℕ) → m ≡ k → d ≡ n * s * c + a
+          → s * (m + b + 2) + n * s * (m + b + 1) + d ≡ s * (n * (c + k + 1) + k + 2 + (n + 1) * b) + a
+      of n s b m k c a d h i = rw (h, i) (omega arith)
+
+  pub possessive_priced : (low high : ℕ)
+      → IsItemPrice e (PossessiveLoop low high body) (possessive_price (loop_slots low high) x)
+  possessive_priced low high = record {
+    steps = λ b. refl;
+    cost = λ s b.
+        of (loop_slots low high) s b (steps_of body 2) (steps_at x 2) (cost_at x 2) x.apart (cost_of e 1 body 2)
+        (is.steps 2) (is.cost 1 2);
+  }
+    where
+      of : (n s b m k c a d : ℕ) → m ≡ k → d ≡ 1 * c + a
+          → s * 1 + n * s * (m + b + 1) + d ≡ s * (n * (k + 1) + 1 + n * b) + (c + a)
+      of n s b m k c a d h i = rw (h, i) (omega arith)
+
+-- What is computed of items, one after the other, and of the alternatives of a branch, are the prices of their trees.
 
 -- small numbers are held as they are
 pub held_straight : (n : ℕ) → n < 2 ^ 64 → IsHeld (straight_price n) (straight_price n)

@@ -1,15 +1,186 @@
--- Items: what the check reads of them is what the grammar says.
-use Rattle.sre_code.proofs.Terms.{ℕ, ◌+◌, ◌≡◌, ◌≢◌, ◌<◌, ◌≤◌, List, length, refl, sym, ◌∙◌, ap, subst, arith}
-use Rattle.sre_code.proofs.Terms.{opcode_number, at_number, SreOpcode, SreAtCode, Item, Fail, One, At, Mark, Branch}
-use Rattle.sre_code.proofs.Terms.{Run, Test, GreedyRun, LazyRun, Loop, PossessiveLoop, Atomic, Look, Positive, Negative}
-use Rattle.sre_code.proofs.Terms.{PossessiveRun, Reference, Exists, ExistsElse, Plain, Ascii, Locale, Unicode, Opcode}
-use Rattle.sre_code.proofs.Terms.{Word, word, item_opcode, ReadsItem, item_width, ToCheckPosition, ToMark, ToRefer}
-use Rattle.sre_code.proofs.Terms.{NoCode, FoldedAt, ReadsTest, TestExactly, NoTest, ItemAt, Exactly, Nowhere, Past}
-use Rattle.sre_code.proofs.Terms.{word_within, word_there, same_opcode, item_same, no_item, role_here}
+-- Words, tests, items without a part, and single-character repeats: what the check reads of them is what the grammar
+-- says.
+use Rattle.sre_code.proofs.Terms.{ℕ, ◌≡◌, ◌<◌, ◌≤◌, List, length, sym, ◌∙◌, arith, opcode_number, at_number}
+use Rattle.sre_code.proofs.Terms.{category_number, Word, word, NoCode, word_of, word_at, word_within, ◌+◌, ◌-◌, ◌≢◌}
+use Rattle.sre_code.proofs.Terms.{◌⊎◌, inl, inr, [], Err, refl, ap, subst, SreOpcode, SreCatCode, Test, Literal, In}
+use Rattle.sre_code.proofs.Terms.{Fold, Plain, Ascii, Locale, Unicode, SetItem, Opcode, skip, ReadsSet, FoldedAt}
+use Rattle.sre_code.proofs.Terms.{ReadsTest, TestExactly, NoTest, IsSet, NoSet, word_there, word_past, opcode_within}
+use Rattle.sre_code.proofs.Terms.{opcode_moved, same_opcode, set_within, test_same, ToTest, role_here, test_here}
+use Rattle.sre_code.proofs.Terms.{SreAtCode, Item, Fail, One, At, Mark, Branch, Run, GreedyRun, LazyRun, Loop}
+use Rattle.sre_code.proofs.Terms.{PossessiveLoop, Atomic, Look, Positive, Negative, PossessiveRun, Reference, Exists}
+use Rattle.sre_code.proofs.Terms.{ExistsElse, item_opcode, ReadsItem, item_width, ToCheckPosition, ToMark, ToRefer}
+use Rattle.sre_code.proofs.Terms.{ItemAt, Exactly, Nowhere, Past, item_same, no_item, RunKind, test_opcode, ToRun}
+use Rattle.sre_code.proofs.Terms.{test_past, HasRole}
+use Rattle.sre_model.proofs.Words.{opcode_low, at_low, category_low}
+use Rattle.sre_model.specs.Tree.{Any, AnyAll, InCategory, NotLiteral}
+use Rattle.sre_model.specs.Grammar.{literal_opcode, not_literal_opcode, set_opcode, reference_opcode, run_opcode}
+use Rattle.sre_model.specs.Grammar.{TestOperands}
+use Rattle.sre_code.specs.Reading.{TestEnds}
+use Rattle.sre_model.specs.Standing.{HasTest}
+use Rattle.sre_code.specs.declared.code.error.CodeError.TheVariants.{BadItem}
+use Rattle.sre_model.proofs.Places.{set_moved}
+use Rattle.sre_model.specs.Roles.{OfCategory}
+use Rattle.sre_model.proofs.Families.{is_category, is_literal, is_not_literal, is_set, is_at, is_mark, is_reference}
+use Rattle.sre_model.proofs.Families.{reference_role, item_role, role_at, run_role}
+use Rattle.sre_code.specs.Steps.{OnlyTests, RunAt}
 use Rattle.sre_chars.specs.declared.constants.SreOpcode.TheVariants as opcode
-use Rattle.sre_model.specs.Grammar.{reference_opcode}
-use Rattle.sre_code.specs.Steps.{OnlyTests}
-use Rattle.sre_model.proofs.Families.{is_at, is_mark, is_reference, reference_role}
+
+-- What reading a single word returns.
+
+pub number_there : (ws : List ℕ) (i v n : ℕ) → i < length ws → v ≡ word ws i → n ≡ v → Word ws i n
+number_there ws i v n there e same = word_at ws i n there (sym e ∙ sym same)
+
+pub code_past : {C : Type 0} (number : C → ℕ) (ws : List ℕ) (i : ℕ) → length ws ≤ i → NoCode number ws i
+code_past number ws i le = record { none = λ c a. omega (arith, word_within ws i (number c) a) }
+
+pub opcode_unknown : (ws : List ℕ) (i v : ℕ) → v ≡ word ws i → 43 ≤ v → NoCode opcode_number ws i
+opcode_unknown ws i v e le = record { none = λ o a. omega (arith, word_of ws i (opcode_number o) a, opcode_low o) }
+
+pub at_unknown : (ws : List ℕ) (i v : ℕ) → v ≡ word ws i → 12 ≤ v → NoCode at_number ws i
+at_unknown ws i v e le = record { none = λ o a. omega (arith, word_of ws i (at_number o) a, at_low o) }
+
+pub category_unknown : (ws : List ℕ) (i v : ℕ) → v ≡ word ws i → 18 ≤ v → NoCode category_number ws i
+category_unknown ws i v e le =
+    record { none = λ o a. omega (arith, word_of ws i (category_number o) a, category_low o) }
+
+-- what `opcode` answers
+pub ruleset opcode_laws = (number_there, code_past, opcode_unknown)
+
+-- what `position` answers
+pub ruleset position_laws = (number_there, code_past, at_unknown)
+
+-- what `category` answers
+pub ruleset category_laws = (number_there, code_past, category_unknown)
+
+-- Tests of one character: what the check reads of them is what the grammar says.
+
+-- a test there is the one that is read, since one is at most
+exactly : (t : Test) (ws : List ℕ) (i e : ℕ) → ReadsTest ws i e t → TestExactly ws i e
+exactly t ws i e r = record { test = t; reads = r; only = λ k u s. (test_same u t ws i k e s.0 s.1 r.0 r.1).1 }
+
+-- ANY and ANY_ALL
+pub any_exactly : (ws : List ℕ) (i : ℕ) → Opcode ws i opcode.ANY → TestExactly ws i (i + 1)
+any_exactly ws i h = exactly Any ws i (i + 1) (h, refl)
+
+pub any_all_exactly : (ws : List ℕ) (i : ℕ) → Opcode ws i opcode.ANY_ALL → TestExactly ws i (i + 1)
+any_all_exactly ws i h = exactly AnyAll ws i (i + 1) (h, refl)
+
+-- CATEGORY
+pub category_exactly : (ws : List ℕ) (i : ℕ) (c : SreCatCode) → Opcode ws i opcode.CATEGORY
+    → Word ws (i + 1) (category_number c) → TestExactly ws i (i + 2)
+category_exactly ws i c h w = exactly (InCategory c) ws i (i + 2) (h, (w, refl))
+
+pub category_cut : (ws : List ℕ) (i : ℕ) → Opcode ws i opcode.CATEGORY → NoCode category_number ws (i + 1) → NoTest ws i
+category_cut ws i h n = record {
+  none = λ k t r.
+      let f = is_category ws i k t (role_here ws i opcode.CATEGORY (ToTest OfCategory) h refl) r.0 r.1 in
+      n.none f.0 f.2.0;
+}
+
+-- one of the opcodes of a form is that of a folding
+abbrev pub IsFolded : (Fold → SreOpcode) → SreOpcode → Type 0
+IsFolded f o = (o ≡ f Plain) ⊎ ((o ≡ f Ascii) ⊎ ((o ≡ f Locale) ⊎ (o ≡ f Unicode)))
+
+pub folded_at : (f : Fold → SreOpcode) (ws : List ℕ) (i : ℕ) (o : SreOpcode) → Opcode ws i o → IsFolded f o
+    → FoldedAt f ws i
+folded_at f ws i o h (inl e) = record { fold = Plain; there = subst (Opcode ws i) e h }
+folded_at f ws i o h (inr (inl e)) = record { fold = Ascii; there = subst (Opcode ws i) e h }
+folded_at f ws i o h (inr (inr (inl e))) = record { fold = Locale; there = subst (Opcode ws i) e h }
+folded_at f ws i o h (inr (inr (inr e))) = record { fold = Unicode; there = subst (Opcode ws i) e h }
+
+-- LITERAL and NOT_LITERAL, under each folding
+pub literal_exactly : (ws : List ℕ) (i : ℕ) → FoldedAt literal_opcode ws i → i + 1 < length ws
+    → TestExactly ws i (i + 2)
+literal_exactly ws i h there =
+    exactly (Literal h.fold (word ws (i + 1))) ws i (i + 2) (h.there, (word_there ws (i + 1) there, refl))
+
+pub literal_cut : (ws : List ℕ) (i : ℕ) → FoldedAt literal_opcode ws i → length ws ≤ i + 1 → NoTest ws i
+literal_cut ws i h le = record {
+  none = λ k t r.
+      let f = is_literal ws i k t (test_here ws i (Literal h.fold 0) h.there) r.0 r.1 in
+      omega (arith, word_within ws (i + 1) f.1 f.3.0);
+}
+
+pub not_literal_exactly : (ws : List ℕ) (i : ℕ) → FoldedAt not_literal_opcode ws i → i + 1 < length ws
+    → TestExactly ws i (i + 2)
+not_literal_exactly ws i h there =
+    exactly (NotLiteral h.fold (word ws (i + 1))) ws i (i + 2) (h.there, (word_there ws (i + 1) there, refl))
+
+pub not_literal_cut : (ws : List ℕ) (i : ℕ) → FoldedAt not_literal_opcode ws i → length ws ≤ i + 1 → NoTest ws i
+not_literal_cut ws i h le = record {
+  none = λ k t r.
+      let f = is_not_literal ws i k t (test_here ws i (NotLiteral h.fold 0) h.there) r.0 r.1 in
+      omega (arith, word_within ws (i + 1) f.1 f.3.0);
+}
+
+-- IN, under each folding: what is read of a test there
+record SetHere (ws : List ℕ) (i k : ℕ) : Type 0 where
+  set : List SetItem
+  ends : k ≡ skip ws (i + 1)
+  reads : ReadsSet ws (i + 2) (k - 1) set
+  closed : Opcode ws (k - 1) opcode.FAILURE
+
+set_here : (ws : List ℕ) (i k : ℕ) (t : Test) → FoldedAt set_opcode ws i → ReadsTest ws i k t → SetHere ws i k
+set_here ws i k t h r =
+    let f = is_set ws i k t (test_here ws i (In h.fold []) h.there) r.0 r.1 in
+    record { set = f.1; ends = f.3.0; reads = f.3.1; closed = f.3.2 }
+
+pub set_exactly : (ws : List ℕ) (i t : ℕ) → FoldedAt set_opcode ws i → t ≡ skip ws (i + 1)
+    → Opcode ws (t - 1) opcode.FAILURE → IsSet ws (i + 2) (t - 1) → TestExactly ws i t
+set_exactly ws i t h e closed s = exactly (In h.fold s.set.0) ws i t (h.there, (e, s.set.1, closed))
+
+pub set_wrong : (ws : List ℕ) (i t : ℕ) → FoldedAt set_opcode ws i → t ≡ skip ws (i + 1)
+    → NoSet ws (i + 2) (t - 1) → NoTest ws i
+set_wrong ws i t h e n = record {
+  none = λ k x r.
+      let f = set_here ws i k x h r in
+      n.none (
+        f.set,
+        set_moved ws (i + 2) (i + 2) (k - 1) (t - 1) f.set refl (ap (λ m. m - 1) (f.ends ∙ sym e)) f.reads,
+      );
+}
+
+set_closed : (ws : List ℕ) (i t k : ℕ) (x : Test) → FoldedAt set_opcode ws i → t ≡ skip ws (i + 1) → ReadsTest ws i k x
+    → Opcode ws (t - 1) opcode.FAILURE
+set_closed ws i t k x h e r =
+    let f = set_here ws i k x h r in
+    opcode_moved ws (k - 1) (t - 1) opcode.FAILURE (ap (λ m. m - 1) (f.ends ∙ sym e)) f.closed
+
+pub set_open : (ws : List ℕ) (i t : ℕ) (o : SreOpcode) → FoldedAt set_opcode ws i → t ≡ skip ws (i + 1)
+    → Opcode ws (t - 1) o → o ≢ opcode.FAILURE → NoTest ws i
+set_open ws i t o h e there ne =
+    record { none = λ k x r. ne (same_opcode ws (t - 1) o opcode.FAILURE there (set_closed ws i t k x h e r)) }
+
+pub set_ends_cut : (ws : List ℕ) (i t : ℕ) → FoldedAt set_opcode ws i → t ≡ skip ws (i + 1)
+    → NoCode opcode_number ws (t - 1) → NoTest ws i
+set_ends_cut ws i t h e n = record { none = λ k x r. n.none opcode.FAILURE (set_closed ws i t k x h e r) }
+
+pub set_empty : (ws : List ℕ) (i t : ℕ) → FoldedAt set_opcode ws i → t ≡ skip ws (i + 1) → t < i + 3 → NoTest ws i
+set_empty ws i t h e lt = record {
+  none = λ k x r. let f = set_here ws i k x h r in omega (arith, f.ends, set_within ws (i + 2) (k - 1) f.set f.reads);
+}
+
+pub set_cut : (ws : List ℕ) (i : ℕ) → FoldedAt set_opcode ws i → length ws ≤ i + 1 → NoTest ws i
+set_cut ws i h le = set_empty ws i (skip ws (i + 1)) h refl (omega (arith, word_past ws (i + 1) le))
+
+-- where no test is
+pub no_test : (ws : List ℕ) (i : ℕ) (o : SreOpcode) → Opcode ws i o → (HasTest ws i → ⊥)
+    → TestEnds ws i (Err (BadItem i))
+no_test ws i o h none = (
+  record { none = λ k t r. none (record { end = k; test = t; stands = record { code = r.0; operands = r.1 } }) },
+  (omega (arith, opcode_within ws i o h), λ e. absurd (cc)),
+)
+
+-- what `not_literal` answers
+pub ruleset not_literal_laws = (not_literal_exactly, not_literal_cut)
+
+-- what `in_set` answers
+pub ruleset in_set_laws = (set_exactly, set_cut, set_empty, set_open, set_ends_cut, set_wrong)
+
+-- what `test` answers
+pub ruleset test_laws = (any_exactly, any_all_exactly, folded_at)
+
+-- Items: what the check reads of them is what the grammar says.
 
 -- an item without a part
 pub past : (ws : List ℕ) (i p v : ℕ) (x : Item) → ReadsItem ws i p x → v ≡ item_width x
@@ -106,3 +277,106 @@ one_nowhere ws i h n = record { none = λ j w y. let f = h.test j y.0 y.1 in n.n
 pub info_nowhere : (ws : List ℕ) (i : ℕ) → Opcode ws i opcode.INFO → Nowhere (ItemAt ws i)
 info_nowhere ws i h =
     record { none = λ j w r. no_item ws i j r.0 opcode.INFO h refl r.1 }
+
+-- Single-character repeats: what the check reads of them is what the grammar says.
+
+-- what is read of an item there
+record RunHere (ws : List ℕ) (i j : ℕ) : Type 0 where
+  test : Test
+  ends : j ≡ skip ws (i + 1)
+  counts : word ws (i + 2) ≤ word ws (i + 3)
+  there : i + 4 < length ws
+  reads : ReadsTest ws (i + 4) (j - 1) test
+  closed : Opcode ws (j - 1) opcode.SUCCESS
+  longer : i + 4 < j - 1
+
+of_words : (ws : List ℕ) (i j low high : ℕ) (t : Test) (kind : RunKind) → ReadsItem ws i j (Run kind low high t)
+    → RunHere ws i j
+of_words ws i j low high t kind r = record {
+  test = t;
+  ends = r.1.0;
+  counts = omega (arith, word_of ws (i + 2) low r.1.1, word_of ws (i + 3) high r.1.2, r.1.3);
+  there = word_within ws (i + 4) (opcode_number (test_opcode t)) r.1.4;
+  reads = (r.1.4, r.1.5);
+  closed = r.1.6;
+  longer = test_past t ws (i + 4) (j - 1) r.1.5;
+}
+
+pub greedy_there : (ws : List ℕ) (i : ℕ) → Opcode ws i opcode.REPEAT_ONE → RunAt ws i
+greedy_there ws i h = record { kind = GreedyRun; there = h }
+
+pub lazy_there : (ws : List ℕ) (i : ℕ) → Opcode ws i opcode.MIN_REPEAT_ONE → RunAt ws i
+lazy_there ws i h = record { kind = LazyRun; there = h }
+
+pub possessive_there : (ws : List ℕ) (i : ℕ) → Opcode ws i opcode.POSSESSIVE_REPEAT_ONE → RunAt ws i
+possessive_there ws i h = record { kind = PossessiveRun; there = h }
+
+run_here : (ws : List ℕ) (i j : ℕ) (x : Item) → RunAt ws i → ReadsItem ws i j x → RunHere ws i j
+run_here ws i j (Run kind low high t) h r = of_words ws i j low high t kind r
+run_here ws i j x h r =
+    let here : HasRole ws i (ToRun h.kind) =
+    role_here ws i (run_opcode h.kind) (ToRun h.kind) h.there (run_role h.kind) in
+    let e : ToRun h.kind ≡ item_role x = role_at ws i j (ToRun h.kind) x here r in
+    absurd (cc)
+
+-- where the test ends, SUCCESS stands
+run_closed : (ws : List ℕ) (i j e : ℕ) → RunHere ws i j → TestExactly ws (i + 4) e
+    → Opcode ws e opcode.SUCCESS
+run_closed ws i j e f t = opcode_moved ws (j - 1) e opcode.SUCCESS (t.only (j - 1) f.test f.reads) f.closed
+
+pub run_exactly : (ws : List ℕ) (i e t v high : ℕ) → RunAt ws i → t ≡ skip ws (i + 1) → v ≡ word ws (i + 2)
+    → high ≡ word ws (i + 3) → i + 3 < length ws → v ≤ high → TestExactly ws (i + 4) e → Opcode ws e opcode.SUCCESS
+    → t ≡ e + 1 → Exactly ws (Past t v) (ItemAt ws i)
+run_exactly ws i e t v high h skips low highest there le x closed ends =
+    let at : e ≡ t - 1 = omega arith in
+    let P : ℕ → Type 0 = λ n. TestOperands ws (i + 4) n x.test in
+    past ws i t v (Run h.kind (word ws (i + 2)) (word ws (i + 3)) x.test) (
+      h.there,
+      (
+        skips,
+        word_there ws (i + 2) (omega arith),
+        word_there ws (i + 3) there,
+        omega arith,
+        x.reads.0,
+        subst P at x.reads.1,
+        opcode_moved ws e (t - 1) opcode.SUCCESS at closed,
+      ),
+    ) low
+
+pub run_short : (ws : List ℕ) (i : ℕ) → RunAt ws i → length ws ≤ i + 4 → Nowhere (ItemAt ws i)
+run_short ws i h le = record { none = λ j w y. omega (arith, (run_here ws i j y.0 h y.1).there) }
+
+pub run_counts : (ws : List ℕ) (i v high : ℕ) → RunAt ws i → v ≡ word ws (i + 2) → high ≡ word ws (i + 3) → high < v
+    → Nowhere (ItemAt ws i)
+run_counts ws i v high h low highest lt = record { none = λ j w y. omega (arith, (run_here ws i j y.0 h y.1).counts) }
+
+pub run_no_opcode : (ws : List ℕ) (i : ℕ) → RunAt ws i → NoCode opcode_number ws (i + 4) → Nowhere (ItemAt ws i)
+run_no_opcode ws i h n =
+    record { none = λ j w y. let f = run_here ws i j y.0 h y.1 in n.none (test_opcode f.test) f.reads.0 }
+
+pub run_nowhere : (ws : List ℕ) (i : ℕ) → RunAt ws i → NoTest ws (i + 4) → Nowhere (ItemAt ws i)
+run_nowhere ws i h n = record { none = λ j w y. let f = run_here ws i j y.0 h y.1 in n.none (j - 1) f.test f.reads }
+
+pub run_ends_cut : (ws : List ℕ) (i e : ℕ) → RunAt ws i → TestExactly ws (i + 4) e → NoCode opcode_number ws e
+    → Nowhere (ItemAt ws i)
+run_ends_cut ws i e h x n =
+    record { none = λ j w y. n.none opcode.SUCCESS (run_closed ws i j e (run_here ws i j y.0 h y.1) x) }
+
+pub run_open : (ws : List ℕ) (i e : ℕ) (o : SreOpcode) → RunAt ws i → TestExactly ws (i + 4) e → Opcode ws e o
+    → o ≢ opcode.SUCCESS → Nowhere (ItemAt ws i)
+run_open ws i e o h x there ne = record {
+  none = λ j w y. ne (same_opcode ws e o opcode.SUCCESS there (run_closed ws i j e (run_here ws i j y.0 h y.1) x));
+}
+
+pub run_skip : (ws : List ℕ) (i e t : ℕ) → RunAt ws i → TestExactly ws (i + 4) e → t ≡ skip ws (i + 1) → t ≢ e + 1
+    → Nowhere (ItemAt ws i)
+run_skip ws i e t h x skips ne = record {
+  none = λ j w y.
+      let f = run_here ws i j y.0 h y.1 in
+      let at : j - 1 ≡ e = x.only (j - 1) f.test f.reads in
+      ne (omega (arith, f.ends, f.longer));
+}
+
+-- what `run` answers
+pub ruleset run_laws =
+    (run_exactly, run_short, run_counts, run_no_opcode, run_nowhere, run_open, run_ends_cut, run_skip)

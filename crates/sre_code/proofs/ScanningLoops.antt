@@ -14,7 +14,7 @@ use Rattle.sre_code.specs.SlotScans.{LoopTold, OtherTold, kind_of, ToldBy}
 use Rattle.sre_code.specs.declared.code.slots.Kind.{Kind}
 use Rattle.sre_code.specs.declared.code.slots.Kind.TheVariants as kind
 use Rattle.sre_code.specs.declared.code.slots.Passed.{Passed}
-use Rattle.sre_code.proofs.Instructions.{role_behind, one_behind, none_behind}
+use Rattle.sre_code.proofs.Walking.{role_behind, one_behind, none_behind}
 use Rattle.sre_code.proofs.Walking as walk
 use Rattle.sre_code.proofs.Walking.{Scanner, Instructions, Silent, Onto}
 

@@ -7,14 +7,14 @@ use Rattle.sre_code.proofs.Terms.{ToRepeatPossessively, ToGroupAtomically, ToLoo
 use Rattle.sre_code.proofs.Terms.{by_references, sets_mark, by_marks, marks_in_regions, by_marked_regions, HasRole}
 use Rattle.sre_code.proofs.Terms.{test_here, test_past, same_opcode, word_of, own_words, Behind, NoneBehind, IsSummary}
 use Rattle.sre_code.proofs.Terms.{Summary}
-use Rattle.std.proofs.Math.Bool.{or-true, or-false}
+use Rattle.std.proofs.Math.Bool.{or-true, or-false, or_assoc}
 use Rattle.std.proofs.lemmas.Bool.{or_right}
 use Rattle.sre_model.specs.References.{no_group, asked_from, by_groups}
 use Rattle.sre_model.specs.References.{by_last_groups}
 use Rattle.sre_model.specs.LooksBehind.{by_backs, by_longest}
 use Rattle.sre_model.specs.Regions.{forks, by_forks, has_forked_region, by_forked_regions}
 use Rattle.sre_code.specs.Summaries.{forking, noted}
-use Rattle.sre_code.proofs.Instructions.{behind_test, behind_role, role_behind, none_behind}
+use Rattle.sre_code.proofs.Walking.{behind_test, behind_role, role_behind, none_behind}
 use Rattle.sre_code.proofs.Walking as walk
 use Rattle.sre_code.proofs.Walking.{Scanner, Instructions, Onto}
 
@@ -97,17 +97,13 @@ record After (i j : ℕ) (a : Values) (m n : Summary) : Type 0 where
   marks : Found i j m.farthest a.marks a.marked m.marks n.marks
   forks : Found i j m.farthest a.forks a.forked m.forks n.forks
 
-or_or : (a b c : Bool) → (a || (b || c)) ≡ ((a || b) || c)
-or_or true b c = refl
-or_or false b c = refl
-
 or_swap : (a b c : Bool) → (a || (b || c)) ≡ (b || (a || c))
 or_swap true b c = sym (or-true b)
 or_swap false b c = refl
 
 -- of two parts
 both_apart : (a b m : Bool) → (b || (a || m)) ≡ ((a || b) || m)
-both_apart a b m = or_swap b a m ∙ or_or a b m
+both_apart a b m = or_swap b a m ∙ sym (or_assoc a b m)
 
 both_within : (h a k b m : Bool) → (k || (b || (h || (a || m)))) ≡ ((h || k) || ((a || b) || m))
 both_within true a k b m = ap (λ c. k || c) (or-true b) ∙ or-true k
@@ -153,7 +149,7 @@ module _ (i k e f g : ℕ) (lt : i < k) (le : k ≤ e) (is : g ≡ max f e) wher
   found_inside : (h a m n : Bool) → Found k e g h a m n → Found i e f h (h || a) m n
   found_inside h a m n x =
       let same = x.within (omega (arith, is)) in
-      record { apart = λ l. same ∙ or_or h a m; within = λ l. same ∙ twice h a m }
+      record { apart = λ l. same ∙ sym (or_assoc h a m); within = λ l. same ∙ twice h a m }
 
   found_loop : (h a m n : Bool) → Found k e g h a true n → Found i e f true true m n
   found_loop h a m n x =
@@ -221,12 +217,8 @@ module _ (ws : List ℕ) where
             let stays = x.reaches.stays (omega (arith, e, behind)) in
             y.reaches.stays (omega (arith, e, stays)) ∙ stays;
       };
-      marks =
-          joined_found i k j l.farthest m.farthest a.marks a.marked b.marks b.marked l.marks m.marks n.marks before
-          behind x.reaches x.marks y.marks;
-      forks =
-          joined_found i k j l.farthest m.farthest a.forks a.forked b.forks b.forked l.forks m.forks n.forks before
-          behind x.reaches x.forks y.forks;
+      marks = joined_found i k j _ _ _ _ _ _ _ _ _ before behind x.reaches x.marks y.marks;
+      forks = joined_found i k j _ _ _ _ _ _ _ _ _ before behind x.reaches x.forks y.forks;
     };
   }
 
@@ -268,9 +260,9 @@ module _ (ws : List ℕ) where
       → After i j (record b { forks = true }) l m
   forked i k j b l m lt le x = record {
     counts = x.counts;
-    reaches = farther i k j l.farthest m.farthest (omega (arith, lt)) x.reaches;
-    marks = later i k j l.farthest b.marks b.marked l.marks m.marks (omega (arith, lt)) x.marks;
-    forks = found_here i k j l.farthest b.forks b.forked l.forks m.forks lt le x.forks;
+    reaches = farther i k j _ _ (omega (arith, lt)) x.reaches;
+    marks = later i k j _ _ _ _ _ (omega (arith, lt)) x.marks;
+    forks = found_here i k j _ _ _ _ _ lt le x.forks;
   }
 
   instructions : Instructions scanner
@@ -306,10 +298,9 @@ module _ (ws : List ℕ) where
         lone i 2 ToMark h refl _ (omega arith)
         (λ l m x. record {
           counts = x.counts;
-          reaches = farther i (i + 2) (i + 2) l.farthest m.farthest (omega arith) x.reaches;
-          marks =
-              found_here i (i + 2) (i + 2) l.farthest false false l.marks m.marks (omega arith) (omega arith) x.marks;
-          forks = later i (i + 2) (i + 2) l.farthest false false l.forks m.forks (omega arith) x.forks;
+          reaches = farther i (i + 2) _ _ _ (omega arith) x.reaches;
+          marks = found_here i (i + 2) (i + 2) _ _ _ _ _ (omega arith) (omega arith) x.marks;
+          forks = later i (i + 2) _ _ _ _ _ _ (omega arith) x.forks;
         });
     branch = λ i j ts lt h y.
         entered i 2 ToBranch h refl j _ (branch_values ts) (omega arith) y (λ b. b)
@@ -323,29 +314,22 @@ module _ (ws : List ℕ) where
     possessive = λ i low high body h v w y.
         let end : ℕ = skip ws (i + 1) in
         entered i 4 ToRepeatPossessively h refl end _ (tree_values body) (omega arith) y (λ b. b)
-        (λ l m x.
-        let f : ℕ = l.farthest in
-        let g : ℕ = max f end in
-        record {
+        (λ l m x. record {
           counts = x.counts;
-          reaches = reaches_end i (i + 4) end f g (omega arith) y.0 refl m.farthest x.reaches;
-          marks =
-              found_inside i (i + 4) end f g (omega arith) y.0 refl (sets_mark body) (marks_in_regions body) l.marks
-              m.marks x.marks;
-          forks =
-              found_loop i (i + 4) end f g (omega arith) y.0 refl (forks body) (has_forked_region body) l.forks
-              m.forks x.forks;
+          reaches = reaches_end i (i + 4) end l.farthest _ (omega arith) y.0 refl _ x.reaches;
+          marks = found_inside i (i + 4) end l.farthest _ (omega arith) y.0 refl _ _ _ _ x.marks;
+          forks = found_loop i (i + 4) end l.farthest _ (omega arith) y.0 refl _ _ _ _ x.forks;
         });
     atomic = λ i e body h at y.
         entered i 2 ToGroupAtomically h refl e _ (tree_values body) (omega arith) y (λ b. b)
-        (λ l m x. scoped i (i + 2) e (Atomic body) body l m (omega arith) y.0 at x.counts x.reaches x.marks x.forks);
+        (λ l m x. scoped i (i + 2) e (Atomic body) body l l m (omega arith) y.0 at x.counts x);
     look = λ i e sign back body h at v y.
         let is : word ws (i + 2) ≡ back = word_of ws (i + 2) back v in
         entered i 3 (ToLook sign) h refl e _ (tree_values body) (omega arith) y (λ b. b)
         (λ l m x.
-        scoped i (i + 3) e (Look sign back body) body l m (omega arith) y.0 at
-        (x.counts.0, x.counts.1, x.counts.2, omega (arith, x.counts.3, is), omega (arith, x.counts.4, is)) x.reaches
-        x.marks x.forks);
+        scoped i (i + 3) e (Look sign back body) body l
+        (noted (ToLook sign) i (word ws (i + 1)) (word ws (i + 2)) l) m (omega arith) y.0 at
+        (x.counts.0, x.counts.1, x.counts.2, omega (arith, x.counts.3, is), omega (arith, x.counts.4, is)) x);
     reference = λ i fold g h v.
         let is : word ws (i + 1) ≡ g = word_of ws (i + 1) g v in
         lone i 2 ToRefer h refl _ (omega arith)
@@ -357,19 +341,19 @@ module _ (ws : List ℕ) where
             x.counts.3,
             x.counts.4,
           );
-          reaches = farther i (i + 2) (i + 2) l.farthest m.farthest (omega arith) x.reaches;
-          marks = later i (i + 2) (i + 2) l.farthest false false l.marks m.marks (omega arith) x.marks;
-          forks = later i (i + 2) (i + 2) l.farthest false false l.forks m.forks (omega arith) x.forks;
+          reaches = farther i (i + 2) _ _ _ (omega arith) x.reaches;
+          marks = later i (i + 2) _ _ _ _ _ _ (omega arith) x.marks;
+          forks = later i (i + 2) _ _ _ _ _ _ (omega arith) x.forks;
         });
     exists = λ i j g there lt h. halted i j _ lt h (refl, refl, omega arith);
     exists_else = λ i j g there absent lt h. halted i j _ lt h (refl, refl, omega arith);
   }
     where
-      -- an atomic group or a look
-      scoped : (i k e : ℕ) (x : Item) (body : Tree) (l m : Summary) → i < k → k ≤ e → e + 1 ≡ skip ws (i + 1)
-          → Counts (item_values x) l m → Reaches k e (max l.farthest (i + word ws (i + 1))) m.farthest
-          → Found k e (max l.farthest (i + word ws (i + 1))) (sets_mark body) (marks_in_regions body) l.marks m.marks
-          → Found k e (max l.farthest (i + word ws (i + 1))) (forks body) (has_forked_region body) l.forks m.forks
+      -- an atomic group or a look: of what it has noted, u, only the numbers differ
+      scoped : (i k e : ℕ) (x : Item) (body : Tree) (l u m : Summary) → i < k → k ≤ e → e + 1 ≡ skip ws (i + 1)
+          → Counts (item_values x) l m
+          → After k e (tree_values body)
+          (record u { farthest = max l.farthest (i + word ws (i + 1)); marks = l.marks; forks = l.forks }) m
           → After i e
           (record (item_values x) {
             marks = sets_mark body;
@@ -377,17 +361,13 @@ module _ (ws : List ℕ) where
             forks = forks body;
             forked = forks body || has_forked_region body;
           }) l m
-      scoped i k e x body l m lt le at counts reaches marks inside =
-          let f : ℕ = l.farthest in
-          let g : ℕ = max f (i + word ws (i + 1)) in
-          let is : g ≡ max f e = omega (arith, at) in
+      scoped i k e x body l u m lt le at counts y =
+          let is : max l.farthest (i + word ws (i + 1)) ≡ max l.farthest e = omega (arith, at) in
           record {
             counts = counts;
-            reaches = reaches_end i k e f g lt le is m.farthest reaches;
-            marks =
-                found_inside i k e f g lt le is (sets_mark body) (marks_in_regions body) l.marks m.marks marks;
-            forks =
-                found_inside i k e f g lt le is (forks body) (has_forked_region body) l.forks m.forks inside;
+            reaches = reaches_end i k e _ _ lt le is _ y.reaches;
+            marks = found_inside i k e _ _ lt le is _ _ _ _ y.marks;
+            forks = found_inside i k e _ _ lt le is _ _ _ _ y.forks;
           }
 
       halted : (i j : ℕ) (a : Values) → i < j → HasRole ws i ToCheckGroup → Bad a → Passes i j a

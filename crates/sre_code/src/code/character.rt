@@ -8,7 +8,7 @@ use crate::code::{set, words};
 use sre_chars::constants::SreOpcode;
 
 /// `<CATEGORY> <category>`
-#[tactic(auto, using(crate::proofs::ReadCharacters::category_exactly, crate::proofs::ReadCharacters::category_cut))]
+#[tactic(auto, using(crate::proofs::ReadItems::category_exactly, crate::proofs::ReadItems::category_cut))]
 fn category(words: &[u32], place: usize) -> Result<usize, CodeError>
     requires { Opcode words.now place SreOpcode.CATEGORY }
     ensures { TestEnds words.now place result }
@@ -18,7 +18,7 @@ fn category(words: &[u32], place: usize) -> Result<usize, CodeError>
 }
 
 /// `<LITERAL> <value>`, under each folding
-#[tactic(auto, using(crate::proofs::ReadCharacters::literal_exactly, crate::proofs::ReadCharacters::literal_cut))]
+#[tactic(auto, using(crate::proofs::ReadItems::literal_exactly, crate::proofs::ReadItems::literal_cut))]
 fn literal(words: &[u32], place: usize) -> Result<usize, CodeError>
     requires { FoldedAt literal_opcode words.now place }
     ensures { TestEnds words.now place result }
@@ -28,7 +28,7 @@ fn literal(words: &[u32], place: usize) -> Result<usize, CodeError>
 }
 
 /// `<NOT_LITERAL> <value>`, under each folding
-#[tactic(auto, using(crate::proofs::ReadCharacters::not_literal_laws))]
+#[tactic(auto, using(crate::proofs::ReadItems::not_literal_laws))]
 fn not_literal(words: &[u32], place: usize) -> Result<usize, CodeError>
     requires { FoldedAt not_literal_opcode words.now place }
     ensures { TestEnds words.now place result }
@@ -38,7 +38,7 @@ fn not_literal(words: &[u32], place: usize) -> Result<usize, CodeError>
 }
 
 /// `<IN> <skip> <set> <FAILURE>`, under each folding
-#[tactic(auto, using(crate::proofs::ReadCharacters::in_set_laws))]
+#[tactic(auto, using(crate::proofs::ReadItems::in_set_laws))]
 fn in_set(words: &[u32], place: usize) -> Result<usize, CodeError>
     requires { FoldedAt set_opcode words.now place }
     ensures { TestEnds words.now place result }
@@ -55,7 +55,7 @@ fn in_set(words: &[u32], place: usize) -> Result<usize, CodeError>
 }
 
 /// The address after the test of one character that begins at `place` with the opcode `code`.
-#[tactic(auto, using(crate::proofs::ReadCharacters::test_laws))]
+#[tactic(auto, using(crate::proofs::ReadItems::test_laws))]
 pub fn test(words: &[u32], place: usize, code: SreOpcode) -> Result<usize, CodeError>
     requires { Opcode words.now place code }
     ensures { TestEnds words.now place result }

@@ -11,7 +11,7 @@ use sre_chars::string::LentTable;
 use std::alloc::Allocator;
 
 /// As [`Code::check`], with an allocator for the stack: a test can make it fail.
-#[tactic(auto, using(crate::proofs::ReadFronts::front_laws))]
+#[tactic(auto, using(crate::proofs::Descending::front_laws))]
 pub fn check_in<'a, A: Allocator + Copy>(
     alloc: A,
     words: &'a [u32],

@@ -11,7 +11,7 @@ use crate::code::words;
 use sre_chars::constants::SreOpcode;
 
 /// Reads the item, which opens its first part.
-#[tactic(auto, using(crate::proofs::ReadConditions::condition_laws))]
+#[tactic(auto, using(crate::proofs::ReadBranches::condition_laws))]
 pub fn condition(words: &[u32], place: usize) -> Result<Step, CodeError>
     requires { Opcode words.now place SreOpcode.GROUPREF_EXISTS }
     ensures { Gives words.now place (ItemAt words.now place) result }
@@ -27,7 +27,7 @@ pub fn condition(words: &[u32], place: usize) -> Result<Step, CodeError>
 }
 
 /// Reads the JUMP after a first part of least width `width`; it opens the second part.
-#[tactic(auto, using(crate::proofs::ReadConditions::jump_exactly))]
+#[tactic(auto, using(crate::proofs::ReadBranches::else_exactly))]
 fn jump(words: &[u32], place: usize, tail: usize, width: u32) -> Result<Step, CodeError>
     requires opcode { Opcode words.now place SreOpcode.JUMP }
     requires tail { place + 2 ≡ tail }
@@ -44,7 +44,7 @@ fn jump(words: &[u32], place: usize, tail: usize, width: u32) -> Result<Step, Co
 }
 
 /// The end of a first part, if it is at `place`. Without a second part the conditional may match nothing.
-#[tactic(auto, using(crate::proofs::ReadConditions::there_laws))]
+#[tactic(auto, using(crate::proofs::ReadBranches::there_laws))]
 pub fn there(
     words: &[u32],
     place: usize,
@@ -71,7 +71,7 @@ pub fn there(
 }
 
 /// The end of a second part, if it is at `place`.
-#[tactic(auto, using(crate::proofs::ReadConditions::absent_laws))]
+#[tactic(auto, using(crate::proofs::ReadBranches::absent_laws))]
 pub fn absent(place: usize, end: usize, least: u32, width: u32) -> Option<Step>
     ensures { (ws : List ℕ) → Closing ws (Part.Absent end least) place width (Ok result) }
 {

@@ -50,7 +50,7 @@ fn reference(words: &[u32], place: usize) -> Result<Step, CodeError>
 
 /// `<REPEAT_ONE> <skip> <least count> <greatest count> <test> <SUCCESS>`, also with MIN_REPEAT_ONE and
 /// POSSESSIVE_REPEAT_ONE
-#[tactic(auto, using(crate::proofs::ReadRuns::run_laws))]
+#[tactic(auto, using(crate::proofs::ReadItems::run_laws))]
 fn run(words: &[u32], place: usize) -> Result<Step, CodeError>
     requires { RunAt words.now place }
     ensures { Gives words.now place (ItemAt words.now place) result }
@@ -89,7 +89,7 @@ fn one(words: &[u32], place: usize, code: SreOpcode) -> Result<Step, CodeError>
 }
 
 /// Reads the item at `place`.
-#[tactic(auto, using(crate::proofs::AnyItem::item_laws))]
+#[tactic(auto, using(crate::proofs::ReadBodies::item_laws))]
 pub fn item(words: &[u32], place: usize) -> Result<Step, CodeError>
     ensures { ItemGives words.now place result }
 {

@@ -8,7 +8,7 @@ use crate::code::{branch, condition, region, repeat, words};
 use sre_chars::constants::SreOpcode;
 
 /// Reads the SUCCESS that is the last word.
-#[tactic(auto, using(crate::proofs::ClosingParts::whole_laws))]
+#[tactic(auto, using(crate::proofs::ReadBranches::whole_laws))]
 fn whole(words: &[u32], place: usize, width: u32) -> Result<Option<Step>, CodeError>
     ensures { Closing words.now Part.Whole place width result }
 {

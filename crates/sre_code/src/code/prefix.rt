@@ -13,7 +13,7 @@ use crate::code::borders;
 use sre_chars::constants::SreOpcode;
 
 /// Whether a LITERAL of this value is at `place`.
-#[tactic(auto, using(crate::proofs::Prefixes::literal_there, crate::proofs::Prefixes::literal_words))]
+#[tactic(auto, using(crate::proofs::Claimed::literal_there, crate::proofs::Claimed::literal_words))]
 fn is_literal(words: &[u32], place: usize, value: u32) -> bool
     requires { place ≤ length words.now }
     ensures { IsTrue result ↔ IsLiteralAt words.now place value }
@@ -24,7 +24,7 @@ fn is_literal(words: &[u32], place: usize, value: u32) -> bool
 }
 
 /// The address after the MARK items at `start`.
-#[tactic(auto, using(crate::proofs::Prefixes::marks_laws))]
+#[tactic(auto, using(crate::proofs::Claimed::marks_laws))]
 pub fn behind_marks(words: &[u32], start: usize) -> usize
     requires { start ≤ length words.now }
     ensures { MarksPassed words.now start result }
@@ -37,7 +37,7 @@ pub fn behind_marks(words: &[u32], start: usize) -> usize
 }
 
 /// The address after these literals, if the items begin with them, one directly after the other.
-#[tactic(auto, using(crate::proofs::Prefixes::adjacent_laws))]
+#[tactic(auto, using(crate::proofs::Claimed::adjacent_laws))]
 fn behind_adjacent(words: &[u32], literals: &[u32]) -> Option<usize>
     requires { Ends words.now }
     ensures { LeftBehind words.now 0 (behind_adjacent literals.now) result }
@@ -53,7 +53,7 @@ fn behind_adjacent(words: &[u32], literals: &[u32]) -> Option<usize>
 }
 
 /// The address after these literals, if they follow at `start`, with only MARK items before or between them.
-#[tactic(auto, using(crate::proofs::Prefixes::spread_laws))]
+#[tactic(auto, using(crate::proofs::Claimed::spread_laws))]
 fn behind_spread(words: &[u32], start: usize, literals: &[u32]) -> Option<usize>
     requires ends { Ends words.now }
     requires within { start ≤ length words.now }
@@ -71,7 +71,7 @@ fn behind_spread(words: &[u32], start: usize, literals: &[u32]) -> Option<usize>
 }
 
 /// The address after the literals of a prefix, if the items begin with them.
-#[tactic(auto, using(crate::proofs::Prefixes::literals_laws))]
+#[tactic(auto, using(crate::proofs::Claimed::literals_laws))]
 fn behind_literals(words: &[u32], prefix: &[u32], skip: usize) -> Option<usize>
     requires ends { Ends words.now }
     requires skip { skip ≤ length prefix.now }

@@ -11,7 +11,7 @@ use crate::code::words;
 use sre_chars::constants::SreOpcode;
 
 /// Reads the item, which opens its body.
-#[tactic(auto, using(crate::proofs::ReadRegions::atomic_group_laws))]
+#[tactic(auto, using(crate::proofs::ReadBodies::atomic_group_laws))]
 pub fn atomic_group(words: &[u32], place: usize) -> Result<Step, CodeError>
     requires { Opcode words.now place SreOpcode.ATOMIC_GROUP }
     ensures { Gives words.now place (ItemAt words.now place) result }
@@ -30,7 +30,7 @@ pub fn atomic_group(words: &[u32], place: usize) -> Result<Step, CodeError>
 }
 
 /// Reads the item, which opens its body. The body's least width counts as often as the least count says.
-#[tactic(auto, using(crate::proofs::ReadRegions::possessive_repeat_laws))]
+#[tactic(auto, using(crate::proofs::ReadBodies::possessive_repeat_laws))]
 pub fn possessive_repeat(words: &[u32], place: usize) -> Result<Step, CodeError>
     requires { Opcode words.now place SreOpcode.POSSESSIVE_REPEAT }
     ensures { Gives words.now place (ItemAt words.now place) result }
@@ -48,7 +48,7 @@ pub fn possessive_repeat(words: &[u32], place: usize) -> Result<Step, CodeError>
 }
 
 /// Reads the item, which opens its body. A lookaround has width 0.
-#[tactic(auto, using(crate::proofs::ReadRegions::look_laws))]
+#[tactic(auto, using(crate::proofs::ReadBodies::look_laws))]
 pub fn look(words: &[u32], place: usize) -> Result<Step, CodeError>
     requires { LookAt words.now place }
     ensures { Gives words.now place (ItemAt words.now place) result }
@@ -67,7 +67,7 @@ pub fn look(words: &[u32], place: usize) -> Result<Step, CodeError>
 }
 
 /// The end of a body, if it is at `place`.
-#[tactic(auto, using(crate::proofs::ReadRegions::end_laws))]
+#[tactic(auto, using(crate::proofs::ReadBodies::end_laws))]
 pub fn end(
     words: &[u32],
     place: usize,

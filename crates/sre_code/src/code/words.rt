@@ -26,7 +26,7 @@ pub fn skip(words: &[u32], place: usize) -> Result<usize, CodeError>
 }
 
 /// The opcode at `place`.
-#[tactic(auto, using(crate::proofs::ReadWords::opcode_laws))]
+#[tactic(auto, using(crate::proofs::ReadItems::opcode_laws))]
 pub fn opcode(words: &[u32], place: usize) -> Result<SreOpcode, CodeError>
     ensures { CodeAt opcode_number words.now place result }
 {
@@ -38,7 +38,7 @@ pub fn opcode(words: &[u32], place: usize) -> Result<SreOpcode, CodeError>
 }
 
 /// The position code at `place`.
-#[tactic(auto, using(crate::proofs::ReadWords::position_laws))]
+#[tactic(auto, using(crate::proofs::ReadItems::position_laws))]
 pub fn position(words: &[u32], place: usize) -> Result<SreAtCode, CodeError>
     ensures { CodeAt at_number words.now place result }
 {
@@ -50,7 +50,7 @@ pub fn position(words: &[u32], place: usize) -> Result<SreAtCode, CodeError>
 }
 
 /// The category code at `place`.
-#[tactic(auto, using(crate::proofs::ReadWords::category_laws))]
+#[tactic(auto, using(crate::proofs::ReadItems::category_laws))]
 pub fn category(words: &[u32], place: usize) -> Result<SreCatCode, CodeError>
     ensures { CodeAt category_number words.now place result }
 {

@@ -1,5 +1,5 @@
 use Rattle.std.proofs.Common.{refl, arith}
-use Rattle.sre_code.proofs.Bits.{bit_of_two}
+use Rattle.sre_code.proofs.Halves.{bit_of_two}
 use Rattle.sre_code.proofs.ascii_set.join.Goals as goal
 
 pub returns : goal.returns

@@ -1,5 +1,5 @@
 use Rattle.sre_code.proofs.Terms.{refl, ◌∙◌, inl, inr, category}
-use Rattle.sre_code.proofs.CategorySets.{by_each, by_none}
+use Rattle.sre_code.proofs.Halves.{by_each, by_none}
 use Rattle.sre_code.specs.AsciiSet.{contains}
 use Rattle.sre_code.proofs.ascii_set.AsciiSet.of_category.Goals as goal
 

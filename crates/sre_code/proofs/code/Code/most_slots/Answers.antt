@@ -1,5 +1,5 @@
 use Rattle.sre_code.specs.Codes.{words_of, items_of}
-use Rattle.sre_code.proofs.CodeSlots.{slots_some, slots_none}
+use Rattle.sre_code.proofs.CodeBounds.{slots_some, slots_none}
 use Rattle.sre_code.proofs.code.Code.most_slots.Goals as goal
 
 pub returns-clause-some : goal.returns-clause-some

@@ -1,5 +1,5 @@
 use Rattle.std.proofs.Common.{arith}
-use Rattle.sre_code.proofs.Saturating.{held_same, held_times}
+use Rattle.sre_code.proofs.PricedItems.{held_same, held_times}
 use Rattle.sre_code.proofs.code.bounds.bits_by.Goals as goal
 
 pub returns : goal.returns

@@ -1,5 +1,5 @@
 use Rattle.sre_code.proofs.Terms.{arith, subst, sym, max, ◌+◌, Held}
-use Rattle.sre_code.proofs.Saturating.{held_same, held_times, held_plus, held_max}
+use Rattle.sre_code.proofs.PricedItems.{held_same, held_times, held_plus, held_max}
 use Rattle.sre_code.proofs.code.bounds.bound_of.Goals as goal
 
 pub returns : goal.returns

@@ -1,4 +1,4 @@
-use Rattle.sre_code.proofs.Saturating.{room_test}
+use Rattle.sre_code.proofs.PricedItems.{room_test}
 use Rattle.sre_code.proofs.code.bounds.has_room.Goals as goal
 
 pub returns : goal.returns

@@ -1,4 +1,4 @@
-use Rattle.sre_code.proofs.ReadCharacters.{no_test}
+use Rattle.sre_code.proofs.ReadItems.{no_test}
 use Rattle.sre_model.proofs.OneCharacter.{only_tests}
 use Rattle.sre_code.proofs.code.character.test.Goals as goal
 

@@ -1,5 +1,5 @@
 use Rattle.sre_code.proofs.Terms.{ℕ, ◌≡◌, List, subst, Tree, WholeItems, width, Confirmed, HasWhole}
-use Rattle.sre_code.proofs.ReadFronts.{front_refused, front_confirmed}
+use Rattle.sre_code.proofs.Descending.{front_refused, front_confirmed}
 use Rattle.sre_code.proofs.code.check.check_in.Goals as goal
 
 pub returns-in-Err-clause-refused : goal.returns-in-Err-clause-refused

@@ -1,4 +1,4 @@
-use Rattle.sre_code.proofs.ReadRuns.{run_open}
+use Rattle.sre_code.proofs.ReadItems.{run_open}
 use Rattle.std.proofs.Common.{arith}
 use Rattle.sre_code.proofs.code.item.run.Goals as goal
 

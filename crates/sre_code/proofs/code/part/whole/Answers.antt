@@ -1,5 +1,5 @@
 use Rattle.std.proofs.lemmas.Result.{err_from_is_err_and}
-use Rattle.sre_code.proofs.ClosingParts.{whole_cut}
+use Rattle.sre_code.proofs.ReadBranches.{whole_cut}
 use Rattle.sre_code.proofs.code.part.whole.Goals as goal
 
 pub returns-in_err-opcode : goal.returns-in_err-opcode

@@ -1,5 +1,5 @@
 use Rattle.sre_code.proofs.Terms.{◌+◌, refl, arith, word_within}
-use Rattle.sre_code.proofs.Prefixes.{adjacent_more}
+use Rattle.sre_code.proofs.Claimed.{adjacent_more}
 use Rattle.sre_code.proofs.code.prefix.behind_adjacent.Goals as goal
 
 pub literal-preserved : goal.literal-preserved

@@ -1,5 +1,5 @@
 use Rattle.std.proofs.Common.{length, ◌-◌, ◌≤◌}
-use Rattle.sre_code.proofs.Prefixes.{SameMarks}
+use Rattle.sre_code.proofs.Claimed.{SameMarks}
 use Rattle.sre_code.proofs.code.prefix.behind_marks.Given as goal
 
 abbrev pub invariant-mark : goal.invariant-mark

@@ -1,5 +1,5 @@
 use Rattle.sre_code.proofs.Terms.{◌+◌, ◌≡◌, true, false, refl, arith, word_within}
-use Rattle.sre_code.proofs.Prefixes.{spread_more, spread_stops}
+use Rattle.sre_code.proofs.Claimed.{spread_more, spread_stops}
 use Rattle.sre_code.proofs.code.prefix.behind_spread.Goals as goal
 
 pub returns-then-not-is_literal : goal.returns-then-not-is_literal

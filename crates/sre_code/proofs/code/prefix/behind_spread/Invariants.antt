@@ -1,5 +1,5 @@
 use Rattle.sre_code.proofs.Terms.{length, drop, ◌≤◌, behind_spread}
-use Rattle.sre_code.proofs.Prefixes.{SameLeft}
+use Rattle.sre_code.proofs.Claimed.{SameLeft}
 use Rattle.sre_code.proofs.code.prefix.behind_spread.Given as goal
 
 abbrev pub invariant-literal : goal.invariant-literal

@@ -1,4 +1,4 @@
-use Rattle.sre_code.proofs.Saturating.{held_plus, held_times}
+use Rattle.sre_code.proofs.PricedItems.{held_plus, held_times}
 use Rattle.sre_code.proofs.code.prices.cost_before.Goals as goal
 
 pub returns : goal.returns

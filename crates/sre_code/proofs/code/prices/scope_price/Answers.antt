@@ -1,5 +1,5 @@
 use Rattle.sre_code.proofs.Terms.{refl, arith}
-use Rattle.sre_code.proofs.Saturating.{held_same, held_plus}
+use Rattle.sre_code.proofs.PricedItems.{held_same, held_plus}
 use Rattle.sre_code.proofs.code.prices.scope_price.Goals as goal
 
 pub returns : goal.returns

@@ -1,5 +1,5 @@
 use Rattle.std.proofs.lemmas.Result.{err_from_is_err_and}
-use Rattle.sre_code.proofs.ReadRegions.{region_closed, region_cut}
+use Rattle.sre_code.proofs.ReadBodies.{region_closed, region_cut}
 use Rattle.sre_code.proofs.code.region.end.Goals as goal
 
 pub returns-in_err-opcode : goal.returns-in_err-opcode
