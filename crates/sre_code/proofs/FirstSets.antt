@@ -41,34 +41,30 @@ module _ (ws : List ℕ) (i : ℕ) (table : Table) (set : List SetItem) where
         subst (λ u. Decides told (TestIn table set u)) (sym f.1) (λ y. sym m ∙ y, λ y. m ∙ y);
   }
 
-  pub code_refused : NoCode opcode_number ws i → Tells ws i false (TestIn table set)
-  code_refused none = record { each = λ end t o r x h. go end t r }
+  -- where neither a LITERAL nor an IN has its operand
+  no_test : (Opcode ws i opcode.LITERAL → i + 1 < length ws → ⊥) → (Opcode ws i opcode.IN → i + 1 < length ws → ⊥)
+      → Tells ws i false (TestIn table set)
+  no_test literal set_test = record { each = λ end t o r x h. go end t r }
     where
       go : (end : ℕ) (t : Tree) → Reads ws i end t → Decides false (TestIn table set t)
       go end Empty r = refuted (λ p. p)
-      go end (Then x rest) r = absurd (none.none (item_opcode x) r.1.0)
-
-  pub operand_refused : length ws ≤ i + 1 → Tells ws i false (TestIn table set)
-  operand_refused le = record { each = λ end t o r x h. go end t r }
-    where
-      go : (end : ℕ) (t : Tree) → Reads ws i end t → Decides false (TestIn table set t)
-      go end Empty r = refuted (λ p. p)
-      go end (Then (One (Literal Plain v)) rest) r = absurd (omega (arith, word_within ws (i + 1) v r.1.1.0))
+      go end (Then (One (Literal Plain v)) rest) r = absurd (literal r.1.0 (word_within ws (i + 1) v r.1.1.0))
       go end (Then (One (In Plain items)) rest) r =
           let far : i + 2 ≤ r.0 - 1 = set_within ws (i + 2) (r.0 - 1) items r.1.1.1 in
-          absurd (omega (arith, far, opcode_within ws (r.0 - 1) opcode.FAILURE r.1.1.2))
+          absurd (set_test r.1.0 (omega (arith, far, opcode_within ws (r.0 - 1) opcode.FAILURE r.1.1.2)))
       go end (Then x rest) r = refuted (λ p. p)
+
+  pub code_refused : NoCode opcode_number ws i → Tells ws i false (TestIn table set)
+  code_refused none = no_test (λ w lt. none.none opcode.LITERAL w) (λ w lt. none.none opcode.IN w)
+
+  pub operand_refused : length ws ≤ i + 1 → Tells ws i false (TestIn table set)
+  operand_refused le = no_test (λ w lt. omega arith) (λ w lt. omega arith)
 
   pub other_refused : (c : SreOpcode) → Opcode ws i c → c ≢ opcode.LITERAL → c ≢ opcode.IN
       → Tells ws i false (TestIn table set)
-  other_refused c w literal set_test = record { each = λ end t o r x h. go end t r }
-    where
-      go : (end : ℕ) (t : Tree) → Reads ws i end t → Decides false (TestIn table set t)
-      go end Empty r = refuted (λ p. p)
-      go end (Then (One (Literal Plain v)) rest) r =
-          absurd (literal (same_opcode ws i c opcode.LITERAL w r.1.0))
-      go end (Then (One (In Plain items)) rest) r = absurd (set_test (same_opcode ws i c opcode.IN w r.1.0))
-      go end (Then x rest) r = refuted (λ p. p)
+  other_refused c w literal set_test =
+      no_test (λ v lt. literal (same_opcode ws i c opcode.LITERAL w v))
+      (λ v lt. set_test (same_opcode ws i c opcode.IN w v))
 
 -- an item that is an IN
 set_first : (ws : List ℕ) (i k : ℕ) (x : Item) → opcode.IN ≡ item_opcode x → ReadsItem ws i k x
@@ -134,9 +130,6 @@ module _ (ws : List ℕ) (start : ℕ) (table : Table) (set : List SetItem) wher
   pub alternatives_start : AlternativesLeft ws start start table set
   alternatives_start = record { each = λ end ts r. inl (ts, r, λ x. x, λ x. x) }
 
-  span_long : (place end v : ℕ) (ts : Trees) → ReadsBranch ws place end ts → v ≡ word ws place → 3 ≤ v
-  span_long place end v ts r e = omega (arith, alternative_long ws place end ts r)
-
   there : (place end : ℕ) (ts : Trees) → ReadsBranch ws place end ts → place < length ws
   there place end (Only t) r =
       omega (arith, alternative_long ws place end (Only t) r, opcode_within ws (skip ws place - 2) opcode.JUMP r.1.0)
@@ -157,7 +150,7 @@ module _ (ws : List ℕ) (start : ℕ) (table : Table) (set : List SetItem) wher
   alternatives_end place v l e z = record {
     each = λ end ts r. ⊎_elim
         (λ (x : Left ws place end table set ts).
-        absurd (omega (arith, span_long place end v x.0 x.1 e)))
+        absurd (omega (arith, alternative_long ws place end x.0 x.1)))
         (λ (x : Told ws place table set ts). (λ y. x.0, λ y. refl))
         (l.each end ts r);
   }

@@ -13,7 +13,7 @@ use Rattle.std.proofs.Math.Nat.{le-max_left}
 use Rattle.sre_model.specs.Nesting.{by_nesting}
 use Rattle.sre_model.specs.TreePrices.{branch_steps, branch_cost}
 use Rattle.sre_code.specs.Prices.{passed}
-use Rattle.sre_code.specs.Prices.{with_alternative, ArePriced}
+use Rattle.sre_code.specs.Prices.{with_alternative, ArePriced, InsidePriced}
 use Rattle.sre_code.specs.Prices.{LoopPriced, PossessivePriced, ScopePriced, BranchPriced}
 use Rattle.sre_code.proofs.PricedItems.{held_same}
 use Rattle.sre_code.proofs.ScanningLoops.{same_slots}
@@ -151,20 +151,24 @@ module _ (e depth : ℕ) (ws : List ℕ) (i by : ℕ) (to : by ≡ word ws (i + 
 
   module _ (least greatest slots : ℕ) (first : least ≡ word ws (i + 2)) (second : greatest ≡ word ws (i + 3))
       (is : slots ≡ loop_slots least greatest) where
+    -- a price by the slots and the body's price
+    body_law : (price : ℕ → Price → Price) (p q : Price) → BodyPriced e depth ws (i + 4) (i + 1 + by) (Some p)
+        → ((x : Price) → IsHeld x p → IsHeld (price slots x) q)
+        → (low high : ℕ) (body : Tree) → Word ws (i + 2) low → Word ws (i + 3) high
+        → Reads ws (i + 4) (skip ws (i + 1)) body → refers body ≡ false
+        → (x : Price) × IsPrice e body x × IsHeld (price (loop_slots low high) x) q
+    body_law price p q told holds low high body first_word second_word reads plain =
+        let own = same_slots ws i least greatest slots first second is low high first_word second_word in
+        let x = told.each body (subst (λ n. Reads ws (i + 4) n body) (sym same_end) reads) plain in
+        (x.0, x.1, subst (λ n. IsHeld (price n x.0) q) own (holds x.0 x.2))
+
     pub loop_law : (p q : Price) → BodyPriced e depth ws (i + 4) (i + 1 + by) (Some p)
         → ((x : Price) → IsHeld x p → IsHeld (loop_price slots x) q)
         → LoopPriced e depth ws i (Some (record { behind = i + 1 + by + 1; price = q }))
     loop_law p q told holds = record {
       each = λ o low high body j w plain.
-          let own = same_slots ws i least greatest slots first second is low high w.0 w.1 in
-          let priced = told.each body (subst (λ n. Reads ws (i + 4) n body) (sym same_end) w.3) plain in (
-            omega (arith, same_end, w.5),
-            (
-              loop_price (loop_slots low high) priced.0,
-              loop_priced e body priced.0 priced.1 o low high,
-              subst (λ n. IsHeld (loop_price n priced.0) q) own (holds priced.0 priced.2),
-            ),
-          );
+          let x = body_law loop_price p q told holds low high body w.0 w.1 w.3 plain in
+          (omega (arith, same_end, w.5), (loop_price _ x.0, loop_priced e body x.0 x.1 o low high, x.2));
     }
 
     pub possessive_law : (p q : Price) → BodyPriced e depth ws (i + 4) (i + 1 + by) (Some p)
@@ -172,15 +176,8 @@ module _ (e depth : ℕ) (ws : List ℕ) (i by : ℕ) (to : by ≡ word ws (i + 
         → PossessivePriced e depth ws i (Some (record { behind = i + 1 + by + 1; price = q }))
     possessive_law p q told holds = record {
       each = λ low high body j w plain.
-          let own = same_slots ws i least greatest slots first second is low high w.0 w.1 in
-          let priced = told.each body (subst (λ n. Reads ws (i + 4) n body) (sym same_end) w.3) plain in (
-            omega (arith, same_end, w.5),
-            (
-              possessive_price (loop_slots low high) priced.0,
-              possessive_priced e body priced.0 priced.1 low high,
-              subst (λ n. IsHeld (possessive_price n priced.0) q) own (holds priced.0 priced.2),
-            ),
-          );
+          let x = body_law possessive_price p q told holds low high body w.0 w.1 w.3 plain in
+          (omega (arith, same_end, w.5), (possessive_price _ x.0, possessive_priced e body x.0 x.1 low high, x.2));
     }
 
 -- what is told of an instruction by what it begins
@@ -195,17 +192,20 @@ priced_as e depth ws i o k r w is told = record {
 abbrev of_alternatives : ℕ → ℕ → Trees → ℕ → ℕ
 of_alternatives e s ts b = s * branch_steps ts b + branch_cost e s ts b
 
--- alternatives of which some are passed: none is left, or these are
+-- alternatives of which some are passed at such a cost: none is left, or these are
+abbrev AreLeft : ℕ → List ℕ → ℕ → ℕ → Trees → ℕ → ℕ → ℕ → Type 0
+AreLeft e ws q j ts cost each apart =
+    (Word ws q 0 × (j ≡ q + 1) × ((s b : ℕ) → of_alternatives e s ts b ≡ s * (cost + each * b) + apart))
+    ⊎ ((us : Trees) × ReadsBranch ws q j us × (of_branch by_references us ≡ false)
+    × (of_branch by_nesting us ≤ of_branch by_nesting ts)
+    × ((s b : ℕ) → of_alternatives e s ts b + s ≡ s * (cost + each * b) + apart + of_alternatives e s us b))
+
 pub record BranchLeft (e : ℕ) (ws : List ℕ) (q j : ℕ) (ts : Trees) (p : Price) : Type 0 where
   pub cost : ℕ
   pub each : ℕ
   pub apart : ℕ
   pub held : IsHeld (closed_price cost each apart) p
-  pub left :
-      (Word ws q 0 × (j ≡ q + 1) × ((s b : ℕ) → of_alternatives e s ts b ≡ s * (cost + each * b) + apart))
-      ⊎ ((us : Trees) × ReadsBranch ws q j us × (of_branch by_references us ≡ false)
-      × (of_branch by_nesting us ≤ of_branch by_nesting ts)
-      × ((s b : ℕ) → of_alternatives e s ts b + s ≡ s * (cost + each * b) + apart + of_alternatives e s us b))
+  pub left : AreLeft e ws q j ts cost each apart
 
 pub record BranchOnto (e : ℕ) (ws : List ℕ) (first q : ℕ) (p : Price) : Type 0 where
   pub far : first ≤ q
@@ -256,20 +256,22 @@ module _ (e depth : ℕ) (ws : List ℕ) (first : ℕ) where
         ]
 
     module _ (some : word ws q ≡ 0 → ⊥) (end : ℕ) (at : end ≡ skip ws q - 2) where
+      -- the alternative there is read up to its JUMP
+      body_told : {r : Option Price} → BodyPriced e depth ws (q + 1) end r → (t : Tree)
+          → Reads ws (q + 1) (skip ws q - 2) t → refers t ≡ false → InsidePriced e depth t r
+      body_told told t w plain = told.each t (subst (λ n. Reads ws (q + 1) n t) (sym at) w) plain
+
       pub branch_deep : BodyPriced e depth ws (q + 1) end None → BranchPriced e depth ws first None
       branch_deep told = record { each = λ ts j w plain. by ts j (o.each ts j w plain) }
         where
-          deep : (t : Tree) → Reads ws (q + 1) (skip ws q - 2) t → refers t ≡ false → depth < nesting t + 1
-          deep t w plain = told.each t (subst (λ n. Reads ws (q + 1) n t) (sym at) w) plain
-
           of : (us ts : Trees) (j : ℕ) → ReadsBranch ws q j us → of_branch by_references us ≡ false
               → of_branch by_nesting us ≤ of_branch by_nesting ts → ItemPriced e depth (Branch ts) j None
-          of (Only t) ts j w plain le = omega (arith, le, deep t w.0 plain)
+          of (Only t) ts j w plain le = omega (arith, le, body_told told t w.0 plain)
           of (Or t us) ts j w plain le =
               omega (
                 arith,
                 le,
-                deep t w.0 (or_parts (refers t) (of_branch by_references us) plain).0,
+                body_told told t w.0 (or_parts (refers t) (of_branch by_references us) plain).0,
                 le-max_left (nesting t) (of_branch by_nesting us),
               )
 
@@ -286,9 +288,24 @@ module _ (e depth : ℕ) (ws : List ℕ) (first : ℕ) where
       branch_next body own r told joins holds =
           record { far = omega (arith, o.far); each = λ ts j w plain. by ts j (o.each ts j w plain) }
         where
-          priced : (t : Tree) → Reads ws (q + 1) (skip ws q - 2) t → refers t ≡ false
-              → (x : Price) × IsPrice e t x × IsHeld x body
-          priced t w plain = told.each t (subst (λ n. Reads ws (q + 1) n t) (sym at) w) plain
+          -- the alternative t is passed, and these are left
+          grown : (t : Tree) (ts : Trees) (j : ℕ) (l : BranchLeft e ws q j ts p)
+              → (x : (x : Price) × IsPrice e t x × IsHeld x body)
+              → (let y : Price = joined x.0 (straight_price 1) in
+              AreLeft e ws (q + word ws q) j ts (l.cost + (y.steps + 2 + y.cost))
+              (l.each + (y.each + cond y.is_open 1 0)) (l.apart + y.apart))
+              → BranchLeft e ws (q + word ws q) j ts r
+          grown t ts j l x left =
+              let y : Price = joined x.0 (straight_price 1) in
+              record {
+                cost = l.cost + (y.steps + 2 + y.cost);
+                each = l.each + (y.each + cond y.is_open 1 0);
+                apart = l.apart + y.apart;
+                held =
+                    holds (closed_price l.cost l.each l.apart) y l.held
+                    (joins x.0 (straight_price 1) x.2 (held_straight 1 (omega arith)));
+                left = left;
+              }
 
           of : (us ts : Trees) (j : ℕ) (l : BranchLeft e ws q j ts p) → ReadsBranch ws q j us
               → of_branch by_references us ≡ false → of_branch by_nesting us ≤ of_branch by_nesting ts
@@ -296,36 +313,18 @@ module _ (e depth : ℕ) (ws : List ℕ) (first : ℕ) where
               ≡ s * (l.cost + l.each * b) + l.apart + of_alternatives e s us b)
               → BranchLeft e ws (q + word ws q) j ts r
           of (Only t) ts j l w plain le sum =
-              let x = priced t w.0 plain in
-              let y : Price = joined x.0 (straight_price 1) in
-              record {
-                cost = l.cost + (y.steps + 2 + y.cost);
-                each = l.each + (y.each + cond y.is_open 1 0);
-                apart = l.apart + y.apart;
-                held =
-                    holds (closed_price l.cost l.each l.apart) y l.held
-                    (joins x.0 (straight_price 1) x.2 (held_straight 1 (omega arith)));
-                left = inl (w.2, w.3, λ s b. omega (arith, sum s b, alternative_cost e t x.0 x.1 s b));
-              }
+              let x = body_told told t w.0 plain in
+              grown t ts j l x (inl (w.2, w.3, λ s b. omega (arith, sum s b, alternative_cost e t x.0 x.1 s b)))
           of (Or t us) ts j l w plain le sum =
               let both = or_parts (refers t) (of_branch by_references us) plain in
-              let x = priced t w.0 both.0 in
-              let y : Price = joined x.0 (straight_price 1) in
-              record {
-                cost = l.cost + (y.steps + 2 + y.cost);
-                each = l.each + (y.each + cond y.is_open 1 0);
-                apart = l.apart + y.apart;
-                held =
-                    holds (closed_price l.cost l.each l.apart) y l.held
-                    (joins x.0 (straight_price 1) x.2 (held_straight 1 (omega arith)));
-                left = inr (
-                  us,
-                  w.2,
-                  both.1,
-                  omega (arith, le, le-max_right (nesting t) (of_branch by_nesting us)),
-                  λ s b. omega (arith, sum s b, alternative_cost e t x.0 x.1 s b),
-                );
-              }
+              let x = body_told told t w.0 both.0 in
+              grown t ts j l x (inr (
+                us,
+                w.2,
+                both.1,
+                omega (arith, le, le-max_right (nesting t) (of_branch by_nesting us)),
+                λ s b. omega (arith, sum s b, alternative_cost e t x.0 x.1 s b),
+              ))
 
           by : (ts : Trees) (j : ℕ) → BranchLeft e ws q j ts p → BranchLeft e ws (q + word ws q) j ts r
           by ts j l = elim l.left [

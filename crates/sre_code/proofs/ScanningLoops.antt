@@ -96,8 +96,7 @@ module _ (most : ℕ) (ws : List ℕ) where
     condition i j a lt h refers =
         walk.halt scanner i j a lt
         (λ l m q s.
-        let told =
-        by_role i ToCheckGroup kind.Other (Some (record { behind = q; slots = s.slots })) h refl s.told in
+        let told = by_role i ToCheckGroup kind.Other _ h refl s.told in
         (none_behind ws i h).none q told.0)
         (λ plain. absurd (true≢false (sym refers ∙ plain)))
 
@@ -124,15 +123,11 @@ module _ (most : ℕ) (ws : List ℕ) where
           walk.enter scanner i j j (refers body, slots) (false, 1) (λ l. max l slots) lt
           (λ told. (by_role i ToRepeat kind.Loop None h refl told).each o low high body j w)
           (λ l m q s.
-          let told =
-          (by_role i ToRepeat kind.Loop (Some (record { behind = q; slots = s.slots })) h refl s.told).each o low high
-          body j w in
+          let told = (by_role i ToRepeat kind.Loop _ h refl s.told).each o low high body j w in
           (told.0, omega (arith, s.is, told.1)))
           (walk.here scanner j j refl) (λ b plain. absurd (few (b refl)))
           (λ l m s x.
-          let told =
-          (by_role i ToRepeat kind.Loop (Some (record { behind = j; slots = s.slots })) h refl s.told).each o low high
-          body j w in
+          let told = (by_role i ToRepeat kind.Loop _ h refl s.told).each o low high body j w in
           (told.2, λ one. omega (arith, one, x.1 (omega (arith, one)))));
       possessive = λ i low high body h v w y.
           let slots : ℕ = loop_slots low high in

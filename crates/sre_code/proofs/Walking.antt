@@ -14,33 +14,31 @@ use Rattle.sre_chars.specs.declared.constants.SreOpcode.TheVariants as opcode
 
 -- The address of the next instruction, by what the instruction before it is.
 
-test_has_none : (t : Test) → own_words (role (test_opcode t)) ≡ None
-test_has_none t = ap own_words (test_role t)
-
 module _ (ws : List ℕ) where
+  -- an instruction with words of its own is no test
+  unlike_test : (i : ℕ) (o : SreOpcode) (n : ℕ) (t : Test) → Opcode ws i o → own_words (role o) ≡ Some n
+      → Opcode ws i (test_opcode t) → ⊥
+  unlike_test i o n t w e there =
+      let same = same_opcode ws i (test_opcode t) o there w in
+      let none : None ≡ Some n = sym (ap own_words (test_role t)) ∙ ap (λ p. own_words (role p)) same ∙ e in
+      cc
+
   -- what is behind a test
   pub behind_test : (i j k : ℕ) (t : Test) → ReadsTest ws i j t → Behind ws i k → k ≡ j
-  behind_test i j k t r b = ⊎_elim
-      (λ (x : (u : Test) × ReadsTest ws i k u). sym (test_same t x.0 ws i j k r.0 r.1 x.1.0 x.1.1).1)
-      (λ (x : (o : SreOpcode) × (n : ℕ) × Opcode ws i o × (own_words (role o) ≡ Some n) × (k ≡ i + n)).
-      let same : test_opcode t ≡ x.0 = same_opcode ws i (test_opcode t) x.0 r.0 x.2 in
-      let none : None ≡ Some x.1 = sym (test_has_none t) ∙ ap (λ o. own_words (role o)) same ∙ x.3 in
-      absurd (cc))
-      b.one
+  behind_test i j k t r b = elim b.one [
+    | inl x ↦ sym (test_same t x.0 ws i j k r.0 r.1 x.1.0 x.1.1).1
+    | inr x ↦ absurd (unlike_test i x.0 x.1 t x.2 x.3 r.0)
+  ]
 
   -- and behind another instruction, by its opcode and by its role
   behind_own : (i k n : ℕ) (o : SreOpcode) → Opcode ws i o → own_words (role o) ≡ Some n → Behind ws i k → k ≡ i + n
-  behind_own i k n o w e b = ⊎_elim
-      (λ (x : (u : Test) × ReadsTest ws i k u).
-      let same : test_opcode x.0 ≡ o = same_opcode ws i (test_opcode x.0) o x.1.0 w in
-      let none : None ≡ Some n = sym (test_has_none x.0) ∙ ap (λ p. own_words (role p)) same ∙ e in
-      absurd (cc))
-      (λ (x : (p : SreOpcode) × (m : ℕ) × Opcode ws i p × (own_words (role p) ≡ Some m) × (k ≡ i + m)).
-      let same : o ≡ x.0 = same_opcode ws i o x.0 w x.2 in
-      let counts : Some n ≡ Some x.1 = sym e ∙ ap (λ p. own_words (role p)) same ∙ x.3 in
-      let count : x.1 ≡ n = cc in
-      x.4 ∙ ap (λ d. i + d) count)
-      b.one
+  behind_own i k n o w e b = elim b.one [
+    | inl x ↦ absurd (unlike_test i o n x.0 w e x.1.0)
+    | inr x ↦
+        let counts : Some n ≡ Some x.1 = sym e ∙ ap (λ p. own_words (role p)) (same_opcode ws i o x.0 w x.2) ∙ x.3 in
+        let count : x.1 ≡ n = cc in
+        x.4 ∙ ap (λ d. i + d) count
+  ]
 
   pub behind_role : (i k n : ℕ) (o : Role) → HasRole ws i o → own_words o ≡ Some n → Behind ws i k → k ≡ i + n
   behind_role i k n o h e b = behind_own i k n h.code h.there (ap own_words h.begins ∙ e) b
@@ -50,37 +48,33 @@ module _ (ws : List ℕ) where
 
   -- so it is one place
   pub one_behind : (i k l : ℕ) → Behind ws i k → Behind ws i l → k ≡ l
-  one_behind i k l x y = ⊎_elim
-      (λ (z : (t : Test) × ReadsTest ws i k t). sym (behind_test i k l z.0 z.1 y))
-      (λ (z : (o : SreOpcode) × (n : ℕ) × Opcode ws i o × (own_words (role o) ≡ Some n) × (k ≡ i + n)).
-      z.4 ∙ sym (behind_own i l z.1 z.0 z.2 z.3 y))
-      x.one
+  one_behind i k l x y = elim x.one [
+    | inl z ↦ sym (behind_test i k l z.0 z.1 y)
+    | inr z ↦ z.4 ∙ sym (behind_own i l z.1 z.0 z.2 z.3 y)
+  ]
 
   -- none is behind words that begin with no opcode, and behind a condition
   pub none_unknown : (i : ℕ) → NoCode opcode_number ws i → NoneBehind ws i
   none_unknown i unknown = record {
-    none = λ k b. ⊎_elim
-        (λ (x : (t : Test) × ReadsTest ws i k t). unknown.none (test_opcode x.0) x.1.0)
-        (λ (x : (o : SreOpcode) × (n : ℕ) × Opcode ws i o × (own_words (role o) ≡ Some n) × (k ≡ i + n)).
-        unknown.none x.0 x.2)
-        b.one;
+    none = λ k b. elim b.one [
+      | inl x ↦ unknown.none (test_opcode x.0) x.1.0
+      | inr x ↦ unknown.none x.0 x.2
+    ];
   }
 
   pub none_behind : (i : ℕ) → HasRole ws i ToCheckGroup → NoneBehind ws i
-  none_behind i h = record { none = λ k b. by k b.one }
-    where
-      by : (k : ℕ)
-          → ((t : Test) × ReadsTest ws i k t)
-          ⊎ ((p : SreOpcode) × (m : ℕ) × Opcode ws i p × (own_words (role p) ≡ Some m) × (k ≡ i + m)) → ⊥
-      by k (inl x) =
-          let same : h.code ≡ test_opcode x.0 = same_opcode ws i h.code (test_opcode x.0) h.there x.1.0 in
+  none_behind i h = record {
+    none = λ k b. elim b.one [
+      | inl x ↦
+          let same = same_opcode ws i h.code (test_opcode x.0) h.there x.1.0 in
           let no : ToCheckGroup ≡ ToTest (test_kind x.0) = sym h.begins ∙ ap role same ∙ test_role x.0 in
           cc
-      by k (inr x) =
-          let same : h.code ≡ x.0 = same_opcode ws i h.code x.0 h.there x.2 in
-          let none : None ≡ Some x.1 =
-          ap own_words (sym h.begins) ∙ ap (λ o. own_words (role o)) same ∙ x.3 in
+      | inr x ↦
+          let same = ap (λ o. own_words (role o)) (same_opcode ws i h.code x.0 h.there x.2) in
+          let none : None ≡ Some x.1 = ap own_words (sym h.begins) ∙ same ∙ x.3 in
           cc
+    ];
+  }
 
 -- Scans from instruction to instruction, and what such a scan has behind a part of a tree, by what it had before.
 
@@ -143,10 +137,10 @@ module _ {M V : Type 0} (x : Scanner M V) where
     where
       go : (n : ℕ) → Says r n i l → (x.Stops i × (r ≡ None)) ⊎ ((k : ℕ) × (m : M) × x.Next i l k m × Scan r k m)
       go zero z = absurd (omega (arith, lt, z.0))
-      go (suc n) z = ⊎_elim inl
-          (λ (u : (k : ℕ) × (m : M) × x.Next i l k m × Says r n k m).
-          inr (u.0, u.1, u.2, record { count = n; says = u.3 }))
-          z.1
+      go (suc n) z = elim z.1 [
+        | inl u ↦ inl u
+        | inr u ↦ inr (u.0, u.1, u.2, record { count = n; says = u.3 })
+      ]
 
   moved : (P : ℕ → M → Type 0) (i j : ℕ) (l m : M) → i ≡ j → l ≡ m → P i l → P j m
   moved P i j l m at is p = subst (P j) is (subst (λ k. P k l) at p)
@@ -164,16 +158,15 @@ module _ {M V : Type 0} (x : Scanner M V) where
       → ((l n : M) → x.Next i l k (g l) → x.After k j b (g l) n → x.After i j a l n) → Passed i j a
   enter i k j a b g lt stops next y bad law = (
     omega (arith, lt, y.0),
-    λ r l le s. ⊎_elim
-        (λ (u : x.Stops i × (r ≡ None)). inl (stops u.0, u.1))
-        (λ (u : (q : ℕ) × (m : M) × x.Next i l q m × Scan r q m).
-        let is = next l u.1 u.0 u.2 in
-        ⊎_elim
-        (λ (v : x.Bad b × (r ≡ None)). inl (bad v.0, v.1))
-        (λ (v : (m : M) × x.After k j b (g l) m × Scan r j m).
-        inr (v.0, law l v.0 (moved (x.Next i l) u.0 k u.1 (g l) is.0 is.1 u.2) v.1, v.2))
-        (y.1 r (g l) le (moved (Scan r) u.0 k u.1 (g l) is.0 is.1 u.3)))
-        (one r i l (omega (arith, lt, le, y.0)) s),
+    λ r l le s. elim (one r i l (omega (arith, lt, le, y.0)) s) [
+      | inl u ↦ inl (stops u.0, u.1)
+      | inr u ↦
+          let is = next l u.1 u.0 u.2 in
+          elim (y.1 r (g l) le (moved (Scan r) u.0 k u.1 (g l) is.0 is.1 u.3)) [
+            | inl v ↦ inl (bad v.0, v.1)
+            | inr v ↦ inr (v.0, law l v.0 (moved (x.Next i l) u.0 k u.1 (g l) is.0 is.1 u.2) v.1, v.2)
+          ]
+    ],
   )
 
   pub here : (i j : ℕ) → i ≡ j → Passed i j x.nothing
@@ -186,10 +179,10 @@ module _ {M V : Type 0} (x : Scanner M V) where
   pub halt : (i j : ℕ) (a : V) → i < j → ((l m : M) (q : ℕ) → x.Next i l q m → ⊥) → x.Bad a → Passed i j a
   halt i j a lt none bad = (
     omega (arith, lt),
-    λ r l le s. ⊎_elim
-        (λ (u : x.Stops i × (r ≡ None)). inl (bad, u.1))
-        (λ (u : (q : ℕ) × (m : M) × x.Next i l q m × Scan r q m). absurd (none l u.1 u.0 u.2))
-        (one r i l (omega (arith, lt, le)) s),
+    λ r l le s. elim (one r i l (omega (arith, lt, le)) s) [
+      | inl u ↦ inl (bad, u.1)
+      | inr u ↦ absurd (none l u.1 u.0 u.2)
+    ],
   )
 
   -- one that is nothing to the scan
@@ -202,18 +195,17 @@ module _ {M V : Type 0} (x : Scanner M V) where
   before : (i k j : ℕ) (a : V) → Passed i k a → Silent k j → Passed i j a
   before i k j a y h = (
     omega (arith, y.0, h.past),
-    λ r l le s. ⊎_elim inl
-        (λ (u : (m : M) × x.After i k a l m × Scan r k m). inr (
-          u.0,
-          x.wider i k j a l u.0 (omega (arith, h.past)) u.1,
-          ⊎_elim
-              (λ (v : x.Stops k × (r ≡ None)). absurd (h.goes v.0))
-              (λ (v : (q : ℕ) × (m : M) × x.Next k u.0 q m × Scan r q m).
-              let is = h.next u.0 v.1 v.0 v.2 in
-              moved (Scan r) v.0 j v.1 u.0 is.0 is.1 v.3)
-              (one r k u.0 (omega (arith, h.past, le)) u.2),
-        ))
-        (y.1 r l (omega (arith, h.past, le)) s),
+    λ r l le s. elim (y.1 r l (omega (arith, h.past, le)) s) [
+      | inl u ↦ inl u
+      | inr u ↦ inr (
+        u.0,
+        x.wider i k j a l u.0 (omega (arith, h.past)) u.1,
+        elim (one r k u.0 (omega (arith, h.past, le)) u.2) [
+          | inl v ↦ absurd (h.goes v.0)
+          | inr v ↦ let is = h.next u.0 v.1 v.0 v.2 in moved (Scan r) v.0 j v.1 u.0 is.0 is.1 v.3
+        ],
+      )
+    ],
   )
 
   pub silent : (i j : ℕ) (a : V) → a ≡ x.nothing → Silent i j → Passed i j a
@@ -223,14 +215,13 @@ module _ {M V : Type 0} (x : Scanner M V) where
   join : (i k j : ℕ) (a b : V) → Passed i k a → Passed k j b → Passed i j (x.both a b)
   join i k j a b y z = (
     omega (arith, y.0, z.0),
-    λ r l le s. ⊎_elim
-        (λ (u : x.Bad a × (r ≡ None)). inl (x.first a b u.0, u.1))
-        (λ (u : (m : M) × x.After i k a l m × Scan r k m). ⊎_elim
-        (λ (v : x.Bad b × (r ≡ None)). inl (x.second a b v.0, v.1))
-        (λ (v : (n : M) × x.After k j b u.0 n × Scan r j n).
-        inr (v.0, x.joined i k j a b l u.0 v.0 y.0 z.0 u.1 v.1, v.2))
-        (z.1 r u.0 le u.2))
-        (y.1 r l (omega (arith, le, z.0)) s),
+    λ r l le s. elim (y.1 r l (omega (arith, le, z.0)) s) [
+      | inl u ↦ inl (x.first a b u.0, u.1)
+      | inr u ↦ elim (z.1 r u.0 le u.2) [
+        | inl v ↦ inl (x.second a b v.0, v.1)
+        | inr v ↦ inr (v.0, x.joined i k j a b l u.0 v.0 y.0 z.0 u.1 v.1, v.2)
+      ]
+    ],
   )
 
   abbrev ws : List ℕ
@@ -376,27 +367,24 @@ module _ {M V : Type 0} (x : Scanner M V) where
     module _ (start i : ℕ) (none l : M) (o : Onto start none i l) (u : Tree) (w : Reads ws start x.end u) where
       pub walk_stops : i < x.end → x.Stops i → x.Bad (x.tree u)
       walk_stops lt stops =
-          by ((tree_walked u start x.end w).1 None none (omega arith)
-          (o.to None (record { count = 1; says = (lt, inl (stops, refl)) })))
+          let s = o.to None (record { count = 1; says = (lt, inl (stops, refl)) }) in
+          elim ((tree_walked u start x.end w).1 None none (omega arith) s) [
+            | inl z ↦ z.0
+            | inr z ↦ absurd (over z.2.count z.0 z.2.says)
+          ]
         where
           over : (n : ℕ) (m : M) → Says None n x.end m → ⊥
           over zero m z = let no : None ≡ Some m = z.1 in absurd (cc)
           over (suc n) m z = omega (arith, z.0)
 
-          by : Told None start x.end (x.tree u) none → x.Bad (x.tree u)
-          by (inl z) = z.0
-          by (inr z) = absurd (over z.2.count z.0 z.2.says)
-
       pub walk_ends : x.end ≤ i → x.After start x.end (x.tree u) none l
       walk_ends le =
-          by ((tree_walked u start x.end w).1 (Some l) none (omega arith)
-          (o.to (Some l) (record { count = 0; says = (le, refl) })))
+          let s = o.to (Some l) (record { count = 0; says = (le, refl) }) in
+          elim ((tree_walked u start x.end w).1 (Some l) none (omega arith) s) [
+            | inl z ↦ let no : Some l ≡ None = z.1 in absurd (cc)
+            | inr z ↦ subst (x.After start x.end (x.tree u) none) (last z.2.count z.0 z.2.says) z.1
+          ]
         where
           last : (n : ℕ) (m : M) → Says (Some l) n x.end m → m ≡ l
           last zero m z = let same : Some l ≡ Some m = z.1 in cc
           last (suc n) m z = absurd (omega (arith, z.0))
-
-          by : Told (Some l) start x.end (x.tree u) none → x.After start x.end (x.tree u) none l
-          by (inl z) = let no : Some l ≡ None = z.1 in absurd (cc)
-          by (inr z) =
-              subst (x.After start x.end (x.tree u) none) (last z.2.count z.0 z.2.says) z.1
