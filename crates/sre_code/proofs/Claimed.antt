@@ -1,5 +1,5 @@
 -- The prefix of the INFO block, and what is confirmed of the block.
-use Rattle.sre_code.proofs.Terms.{ℕ, ◌+◌, ◌-◌, ◌≡◌, ◌≢◌, ◌<◌, ◌≤◌, Bool, true, false, cond, nat_eq, List, ◌∷◌, length}
+use Rattle.sre_code.proofs.Terms.{cases_lt, le-ltb, inl, inr, ℕ, ◌+◌, ◌-◌, ◌≡◌, ◌≢◌, ◌<◌, ◌≤◌, Bool, true, false, cond, nat_eq, List, ◌∷◌, length}
 use Rattle.sre_code.proofs.Terms.{Option, Some, None, slice_index, take, drop, refl, sym, ◌∙◌, ap, subst, arith}
 use Rattle.sre_code.proofs.Terms.{nat_tests, SreOpcode, Tree, Empty, Then, One, Mark, Literal, Plain, role, is_end}
 use Rattle.sre_code.proofs.Terms.{Word, word, Opcode, Reads, ReadsItem, behind_marks, behind_adjacent, behind_spread}
@@ -151,23 +151,27 @@ module _ (ws : List ℕ) (ends : Ends ws) (i p : ℕ) (all : Tree → Option Tre
   adjacent_first : behind_adjacent (drop n vs) ≡ behind_adjacent (slice_index vs n ∷ drop (n + 1) vs)
   adjacent_first = at_drop_more behind_adjacent vs n 0 lt
 
+  -- a literal more, by what is left of the tree at q
+  literal_more : (left : List ℕ → Tree → Option Tree) (q : ℕ)
+      → ((v : ℕ) (us : List ℕ) (t : Tree)
+      → left (v ∷ us) (Then (One (Literal Plain v)) t) ≡ cond (nat_eq v v) (left us t) None)
+      → ((t : Tree) → Reads ws i (length ws - 1) t → (u : Tree)
+      × (all t ≡ left (slice_index vs n ∷ drop (n + 1) vs) u) × Reads ws q (length ws - 1) u)
+      → IsLiteralAt ws q (slice_index vs n) → SameLeft ws i (q + 2) all (left (drop (n + 1) vs))
+  literal_more left q step s l = record {
+    each = λ t r.
+        let v : ℕ = slice_index vs n in
+        let us : List ℕ = drop (n + 1) vs in
+        let f = s t r in
+        let g = literal_tree ws q (length ws - 1) v opcode.SUCCESS f.0 ends refl l f.2 in
+        let passed = step v us g.0 ∙ ap (λ b. cond b (left us g.0) None) (same_value v) in
+        (g.0, f.1 ∙ ap (left (v ∷ us)) g.1 ∙ passed, g.2);
+  }
+
   pub adjacent_more : SameLeft ws i p all (behind_adjacent (drop n vs)) → IsLiteralAt ws p (slice_index vs n)
       → SameLeft ws i (p + 2) all (behind_adjacent (drop (n + 1) vs))
-  adjacent_more s l = record {
-    each = λ t r.
-        let f = s.each t r in
-        let g =
-        literal_tree ws p (length ws - 1) (slice_index vs n) opcode.SUCCESS f.0 ends refl l f.2 in
-        let step : behind_adjacent (slice_index vs n ∷ drop (n + 1) vs)
-        (Then (One (Literal Plain (slice_index vs n))) g.0)
-        ≡ behind_adjacent (drop (n + 1) vs) g.0 =
-        ap (λ b. cond b (behind_adjacent (drop (n + 1) vs) g.0) None) (same_value (slice_index vs n)) in (
-          g.0,
-          f.1 ∙ ap (λ q. q f.0) adjacent_first
-              ∙ ap (behind_adjacent (slice_index vs n ∷ drop (n + 1) vs)) g.1 ∙ step,
-          g.2,
-        );
-  }
+  adjacent_more s = literal_more behind_adjacent p (λ v us t. refl)
+      (λ t r. let f = s.each t r in (f.0, f.1 ∙ ap (λ q. q f.0) adjacent_first, f.2))
 
   pub adjacent_stops : SameLeft ws i p all (behind_adjacent (drop n vs)) → ¬ (IsLiteralAt ws p (slice_index vs n))
       → NoneLeft ws i all
@@ -183,22 +187,12 @@ module _ (ws : List ℕ) (ends : Ends ws) (i p : ℕ) (all : Tree → Option Tre
 
   pub spread_more : (q : ℕ) → SameLeft ws i p all (behind_spread (drop n vs)) → MarksPassed ws p q
       → IsLiteralAt ws q (slice_index vs n) → SameLeft ws i (q + 2) all (behind_spread (drop (n + 1) vs))
-  spread_more q s m l = record {
-    each = λ t r.
-        let f = s.each t r in
-        let there = m.each (length ws - 1) f.0 opcode.SUCCESS f.2 ends refl in
-        let g =
-        literal_tree ws q (length ws - 1) (slice_index vs n) opcode.SUCCESS (behind_marks f.0) ends refl l there in
-        let step : behind_spread (slice_index vs n ∷ drop (n + 1) vs)
-        (Then (One (Literal Plain (slice_index vs n))) g.0)
-        ≡ behind_spread (drop (n + 1) vs) g.0 =
-        ap (λ b. cond b (behind_spread (drop (n + 1) vs) g.0) None) (same_value (slice_index vs n)) in (
-          g.0,
-          f.1 ∙ ap (λ h. h f.0) spread_first ∙ marks_spread (slice_index vs n) (drop (n + 1) vs) f.0
-              ∙ ap (behind_spread (slice_index vs n ∷ drop (n + 1) vs)) g.1 ∙ step,
-          g.2,
-        );
-  }
+  spread_more q s m = literal_more behind_spread q (λ v us t. refl) (λ t r.
+      let f = s.each t r in (
+        behind_marks f.0,
+        f.1 ∙ ap (λ h. h f.0) spread_first ∙ marks_spread (slice_index vs n) (drop (n + 1) vs) f.0,
+        m.each (length ws - 1) f.0 opcode.SUCCESS f.2 ends refl,
+      ))
 
   pub spread_stops : (q : ℕ) → SameLeft ws i p all (behind_spread (drop n vs)) → MarksPassed ws p q
       → ¬ (IsLiteralAt ws q (slice_index vs n)) → NoneLeft ws i all
@@ -315,14 +309,12 @@ module _ (ws : List ℕ) where
   no_prefix_flag e = not_flagged (flag_clear ws 1 (omega (arith, by_one (word ws 2))))
 
   pub no_prefix_short : (n : ℕ) → HasBlock ws n → n < 9 → has_prefix ws ≡ false
-  no_prefix_short n h lt = by_test (nat_lt 0 (prefix_length ws)) refl
-    where
-      by_test : (b : Bool) → nat_lt 0 (prefix_length ws) ≡ b → has_prefix ws ≡ false
-      by_test false e = not_some e
-      by_test true e =
-          let l : 0 < prefix_length ws = grind (arith, nat_tests) in
-          let ne : skip ws 1 ≢ 7 + 2 * prefix_length ws = omega (arith, h.skips) in
-          not_fills (grind (arith, nat_tests))
+  no_prefix_short n h lt = elim (cases_lt 0 (prefix_length ws)) [
+    | inl l ↦
+        let ne : skip ws 1 ≢ 7 + 2 * prefix_length ws = omega (arith, h.skips) in
+        not_fills (grind (arith, nat_tests))
+    | inr m ↦ not_some (le-ltb 0 (prefix_length ws) m)
+  ]
 
   pub no_prefix_skip : prefix_length ws < prefix_skip ws → has_prefix ws ≡ false
   no_prefix_skip lt = not_skips (grind (arith, nat_tests))

@@ -7,14 +7,13 @@ use Rattle.sre_code.proofs.Terms.{ReadsItem, ReadsBranch, ReadsSet, WholeItems, 
 use Rattle.sre_code.proofs.Terms.{behind_marks, HasFirstSet, has_flag, word_at, word_of, word_within, same_opcode}
 use Rattle.sre_code.proofs.Terms.{opcode_moved, opcode_within, set_within, alternative_long, is_branch, role_here}
 use Rattle.sre_code.proofs.Terms.{HasBlock, NoCode, IsSet, NoSet, Ends, MarksPassed}
-use Rattle.sre_chars.specs.declared.constants.SreOpcode.TheVariants as opcode
 use Rattle.sre_model.specs.Standing.{AreWords}
 use Rattle.sre_model.specs.Claims.{TestIn, EachTestIn, FirstIn}
 use Rattle.sre_model.proofs.Words.{word_moved}
 use Rattle.sre_model.proofs.SetWords.{same_words_set, same_set_words}
 use Rattle.sre_code.specs.FirstSets.{Tells, TellsEach}
-use Rattle.sre_code.proofs.Claimed.{literal_tree, not_at_end}
-use Rattle.sre_code.proofs.Claimed.{flag_set, flag_clear, by_one}
+use Rattle.sre_code.proofs.Claimed.{literal_tree, not_at_end, flag_set, flag_clear, by_one}
+use Rattle.sre_chars.specs.declared.constants.SreOpcode.TheVariants as opcode
 
 -- nothing holds
 refuted : {P : Type 0} → (P → ⊥) → Decides false P

@@ -3,8 +3,8 @@ use Rattle.sre_code.proofs.Terms.{◌≡◌, ℕ, ◌+◌, ◌-◌, ◌*◌, ◌
 use Rattle.sre_code.proofs.Terms.{if◌then◌else◌, nat_eq, nat_lt, List, slice_index, bit_and, bit_or, refl, ap, sym, ◌∙◌}
 use Rattle.sre_code.proofs.Terms.{inl, inr, arith, bit_at, cases_lt, lt-ltb, le-ltb, nat_tests, AsciiSet, true}
 use Rattle.sre_code.proofs.Terms.{contains}
-use Rattle.std.proofs.Common.{◌≡◌, ℕ, zero, suc, ◌+◌, ◌-◌, ◌*◌, ◌%◌, ◌^◌, ◌<◌, true, false, not, ◌&&◌, ◌||◌}
-use Rattle.std.proofs.Common.{if◌then◌else◌, nat_eq, nat_lt, bit_and, bit_or, refl, ap, ◌∙◌, inl, inr, arith}
+use Rattle.std.proofs.Common.{◌≡◌, ℕ, ◌+◌, ◌-◌, ◌*◌, ◌%◌, ◌^◌, ◌<◌, true, false, not, ◌&&◌, ◌||◌, if◌then◌else◌, nat_eq}
+use Rattle.std.proofs.Common.{nat_lt, bit_and, bit_or, refl, ap, ◌∙◌, inl, inr, arith}
 use Rattle.std.specs.Int.{bit_at, w64}
 use Rattle.std.proofs.lemmas.Bool.{cases_eq, cases_lt, eq-eqb, ne_eqb, lt-ltb, le-ltb, agree_below, agree_below_at}
 use Rattle.std.proofs.lemmas.Nat.{one_shl, or_comm, or_shifted, shl_whole}
@@ -16,27 +16,13 @@ use Rattle.sre_code.specs.AsciiSet.{contains}
 -- Whether one bit of a word is set.
 
 either_bit : (x y : ℕ) → x < 2 → y < 2 → nat_eq (max x y) 1 ≡ (nat_eq x 1 || nat_eq y 1)
-either_bit zero zero h k = refl
-either_bit zero (suc zero) h k = refl
-either_bit zero (suc (suc y)) h k = absurd (omega arith)
-either_bit (suc zero) zero h k = refl
-either_bit (suc zero) (suc zero) h k = refl
-either_bit (suc zero) (suc (suc y)) h k = absurd (omega arith)
-either_bit (suc (suc x)) y h k = absurd (omega arith)
+either_bit x y h k = grind (arith, nat_tests)
 
 first_bit_alone : (x y : ℕ) → x < 2 → y < 2 → nat_eq (min x (1 - y)) 1 ≡ (nat_eq x 1 && not (nat_eq y 1))
-first_bit_alone zero zero h k = refl
-first_bit_alone zero (suc zero) h k = refl
-first_bit_alone zero (suc (suc y)) h k = absurd (omega arith)
-first_bit_alone (suc zero) zero h k = refl
-first_bit_alone (suc zero) (suc zero) h k = refl
-first_bit_alone (suc zero) (suc (suc y)) h k = absurd (omega arith)
-first_bit_alone (suc (suc x)) y h k = absurd (omega arith)
+first_bit_alone x y h k = grind (arith, nat_tests)
 
 other_bit : (x : ℕ) → x < 2 → nat_eq (1 - x) 1 ≡ not (nat_eq x 1)
-other_bit zero h = refl
-other_bit (suc zero) h = refl
-other_bit (suc (suc x)) h = absurd (omega arith)
+other_bit x h = grind (arith, nat_tests)
 
 -- `a | b`
 pub set_in_either : (a b k : ℕ) → nat_eq (bit_at (bit_or a b) k) 1 ≡ (nat_eq (bit_at a k) 1 || nat_eq (bit_at b k) 1)

@@ -5,20 +5,18 @@ use Rattle.sre_code.proofs.Terms.{Tree, Empty, Then, Branch, Trees, Only, Or, Sr
 use Rattle.sre_code.proofs.Terms.{Reads, ReadsBranch, role, of_item, of_branch, refers, by_references, nesting}
 use Rattle.sre_code.proofs.Terms.{loop_slots, steps_of, item_steps, cost_of, item_cost, most_steps, reads_within}
 use Rattle.sre_code.proofs.Terms.{operands_past, alternative_long, word_of, word_within, same_opcode, steps_at, cost_at}
-use Rattle.sre_code.proofs.Terms.{IsPrice, IsHeld, AreHeld, joined, straight_price, closed_price, scope_price}
-use Rattle.sre_code.proofs.Terms.{loop_price, possessive_price, TreePriced, BodyPriced, ItemPriced, kind_of, PricedBy}
-use Rattle.sre_code.proofs.Terms.{PricedAt, Price, Prices, PricedItem, Kind}
+use Rattle.sre_code.proofs.Terms.{IsPrice, IsHeld, AreHeld, joined, straight_price, closed_price, loop_price}
+use Rattle.sre_code.proofs.Terms.{possessive_price, TreePriced, BodyPriced, ItemPriced, kind_of, PricedBy, PricedAt}
+use Rattle.sre_code.proofs.Terms.{Price, Prices, PricedItem, Kind}
 use Rattle.std.proofs.lemmas.List.{get_or_past}
 use Rattle.std.proofs.Math.Nat.{le-max_left}
 use Rattle.sre_model.specs.Nesting.{by_nesting}
 use Rattle.sre_model.specs.TreePrices.{branch_steps, branch_cost}
-use Rattle.sre_code.specs.Prices.{passed}
-use Rattle.sre_code.specs.Prices.{with_alternative, ArePriced, InsidePriced}
-use Rattle.sre_code.specs.Prices.{LoopPriced, PossessivePriced, ScopePriced, BranchPriced}
-use Rattle.sre_code.proofs.PricedItems.{held_same}
+use Rattle.sre_code.specs.Prices.{passed, with_alternative, ArePriced, InsidePriced, LoopPriced, PossessivePriced}
+use Rattle.sre_code.specs.Prices.{BranchPriced}
+use Rattle.sre_code.proofs.PricedItems.{held_same, joined_steps, joined_cost, loop_priced, possessive_priced}
+use Rattle.sre_code.proofs.PricedItems.{held_straight, item_priced}
 use Rattle.sre_code.proofs.ScanningLoops.{same_slots}
-use Rattle.sre_code.proofs.PricedItems.{joined_steps, joined_cost, scope_priced, loop_priced, possessive_priced}
-use Rattle.sre_code.proofs.PricedItems.{held_straight, held_closed, item_priced}
 
 -- items of which some are passed, whose prices are these; the tree of the rest
 pub record Left (e : ℕ) (ws : List ℕ) (i j : ℕ) (t : Tree) (p : Prices) (rest : Tree) : Type 0 where

@@ -3,16 +3,16 @@ use Rattle.sre_code.proofs.Terms.{ℕ, ◌+◌, ◌-◌, ◌*◌, ◌/◌, ◌^�
 use Rattle.sre_code.proofs.Terms.{arith, nat_le, mul-le-mul_left, nat_tests, room_by, Held, Bool, true, false, ◌&&◌}
 use Rattle.sre_code.proofs.Terms.{cond, refl, Tree, Item, Fail, Loop, Run, PossessiveLoop, Atomic, Order, Test, RunKind}
 use Rattle.sre_code.proofs.Terms.{loop_slots, steps_of, item_steps, cost_of, item_cost, steps_at, cost_at, IsPrice}
-use Rattle.sre_code.proofs.Terms.{IsItemPrice, joined, straight_price, closed_price, run_price, scope_price, loop_price}
+use Rattle.sre_code.proofs.Terms.{IsItemPrice, joined, straight_price, closed_price, run_price, loop_price}
 use Rattle.sre_code.proofs.Terms.{possessive_price, Price, List, Option, Some, None, subst, true≢false, One, At, Mark}
 use Rattle.sre_code.proofs.Terms.{Branch, Look, Sign, GreedyRun, LazyRun, PossessiveRun, Operands, ReadsItem, Role}
-use Rattle.sre_code.proofs.Terms.{of_item, refers, by_references, HasRole, item_here, test_here, own_words, Behind}
-use Rattle.sre_code.proofs.Terms.{IsHeld, ItemPriced, kind_of, PricedBy, PricedAt, PricedItem, Kind}
+use Rattle.sre_code.proofs.Terms.{of_item, refers, by_references, HasRole, item_here, own_words, Behind, IsHeld}
+use Rattle.sre_code.proofs.Terms.{ItemPriced, kind_of, PricedBy, PricedAt, PricedItem}
 use Rattle.std.proofs.Math.Nat.{mul-le-mul_right}
 use Rattle.sre_model.specs.TreePrices.{scan_price}
 use Rattle.sre_code.specs.Prices.{run_ends, StraightPriced, RunPriced}
+use Rattle.sre_model.proofs.Families.{item_role}
 use Rattle.sre_code.proofs.Walking.{role_behind, one_behind}
-use Rattle.sre_code.specs.declared.code.prices.Kind.TheVariants as kind
 
 -- Numbers that saturate at 64 bits, and what they come to.
 
@@ -143,12 +143,6 @@ pub run_priced : (e low high : ℕ) (kind : RunKind) (t : Test) (n m : ℕ)
 run_priced e low high kind t n m is = record { steps = λ b. refl; cost = λ s b. omega (arith, is s b) }
 
 module _ (e : ℕ) (body : Tree) (x : Price) (is : IsPrice e body x) where
-  pub scope_priced : IsItemPrice e (Atomic body) (scope_price x)
-  scope_priced = record {
-    steps = λ b. omega (arith, is.steps 2);
-    cost = λ s b. omega (arith, is.cost 1 2);
-  }
-
   pub loop_priced : (o : Order) (low high : ℕ)
       → IsItemPrice e (Loop o low high body) (loop_price (loop_slots low high) x)
   loop_priced o low high = record {
@@ -193,11 +187,6 @@ held_closed c k a x y z cost each apart =
 
 module _ (e depth : ℕ) (ws : List ℕ) where
   module _ (i : ℕ) where
-    by_role : (o : Role) (k : Kind) (r : Option PricedItem) → HasRole ws i o → kind_of o ≡ k
-        → PricedAt e depth ws i r → PricedBy k e depth ws i r
-    by_role o k r h is told =
-        subst (λ z. PricedBy z e depth ws i r) (ap kind_of h.begins ∙ is) (told.by h.code h.there)
-
     -- an item of one step
     straight : (x : Item) (j : ℕ) (r : Option PricedItem) → Behind ws i j → ((b : ℕ) → item_steps x b ≡ 1 + b)
         → ((s b : ℕ) → item_cost e s x b ≡ 0) → StraightPriced ws i r → ItemPriced e depth x j r
@@ -244,43 +233,33 @@ module _ (e depth : ℕ) (ws : List ℕ) where
     referring : (r : Option PricedItem) (x : Item) (j : ℕ) → true ≡ false → ItemPriced e depth x j r
     referring r x j refers = absurd (true≢false refers)
 
+    priced : (x : Item) (j : ℕ) (r : Option PricedItem) → ReadsItem ws i j x → of_item by_references x ≡ false
+        → PricedBy (kind_of (item_role x)) e depth ws i r → ItemPriced e depth x j r
+    priced Fail j r w plain told =
+        just Fail j (closed_price 0 0 0) r (fail_price e)
+        (held_closed 0 0 0 0 0 0 (held_same 0 (omega arith)) (held_same 0 (omega arith)) (held_same 0 (omega arith)))
+        (told.is ∙ ap (λ k. Some (record { behind = k; price = closed_price 0 0 0 })) (sym w.1))
+    priced (One t) j r w plain told =
+        straight (One t) j r (record { one = inl (t, w) }) (λ b. refl) (λ s b. refl) told
+    priced (At a) j r w plain told =
+        straight (At a) j r (two_words j _ (item_here ws i j (At a) w) refl w.1.1) (λ b. refl) (λ s b. refl) told
+    priced (Mark n) j r w plain told =
+        straight (Mark n) j r (two_words j _ (item_here ws i j (Mark n) w) refl w.1.1) (λ b. refl) (λ s b. refl) told
+    priced (Branch ts) j r w plain told = told.each ts j w.1 plain
+    priced (Loop o low high body) j r w plain told = told.each o low high body j w.1 plain
+    priced (Run GreedyRun low high t) j r w plain told = repeat low high j GreedyRun t false r w.1 told (λ s b. refl)
+    priced (Run LazyRun low high t) j r w plain told = repeat low high j LazyRun t false r w.1 told (λ s b. refl)
+    priced (Run PossessiveRun low high t) j r w plain told =
+        repeat low high j PossessiveRun t true r w.1 told (λ s b. omega arith)
+    priced (PossessiveLoop low high body) j r w plain told = told.each low high body j w.1 plain
+    priced (Atomic body) j r w plain told = told.each body j w.1.0 w.1.1 plain
+    priced (Look sign back body) j r w plain told = look sign back body j r (told.each body j w.1.0 w.1.2 plain)
+    priced x j r w plain told = referring r x j plain
+
     -- what is told of an instruction is told of the item that it begins
     pub item_priced : (x : Item) (j : ℕ) (r : Option PricedItem) → ReadsItem ws i j x
         → of_item by_references x ≡ false → PricedAt e depth ws i r → ItemPriced e depth x j r
-    item_priced Fail j r w plain told =
-        just Fail j (closed_price 0 0 0) r (fail_price e)
-        (held_closed 0 0 0 0 0 0 (held_same 0 (omega arith)) (held_same 0 (omega arith)) (held_same 0 (omega arith)))
-        ((by_role _ kind.Fail r (item_here ws i j Fail w) refl told).is
-        ∙ ap (λ k. Some (record { behind = k; price = closed_price 0 0 0 })) (sym w.1))
-    item_priced (One t) j r w plain told =
-        straight (One t) j r (record { one = inl (t, w) }) (λ b. refl)
-        (λ s b. refl) (by_role _ kind.Other r (test_here ws i t w.0) refl told)
-    item_priced (At a) j r w plain told =
-        straight (At a) j r (two_words j _ (item_here ws i j (At a) w) refl w.1.1) (λ b. refl) (λ s b. refl)
-        (by_role _ kind.Other r (item_here ws i j (At a) w) refl told)
-    item_priced (Mark n) j r w plain told =
-        straight (Mark n) j r (two_words j _ (item_here ws i j (Mark n) w) refl w.1.1) (λ b. refl) (λ s b. refl)
-        (by_role _ kind.Other r (item_here ws i j (Mark n) w) refl told)
-    item_priced (Branch ts) j r w plain told =
-        (by_role _ kind.Branch r (item_here ws i j (Branch ts) w) refl told).each ts j w.1 plain
-    item_priced (Loop o low high body) j r w plain told =
-        (by_role _ kind.Loop r (item_here ws i j (Loop o low high body) w) refl told).each o low high body j w.1 plain
-    item_priced (Run GreedyRun low high t) j r w plain told =
-        repeat low high j GreedyRun t false r w.1
-        (by_role _ kind.Run r (item_here ws i j (Run GreedyRun low high t) w) refl told) (λ s b. refl)
-    item_priced (Run LazyRun low high t) j r w plain told =
-        repeat low high j LazyRun t false r w.1
-        (by_role _ kind.Run r (item_here ws i j (Run LazyRun low high t) w) refl told) (λ s b. refl)
-    item_priced (Run PossessiveRun low high t) j r w plain told =
-        repeat low high j PossessiveRun t true r w.1
-        (by_role _ kind.PossessiveRun r (item_here ws i j (Run PossessiveRun low high t) w) refl told)
-        (λ s b. omega arith)
-    item_priced (PossessiveLoop low high body) j r w plain told =
-        (by_role _ kind.PossessiveLoop r (item_here ws i j (PossessiveLoop low high body) w) refl told).each low high
-        body j w.1 plain
-    item_priced (Atomic body) j r w plain told =
-        (by_role _ kind.AtomicGroup r (item_here ws i j (Atomic body) w) refl told).each body j w.1.0 w.1.1 plain
-    item_priced (Look sign back body) j r w plain told =
-        look sign back body j r
-        ((by_role _ kind.Look r (item_here ws i j (Look sign back body) w) refl told).each body j w.1.0 w.1.2 plain)
-    item_priced x j r w plain told = referring r x j plain
+    item_priced x j r w plain told =
+        let h = item_here ws i j x w in
+        priced x j r w plain
+        (subst (λ z. PricedBy z e depth ws i r) (ap kind_of h.begins) (told.by h.code h.there))

@@ -10,6 +10,7 @@ use Rattle.sre_model.specs.Tree.{Greedy, Lazy}
 use Rattle.sre_code.specs.Steps.{IsUntil, LookAt}
 use Rattle.sre_code.specs.declared.code.step.Part.TheVariants.{Body, Region}
 use Rattle.sre_model.proofs.Families.{is_loop, is_possessive, is_atomic, is_look, look_role}
+use Rattle.sre_code.proofs.ReadBranches.{unclosed}
 use Rattle.sre_code.proofs.ReadItems.{fail_exactly, only_tests, no_opcode, info_nowhere, folded_at, greedy_there}
 use Rattle.sre_code.proofs.ReadItems.{lazy_there, possessive_there}
 use Rattle.sre_chars.specs.declared.constants.SreOpcode.TheVariants as opcode
@@ -116,19 +117,13 @@ no_until ws i o h max_ min_ Lazy w = min_ (same_opcode ws i o opcode.MIN_UNTIL h
 
 pub body_open : (ws : List ℕ) (end least i u : ℕ) (o : SreOpcode) (e : CodeError) → i ≡ end → Opcode ws i o
     → o ≢ opcode.MAX_UNTIL → o ≢ opcode.MIN_UNTIL → IsFault ws e → Unclosed ws (Body end least) i u e
-body_open ws end least i u o e same h max_ min_ le = record {
-  end = body_end ws end least i same;
-  nowhere = record { none = λ j w c. no_until ws i o h max_ min_ c.1.0 c.1.1 };
-  fault = le;
-}
+body_open ws end least i u o e same h max_ min_ le =
+    unclosed (body_end ws end least i same) (λ j w c. no_until ws i o h max_ min_ c.1.0 c.1.1) le
 
 pub body_cut : (ws : List ℕ) (end least i u : ℕ) (e : CodeError) → i ≡ end → NoCode opcode_number ws i → IsFault ws e
     → Unclosed ws (Body end least) i u e
-body_cut ws end least i u e same n le = record {
-  end = body_end ws end least i same;
-  nowhere = record { none = λ j w c. n.none (until_opcode c.1.0) c.1.1 };
-  fault = le;
-}
+body_cut ws end least i u e same n le =
+    unclosed (body_end ws end least i same) (λ j w c. n.none (until_opcode c.1.0) c.1.1) le
 
 -- what `repeat` answers
 pub ruleset repeat_laws = (loop_exactly, loop_cut, loop_counts)
@@ -156,19 +151,13 @@ region_closed ws end least i u v same h e = (
 
 pub region_open : (ws : List ℕ) (end least i u : ℕ) (o : SreOpcode) (e : CodeError) → i ≡ end → Opcode ws i o
     → o ≢ opcode.SUCCESS → IsFault ws e → Unclosed ws (Region end least) i u e
-region_open ws end least i u o e same h other le = record {
-  end = region_end ws end least i same;
-  nowhere = record { none = λ j w c. other (same_opcode ws i o opcode.SUCCESS h c.1) };
-  fault = le;
-}
+region_open ws end least i u o e same h other le =
+    unclosed (region_end ws end least i same) (λ j w c. other (same_opcode ws i o opcode.SUCCESS h c.1)) le
 
 pub region_cut : (ws : List ℕ) (end least i u : ℕ) (e : CodeError) → i ≡ end → NoCode opcode_number ws i
     → IsFault ws e → Unclosed ws (Region end least) i u e
-region_cut ws end least i u e same n le = record {
-  end = region_end ws end least i same;
-  nowhere = record { none = λ j w c. n.none opcode.SUCCESS c.1 };
-  fault = le;
-}
+region_cut ws end least i u e same n le =
+    unclosed (region_end ws end least i same) (λ j w c. n.none opcode.SUCCESS c.1) le
 
 -- POSSESSIVE_REPEAT
 abbrev IsSuccess : List ℕ → ℕ → Type 0

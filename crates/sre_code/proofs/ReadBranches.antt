@@ -1,5 +1,5 @@
 -- Ends of parts, branches and conditionals: what the check reads of them is what the grammar says.
-use Rattle.sre_code.proofs.Terms.{ℕ, ◌+◌, ◌≡◌, ◌≢◌, false, List, length, refl, arith, opcode_number, SreOpcode, Tree}
+use Rattle.sre_code.proofs.Terms.{Part, ℕ, ◌+◌, ◌≡◌, ◌≢◌, false, List, length, refl, arith, opcode_number, SreOpcode, Tree}
 use Rattle.sre_code.proofs.Terms.{Empty, Then, Opcode, item_opcode, Reads, IsFault, NoCode, Closes, Unclosed, Exactly}
 use Rattle.sre_code.proofs.Terms.{IsEnd, IsInside, CodeError, Past, same_opcode, opcode_within, role, no_item, ◌-◌, ◌<◌}
 use Rattle.sre_code.proofs.Terms.{◌≤◌, min, Result, Ok, Err, sym, ◌∙◌, ap, subst, inl, inr, Branch, Trees, Only, Or}
@@ -17,6 +17,11 @@ use Rattle.sre_model.proofs.Widths.{least_held}
 use Rattle.sre_chars.specs.declared.constants.SreOpcode.TheVariants as opcode
 
 -- What closes parts is what the grammar says.
+
+-- a part that ends here, and that nothing closes
+pub unclosed : {ws : List ℕ} {part : Part} {i u : ℕ} {e : CodeError} → IsEnd ws part i
+    → ((j w : ℕ) → Closes ws part i u j w → ⊥) → IsFault ws e → Unclosed ws part i u e
+unclosed end none fault = record { end = end; nowhere = record { none = none }; fault = fault }
 
 -- SUCCESS as the last word
 pub whole_inside : (ws : List ℕ) (i : ℕ) (o : SreOpcode) → Opcode ws i o → o ≢ opcode.SUCCESS → IsInside ws Whole i
@@ -37,11 +42,9 @@ whole_exactly ws u i h last = record { sound = λ j w r. (h, last, r.0, r.1); co
 
 pub whole_trails : (ws : List ℕ) (u i : ℕ) → Opcode ws i opcode.SUCCESS → i + 1 ≢ length ws
     → Unclosed ws Whole i u (TrailingWords (i + 1))
-whole_trails ws u i h ne = record {
-  end = whole_end ws i h;
-  nowhere = record { none = λ j w c. ne c.1 };
-  fault = (omega (arith, opcode_within ws i opcode.SUCCESS h), λ e. absurd (cc));
-}
+whole_trails ws u i h ne =
+    unclosed (whole_end ws i h) (λ j w c. ne c.1)
+    (omega (arith, opcode_within ws i opcode.SUCCESS h), λ e. absurd (cc))
 
 -- where no opcode is, no item begins and nothing is closed
 pub no_first : (ws : List ℕ) (i k : ℕ) (t : Tree) → NoCode opcode_number ws i → Reads ws i k t → t ≡ Empty
@@ -50,11 +53,8 @@ no_first ws i k (Then x t) n r = absurd (n.none (item_opcode x) r.1.0)
 
 pub whole_cut : (ws : List ℕ) (u i : ℕ) (e : CodeError) → NoCode opcode_number ws i → IsFault ws e
     → Unclosed ws Whole i u e
-whole_cut ws u i e n le = record {
-  end = record { only = λ k v j w t r c. no_first ws i k t n r };
-  nowhere = record { none = λ j w c. n.none opcode.SUCCESS c.0 };
-  fault = le;
-}
+whole_cut ws u i e n le =
+    unclosed (record { only = λ k v j w t r c. no_first ws i k t n r }) (λ j w c. n.none opcode.SUCCESS c.0) le
 
 -- what `whole` answers
 pub ruleset whole_laws = (whole_inside, whole_end, whole_exactly, whole_trails, whole_cut)
@@ -381,13 +381,9 @@ tail_exactly ws tail i u same = record {
 
 pub there_cut : (ws : List ℕ) (tail i u : ℕ) (e : CodeError) → i ≢ tail → NoCode opcode_number ws i → IsFault ws e
     → Unclosed ws (There tail) i u e
-there_cut ws tail i u e ne n le = record {
-  end = record { only = λ k v j w t r c. no_first ws i k t n r };
-  nowhere = record {
-    none = λ j w c. by_end ws tail i u j w c (λ a. ne a.0) (λ b. n.none opcode.JUMP b.1.0);
-  };
-  fault = le;
-}
+there_cut ws tail i u e ne n le =
+    unclosed (record { only = λ k v j w t r c. no_first ws i k t n r })
+    (λ j w c. by_end ws tail i u j w c (λ a. ne a.0) (λ b. n.none opcode.JUMP b.1.0)) le
 
 pub jump_end : (ws : List ℕ) (tail i : ℕ) → Opcode ws i opcode.JUMP → IsEnd ws (There tail) i
 jump_end ws tail i h = record { only = λ k u j w t r c. none_first opcode.JUMP refl ws i k t h r }

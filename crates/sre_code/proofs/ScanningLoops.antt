@@ -12,11 +12,10 @@ use Rattle.std.proofs.Math.Nat.{div-mul-le_self}
 use Rattle.sre_model.specs.Slots.{by_slots}
 use Rattle.sre_code.specs.SlotScans.{LoopTold, OtherTold, kind_of, ToldBy}
 use Rattle.sre_code.specs.declared.code.slots.Kind.{Kind}
-use Rattle.sre_code.specs.declared.code.slots.Kind.TheVariants as kind
 use Rattle.sre_code.specs.declared.code.slots.Passed.{Passed}
-use Rattle.sre_code.proofs.Walking.{role_behind, one_behind, none_behind}
+use Rattle.sre_code.proofs.Walking.{role_behind, one_behind, none_behind, Scanner, Instructions, Silent, Onto}
+use Rattle.sre_code.specs.declared.code.slots.Kind.TheVariants as kind
 use Rattle.sre_code.proofs.Walking as walk
-use Rattle.sre_code.proofs.Walking.{Scanner, Instructions, Silent, Onto}
 
 -- one slot is there at least
 pub some_slots : (t : Tree) → 1 ≤ most_slots t

@@ -9,14 +9,12 @@ use Rattle.sre_code.proofs.Terms.{test_here, test_past, same_opcode, word_of, ow
 use Rattle.sre_code.proofs.Terms.{Summary}
 use Rattle.std.proofs.Math.Bool.{or-true, or-false, or_assoc}
 use Rattle.std.proofs.lemmas.Bool.{or_right}
-use Rattle.sre_model.specs.References.{no_group, asked_from, by_groups}
-use Rattle.sre_model.specs.References.{by_last_groups}
+use Rattle.sre_model.specs.References.{no_group, asked_from, by_groups, by_last_groups}
 use Rattle.sre_model.specs.LooksBehind.{by_backs, by_longest}
 use Rattle.sre_model.specs.Regions.{forks, by_forks, has_forked_region, by_forked_regions}
 use Rattle.sre_code.specs.Summaries.{forking, noted}
-use Rattle.sre_code.proofs.Walking.{behind_test, behind_role, role_behind, none_behind}
+use Rattle.sre_code.proofs.Walking.{behind_test, behind_role, role_behind, none_behind, Scanner, Instructions, Onto}
 use Rattle.sre_code.proofs.Walking as walk
-use Rattle.sre_code.proofs.Walking.{Scanner, Instructions, Onto}
 
 -- what a part of a tree has
 record Values : Type 0 where

@@ -48,7 +48,7 @@ pub use Rattle.sre_code.specs.Instructions.{Behind, NoneBehind, own_words}
 pub use Rattle.sre_code.specs.Prefixes.{Ends, LeftAt, LeftBehind, MarksPassed, NoneLeft}
 pub use Rattle.sre_code.specs.Prices.{AreHeld, BodyPriced, IsHeld, IsItemPrice, IsPrice, ItemPriced, PricedAt, PricedBy}
 pub use Rattle.sre_code.specs.Prices.{TreePriced, closed_price, cost_at, joined, kind_of, loop_price, possessive_price}
-pub use Rattle.sre_code.specs.Prices.{run_price, scope_price, steps_at, straight_price}
+pub use Rattle.sre_code.specs.Prices.{run_price, steps_at, straight_price}
 pub use Rattle.sre_code.specs.Reading.{FoldedAt, IsFault, IsSet, NoCode, NoSet, NoTest, ReadsTest, SameSets}
 pub use Rattle.sre_code.specs.Reading.{TestExactly}
 pub use Rattle.sre_code.specs.Saturating.{Held}

@@ -1,12 +1,12 @@
 -- Instructions one behind the other, and scans over them.
-use Rattle.sre_code.proofs.Terms.{ℕ, ◌+◌, ◌≡◌, ◌⊎◌, inl, inr, ⊎_elim, List, Some, None, refl, sym, ap, ◌∙◌}
-use Rattle.sre_code.proofs.Terms.{opcode_number, SreOpcode, Test, Role, ToTest, ToCheckGroup, role, Opcode, test_opcode}
-use Rattle.sre_code.proofs.Terms.{HasRole, same_opcode, test_same, ReadsTest, NoCode, own_words, Behind, NoneBehind}
-use Rattle.sre_code.proofs.Terms.{zero, suc, ◌-◌, ◌<◌, ◌≤◌, Option, subst, arith, SreAtCode, Tree, Empty, Then, Item}
-use Rattle.sre_code.proofs.Terms.{Fail, One, At, Mark, Branch, Loop, Run, PossessiveLoop, Atomic, Look, Reference}
-use Rattle.sre_code.proofs.Terms.{Exists, ExistsElse, Trees, Only, Or, Fold, Order, RunKind, Sign, ToCheckPosition}
-use Rattle.sre_code.proofs.Terms.{ToMark, ToBranch, ToRun, ToRepeat, ToRepeatPossessively, ToGroupAtomically, ToLook}
-use Rattle.sre_code.proofs.Terms.{ToRefer, role_here, item_here, Word, skip, until_opcode, Operands, Reads, ReadsItem}
+use Rattle.sre_code.proofs.Terms.{ℕ, ◌+◌, ◌≡◌, ◌⊎◌, inl, inr, List, Some, None, refl, sym, ap, ◌∙◌, opcode_number}
+use Rattle.sre_code.proofs.Terms.{SreOpcode, Test, Role, ToTest, ToCheckGroup, role, Opcode, test_opcode, HasRole}
+use Rattle.sre_code.proofs.Terms.{same_opcode, test_same, ReadsTest, NoCode, own_words, Behind, NoneBehind, zero, suc}
+use Rattle.sre_code.proofs.Terms.{◌-◌, ◌<◌, ◌≤◌, Option, subst, arith, SreAtCode, Tree, Empty, Then, Item, Fail, One}
+use Rattle.sre_code.proofs.Terms.{At, Mark, Branch, Loop, Run, PossessiveLoop, Atomic, Look, Reference, Exists}
+use Rattle.sre_code.proofs.Terms.{ExistsElse, Trees, Only, Or, Fold, Order, RunKind, Sign, ToCheckPosition, ToMark}
+use Rattle.sre_code.proofs.Terms.{ToBranch, ToRun, ToRepeat, ToRepeatPossessively, ToGroupAtomically, ToLook, ToRefer}
+use Rattle.sre_code.proofs.Terms.{role_here, item_here, Word, skip, until_opcode, Operands, Reads, ReadsItem}
 use Rattle.sre_code.proofs.Terms.{ReadsBranch, test_past, reads_within, operands_past, alternative_long}
 use Rattle.sre_model.proofs.Families.{test_kind, test_role, until_role}
 use Rattle.sre_model.specs.Roles.{ToFail, ToEnd, ToJump, ToLoop}

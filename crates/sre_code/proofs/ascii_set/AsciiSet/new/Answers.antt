@@ -1,6 +1,5 @@
 use Rattle.std.proofs.Common.{false, refl}
-use Rattle.sre_code.proofs.Halves.{set_in_none}
-use Rattle.sre_code.proofs.Halves.{by_halves}
+use Rattle.sre_code.proofs.Halves.{set_in_none, by_halves}
 use Rattle.sre_code.proofs.ascii_set.AsciiSet.new.Goals as goal
 
 pub returns : goal.returns

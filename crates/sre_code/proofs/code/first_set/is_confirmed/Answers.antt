@@ -2,12 +2,10 @@ use Rattle.std.proofs.Common.{arith}
 use Rattle.sre_code.proofs.FirstSets.{no_set_with_prefix, no_set_flag, no_set_room, no_set_failure, first_set_told}
 use Rattle.sre_code.proofs.FirstSets.{set_there}
 use Rattle.sre_code.proofs.AsciiMembers.{told}
-use Rattle.sre_code.proofs.code.first_set.is_confirmed.Goals as goal
 use Rattle.sre_code.proofs.code.first_set.is_confirmed.Goals.{then-words-eq1-via-then-words-eq1}
 use Rattle.sre_code.proofs.code.first_set.is_confirmed.Goals.{then-words-eq1-via-else-words-eq1+then-words-eq0}
-use Rattle.sre_code.proofs.code.first_set.is_confirmed.Goals.{
-  then-words-eq1-via-else-words-eq1+else-words-eq0+then-end-lt6,
-}
+use Rattle.sre_code.proofs.code.first_set.is_confirmed.Goals.{then-words-eq1-via-else-words-eq1+else-words-eq0+then-end-lt6}
+use Rattle.sre_code.proofs.code.first_set.is_confirmed.Goals as goal
 
 pub returns-then-words-eq1 : goal.returns-then-words-eq1
 returns-then-words-eq1 c = λ tree whole.

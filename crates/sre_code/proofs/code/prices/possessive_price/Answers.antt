@@ -1,6 +1,5 @@
 use Rattle.sre_code.proofs.Terms.{arith, sym, subst, IsHeld, possessive_price}
-use Rattle.sre_code.proofs.PricedItems.{held_same, held_plus, held_times}
-use Rattle.sre_code.proofs.PricedItems.{held_closed}
+use Rattle.sre_code.proofs.PricedItems.{held_same, held_plus, held_times, held_closed}
 use Rattle.sre_code.proofs.code.prices.possessive_price.Goals as goal
 
 pub returns : goal.returns
