@@ -3,14 +3,10 @@ use Rattle.sre_code.proofs.Terms.{ℕ, ◌+◌, ◌≡◌, ◌<◌, Bool, true, 
 use Rattle.sre_code.proofs.Terms.{refl, sym, ◌∙◌, ap, subst, slice_range, arith, Option, Some, None, IfSome, nat_tests}
 use Rattle.sre_code.proofs.Terms.{contains, AsciiSet, category_number, Table, category, SreCatCode, SetItem, Charset}
 use Rattle.sre_code.proofs.Terms.{is_member, Word, Opcode, SetStands, HasSet, single_says, range_says, category_says}
-use Rattle.sre_code.proofs.Terms.{charset_says, AsciiLeft}
-use Rattle.std.proofs.Math.Bool.{and_comm}
-use Rattle.sre_chars.specs.Tables.{is_between}
-use Rattle.sre_chars.specs.declared.constants.SreOpcode.TheVariants as opcode
+use Rattle.sre_code.proofs.Terms.{charset_says, AsciiLeft, and_comm, is_between, ItemSays, negated, nothing_left}
 use Rattle.sre_model.specs.Characters.{item_holds, verdict}
-use Rattle.sre_model.specs.Standing.{ItemSays}
-use Rattle.sre_model.proofs.Members.{negated, nothing_left}
 use Rattle.sre_code.specs.AsciiSets.{HoldsFor, AreTold}
+use Rattle.sre_chars.specs.declared.constants.SreOpcode.TheVariants as opcode
 
 -- an item that says what an ASCII set has
 says_so : (ws : List ℕ) (table : Table) (i c next : ℕ) (says has : Bool) → c < 128 → has ≡ (nat_lt c 128 && says)

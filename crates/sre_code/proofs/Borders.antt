@@ -1,14 +1,11 @@
 -- Borders of fronts: how the next one is found, and that overlap words are border lengths.
-use Rattle.std.proofs.Common.{ℕ, zero, suc, ◌+◌, ◌-◌, ◌≡◌, ◌≢◌, ◌<◌, ◌≤◌, ◌⊎◌, List, [], ◌∷◌, length, slice_index, take}
-use Rattle.std.proofs.Common.{drop, Bool, true, false, cond, nat_eq, ⊎_elim, refl, sym, ◌∙◌, ap, subst, arith}
-use Rattle.std.proofs.Common.{slice_set}
+use Rattle.sre_code.proofs.Terms.{ℕ, zero, suc, ◌+◌, ◌-◌, ◌≡◌, ◌≢◌, ◌<◌, ◌≤◌, ◌⊎◌, List, [], ◌∷◌, length, slice_index}
+use Rattle.sre_code.proofs.Terms.{take, drop, Bool, true, false, cond, nat_eq, ⊎_elim, refl, sym, ◌∙◌, ap, subst, arith}
+use Rattle.sre_code.proofs.Terms.{slice_set, and_parts, nat_tests, Border, Longest, RightUpTo, Right}
 use Rattle.std.proofs.lemmas.List.{get_or-take, get_or-drop, length-take, length-drop, ext_get_or, get_or-set_other}
 use Rattle.std.proofs.lemmas.List.{get_or-set_same}
-use Rattle.std.proofs.lemmas.Bool.{and_parts}
-use Rattle.std.proofs.lemmas.Bool.Decides.{nat_tests}
 use Rattle.std.proofs.lemmas.Slice.Eq.{bytes_eq-Decides}
 use Rattle.sre_model.specs.Claims.{is_border, border_up_to, border_length, are_overlaps}
-use Rattle.sre_code.specs.Borders.{Border, Longest, RightUpTo, Right}
 
 -- a shorter border is a border of a longer one
 shorter : (p : List ℕ) (n k m : ℕ) → Border p n k → Border p n m → m < k → Border p k m
@@ -82,8 +79,7 @@ none_of p n k most ne z (suc m) b =
     let at : k ≡ m = omega (arith, most.most m s.0 s.1) in
     absurd (ne (ap (slice_index p) at ∙ s.1))
 
-pub none_longer : (p : List ℕ) (n k : ℕ) → Most p n k → slice_index p k ≢ slice_index p n → k ≡ 0
-    → Longest p (n + 1) 0
+pub none_longer : (p : List ℕ) (n k : ℕ) → Most p n k → slice_index p k ≢ slice_index p n → k ≡ 0 → Longest p (n + 1) 0
 none_longer p n k most ne z = record {
   border = empty_border p (n + 1) (omega arith);
   most = λ m b. none_of p n k most ne z m b;
@@ -104,9 +100,8 @@ starts p o n lt r =
     subst (λ (x : ℕ). Border p x (slice_index o (n - 1))) (omega arith) (r.each (n - 1) (omega arith)).border
 
 pub starts_most : (p : List ℕ) (o : List ℕ) (n : ℕ) → 0 < n → RightUpTo p o n → Most p n (slice_index o (n - 1))
-starts_most p o n lt r = record {
-  most = λ m b e. (r.each (n - 1) (omega arith)).most m (subst (λ (x : ℕ). Border p x m) (omega arith) b);
-}
+starts_most p o n lt r =
+    record { most = λ m b e. (r.each (n - 1) (omega arith)).most m (subst (λ (x : ℕ). Border p x m) (omega arith) b) }
 
 pub goes_down : (p : List ℕ) (o : List ℕ) (n k : ℕ) → Border p n k → 0 < k → RightUpTo p o n
     → Border p n (slice_index o (k - 1))
@@ -122,8 +117,7 @@ goes_down_most p o n k a most lt ne r = record {
       (r.each (k - 1) (omega (arith, a.below))).most m (subst (λ (x : ℕ). Border p x m) (omega arith) less);
 }
 
-pub falls : (p : List ℕ) (o : List ℕ) (n k : ℕ) → Border p n k → 0 < k → RightUpTo p o n
-    → slice_index o (k - 1) < k
+pub falls : (p : List ℕ) (o : List ℕ) (n k : ℕ) → Border p n k → 0 < k → RightUpTo p o n → slice_index o (k - 1) < k
 falls p o n k a lt r = omega (arith, (r.each (k - 1) (omega (arith, a.below))).border.below)
 
 -- all overlap words

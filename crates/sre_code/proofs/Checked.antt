@@ -1,7 +1,6 @@
 -- The tree of checked bytecode.
 use Rattle.sre_code.proofs.Terms.{ℕ, List, sym, subst, ∥∥₁_map, Table, Tree, Whole, IsCode, WholeItems, Confirmed}
-use Rattle.sre_code.proofs.Terms.{Hints, words_of, kept_tree, whole_same}
-use Rattle.std.proofs.Math.Logic.{∥∥₁_elim}
+use Rattle.sre_code.proofs.Terms.{Hints, words_of, kept_tree, whole_same, ∥∥₁_elim}
 use Rattle.std.proofs.Props.{props}
 use Rattle.sre_code.specs.declared.code.Code.{Code}
 use Rattle.sre_code.specs.Codes.{items_of, uni_of, hints_of}

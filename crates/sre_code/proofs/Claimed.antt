@@ -1,19 +1,17 @@
 -- The prefix of the INFO block, and what is confirmed of the block.
-use Rattle.sre_code.proofs.Terms.{cases_lt, le-ltb, inl, inr, ℕ, ◌+◌, ◌-◌, ◌≡◌, ◌≢◌, ◌<◌, ◌≤◌, Bool, true, false, cond, nat_eq, List, ◌∷◌, length}
-use Rattle.sre_code.proofs.Terms.{Option, Some, None, slice_index, take, drop, refl, sym, ◌∙◌, ap, subst, arith}
-use Rattle.sre_code.proofs.Terms.{nat_tests, SreOpcode, Tree, Empty, Then, One, Mark, Literal, Plain, role, is_end}
-use Rattle.sre_code.proofs.Terms.{Word, word, Opcode, Reads, ReadsItem, behind_marks, behind_adjacent, behind_spread}
-use Rattle.sre_code.proofs.Terms.{behind_literals, word_there, word_at, word_of, word_within, same_opcode, opcode_moved}
-use Rattle.sre_code.proofs.Terms.{reads_moved, item_same, Ends, MarksPassed, LeftAt, NoneLeft, LeftBehind, ◌*◌, ◌/◌}
-use Rattle.sre_code.proofs.Terms.{◌%◌, nat_lt, nat_le, ◌&&◌, slice_range, Decides, Table, skip, WholeItems}
-use Rattle.sre_code.proofs.Terms.{opcode_within, operands_past, reads_within, has_flag, are_overlaps, HasFirstSet}
-use Rattle.sre_code.proofs.Terms.{HasBlock, Confirmed}
+use Rattle.sre_code.proofs.Terms.{cases_lt, le-ltb, inl, inr, ℕ, ◌+◌, ◌-◌, ◌≡◌, ◌≢◌, ◌<◌, ◌≤◌, Bool, true, false, cond}
+use Rattle.sre_code.proofs.Terms.{nat_eq, List, ◌∷◌, length, Option, Some, None, slice_index, take, drop, refl, sym}
+use Rattle.sre_code.proofs.Terms.{◌∙◌, ap, subst, arith, nat_tests, SreOpcode, Tree, Empty, Then, One, Mark, Literal}
+use Rattle.sre_code.proofs.Terms.{Plain, role, is_end, Word, word, Opcode, Reads, ReadsItem, behind_marks}
+use Rattle.sre_code.proofs.Terms.{behind_adjacent, behind_spread, behind_literals, word_there, word_at, word_of}
+use Rattle.sre_code.proofs.Terms.{word_within, same_opcode, opcode_moved, reads_moved, item_same, Ends, MarksPassed}
+use Rattle.sre_code.proofs.Terms.{LeftAt, NoneLeft, LeftBehind, ◌*◌, ◌/◌, ◌%◌, nat_lt, nat_le, ◌&&◌, slice_range}
+use Rattle.sre_code.proofs.Terms.{Decides, Table, skip, WholeItems, opcode_within, operands_past, reads_within}
+use Rattle.sre_code.proofs.Terms.{has_flag, are_overlaps, HasFirstSet, HasBlock, Confirmed, IsLiteralAt, has_block}
 use Rattle.std.proofs.lemmas.List.{at_drop_more, at_drop_all}
 use Rattle.sre_model.specs.Claims.{then_spread, prefix_length, prefix_skip, prefix_words, overlap_words, has_prefix}
 use Rattle.sre_model.specs.Claims.{behind_prefix, is_at_end, confirmed_width, is_literal}
-use Rattle.sre_code.specs.Prefixes.{IsLiteralAt}
 use Rattle.std.specs.Prelude.{is_some}
-use Rattle.sre_model.specs.Grammar.{has_block}
 use Rattle.sre_chars.specs.declared.constants.SreOpcode.TheVariants as opcode
 
 -- What is left of a tree after MARKs and literals, by the code words there.
@@ -355,13 +353,11 @@ pub ruleset prefix_laws =
 -- What is left behind it
 
 pub behind_none : (ws items : List ℕ) → has_prefix ws ≡ false → NoneLeft items 0 (behind_prefix ws)
-behind_none ws items e = record {
-  none = λ t r. ap (λ b. cond b (behind_literals (prefix_skip ws) (prefix_words ws) t) None) e;
-}
+behind_none ws items e =
+    record { none = λ t r. ap (λ b. cond b (behind_literals (prefix_skip ws) (prefix_words ws) t) None) e }
 
 pub behind_some : (ws items prefix : List ℕ) (k : ℕ) (result : Option ℕ) → has_prefix ws ≡ true
-    → prefix ≡ prefix_words ws
-    → k ≡ prefix_skip ws → LeftBehind items 0 (behind_literals k prefix) result
+    → prefix ≡ prefix_words ws → k ≡ prefix_skip ws → LeftBehind items 0 (behind_literals k prefix) result
     → LeftBehind items 0 (behind_prefix ws) result
 behind_some ws items prefix k result e p s =
     go result
@@ -469,9 +465,8 @@ prefix_confirmed ws items table p w l t e left f whole =
       );
     }
 
-pub prefix_refused : (ws items : List ℕ) (table : Table) (w : Option ℕ) (b : Bool) (t : Tree)
-    → w ≡ confirmed_width ws t → NoneLeft items 0 (behind_prefix ws) → Decides b (HasFirstSet ws table t)
-    → WholeItems items t
+pub prefix_refused : (ws items : List ℕ) (table : Table) (w : Option ℕ) (b : Bool) (t : Tree) → w ≡ confirmed_width ws t
+    → NoneLeft items 0 (behind_prefix ws) → Decides b (HasFirstSet ws table t) → WholeItems items t
     → Confirmed ws table t (record { width = w; prefix = None; literal = false; first_set = b })
 prefix_refused ws items table w b t e left d whole =
     let nothing : behind_prefix ws t ≡ None = left.none t whole.0 in record {

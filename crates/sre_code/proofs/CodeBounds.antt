@@ -2,10 +2,9 @@
 use Rattle.sre_code.proofs.Terms.{◌≡◌, ℕ, List, Option, Some, None, IfSome, sym, subst, Tree, WholeItems, Whole}
 use Rattle.sre_code.proofs.Terms.{behind_block, ◌+◌, ◌-◌, ◌*◌, ◌/◌, ◌^◌, ◌≤◌, false, min, max, length, refl, ap, ◌∙◌}
 use Rattle.sre_code.proofs.Terms.{arith, most_slots, cost_of, most_steps, refers, CountedTold, room_by, cost_at}
-use Rattle.sre_code.proofs.Terms.{IsPrice, AreHeld, TreePriced, Prices}
+use Rattle.sre_code.proofs.Terms.{IsPrice, AreHeld, TreePriced, Prices, backs, longest_lookbehind}
 use Rattle.sre_code.specs.MostSlots.{AreMostSlots, HasTooManySlots, SlotsTold}
 use Rattle.sre_model.specs.Found.{Asked}
-use Rattle.sre_model.specs.LooksBehind.{backs, longest_lookbehind}
 use Rattle.sre_model.specs.Remembered.{kept_positions, words_at_place, IsRemembered, sides, step_bound}
 use Rattle.sre_model.proofs.WiderWindows.{IsInside, remembered_inside, bound_inside}
 use Rattle.sre_code.specs.StepBounds.{IsWindow, IsWholeText, IsStepBound, HasNoStepBound, most_nested}
@@ -55,8 +54,7 @@ module _ (places : ℕ) (t : Tree) (n : ℕ) where
   on_whole a w =
       ap (λ i. written t i a.end) w.start ∙ ap (λ j. written t 0 j) w.end ∙ from_start t n
 
-  room_on_whole : (a : Asked) → IsWholeText n a
-      → places * words_at_place t a ≡ room_by places (n + 1) (most_slots t)
+  room_on_whole : (a : Asked) → IsWholeText n a → places * words_at_place t a ≡ room_by places (n + 1) (most_slots t)
   room_on_whole a w =
       let all : kept_positions t a ≡ n + 1 = omega (arith, w.start, w.end) in
       ap (λ f. places * (most_slots t * 2 * f / 64 + 1)) all
@@ -111,13 +109,9 @@ pub bound_told : (ws : List ℕ) (n longest : ℕ) (c : Counted) (p : Prices) (r
     → ((x : Prices) → AreHeld x p → NumberBy (length ws) c.slots (bound_of x c.sides (min longest n) (n + 1)) n r)
     → (refers t ≡ false → longest ≡ longest_lookbehind t) → BoundTold (length ws) t n r
 bound_told ws n longest c p r t told priced number counted =
+    let bound = by_prices t n priced.0 priced.1 priced.2 in
     number_told (length ws) t n r told.0
-    (subst (λ b. NumberBy (length ws) (most_slots t) b n r) (by_prices t n priced.0 priced.1 priced.2)
-    (subst (λ k. NumberBy (length ws) (most_slots t) (bound_of priced.0 (sides t) (min k n) (n + 1)) n r)
-    (counted told.0.no_reference)
-    (subst (λ m. NumberBy (length ws) (most_slots t) (bound_of priced.0 m (min longest n) (n + 1)) n r) told.2
-    (subst (λ s. NumberBy (length ws) s (bound_of priced.0 c.sides (min longest n) (n + 1)) n r) told.1
-    (number priced.0 priced.3)))))
+    (rw (told.1, told.2, counted told.0.no_reference, bound) at (number priced.0 priced.3))
 
 -- what is told of each tree, by whether a number is
 pub enough_some : (places n : ℕ) (ws : List ℕ) (r : Option ℕ) → ((t : Tree) → Whole ws t → BoundTold places t n r)

@@ -4,17 +4,15 @@ use Rattle.sre_code.proofs.Terms.{ap, subst, arith, Tree, Empty, Then, Reads, Wh
 use Rattle.sre_code.proofs.Terms.{item_width, IsFault, ItemAt, Closes, Exactly, Nowhere, IsEnd, IsInside, Leaves}
 use Rattle.sre_code.proofs.Terms.{Unclosed, StackRest, Same, work, Fails, WholeFrom, HasWhole, CodeError, Memory, Part}
 use Rattle.sre_code.proofs.Terms.{Step, Past, Opens, opcode_within, opcode_moved, reads_moved, width_held, drop, Table}
-use Rattle.sre_code.proofs.Terms.{behind_block, Whole, IsCode, Confirmed, Hints}
-use Rattle.std.proofs.Common.{◌++◌, reverse, length-append}
+use Rattle.sre_code.proofs.Terms.{behind_block, Whole, IsCode, Confirmed, Hints, ◌++◌, reverse, length-append, Remains}
+use Rattle.sre_code.proofs.Terms.{next, Fronts}
 use Rattle.std.proofs.lemmas.List.{reverse-append}
 use Rattle.sre_code.specs.Refusals.{place_of}
-use Rattle.sre_code.specs.Steps.{Remains, next}
 use Rattle.sre_code.specs.Descent.{opened, Rest, After, Never, Stacks, Pushes, StepsOn, ReadsOn}
 use Rattle.sre_code.specs.declared.code.step.Part.TheVariants.{Whole as WholePart}
 use Rattle.sre_code.specs.declared.code.step.Open.{Open}
 use Rattle.sre_code.specs.declared.code.step.Reached.{Reached}
 use Rattle.sre_growth.specs.Refusal.{Refused}
-use Rattle.sre_code.specs.Fronts.{Fronts}
 use Rattle.sre_chars.specs.declared.constants.SreOpcode.TheVariants as opcode
 
 -- A step of the descent preserves what is left to read.

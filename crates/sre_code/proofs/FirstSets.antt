@@ -6,12 +6,10 @@ use Rattle.sre_code.proofs.Terms.{Plain, SetItem, ToBranch, role, is_end, is_mem
 use Rattle.sre_code.proofs.Terms.{ReadsItem, ReadsBranch, ReadsSet, WholeItems, item_opcode, SetStands, HasSet}
 use Rattle.sre_code.proofs.Terms.{behind_marks, HasFirstSet, has_flag, word_at, word_of, word_within, same_opcode}
 use Rattle.sre_code.proofs.Terms.{opcode_moved, opcode_within, set_within, alternative_long, is_branch, role_here}
-use Rattle.sre_code.proofs.Terms.{HasBlock, NoCode, IsSet, NoSet, Ends, MarksPassed}
-use Rattle.sre_model.specs.Standing.{AreWords}
+use Rattle.sre_code.proofs.Terms.{HasBlock, NoCode, IsSet, NoSet, Ends, MarksPassed, AreWords, word_moved, Tells}
+use Rattle.sre_code.proofs.Terms.{TellsEach}
 use Rattle.sre_model.specs.Claims.{TestIn, EachTestIn, FirstIn}
-use Rattle.sre_model.proofs.Words.{word_moved}
 use Rattle.sre_model.proofs.SetWords.{same_words_set, same_set_words}
-use Rattle.sre_code.specs.FirstSets.{Tells, TellsEach}
 use Rattle.sre_code.proofs.Claimed.{literal_tree, not_at_end, flag_set, flag_clear, by_one}
 use Rattle.sre_chars.specs.declared.constants.SreOpcode.TheVariants as opcode
 
@@ -25,9 +23,8 @@ untrue e = cc
 -- behind marks
 pub passed_told : (ws : List ℕ) (i p : ℕ) (told : Bool) (P : Tree → Type 0) → MarksPassed ws i p → Tells ws p told P
     → Tells ws i told (λ t. P (behind_marks t))
-passed_told ws i p told P m x = record {
-  each = λ end t o r w e. x.each end (behind_marks t) o (m.each end t o r w e) w e;
-}
+passed_told ws i p told P m x =
+    record { each = λ end t o r w e. x.each end (behind_marks t) o (m.each end t o r w e) w e }
 
 -- A test
 

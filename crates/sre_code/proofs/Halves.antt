@@ -2,11 +2,8 @@
 use Rattle.sre_code.proofs.Terms.{◌≡◌, ℕ, ◌+◌, ◌-◌, ◌*◌, ◌/◌, ◌%◌, ◌^◌, ◌<◌, ◌≤◌, Bool, false, not, ◌&&◌, ◌||◌}
 use Rattle.sre_code.proofs.Terms.{if◌then◌else◌, nat_eq, nat_lt, List, slice_index, bit_and, bit_or, refl, ap, sym, ◌∙◌}
 use Rattle.sre_code.proofs.Terms.{inl, inr, arith, bit_at, cases_lt, lt-ltb, le-ltb, nat_tests, AsciiSet, true}
-use Rattle.sre_code.proofs.Terms.{contains}
-use Rattle.std.proofs.Common.{◌≡◌, ℕ, ◌+◌, ◌-◌, ◌*◌, ◌%◌, ◌^◌, ◌<◌, true, false, not, ◌&&◌, ◌||◌, if◌then◌else◌, nat_eq}
-use Rattle.std.proofs.Common.{nat_lt, bit_and, bit_or, refl, ap, ◌∙◌, inl, inr, arith}
+use Rattle.sre_code.proofs.Terms.{contains, cases_eq, eq-eqb, ne_eqb, agree_below, agree_below_at}
 use Rattle.std.specs.Int.{bit_at, w64}
-use Rattle.std.proofs.lemmas.Bool.{cases_eq, cases_lt, eq-eqb, ne_eqb, lt-ltb, le-ltb, agree_below, agree_below_at}
 use Rattle.std.proofs.lemmas.Nat.{one_shl, or_comm, or_shifted, shl_whole}
 use Rattle.std.proofs.lemmas.Nat.Bits.{bit_at-lt, bit_at_or, bit_at_and, bit_at_not, bit_at-pow_same, bit_at-pow_other}
 use Rattle.std.proofs.lemmas.Nat.Bits.{bit_at_ones, bit_at_ones_above, bit_at_cat_low, bit_at_cat_high, bit_at-zero}
@@ -117,6 +114,13 @@ by_halves s f low high past c = elim (cases_lt c 64) [
   ]
 ]
 
+-- the same of a test that is asked of ASCII characters alone
+by_ascii : (s : AsciiSet) (f : ℕ → Bool) → ((k : ℕ) → k < 64 → nat_eq (bit_at s.low k) 1 ≡ f k)
+    → ((k : ℕ) → k < 64 → nat_eq (bit_at s.high k) 1 ≡ f (k + 64)) → (c : ℕ) → contains s c ≡ (nat_lt c 128 && f c)
+by_ascii s f low high =
+    by_halves s (λ c. nat_lt c 128 && f c) (λ k l. rw (lt-ltb k 128 (omega arith)) (low k l))
+    (λ k l. rw (lt-ltb (k + 64) 128 (omega arith)) (high k l)) (λ c m. rw (le-ltb c 128 m) refl)
+
 pub in_union : (s a b : AsciiSet) → s.low ≡ bit_or a.low b.low → s.high ≡ bit_or a.high b.high
     → (c : ℕ) → contains s c ≡ (contains a c || contains b c)
 in_union s a b low high =
@@ -126,8 +130,7 @@ in_union s a b low high =
     (λ c h. rw (past_ascii a c h, past_ascii b c h) refl)
 
 pub in_difference : (s a b : AsciiSet) → b.low < 2 ^ 64 → b.high < 2 ^ 64
-    → s.low ≡ bit_and a.low (18446744073709551615 - b.low)
-    → s.high ≡ bit_and a.high (18446744073709551615 - b.high)
+    → s.low ≡ bit_and a.low (18446744073709551615 - b.low) → s.high ≡ bit_and a.high (18446744073709551615 - b.high)
     → (c : ℕ) → contains s c ≡ (contains a c && not (contains b c))
 in_difference s a b fits_low fits_high low high =
     by_halves s (λ c. contains a c && not (contains b c))
@@ -135,19 +138,14 @@ in_difference s a b fits_low fits_high low high =
     (λ k h. rw (high, in_high a k h, in_high b k h) (set_in_first_alone a.high b.high k fits_high h))
     (λ c h. rw (past_ascii a c h) refl)
 
-pub in_complement : (s a : AsciiSet) → a.low < 2 ^ 64 → a.high < 2 ^ 64
-    → s.low ≡ 18446744073709551615 - a.low
-    → s.high ≡ 18446744073709551615 - a.high
-    → (c : ℕ) → contains s c ≡ (nat_lt c 128 && not (contains a c))
+pub in_complement : (s a : AsciiSet) → a.low < 2 ^ 64 → a.high < 2 ^ 64 → s.low ≡ 18446744073709551615 - a.low
+    → s.high ≡ 18446744073709551615 - a.high → (c : ℕ) → contains s c ≡ (nat_lt c 128 && not (contains a c))
 in_complement s a fits_low fits_high low high =
-    by_halves s (λ c. nat_lt c 128 && not (contains a c))
-    (λ k h. rw (low, in_low a k h, lt-ltb k 128 (omega arith)) (set_in_not a.low k fits_low h))
-    (λ k h. rw (high, in_high a k h, lt-ltb (k + 64) 128 (omega arith)) (set_in_not a.high k fits_high h))
-    (λ c h. rw (le-ltb c 128 h) refl)
+    by_ascii s (λ c. not (contains a c)) (λ k h. rw (low, in_low a k h) (set_in_not a.low k fits_low h))
+    (λ k h. rw (high, in_high a k h) (set_in_not a.high k fits_high h))
 
 -- the bit that is read, in either half
-pub read_low : (s : AsciiSet) (c half : ℕ) → c < 64 → half ≡ s.low
-    → nat_eq (half / 2 ^ (c % 64) % 2) 1 ≡ contains s c
+pub read_low : (s : AsciiSet) (c half : ℕ) → c < 64 → half ≡ s.low → nat_eq (half / 2 ^ (c % 64) % 2) 1 ≡ contains s c
 read_low s c half h e =
     let place : c % 64 ≡ c = omega arith in
     rw (place, e) (sym (in_low s c h))
@@ -163,45 +161,33 @@ read_high s c half h l e =
 pub one_in_low : (s : AsciiSet) (ch : ℕ) → ch < 64 → s.low ≡ 1 * 2 ^ ch % 18446744073709551616 → s.high ≡ 0
     → (c : ℕ) → contains s c ≡ (nat_lt c 128 && nat_eq c ch)
 one_in_low s ch h low high =
-    by_halves s (λ c. nat_lt c 128 && nat_eq c ch)
-    (λ k l. rw (low, set_in_one ch k h, lt-ltb k 128 (omega arith)) refl)
+    by_ascii s (λ c. nat_eq c ch) (λ k l. rw (low, set_in_one ch k h) refl)
     (λ k l. rw (high, set_in_none k) (grind (arith, nat_tests)))
-    (λ c m. rw (le-ltb c 128 m) refl)
 
 pub one_in_high : (s : AsciiSet) (ch : ℕ) → 64 ≤ ch → ch < 128 → s.low ≡ 0
-    → s.high ≡ 1 * 2 ^ (ch - 64) % 18446744073709551616
-    → (c : ℕ) → contains s c ≡ (nat_lt c 128 && nat_eq c ch)
+    → s.high ≡ 1 * 2 ^ (ch - 64) % 18446744073709551616 → (c : ℕ) → contains s c ≡ (nat_lt c 128 && nat_eq c ch)
 one_in_high s ch h h2 low high =
-    by_halves s (λ c. nat_lt c 128 && nat_eq c ch)
-    (λ k l. rw (low, set_in_none k) (grind (arith, nat_tests)))
+    by_ascii s (λ c. nat_eq c ch) (λ k l. rw (low, set_in_none k) (grind (arith, nat_tests)))
     (λ k l. rw (high, set_in_one (ch - 64) k (omega arith)) (grind (arith, nat_tests)))
-    (λ c m. rw (le-ltb c 128 m) refl)
 
 -- all bits up to one
 pub below_in_low : (s : AsciiSet) (end : ℕ) → end < 64 → s.low ≡ 1 * 2 ^ end % 18446744073709551616 - 1 → s.high ≡ 0
     → (c : ℕ) → contains s c ≡ (nat_lt c 128 && nat_lt c end)
 below_in_low s end h low high =
-    by_halves s (λ c. nat_lt c 128 && nat_lt c end)
-    (λ k l. rw (low, set_below end k h, lt-ltb k 128 (omega arith)) refl)
+    by_ascii s (λ c. nat_lt c end) (λ k l. rw (low, set_below end k h) refl)
     (λ k l. rw (high, set_in_none k) (grind (arith, nat_tests)))
-    (λ c m. rw (le-ltb c 128 m) refl)
 
 pub below_in_high : (s : AsciiSet) (end : ℕ) → 64 ≤ end → end < 128 → s.low ≡ 18446744073709551615
-    → s.high ≡ 1 * 2 ^ (end - 64) % 18446744073709551616 - 1
-    → (c : ℕ) → contains s c ≡ (nat_lt c 128 && nat_lt c end)
+    → s.high ≡ 1 * 2 ^ (end - 64) % 18446744073709551616 - 1 → (c : ℕ) → contains s c ≡ (nat_lt c 128 && nat_lt c end)
 below_in_high s end h h2 low high =
-    by_halves s (λ c. nat_lt c 128 && nat_lt c end)
-    (λ k l. rw (low, set_in_all k l) (grind (arith, nat_tests)))
+    by_ascii s (λ c. nat_lt c end) (λ k l. rw (low, set_in_all k l) (grind (arith, nat_tests)))
     (λ k l. rw (high, set_below (end - 64) k (omega arith)) (grind (arith, nat_tests)))
-    (λ c m. rw (le-ltb c 128 m) refl)
 
 pub below_all : (s : AsciiSet) (end : ℕ) → 128 ≤ end → s.low ≡ 18446744073709551615 → s.high ≡ 18446744073709551615
     → (c : ℕ) → contains s c ≡ (nat_lt c 128 && nat_lt c end)
 below_all s end h low high =
-    by_halves s (λ c. nat_lt c 128 && nat_lt c end)
-    (λ k l. rw (low, set_in_all k l) (grind (arith, nat_tests)))
+    by_ascii s (λ c. nat_lt c end) (λ k l. rw (low, set_in_all k l) (grind (arith, nat_tests)))
     (λ k l. rw (high, set_in_all k l) (grind (arith, nat_tests)))
-    (λ c m. rw (le-ltb c 128 m) refl)
 
 -- a half of two words
 half_of_words : (words : List ℕ) (i n k c : ℕ)
@@ -225,11 +211,9 @@ pub in_four_words : (s : AsciiSet) (words : List ℕ)
     → bit_at s.high k ≡ bit_at (if nat_lt k 32 then slice_index words 2 else slice_index words 3) (k % 32))
     → (c : ℕ) → contains s c ≡ (nat_lt c 128 && nat_eq (slice_index words (c / 32) / 2 ^ (c % 32) % 2) 1)
 in_four_words s words low high =
-    by_halves s (λ c. nat_lt c 128 && nat_eq (slice_index words (c / 32) / 2 ^ (c % 32) % 2) 1)
-    (λ k l. rw (lt-ltb k 128 (omega arith)) (half_of_words words 0 s.low k k (low k l) l (omega arith) refl))
-    (λ k l. rw (lt-ltb (k + 64) 128 (omega arith))
-    (half_of_words words 2 s.high k (k + 64) (high k l) l (omega arith) (omega arith)))
-    (λ c m. rw (le-ltb c 128 m) refl)
+    by_ascii s (λ c. nat_eq (slice_index words (c / 32) / 2 ^ (c % 32) % 2) 1)
+    (λ k l. half_of_words words 0 s.low k k (low k l) l (omega arith) refl)
+    (λ k l. half_of_words words 2 s.high k (k + 64) (high k l) l (omega arith) (omega arith))
 
 -- The sets of the categories, by computation over ASCII.
 

@@ -5,10 +5,9 @@ use Rattle.sre_code.proofs.Terms.{Mark, Branch, Loop, Run, PossessiveLoop, Atomi
 use Rattle.sre_code.proofs.Terms.{Trees, Only, Or, Sign, Positive, Folding, of_tree, of_branch, of_item, by_marks}
 use Rattle.sre_code.proofs.Terms.{sets_mark, by_marked_regions, marks_in_regions, Opcode, word, skip, Reads, Operands}
 use Rattle.sre_code.proofs.Terms.{ReadsItem, ReadsBranch, WholeItems, look_opcode, role, reads_within, operands_past}
-use Rattle.sre_chars.specs.declared.constants.SreOpcode.TheVariants as opcode
-use Rattle.sre_model.specs.Folding.{of_parts}
-use Rattle.sre_model.proofs.Places.{branch_past}
+use Rattle.sre_code.proofs.Terms.{of_parts, branch_past}
 use Rattle.sre_code.specs.RegionWords.{closing_place, RegionWord}
+use Rattle.sre_chars.specs.declared.constants.SreOpcode.TheVariants as opcode
 
 -- a folding to what is not there, and what keeps an item from having it: a claim of words that holds of fewer words
 pub record Hindrance (ws : List ℕ) : Type 1 where

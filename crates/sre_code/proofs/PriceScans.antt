@@ -7,13 +7,10 @@ use Rattle.sre_code.proofs.Terms.{loop_slots, steps_of, item_steps, cost_of, ite
 use Rattle.sre_code.proofs.Terms.{operands_past, alternative_long, word_of, word_within, same_opcode, steps_at, cost_at}
 use Rattle.sre_code.proofs.Terms.{IsPrice, IsHeld, AreHeld, joined, straight_price, closed_price, loop_price}
 use Rattle.sre_code.proofs.Terms.{possessive_price, TreePriced, BodyPriced, ItemPriced, kind_of, PricedBy, PricedAt}
-use Rattle.sre_code.proofs.Terms.{Price, Prices, PricedItem, Kind}
+use Rattle.sre_code.proofs.Terms.{Price, Prices, PricedItem, Kind, le-max_left, branch_steps, branch_cost, passed}
 use Rattle.std.proofs.lemmas.List.{get_or_past}
-use Rattle.std.proofs.Math.Nat.{le-max_left}
 use Rattle.sre_model.specs.Nesting.{by_nesting}
-use Rattle.sre_model.specs.TreePrices.{branch_steps, branch_cost}
-use Rattle.sre_code.specs.Prices.{passed, with_alternative, ArePriced, InsidePriced, LoopPriced, PossessivePriced}
-use Rattle.sre_code.specs.Prices.{BranchPriced}
+use Rattle.sre_code.specs.Prices.{with_alternative, ArePriced, InsidePriced, LoopPriced, PossessivePriced, BranchPriced}
 use Rattle.sre_code.proofs.PricedItems.{held_same, joined_steps, joined_cost, loop_priced, possessive_priced}
 use Rattle.sre_code.proofs.PricedItems.{held_straight, item_priced}
 use Rattle.sre_code.proofs.ScanningLoops.{same_slots}
@@ -151,9 +148,8 @@ module _ (e depth : ℕ) (ws : List ℕ) (i by : ℕ) (to : by ≡ word ws (i + 
       (is : slots ≡ loop_slots least greatest) where
     -- a price by the slots and the body's price
     body_law : (price : ℕ → Price → Price) (p q : Price) → BodyPriced e depth ws (i + 4) (i + 1 + by) (Some p)
-        → ((x : Price) → IsHeld x p → IsHeld (price slots x) q)
-        → (low high : ℕ) (body : Tree) → Word ws (i + 2) low → Word ws (i + 3) high
-        → Reads ws (i + 4) (skip ws (i + 1)) body → refers body ≡ false
+        → ((x : Price) → IsHeld x p → IsHeld (price slots x) q) → (low high : ℕ) (body : Tree) → Word ws (i + 2) low
+        → Word ws (i + 3) high → Reads ws (i + 4) (skip ws (i + 1)) body → refers body ≡ false
         → (x : Price) × IsPrice e body x × IsHeld (price (loop_slots low high) x) q
     body_law price p q told holds low high body first_word second_word reads plain =
         let own = same_slots ws i least greatest slots first second is low high first_word second_word in
@@ -230,8 +226,7 @@ alternative_cost e t x is s b =
 
 module _ (e depth : ℕ) (ws : List ℕ) (first : ℕ) where
   module _ (q : ℕ) (p : Price) (o : BranchOnto e ws first q p) where
-    pub branch_ends : word ws q ≡ 0
-        → BranchPriced e depth ws first (Some (record { behind = q + 1; price = p }))
+    pub branch_ends : word ws q ≡ 0 → BranchPriced e depth ws first (Some (record { behind = q + 1; price = p }))
     branch_ends none = record { each = λ ts j w plain. by ts j (o.each ts j w plain) }
       where
         by : (ts : Trees) (j : ℕ) → BranchLeft e ws q j ts p

@@ -7,11 +7,9 @@ use Rattle.sre_code.proofs.Terms.{IsItemPrice, joined, straight_price, closed_pr
 use Rattle.sre_code.proofs.Terms.{possessive_price, Price, List, Option, Some, None, subst, true≢false, One, At, Mark}
 use Rattle.sre_code.proofs.Terms.{Branch, Look, Sign, GreedyRun, LazyRun, PossessiveRun, Operands, ReadsItem, Role}
 use Rattle.sre_code.proofs.Terms.{of_item, refers, by_references, HasRole, item_here, own_words, Behind, IsHeld}
-use Rattle.sre_code.proofs.Terms.{ItemPriced, kind_of, PricedBy, PricedAt, PricedItem}
-use Rattle.std.proofs.Math.Nat.{mul-le-mul_right}
-use Rattle.sre_model.specs.TreePrices.{scan_price}
+use Rattle.sre_code.proofs.Terms.{ItemPriced, kind_of, PricedBy, PricedAt, PricedItem, mul-le-mul_right, scan_price}
+use Rattle.sre_code.proofs.Terms.{item_role}
 use Rattle.sre_code.specs.Prices.{run_ends, StraightPriced, RunPriced}
-use Rattle.sre_model.proofs.Families.{item_role}
 use Rattle.sre_code.proofs.Walking.{role_behind, one_behind}
 
 -- Numbers that saturate at 64 bits, and what they come to.
@@ -117,8 +115,7 @@ steps_by m n b true true = omega arith
 steps_by m n b true false = omega arith
 steps_by m n b false q = omega arith
 
-cost_by : (c k n d f b : ℕ) (q : Bool)
-    → c + k * (n + cond q b 0) + (d + f * b) ≡ c + k * n + d + (f + cond q k 0) * b
+cost_by : (c k n d f b : ℕ) (q : Bool) → c + k * (n + cond q b 0) + (d + f * b) ≡ c + k * n + d + (f + cond q k 0) * b
 cost_by c k n d f b true = omega arith
 cost_by c k n d f b false = omega arith
 

@@ -5,9 +5,8 @@ use Rattle.sre_code.proofs.Terms.{Reads, capped, width, item_width, ToRepeat, No
 use Rattle.sre_code.proofs.Terms.{Exactly, Nowhere, IsEnd, IsInside, CodeError, Part, Past, Opens, word_of, word_within}
 use Rattle.sre_code.proofs.Terms.{word_there, same_opcode, reads_nothing, width_held, role_here, ◌-◌, PossessiveLoop}
 use Rattle.sre_code.proofs.Terms.{Atomic, Look, Positive, Negative, look_opcode, ToRepeatPossessively}
-use Rattle.sre_code.proofs.Terms.{ToGroupAtomically, ToLook, opcode_within, reads_within}
+use Rattle.sre_code.proofs.Terms.{ToGroupAtomically, ToLook, opcode_within, reads_within, IsUntil, LookAt}
 use Rattle.sre_model.specs.Tree.{Greedy, Lazy}
-use Rattle.sre_code.specs.Steps.{IsUntil, LookAt}
 use Rattle.sre_code.specs.declared.code.step.Part.TheVariants.{Body, Region}
 use Rattle.sre_model.proofs.Families.{is_loop, is_possessive, is_atomic, is_look, look_role}
 use Rattle.sre_code.proofs.ReadBranches.{unclosed}
@@ -140,8 +139,7 @@ region_inside ws end least i ne = record { none = λ u j w c. ne c.0 }
 region_end : (ws : List ℕ) (end least i : ℕ) → i ≡ end → IsEnd ws (Region end least) i
 region_end ws end least i same = record { only = λ k u j w t r c. reads_nothing ws i k t r (c.0 ∙ sym same) }
 
-pub region_closed : (ws : List ℕ) (end least i u v : ℕ) → i ≡ end → Opcode ws i opcode.SUCCESS
-    → v ≡ capped (least * u)
+pub region_closed : (ws : List ℕ) (end least i u v : ℕ) → i ≡ end → Opcode ws i opcode.SUCCESS → v ≡ capped (least * u)
     → IsEnd ws (Region end least) i × (i ≤ i + 1) × Exactly ws (Past (i + 1) v) (Closes ws (Region end least) i u)
 region_closed ws end least i u v same h e = (
   region_end ws end least i same,
@@ -211,9 +209,8 @@ module _ (ws : List ℕ) (i n times tail : ℕ) (form : (j w : ℕ) → ItemAt w
   }
 
   enclosed_short : tail < i + n + 1 → 0 < n → Nowhere (ItemAt ws i)
-  enclosed_short short some = record {
-    none = λ j w y. let f = form j w y in omega (arith, f.1, reads_within f.0 ws (i + n) (j - 1) f.2);
-  }
+  enclosed_short short some =
+      record { none = λ j w y. let f = form j w y in omega (arith, f.1, reads_within f.0 ws (i + n) (j - 1) f.2) }
 
   enclosed_cut : length ws ≤ i + 1 → 1 < n → Nowhere (ItemAt ws i)
   enclosed_cut past some = record {

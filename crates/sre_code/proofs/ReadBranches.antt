@@ -1,17 +1,16 @@
 -- Ends of parts, branches and conditionals: what the check reads of them is what the grammar says.
-use Rattle.sre_code.proofs.Terms.{Part, ℕ, ◌+◌, ◌≡◌, ◌≢◌, false, List, length, refl, arith, opcode_number, SreOpcode, Tree}
-use Rattle.sre_code.proofs.Terms.{Empty, Then, Opcode, item_opcode, Reads, IsFault, NoCode, Closes, Unclosed, Exactly}
-use Rattle.sre_code.proofs.Terms.{IsEnd, IsInside, CodeError, Past, same_opcode, opcode_within, role, no_item, ◌-◌, ◌<◌}
-use Rattle.sre_code.proofs.Terms.{◌≤◌, min, Result, Ok, Err, sym, ◌∙◌, ap, subst, inl, inr, Branch, Trees, Only, Or}
-use Rattle.sre_code.proofs.Terms.{Word, word, skip, JumpsTo, ReadsBranch, capped, width, item_width, ToBranch, ItemAt}
-use Rattle.sre_code.proofs.Terms.{Nowhere, Leaves, Step, Opens, word_of, word_within, word_past, word_at, reads_within}
-use Rattle.sre_code.proofs.Terms.{alternative_long, reads_nothing, width_held, role_here, is_branch, ⊎_elim, Exists}
-use Rattle.sre_code.proofs.Terms.{ExistsElse, ReadsItem, ToCheckGroup, word_there, reads_moved}
-use Rattle.sre_code.specs.declared.code.error.CodeError.TheVariants.{TrailingWords}
+use Rattle.sre_code.proofs.Terms.{Part, ℕ, ◌+◌, ◌≡◌, ◌≢◌, false, List, length, refl, arith, opcode_number, SreOpcode}
+use Rattle.sre_code.proofs.Terms.{Tree, Empty, Then, Opcode, item_opcode, Reads, IsFault, NoCode, Closes, Unclosed}
+use Rattle.sre_code.proofs.Terms.{Exactly, IsEnd, IsInside, CodeError, Past, same_opcode, opcode_within, role, no_item}
+use Rattle.sre_code.proofs.Terms.{◌-◌, ◌<◌, ◌≤◌, min, Result, Ok, Err, sym, ◌∙◌, ap, subst, inl, inr, Branch, Trees}
+use Rattle.sre_code.proofs.Terms.{Only, Or, Word, word, skip, JumpsTo, ReadsBranch, capped, width, item_width, ToBranch}
+use Rattle.sre_code.proofs.Terms.{ItemAt, Nowhere, Leaves, Step, Opens, word_of, word_within, word_past, word_at}
+use Rattle.sre_code.proofs.Terms.{reads_within, alternative_long, reads_nothing, width_held, role_here, is_branch}
+use Rattle.sre_code.proofs.Terms.{⊎_elim, Exists, ExistsElse, ReadsItem, ToCheckGroup, word_there, reads_moved}
+use Rattle.sre_code.proofs.Terms.{TrailingWords, EndGives, MoreAt, More, TreesAt, BoundsExactly, NoTrees, Else}
 use Rattle.sre_code.specs.declared.code.step.Part.TheVariants.{Whole, Alternative, There, Absent}
 use Rattle.sre_model.proofs.Families.{is_item_role, is_exists}
 use Rattle.sre_model.specs.Width.{least_width}
-use Rattle.sre_code.specs.Steps.{EndGives, MoreAt, More, TreesAt, BoundsExactly, NoTrees, Else}
 use Rattle.sre_code.specs.declared.code.step.Bounds.{Bounds}
 use Rattle.sre_model.proofs.Widths.{least_held}
 use Rattle.sre_chars.specs.declared.constants.SreOpcode.TheVariants as opcode

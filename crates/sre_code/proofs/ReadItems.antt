@@ -10,19 +10,12 @@ use Rattle.sre_code.proofs.Terms.{SreAtCode, Item, Fail, One, At, Mark, Branch, 
 use Rattle.sre_code.proofs.Terms.{PossessiveLoop, Atomic, Look, Positive, Negative, PossessiveRun, Reference, Exists}
 use Rattle.sre_code.proofs.Terms.{ExistsElse, item_opcode, ReadsItem, item_width, ToCheckPosition, ToMark, ToRefer}
 use Rattle.sre_code.proofs.Terms.{ItemAt, Exactly, Nowhere, Past, item_same, no_item, RunKind, test_opcode, ToRun}
-use Rattle.sre_code.proofs.Terms.{test_past, HasRole}
-use Rattle.sre_model.proofs.Words.{opcode_low, at_low, category_low}
+use Rattle.sre_code.proofs.Terms.{test_past, HasRole, opcode_low, at_low, category_low, literal_opcode}
+use Rattle.sre_code.proofs.Terms.{not_literal_opcode, set_opcode, reference_opcode, run_opcode, TestOperands, TestEnds}
+use Rattle.sre_code.proofs.Terms.{HasTest, BadItem, set_moved, OfCategory, item_role, OnlyTests, RunAt}
 use Rattle.sre_model.specs.Tree.{Any, AnyAll, InCategory, NotLiteral}
-use Rattle.sre_model.specs.Grammar.{literal_opcode, not_literal_opcode, set_opcode, reference_opcode, run_opcode}
-use Rattle.sre_model.specs.Grammar.{TestOperands}
-use Rattle.sre_code.specs.Reading.{TestEnds}
-use Rattle.sre_model.specs.Standing.{HasTest}
-use Rattle.sre_code.specs.declared.code.error.CodeError.TheVariants.{BadItem}
-use Rattle.sre_model.proofs.Places.{set_moved}
-use Rattle.sre_model.specs.Roles.{OfCategory}
 use Rattle.sre_model.proofs.Families.{is_category, is_literal, is_not_literal, is_set, is_at, is_mark, is_reference}
-use Rattle.sre_model.proofs.Families.{reference_role, item_role, role_at, run_role}
-use Rattle.sre_code.specs.Steps.{OnlyTests, RunAt}
+use Rattle.sre_model.proofs.Families.{reference_role, role_at, run_role}
 use Rattle.sre_chars.specs.declared.constants.SreOpcode.TheVariants as opcode
 
 -- What reading a single word returns.
@@ -320,8 +313,7 @@ run_here ws i j x h r =
     absurd (cc)
 
 -- where the test ends, SUCCESS stands
-run_closed : (ws : List ℕ) (i j e : ℕ) → RunHere ws i j → TestExactly ws (i + 4) e
-    → Opcode ws e opcode.SUCCESS
+run_closed : (ws : List ℕ) (i j e : ℕ) → RunHere ws i j → TestExactly ws (i + 4) e → Opcode ws e opcode.SUCCESS
 run_closed ws i j e f t = opcode_moved ws (j - 1) e opcode.SUCCESS (t.only (j - 1) f.test f.reads) f.closed
 
 pub run_exactly : (ws : List ℕ) (i e t v high : ℕ) → RunAt ws i → t ≡ skip ws (i + 1) → v ≡ word ws (i + 2)

@@ -2,14 +2,12 @@
 use Rattle.sre_code.proofs.Terms.{ℕ, ◌+◌, ◌*◌, ◌≡◌, ◌≢◌, ◌<◌, ◌≤◌, ◌⊎◌, inl, inr, List, [], ◌∷◌, length, slice_range}
 use Rattle.sre_code.proofs.Terms.{Err, refl, sym, subst, arith, opcode_number, category_number, SreOpcode, SreCatCode}
 use Rattle.sre_code.proofs.Terms.{SetItem, Charset, Opcode, Word, word, ReadsSet, NoCode, IsSet, NoSet, SameSets}
-use Rattle.sre_code.proofs.Terms.{word_within, word_there, opcode_within, set_within}
+use Rattle.sre_code.proofs.Terms.{word_within, word_there, opcode_within, set_within, BlocksBelow, bytes_of, SetAt}
+use Rattle.sre_code.proofs.Terms.{SetItemExactly, NoSetItem, SetItemEnds, BadSet}
 use Rattle.std.specs.List.{flat_map}
-use Rattle.sre_chars.specs.declared.constants.SreOpcode.TheVariants as opcode
 use Rattle.sre_model.specs.Tree.{Single, Range, RangeUniIgnore, Category, BigCharset, Negate}
-use Rattle.sre_model.specs.Grammar.{BlocksBelow, bytes_of}
-use Rattle.sre_code.specs.Reading.{SetAt, SetItemExactly, NoSetItem, SetItemEnds}
-use Rattle.sre_code.specs.declared.code.error.CodeError.TheVariants.{BadSet}
 use Rattle.sre_model.proofs.SetItems.{set_item_opcode, first, begins, unlike, set_item_by, parted, category_at}
+use Rattle.sre_chars.specs.declared.constants.SreOpcode.TheVariants as opcode
 
 -- what is left behind an item, by its opcode
 left : (o : SreOpcode) (ws : List ℕ) (i j : ℕ) → Opcode ws i o → i < j → SetAt ws i j
@@ -23,9 +21,8 @@ single_item ws i h there = record {
 }
 
 pub single_cut : (ws : List ℕ) (i : ℕ) → Opcode ws i opcode.LITERAL → length ws ≤ i + 1 → NoSetItem ws i
-single_cut ws i h le = record {
-  none = λ j lt s. omega (arith, word_within ws (i + 1) _ (parted opcode.LITERAL ws i j s.0 h lt s.1).2.1);
-}
+single_cut ws i h le =
+    record { none = λ j lt s. omega (arith, word_within ws (i + 1) _ (parted opcode.LITERAL ws i j s.0 h lt s.1).2.1) }
 
 pub range_there : (ws : List ℕ) (i : ℕ) (o : SreOpcode) → Opcode ws i o
     → (o ≡ opcode.RANGE) ⊎ (o ≡ opcode.RANGE_UNI_IGNORE)
@@ -52,9 +49,8 @@ range_item ws i (inr h) there = record {
 
 pub range_cut : (ws : List ℕ) (i : ℕ) → Opcode ws i opcode.RANGE ⊎ Opcode ws i opcode.RANGE_UNI_IGNORE
     → length ws ≤ i + 2 → NoSetItem ws i
-range_cut ws i (inl h) le = record {
-  none = λ j lt s. omega (arith, word_within ws (i + 2) _ (parted opcode.RANGE ws i j s.0 h lt s.1).2.2);
-}
+range_cut ws i (inl h) le =
+    record { none = λ j lt s. omega (arith, word_within ws (i + 2) _ (parted opcode.RANGE ws i j s.0 h lt s.1).2.2) }
 range_cut ws i (inr h) le = record {
   none = λ j lt s. omega (arith, word_within ws (i + 2) _ (parted opcode.RANGE_UNI_IGNORE ws i j s.0 h lt s.1).2.2);
 }

@@ -6,9 +6,8 @@ use Rattle.sre_code.proofs.Terms.{le-max_right, mul-le-mul_left, opcode_number, 
 use Rattle.sre_code.proofs.Terms.{by_references, of_item, of_branch, loop_slots, most_slots, Role, ToCheckGroup, ToMark}
 use Rattle.sre_code.proofs.Terms.{ToBranch, ToGroupAtomically, ToRefer, ToRepeat, ToRepeatPossessively, Word, word}
 use Rattle.sre_code.proofs.Terms.{skip, Reads, HasRole, test_here, test_past, word_of, NoCode, own_words, Behind}
-use Rattle.sre_code.proofs.Terms.{AreTold, ToldAt}
+use Rattle.sre_code.proofs.Terms.{AreTold, ToldAt, div-mul-le_self}
 use Rattle.std.proofs.lemmas.Nat.{le-div}
-use Rattle.std.proofs.Math.Nat.{div-mul-le_self}
 use Rattle.sre_model.specs.Slots.{by_slots}
 use Rattle.sre_code.specs.SlotScans.{LoopTold, OtherTold, kind_of, ToldBy}
 use Rattle.sre_code.specs.declared.code.slots.Kind.{Kind}

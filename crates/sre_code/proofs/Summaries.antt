@@ -6,13 +6,9 @@ use Rattle.sre_code.proofs.Terms.{word, skip, Opcode, WholeItems, Role, ToMark, 
 use Rattle.sre_code.proofs.Terms.{ToRepeatPossessively, ToGroupAtomically, ToLook, ToRefer, ToCheckGroup, role, refers}
 use Rattle.sre_code.proofs.Terms.{by_references, sets_mark, by_marks, marks_in_regions, by_marked_regions, HasRole}
 use Rattle.sre_code.proofs.Terms.{test_here, test_past, same_opcode, word_of, own_words, Behind, NoneBehind, IsSummary}
-use Rattle.sre_code.proofs.Terms.{Summary}
-use Rattle.std.proofs.Math.Bool.{or-true, or-false, or_assoc}
-use Rattle.std.proofs.lemmas.Bool.{or_right}
+use Rattle.sre_code.proofs.Terms.{Summary, or-true, or-false, or_assoc, or_right, by_backs, by_longest, forking, noted}
 use Rattle.sre_model.specs.References.{no_group, asked_from, by_groups, by_last_groups}
-use Rattle.sre_model.specs.LooksBehind.{by_backs, by_longest}
 use Rattle.sre_model.specs.Regions.{forks, by_forks, has_forked_region, by_forked_regions}
-use Rattle.sre_code.specs.Summaries.{forking, noted}
 use Rattle.sre_code.proofs.Walking.{behind_test, behind_role, role_behind, none_behind, Scanner, Instructions, Onto}
 use Rattle.sre_code.proofs.Walking as walk
 

@@ -7,9 +7,9 @@ use Rattle.sre_code.proofs.Terms.{At, Mark, Branch, Loop, Run, PossessiveLoop, A
 use Rattle.sre_code.proofs.Terms.{ExistsElse, Trees, Only, Or, Fold, Order, RunKind, Sign, ToCheckPosition, ToMark}
 use Rattle.sre_code.proofs.Terms.{ToBranch, ToRun, ToRepeat, ToRepeatPossessively, ToGroupAtomically, ToLook, ToRefer}
 use Rattle.sre_code.proofs.Terms.{role_here, item_here, Word, skip, until_opcode, Operands, Reads, ReadsItem}
-use Rattle.sre_code.proofs.Terms.{ReadsBranch, test_past, reads_within, operands_past, alternative_long}
+use Rattle.sre_code.proofs.Terms.{ReadsBranch, test_past, reads_within, operands_past, alternative_long, ToFail, ToEnd}
+use Rattle.sre_code.proofs.Terms.{ToJump, ToLoop}
 use Rattle.sre_model.proofs.Families.{test_kind, test_role, until_role}
-use Rattle.sre_model.specs.Roles.{ToFail, ToEnd, ToJump, ToLoop}
 use Rattle.sre_chars.specs.declared.constants.SreOpcode.TheVariants as opcode
 
 -- The address of the next instruction, by what the instruction before it is.

@@ -1,5 +1,4 @@
-use Rattle.sre_code.proofs.Terms.{arith, NEGATE, opcode_within}
-use Rattle.sre_chars.specs.Tables.{ascii_table}
+use Rattle.sre_code.proofs.Terms.{arith, NEGATE, opcode_within, ascii_table}
 use Rattle.sre_code.proofs.AsciiMembers.{ascii_all, ascii_there, ascii_past, ascii_turned, ascii_whole}
 use Rattle.sre_code.proofs.ascii_members.ascii_members.Goals as goal
 

@@ -1,4 +1,4 @@
-use Rattle.std.proofs.Common.{refl, arith}
+use Rattle.sre_code.proofs.Terms.{refl, arith}
 use Rattle.sre_code.proofs.Halves.{bit_of_two}
 use Rattle.sre_code.proofs.ascii_set.join.Goals as goal
 

@@ -1,5 +1,4 @@
-use Rattle.sre_code.proofs.Terms.{◌+◌, arith, word_of}
-use Rattle.sre_model.proofs.Members.{big_charset_there, big_charset_says}
+use Rattle.sre_code.proofs.Terms.{◌+◌, arith, word_of, big_charset_there, big_charset_says}
 use Rattle.sre_code.proofs.members.big_charset.Goals as goal
 
 pub operand-count-requires : goal.operand-count-requires

@@ -1,5 +1,5 @@
-use Rattle.sre_code.proofs.Terms.{arith, NEGATE, set_begins, opcode_within}
-use Rattle.sre_model.proofs.Members.{left_all, left_there, left_past, left_turned, left_nothing}
+use Rattle.sre_code.proofs.Terms.{arith, NEGATE, set_begins, opcode_within, left_all, left_there, left_past}
+use Rattle.sre_code.proofs.Terms.{left_turned, left_nothing}
 use Rattle.sre_code.proofs.members.is_member.Goals as goal
 
 pub item-init : goal.item-init

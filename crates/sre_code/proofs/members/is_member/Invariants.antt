@@ -1,5 +1,4 @@
-use Rattle.std.proofs.Common.{◌-◌, length}
-use Rattle.sre_model.specs.Standing.{VerdictLeft}
+use Rattle.sre_code.proofs.Terms.{◌-◌, length, VerdictLeft}
 use Rattle.sre_code.proofs.members.is_member.Given as goal
 
 abbrev pub invariant-item : goal.invariant-item

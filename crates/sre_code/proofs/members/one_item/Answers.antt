@@ -1,4 +1,4 @@
-use Rattle.sre_model.proofs.Members.{only_items}
+use Rattle.sre_code.proofs.Terms.{only_items}
 use Rattle.sre_code.proofs.members.one_item.Goals as goal
 
 pub unreachable-requires : goal.unreachable-requires

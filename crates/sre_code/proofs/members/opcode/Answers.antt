@@ -1,5 +1,4 @@
-use Rattle.sre_code.proofs.Terms.{set_begins, opcode_within, word_known}
-use Rattle.sre_model.proofs.CodesRead.{opcode_unlike}
+use Rattle.sre_code.proofs.Terms.{set_begins, opcode_within, word_known, opcode_unlike}
 use Rattle.sre_code.proofs.members.opcode.Goals as goal
 
 pub word-requires : goal.word-requires

@@ -1,5 +1,4 @@
-use Rattle.std.proofs.Common.{arith}
-use Rattle.sre_model.proofs.Members.{folded_range_room, folded_range_says}
+use Rattle.sre_code.proofs.Terms.{arith, folded_range_room, folded_range_says}
 use Rattle.sre_code.proofs.members.range_ignoring_case.Goals as goal
 
 pub operand-low-requires : goal.operand-low-requires

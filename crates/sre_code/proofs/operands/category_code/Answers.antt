@@ -1,4 +1,4 @@
-use Rattle.sre_model.proofs.CodesRead.{word_known, category_within, category_unlike}
+use Rattle.sre_code.proofs.Terms.{word_known, category_within, category_unlike}
 use Rattle.sre_code.proofs.operands.category_code.Goals as goal
 
 pub word-requires : goal.word-requires

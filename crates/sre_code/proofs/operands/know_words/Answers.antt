@@ -1,5 +1,4 @@
-use Rattle.std.proofs.Common.{arith}
-use Rattle.sre_model.proofs.Words.{are_words}
+use Rattle.sre_code.proofs.Terms.{arith, are_words}
 use Rattle.sre_code.proofs.operands.know_words.Goals as goal
 
 pub returns : goal.returns

@@ -1,4 +1,4 @@
-use Rattle.std.proofs.Common.{refl}
+use Rattle.sre_code.proofs.Terms.{refl}
 use Rattle.sre_code.proofs.Halves.{below_in_low, below_in_high, below_all}
 use Rattle.sre_code.proofs.ascii_set.AsciiSet.below.Goals as goal
 

@@ -1,4 +1,4 @@
-use Rattle.std.proofs.Common.{refl, arith}
+use Rattle.sre_code.proofs.Terms.{refl, arith}
 use Rattle.sre_code.proofs.Halves.{in_complement}
 use Rattle.sre_code.proofs.ascii_set.AsciiSet.complement.Goals as goal
 

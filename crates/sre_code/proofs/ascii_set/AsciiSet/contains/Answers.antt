@@ -1,7 +1,7 @@
-use Rattle.std.proofs.Common.{sym}
+use Rattle.sre_code.proofs.Terms.{sym}
 use Rattle.sre_code.proofs.Halves.{read_low, read_high, past_ascii}
-use Rattle.sre_code.proofs.ascii_set.AsciiSet.contains.Goals as goal
 use Rattle.sre_code.proofs.ascii_set.AsciiSet.contains.Goals.{then-ch-lt64, else-ch-lt64}
+use Rattle.sre_code.proofs.ascii_set.AsciiSet.contains.Goals as goal
 
 pub returns-after-ch-lt64 : goal.returns-after-ch-lt64
 returns-after-ch-lt64 c = elim c.if-ch-lt64.branch [

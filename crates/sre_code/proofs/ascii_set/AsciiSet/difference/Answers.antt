@@ -1,4 +1,4 @@
-use Rattle.std.proofs.Common.{refl, arith}
+use Rattle.sre_code.proofs.Terms.{refl, arith}
 use Rattle.sre_code.proofs.Halves.{in_difference}
 use Rattle.sre_code.proofs.ascii_set.AsciiSet.difference.Goals as goal
 

@@ -1,4 +1,4 @@
-use Rattle.std.proofs.Common.{false, refl}
+use Rattle.sre_code.proofs.Terms.{false, refl}
 use Rattle.sre_code.proofs.Halves.{set_in_none, by_halves}
 use Rattle.sre_code.proofs.ascii_set.AsciiSet.new.Goals as goal
 

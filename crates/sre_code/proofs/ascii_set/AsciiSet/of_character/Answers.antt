@@ -1,4 +1,4 @@
-use Rattle.std.proofs.Common.{refl}
+use Rattle.sre_code.proofs.Terms.{refl}
 use Rattle.sre_code.proofs.Halves.{one_in_low, one_in_high}
 use Rattle.sre_code.proofs.ascii_set.AsciiSet.of_character.Goals as goal
 

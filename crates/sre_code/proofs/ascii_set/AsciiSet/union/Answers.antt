@@ -1,4 +1,4 @@
-use Rattle.std.proofs.Common.{refl}
+use Rattle.sre_code.proofs.Terms.{refl}
 use Rattle.sre_code.proofs.Halves.{in_union}
 use Rattle.sre_code.proofs.ascii_set.AsciiSet.union.Goals as goal
 

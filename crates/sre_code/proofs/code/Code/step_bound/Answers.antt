@@ -1,4 +1,4 @@
-use Rattle.std.proofs.Common.{length}
+use Rattle.sre_code.proofs.Terms.{length}
 use Rattle.sre_code.specs.Codes.{words_of, items_of}
 use Rattle.sre_code.proofs.CodeBounds.{enough_some, enough_none, behind_told}
 use Rattle.sre_code.proofs.code.Code.step_bound.Goals as goal

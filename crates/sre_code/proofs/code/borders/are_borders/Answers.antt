@@ -1,4 +1,4 @@
-use Rattle.std.proofs.Common.{arith}
+use Rattle.sre_code.proofs.Terms.{arith}
 use Rattle.sre_code.proofs.Borders.{more_wrong}
 use Rattle.sre_code.proofs.code.borders.are_borders.Goals as goal
 

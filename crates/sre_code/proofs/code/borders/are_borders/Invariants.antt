@@ -1,4 +1,4 @@
-use Rattle.sre_code.specs.Borders.{RightUpTo}
+use Rattle.sre_code.proofs.Terms.{RightUpTo}
 use Rattle.sre_code.proofs.code.borders.are_borders.Given as goal
 
 abbrev pub invariant-front : goal.invariant-front

@@ -1,4 +1,4 @@
-use Rattle.std.proofs.Common.{arith, ◌∙◌}
+use Rattle.sre_code.proofs.Terms.{arith, ◌∙◌}
 use Rattle.std.proofs.lemmas.List.{length-set}
 use Rattle.sre_code.proofs.Borders.{set_right}
 use Rattle.sre_code.proofs.code.borders.border_lengths.Goals as goal

@@ -1,7 +1,7 @@
-use Rattle.std.proofs.Common.{arith}
+use Rattle.sre_code.proofs.Terms.{arith}
 use Rattle.sre_code.proofs.Borders.{one_longer, none_longer, starts, goes_down, starts_most, goes_down_most, falls}
-use Rattle.sre_code.proofs.code.borders.next_border.Goals as goal
 use Rattle.sre_code.proofs.code.borders.next_border.Goals.{then-border-test+else-prefix-border, else-border-test}
+use Rattle.sre_code.proofs.code.borders.next_border.Goals as goal
 
 pub border-init : goal.border-init
 border-init c = record {

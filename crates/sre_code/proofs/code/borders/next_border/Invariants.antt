@@ -1,4 +1,4 @@
-use Rattle.sre_code.specs.Borders.{Border}
+use Rattle.sre_code.proofs.Terms.{Border}
 use Rattle.sre_code.proofs.Borders.{Most}
 use Rattle.sre_code.proofs.code.borders.next_border.Given as goal
 

@@ -1,4 +1,4 @@
-use Rattle.std.proofs.Common.{arith}
+use Rattle.sre_code.proofs.Terms.{arith}
 use Rattle.sre_code.proofs.PricedItems.{held_same, held_times}
 use Rattle.sre_code.proofs.code.bounds.bits_by.Goals as goal
 

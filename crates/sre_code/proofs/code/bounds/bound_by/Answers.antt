@@ -1,4 +1,4 @@
-use Rattle.std.proofs.Common.{arith, ◌+◌, ◌/◌}
+use Rattle.sre_code.proofs.Terms.{arith, ◌+◌, ◌/◌}
 use Rattle.sre_code.proofs.PricedItems.{held_same, held_times, held_plus}
 use Rattle.sre_code.proofs.code.bounds.bound_by.Goals as goal
 

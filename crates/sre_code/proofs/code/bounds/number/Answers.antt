@@ -1,4 +1,4 @@
-use Rattle.std.proofs.Common.{rules}
+use Rattle.sre_code.proofs.Terms.{rules}
 use Rattle.sre_code.proofs.code.bounds.number.Goals as goal
 
 pub returns : goal.returns

@@ -1,5 +1,4 @@
-use Rattle.sre_code.proofs.Terms.{length, List, ◌-◌, SetItem}
-use Rattle.sre_code.specs.FirstSets.{IsSetUpTo}
+use Rattle.sre_code.proofs.Terms.{length, List, ◌-◌, SetItem, IsSetUpTo}
 use Rattle.sre_code.proofs.FirstSets.{AlternativesLeft}
 use Rattle.sre_code.proofs.code.first_set.each_begins_in.Given as goal
 

@@ -1,4 +1,4 @@
-use Rattle.std.proofs.Common.{arith}
+use Rattle.sre_code.proofs.Terms.{arith}
 use Rattle.sre_code.proofs.FirstSets.{no_set_with_prefix, no_set_flag, no_set_room, no_set_failure, first_set_told}
 use Rattle.sre_code.proofs.FirstSets.{set_there}
 use Rattle.sre_code.proofs.AsciiMembers.{told}

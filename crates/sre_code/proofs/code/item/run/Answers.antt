@@ -1,5 +1,5 @@
+use Rattle.sre_code.proofs.Terms.{arith}
 use Rattle.sre_code.proofs.ReadItems.{run_open}
-use Rattle.std.proofs.Common.{arith}
 use Rattle.sre_code.proofs.code.item.run.Goals as goal
 
 pub returns-in_default : goal.returns-in_default

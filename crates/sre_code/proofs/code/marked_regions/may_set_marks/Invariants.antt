@@ -1,4 +1,4 @@
-use Rattle.std.proofs.Common.{◌-◌, length}
+use Rattle.sre_code.proofs.Terms.{◌-◌, length}
 use Rattle.sre_code.proofs.MarksOutside.{ScannedTo}
 use Rattle.sre_code.proofs.code.marked_regions.may_set_marks.Given as goal
 

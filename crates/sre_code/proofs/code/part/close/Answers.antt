@@ -1,5 +1,4 @@
-use Rattle.sre_code.proofs.Terms.{Ok, sym, subst, Part}
-use Rattle.sre_code.specs.Steps.{Closing}
+use Rattle.sre_code.proofs.Terms.{Ok, sym, subst, Part, Closing}
 use Rattle.sre_code.proofs.code.part.close.Goals as goal
 
 pub returns-in-Absent : goal.returns-in-Absent

@@ -1,4 +1,4 @@
-use Rattle.std.proofs.Common.{length, ◌-◌, ◌≤◌}
+use Rattle.sre_code.proofs.Terms.{length, ◌-◌, ◌≤◌}
 use Rattle.sre_code.proofs.Claimed.{SameMarks}
 use Rattle.sre_code.proofs.code.prefix.behind_marks.Given as goal
 

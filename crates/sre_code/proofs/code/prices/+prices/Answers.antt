@@ -1,7 +1,7 @@
 use Rattle.sre_code.proofs.PriceScans.{loop_law, possessive_law, branch_ends, branch_cut, branch_deep, branch_next}
 use Rattle.sre_code.proofs.PriceScans.{onto_start, onto_next, scan_stops, scan_ends, Onto, priced_as}
-use Rattle.sre_code.specs.declared.code.prices.Kind.TheVariants as kind
 use Rattle.sre_code.proofs.Terms.{IsHeld, BodyPriced, PricedAt, ◌+◌, ◌∙◌, arith, sym, subst}
+use Rattle.sre_code.specs.declared.code.prices.Kind.TheVariants as kind
 use Rattle.sre_code.proofs.code.prices.+prices.Goals as goal
 
 pub looped-returns-in-Some-clause-told : goal.looped-returns-in-Some-clause-told
@@ -37,12 +37,13 @@ branch-returns-clause-told t c =
 
 pub part-returns-in-Run-clause-told : goal.part-returns-in-Run-clause-told
 part-returns-in-Run-clause-told t c =
-    priced_as _ _ _ _ c.in-Ok.code kind.Run _ c.in-Ok.ensures.1 (sym c.in-Run.is ∙ c.kind_of.ensures) c.run.ensures.told
+    priced_as _ _ _ _ c.in-Ok.code kind.Run _ c.in-Ok.ensures.1 (sym c.in-Run.is ∙ c.kind_of.ensures)
+    c.run.ensures.told
 
 pub part-returns-in-PossessiveRun-clause-told : goal.part-returns-in-PossessiveRun-clause-told
 part-returns-in-PossessiveRun-clause-told t c =
-    priced_as _ _ _ _ c.in-Ok.code kind.PossessiveRun _ c.in-Ok.ensures.1 (sym c.in-PossessiveRun.is ∙ c.kind_of.ensures)
-    c.run-in-PossessiveRun.ensures.told
+    priced_as _ _ _ _ c.in-Ok.code kind.PossessiveRun _ c.in-Ok.ensures.1
+    (sym c.in-PossessiveRun.is ∙ c.kind_of.ensures) c.run-in-PossessiveRun.ensures.told
 
 pub prices_of-part-init : goal.prices_of-part-init
 prices_of-part-init t c =

@@ -1,4 +1,4 @@
-use Rattle.std.proofs.Common.{length, ◌-◌, ◌+◌, ◌*◌}
+use Rattle.sre_code.proofs.Terms.{length, ◌-◌, ◌+◌, ◌*◌}
 use Rattle.sre_code.proofs.PriceScans.{Onto, BranchOnto}
 use Rattle.sre_code.proofs.code.prices.+prices.Given as goal
 

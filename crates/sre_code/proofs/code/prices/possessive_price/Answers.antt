@@ -8,7 +8,8 @@ returns c = λ x held.
     let two = held_same 2 (omega arith) in
     let slots = held_same c.args.slots (omega arith) in
     let state = held_plus _ 1 _ 1 _ (c.steps_before.ensures x 2 held two) one c.saturating_add-state.ensures in
-    let apart = held_plus _ x.apart _ _ _ (c.cost_before.ensures x 2 held two) held.apart c.saturating_add-apart.ensures in
+    let behind = c.cost_before.ensures x 2 held two in
+    let apart = held_plus _ x.apart _ _ _ behind held.apart c.saturating_add-apart.ensures in
     let states = held_times _ _ _ _ _ slots state c.saturating_mul.ensures in
     let all = held_plus _ 1 _ 1 _ states one c.saturating_add.ensures in
     subst (λ p. IsHeld (possessive_price c.args.slots x) p) (sym c.closed.ensures)

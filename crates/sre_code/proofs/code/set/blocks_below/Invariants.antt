@@ -1,5 +1,4 @@
-use Rattle.std.proofs.Common.{ℕ, ◌<◌, slice_index}
-use Rattle.sre_model.specs.Grammar.{BytesBelow}
+use Rattle.sre_code.proofs.Terms.{ℕ, ◌<◌, slice_index, BytesBelow}
 use Rattle.sre_code.proofs.code.set.blocks_below.Given as goal
 
 abbrev pub invariant-loop-block : goal.invariant-loop-block

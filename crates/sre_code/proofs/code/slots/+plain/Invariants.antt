@@ -1,4 +1,4 @@
-use Rattle.std.proofs.Common.{◌≤◌, ◌*◌, ◌+◌, ◌-◌}
+use Rattle.sre_code.proofs.Terms.{◌≤◌, ◌*◌, ◌+◌, ◌-◌}
 use Rattle.sre_code.proofs.ScanningLoops.{Scanned}
 use Rattle.sre_code.proofs.code.slots.+plain.Given as goal
 

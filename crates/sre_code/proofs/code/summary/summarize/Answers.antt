@@ -1,4 +1,4 @@
-use Rattle.std.proofs.Common.{arith}
+use Rattle.sre_code.proofs.Terms.{arith}
 use Rattle.sre_code.proofs.Walking.{none_unknown}
 use Rattle.sre_code.proofs.Summaries.{noted_start, noted_next, noted_stops, noted_ends}
 use Rattle.sre_code.proofs.code.summary.summarize.Goals as goal

@@ -1,4 +1,4 @@
-use Rattle.std.proofs.Common.{length, ◌-◌}
+use Rattle.sre_code.proofs.Terms.{length, ◌-◌}
 use Rattle.sre_code.proofs.Summaries.{Noted}
 use Rattle.sre_code.proofs.code.summary.summarize.Given as goal
 
