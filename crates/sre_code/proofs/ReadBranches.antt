@@ -123,13 +123,7 @@ pub bounds_exactly : (ws : List ℕ) (q e tail : ℕ) → e ≡ skip ws q → q 
     → BoundsExactly ws q (record { end = e - 2; tail = tail })
 bounds_exactly ws q e tail ee le te = record { opens = λ least. trees_exactly ws q e tail least ee le te }
 
-pub trees_short : (ws : List ℕ) (q e : ℕ) → e ≡ skip ws q → e < q + 3 → NoTrees ws q
-trees_short ws q e ee lt = record { none = λ j ts r. omega (arith, alternative_long ws q j ts r) }
-
-pub trees_past : (ws : List ℕ) (q : ℕ) → length ws ≤ q → NoTrees ws q
-trees_past ws q le = trees_short ws q (skip ws q) refl (omega (arith, word_past ws q le))
-
-alternative_there : (ws : List ℕ) (q j : ℕ) (ts : Trees) → ReadsBranch ws q j ts → skip ws q - 1 < length ws
+pub alternative_there : (ws : List ℕ) (q j : ℕ) (ts : Trees) → ReadsBranch ws q j ts → skip ws q - 1 < length ws
 alternative_there ws q j (Only t) r = omega (arith, reads_within t ws (q + 1) _ r.0, word_within ws (skip ws q) 0 r.2)
 alternative_there ws q j (Or t ts) r = omega (
   arith,
@@ -137,9 +131,6 @@ alternative_there ws q j (Or t ts) r = omega (
   alternative_there ws (skip ws q) j ts r.2,
   alternative_long ws (skip ws q) j ts r.2,
 )
-
-pub trees_cut : (ws : List ℕ) (q e : ℕ) → e ≡ skip ws q → length ws ≤ e - 1 → NoTrees ws q
-trees_cut ws q e ee le = record { none = λ j ts r. omega (arith, alternative_there ws q j ts r) }
 
 -- the item, by its alternatives
 pub branch_exactly : (ws : List ℕ) (i : ℕ) (b : Bounds) → Opcode ws i opcode.BRANCH → BoundsExactly ws (i + 1) b
@@ -237,18 +228,10 @@ pub jump_past : (ws : List ℕ) (e tail least u i : ℕ) → NoCode opcode_numbe
     → Nowhere (Closes ws (Alternative e tail least) i u)
 jump_past ws e tail least u i n = record { none = λ j y c. n.none opcode.JUMP c.1.0 }
 
-pub jump_wrong : (ws : List ℕ) (e tail least u i : ℕ) (o : SreOpcode) → Opcode ws i o → o ≢ opcode.JUMP
-    → Nowhere (Closes ws (Alternative e tail least) i u)
-jump_wrong ws e tail least u i o h ne = record { none = λ j y c. ne (same_opcode ws i o opcode.JUMP h c.1.0) }
-
 pub jump_cut : (ws : List ℕ) (e tail least u i : ℕ) → length ws ≤ i + 1
     → Nowhere (Closes ws (Alternative e tail least) i u)
 jump_cut ws e tail least u i le =
     jump_nowhere ws e tail least u i (more_short ws (i + 2) tail (min least u) (omega arith))
-
-pub jump_skip : (ws : List ℕ) (e tail least u i t : ℕ) → t ≡ skip ws (i + 1) → t ≢ tail
-    → Nowhere (Closes ws (Alternative e tail least) i u)
-jump_skip ws e tail least u i t te ne = record { none = λ j y c. ne (te ∙ sym c.1.1) }
 
 leaves_before : (ws : List ℕ) (i k : ℕ) (s : Step) → i ≤ k → Leaves ws k s → Leaves ws i s
 leaves_before ws i k (Past p v) le l = omega arith
@@ -264,13 +247,13 @@ jump_gives ws e tail least u m i (Err f) me same h te x =
     (jump_nowhere ws e tail least u i (subst (λ (n : ℕ). Nowhere (MoreAt ws (i + 2) tail n)) me x.0), x.1)
 
 -- what `bounds` answers
-pub ruleset bounds_laws = (bounds_exactly, trees_short, trees_past, trees_cut)
+pub ruleset bounds_laws = (bounds_exactly, alternative_long, alternative_there, word_past)
 
 -- what `another` answers
 pub ruleset another_laws = (more_last, more_unlike, more_next, more_nowhere, more_wrong, more_short)
 
 -- what `jump` answers
-pub ruleset jump_laws = (jump_gives, jump_past, jump_wrong, jump_cut, jump_skip)
+pub ruleset jump_laws = (jump_gives, jump_past, jump_cut, same_opcode)
 
 -- Conditionals: what the check reads of them is what the grammar says.
 

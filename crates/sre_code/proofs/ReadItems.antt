@@ -4,15 +4,15 @@ use Rattle.sre_code.proofs.Terms.{ℕ, ◌≡◌, ◌<◌, ◌≤◌, List, leng
 use Rattle.sre_code.proofs.Terms.{category_number, Word, word, NoCode, word_of, word_at, word_within, ◌+◌, ◌-◌, ◌≢◌}
 use Rattle.sre_code.proofs.Terms.{◌⊎◌, inl, inr, [], Err, refl, ap, subst, SreOpcode, SreCatCode, Test, Literal, In}
 use Rattle.sre_code.proofs.Terms.{Fold, Plain, Ascii, Locale, Unicode, SetItem, Opcode, skip, ReadsSet, FoldedAt}
-use Rattle.sre_code.proofs.Terms.{ReadsTest, TestExactly, NoTest, IsSet, NoSet, word_there, word_past, opcode_within}
-use Rattle.sre_code.proofs.Terms.{opcode_moved, same_opcode, set_within, test_same, ToTest, role_here, test_here}
-use Rattle.sre_code.proofs.Terms.{SreAtCode, Item, Fail, One, At, Mark, Branch, Run, GreedyRun, LazyRun, Loop}
-use Rattle.sre_code.proofs.Terms.{PossessiveLoop, Atomic, Look, Positive, Negative, PossessiveRun, Reference, Exists}
-use Rattle.sre_code.proofs.Terms.{ExistsElse, item_opcode, ReadsItem, item_width, ToCheckPosition, ToMark, ToRefer}
-use Rattle.sre_code.proofs.Terms.{ItemAt, Exactly, Nowhere, Past, item_same, no_item, RunKind, test_opcode, ToRun}
-use Rattle.sre_code.proofs.Terms.{test_past, HasRole, opcode_low, at_low, category_low, literal_opcode}
-use Rattle.sre_code.proofs.Terms.{not_literal_opcode, set_opcode, reference_opcode, run_opcode, TestOperands, TestEnds}
-use Rattle.sre_code.proofs.Terms.{HasTest, BadItem, set_moved, OfCategory, item_role, OnlyTests, RunAt}
+use Rattle.sre_code.proofs.Terms.{ReadsTest, TestExactly, NoTest, IsSet, NoSet, word_there, opcode_within, opcode_moved}
+use Rattle.sre_code.proofs.Terms.{same_opcode, set_within, test_same, ToTest, role_here, test_here, SreAtCode, Item}
+use Rattle.sre_code.proofs.Terms.{Fail, One, At, Mark, Branch, Run, GreedyRun, LazyRun, Loop, PossessiveLoop, Atomic}
+use Rattle.sre_code.proofs.Terms.{Look, Positive, Negative, PossessiveRun, Reference, Exists, ExistsElse, item_opcode}
+use Rattle.sre_code.proofs.Terms.{ReadsItem, item_width, ToCheckPosition, ToMark, ToRefer, ItemAt, Exactly, Nowhere}
+use Rattle.sre_code.proofs.Terms.{Past, item_same, no_item, RunKind, test_opcode, ToRun, test_past, HasRole, opcode_low}
+use Rattle.sre_code.proofs.Terms.{at_low, category_low, literal_opcode, not_literal_opcode, set_opcode}
+use Rattle.sre_code.proofs.Terms.{reference_opcode, run_opcode, TestOperands, TestEnds, HasTest, BadItem, set_moved}
+use Rattle.sre_code.proofs.Terms.{OfCategory, item_role, OnlyTests, RunAt}
 use Rattle.sre_model.specs.Tree.{Any, AnyAll, InCategory, NotLiteral}
 use Rattle.sre_model.proofs.Families.{is_category, is_literal, is_not_literal, is_set, is_at, is_mark, is_reference}
 use Rattle.sre_model.proofs.Families.{reference_role, role_at, run_role}
@@ -107,16 +107,20 @@ not_literal_cut ws i h le = record {
 }
 
 -- IN, under each folding: what is read of a test there
-record SetHere (ws : List ℕ) (i k : ℕ) : Type 0 where
-  set : List SetItem
-  ends : k ≡ skip ws (i + 1)
-  reads : ReadsSet ws (i + 2) (k - 1) set
-  closed : Opcode ws (k - 1) opcode.FAILURE
+pub record SetHere (ws : List ℕ) (i k : ℕ) : Type 0 where
+  pub set : List SetItem
+  pub ends : k ≡ skip ws (i + 1)
+  pub reads : ReadsSet ws (i + 2) (k - 1) set
+  pub closed : Opcode ws (k - 1) opcode.FAILURE
+  pub long : i + 2 ≤ k - 1
+  pub there : i + 1 < length ws
 
-set_here : (ws : List ℕ) (i k : ℕ) (t : Test) → FoldedAt set_opcode ws i → ReadsTest ws i k t → SetHere ws i k
+pub set_here : (ws : List ℕ) (i k : ℕ) (t : Test) → FoldedAt set_opcode ws i → ReadsTest ws i k t → SetHere ws i k
 set_here ws i k t h r =
     let f = is_set ws i k t (test_here ws i (In h.fold []) h.there) r.0 r.1 in
-    record { set = f.1; ends = f.3.0; reads = f.3.1; closed = f.3.2 }
+    let long : i + 2 ≤ k - 1 = set_within ws (i + 2) (k - 1) f.1 f.3.1 in
+    let there : i + 1 < length ws = omega (arith, opcode_within ws (k - 1) opcode.FAILURE f.3.2) in
+    record { set = f.1; ends = f.3.0; reads = f.3.1; closed = f.3.2; long = long; there = there }
 
 pub set_exactly : (ws : List ℕ) (i t : ℕ) → FoldedAt set_opcode ws i → t ≡ skip ws (i + 1)
     → Opcode ws (t - 1) opcode.FAILURE → IsSet ws (i + 2) (t - 1) → TestExactly ws i t
@@ -133,28 +137,15 @@ set_wrong ws i t h e n = record {
       );
 }
 
-set_closed : (ws : List ℕ) (i t k : ℕ) (x : Test) → FoldedAt set_opcode ws i → t ≡ skip ws (i + 1) → ReadsTest ws i k x
+pub set_closed : (ws : List ℕ) (i t k : ℕ) (x : Test) → FoldedAt set_opcode ws i → t ≡ skip ws (i + 1) → ReadsTest ws i k x
     → Opcode ws (t - 1) opcode.FAILURE
 set_closed ws i t k x h e r =
     let f = set_here ws i k x h r in
     opcode_moved ws (k - 1) (t - 1) opcode.FAILURE (ap (λ m. m - 1) (f.ends ∙ sym e)) f.closed
 
-pub set_open : (ws : List ℕ) (i t : ℕ) (o : SreOpcode) → FoldedAt set_opcode ws i → t ≡ skip ws (i + 1)
-    → Opcode ws (t - 1) o → o ≢ opcode.FAILURE → NoTest ws i
-set_open ws i t o h e there ne =
-    record { none = λ k x r. ne (same_opcode ws (t - 1) o opcode.FAILURE there (set_closed ws i t k x h e r)) }
-
 pub set_ends_cut : (ws : List ℕ) (i t : ℕ) → FoldedAt set_opcode ws i → t ≡ skip ws (i + 1)
     → NoCode opcode_number ws (t - 1) → NoTest ws i
 set_ends_cut ws i t h e n = record { none = λ k x r. n.none opcode.FAILURE (set_closed ws i t k x h e r) }
-
-pub set_empty : (ws : List ℕ) (i t : ℕ) → FoldedAt set_opcode ws i → t ≡ skip ws (i + 1) → t < i + 3 → NoTest ws i
-set_empty ws i t h e lt = record {
-  none = λ k x r. let f = set_here ws i k x h r in omega (arith, f.ends, set_within ws (i + 2) (k - 1) f.set f.reads);
-}
-
-pub set_cut : (ws : List ℕ) (i : ℕ) → FoldedAt set_opcode ws i → length ws ≤ i + 1 → NoTest ws i
-set_cut ws i h le = set_empty ws i (skip ws (i + 1)) h refl (omega (arith, word_past ws (i + 1) le))
 
 -- where no test is
 pub no_test : (ws : List ℕ) (i : ℕ) (o : SreOpcode) → Opcode ws i o → (HasTest ws i → ⊥)
@@ -168,7 +159,7 @@ no_test ws i o h none = (
 pub ruleset not_literal_laws = (not_literal_exactly, not_literal_cut)
 
 -- what `in_set` answers
-pub ruleset in_set_laws = (set_exactly, set_cut, set_empty, set_open, set_ends_cut, set_wrong)
+pub ruleset in_set_laws = (set_exactly, set_here, set_closed, set_ends_cut, set_wrong)
 
 -- what `test` answers
 pub ruleset test_laws = (any_exactly, any_all_exactly, folded_at)
@@ -274,14 +265,14 @@ info_nowhere ws i h =
 -- Single-character repeats: what the check reads of them is what the grammar says.
 
 -- what is read of an item there
-record RunHere (ws : List ℕ) (i j : ℕ) : Type 0 where
-  test : Test
-  ends : j ≡ skip ws (i + 1)
-  counts : word ws (i + 2) ≤ word ws (i + 3)
-  there : i + 4 < length ws
-  reads : ReadsTest ws (i + 4) (j - 1) test
-  closed : Opcode ws (j - 1) opcode.SUCCESS
-  longer : i + 4 < j - 1
+pub record RunHere (ws : List ℕ) (i j : ℕ) : Type 0 where
+  pub test : Test
+  pub ends : j ≡ skip ws (i + 1)
+  pub counts : word ws (i + 2) ≤ word ws (i + 3)
+  pub there : i + 4 < length ws
+  pub reads : ReadsTest ws (i + 4) (j - 1) test
+  pub closed : Opcode ws (j - 1) opcode.SUCCESS
+  pub longer : i + 4 < j - 1
 
 of_words : (ws : List ℕ) (i j low high : ℕ) (t : Test) (kind : RunKind) → ReadsItem ws i j (Run kind low high t)
     → RunHere ws i j
@@ -304,7 +295,7 @@ lazy_there ws i h = record { kind = LazyRun; there = h }
 pub possessive_there : (ws : List ℕ) (i : ℕ) → Opcode ws i opcode.POSSESSIVE_REPEAT_ONE → RunAt ws i
 possessive_there ws i h = record { kind = PossessiveRun; there = h }
 
-run_here : (ws : List ℕ) (i j : ℕ) (x : Item) → RunAt ws i → ReadsItem ws i j x → RunHere ws i j
+pub run_here : (ws : List ℕ) (i j : ℕ) (x : Item) → RunAt ws i → ReadsItem ws i j x → RunHere ws i j
 run_here ws i j (Run kind low high t) h r = of_words ws i j low high t kind r
 run_here ws i j x h r =
     let here : HasRole ws i (ToRun h.kind) =
@@ -313,7 +304,7 @@ run_here ws i j x h r =
     absurd (cc)
 
 -- where the test ends, SUCCESS stands
-run_closed : (ws : List ℕ) (i j e : ℕ) → RunHere ws i j → TestExactly ws (i + 4) e → Opcode ws e opcode.SUCCESS
+pub run_closed : (ws : List ℕ) (i j e : ℕ) → RunHere ws i j → TestExactly ws (i + 4) e → Opcode ws e opcode.SUCCESS
 run_closed ws i j e f t = opcode_moved ws (j - 1) e opcode.SUCCESS (t.only (j - 1) f.test f.reads) f.closed
 
 pub run_exactly : (ws : List ℕ) (i e t v high : ℕ) → RunAt ws i → t ≡ skip ws (i + 1) → v ≡ word ws (i + 2)
@@ -335,20 +326,6 @@ run_exactly ws i e t v high h skips low highest there le x closed ends =
       ),
     ) low
 
-pub run_short : (ws : List ℕ) (i : ℕ) → RunAt ws i → length ws ≤ i + 4 → Nowhere (ItemAt ws i)
-run_short ws i h le = record { none = λ j w y. omega (arith, (run_here ws i j y.0 h y.1).there) }
-
-pub run_counts : (ws : List ℕ) (i v high : ℕ) → RunAt ws i → v ≡ word ws (i + 2) → high ≡ word ws (i + 3) → high < v
-    → Nowhere (ItemAt ws i)
-run_counts ws i v high h low highest lt = record { none = λ j w y. omega (arith, (run_here ws i j y.0 h y.1).counts) }
-
-pub run_no_opcode : (ws : List ℕ) (i : ℕ) → RunAt ws i → NoCode opcode_number ws (i + 4) → Nowhere (ItemAt ws i)
-run_no_opcode ws i h n =
-    record { none = λ j w y. let f = run_here ws i j y.0 h y.1 in n.none (test_opcode f.test) f.reads.0 }
-
-pub run_nowhere : (ws : List ℕ) (i : ℕ) → RunAt ws i → NoTest ws (i + 4) → Nowhere (ItemAt ws i)
-run_nowhere ws i h n = record { none = λ j w y. let f = run_here ws i j y.0 h y.1 in n.none (j - 1) f.test f.reads }
-
 pub run_ends_cut : (ws : List ℕ) (i e : ℕ) → RunAt ws i → TestExactly ws (i + 4) e → NoCode opcode_number ws e
     → Nowhere (ItemAt ws i)
 run_ends_cut ws i e h x n =
@@ -360,15 +337,5 @@ run_open ws i e o h x there ne = record {
   none = λ j w y. ne (same_opcode ws e o opcode.SUCCESS there (run_closed ws i j e (run_here ws i j y.0 h y.1) x));
 }
 
-pub run_skip : (ws : List ℕ) (i e t : ℕ) → RunAt ws i → TestExactly ws (i + 4) e → t ≡ skip ws (i + 1) → t ≢ e + 1
-    → Nowhere (ItemAt ws i)
-run_skip ws i e t h x skips ne = record {
-  none = λ j w y.
-      let f = run_here ws i j y.0 h y.1 in
-      let at : j - 1 ≡ e = x.only (j - 1) f.test f.reads in
-      ne (omega (arith, f.ends, f.longer));
-}
-
 -- what `run` answers
-pub ruleset run_laws =
-    (run_exactly, run_short, run_counts, run_no_opcode, run_nowhere, run_open, run_ends_cut, run_skip)
+pub ruleset run_laws = (run_exactly, run_here, run_closed, run_ends_cut)

@@ -4,7 +4,9 @@ use Rattle.sre_code.proofs.FirstSets.{set_there}
 use Rattle.sre_code.proofs.AsciiMembers.{told}
 use Rattle.sre_code.proofs.code.first_set.is_confirmed.Goals.{then-words-eq1-via-then-words-eq1}
 use Rattle.sre_code.proofs.code.first_set.is_confirmed.Goals.{then-words-eq1-via-else-words-eq1+then-words-eq0}
-use Rattle.sre_code.proofs.code.first_set.is_confirmed.Goals.{then-words-eq1-via-else-words-eq1+else-words-eq0+then-end-lt6}
+use Rattle.sre_code.proofs.code.first_set.is_confirmed.Goals.{
+  then-words-eq1-via-else-words-eq1+else-words-eq0+then-end-lt6,
+}
 use Rattle.sre_code.proofs.code.first_set.is_confirmed.Goals as goal
 
 pub returns-then-words-eq1 : goal.returns-then-words-eq1
