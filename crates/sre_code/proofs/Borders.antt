@@ -283,8 +283,6 @@ set_right p o n k r l lt = more_right p (slice_set o n k) n k (record {
 pub lengths_right : (p o : List ℕ) → length o ≡ length p → Right p o → are_overlaps p 1 o ≡ true
 lengths_right p o long r = sym (overlaps_told p o true long (λ _. r) (λ _. refl))
 
--- what `are_borders` answers
+-- what `are_borders` and `border_lengths` answer
 pub ruleset overlaps_laws = (first_right, first_wrong, more_right, more_wrong, all_right)
-
--- what `border_lengths` answers
 pub ruleset lengths_laws = (first_right, set_right, lengths_right, all_right)

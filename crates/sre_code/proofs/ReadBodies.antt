@@ -2,10 +2,10 @@
 use Rattle.sre_code.proofs.Terms.{ℕ, ◌+◌, ◌*◌, ◌≡◌, ◌≢◌, ◌<◌, ◌≤◌, List, length, refl, sym, ◌∙◌, ap, subst, arith}
 use Rattle.sre_code.proofs.Terms.{opcode_number, SreOpcode, Tree, Loop, Order, Word, Opcode, word, skip, until_opcode}
 use Rattle.sre_code.proofs.Terms.{Reads, capped, width, item_width, ToRepeat, NoCode, IsFault, ItemAt, Closes, Unclosed}
-use Rattle.sre_code.proofs.Terms.{Exactly, Nowhere, IsEnd, IsInside, CodeError, Part, Past, Opens, word_of, word_within}
-use Rattle.sre_code.proofs.Terms.{word_there, same_opcode, reads_nothing, width_held, role_here, ◌-◌, PossessiveLoop}
-use Rattle.sre_code.proofs.Terms.{Atomic, Look, Positive, Negative, look_opcode, ToRepeatPossessively}
-use Rattle.sre_code.proofs.Terms.{ToGroupAtomically, ToLook, opcode_within, reads_within, IsUntil, LookAt}
+use Rattle.sre_code.proofs.Terms.{Exactly, IsEnd, CodeError, Part, Past, Opens, word_of, word_within, word_there}
+use Rattle.sre_code.proofs.Terms.{same_opcode, reads_nothing, width_held, role_here, ◌-◌, PossessiveLoop, Atomic, Look}
+use Rattle.sre_code.proofs.Terms.{Positive, Negative, look_opcode, ToRepeatPossessively, ToGroupAtomically, ToLook}
+use Rattle.sre_code.proofs.Terms.{opcode_within, reads_within, IsUntil, LookAt}
 use Rattle.sre_model.specs.Tree.{Greedy, Lazy}
 use Rattle.sre_code.specs.declared.code.step.Part.TheVariants.{Body, Region}
 use Rattle.sre_model.proofs.Families.{is_loop, is_possessive, is_atomic, is_look, look_role}
@@ -64,7 +64,7 @@ pub looped_counts : (Ends : ℕ → Type 0) (ws : List ℕ) (i j w : ℕ) → Lo
 looped_counts Ends ws i j w f = omega (arith, word_of ws (i + 2) f.0 f.3.0, word_of ws (i + 3) f.1 f.3.1, f.3.2)
 
 -- REPEAT
-loop_here : (ws : List ℕ) (i : ℕ) → Opcode ws i opcode.REPEAT → (j w : ℕ) → ItemAt ws i j w
+pub loop_here : (ws : List ℕ) (i : ℕ) → Opcode ws i opcode.REPEAT → (j w : ℕ) → ItemAt ws i j w
     → Looped (IsUntil ws) ws i j w
 loop_here ws i h j w y =
     let f = is_loop ws i j y.0 (role_here ws i opcode.REPEAT ToRepeat h refl) y.1 in
@@ -78,20 +78,8 @@ loop_exactly ws i end low high h =
     looped_exactly (Body end low) (IsUntil ws) ws i end low high (λ k u j w c. c) (λ k u j w c. c) (loop_here ws i h)
     (λ j w f. let r = f.3 in (Loop r.4.0 f.0 f.1 f.2, (h, (r.0, r.1, r.2, r.3, r.4.1, r.5)), f.4))
 
-pub loop_cut : (ws : List ℕ) (i : ℕ) → Opcode ws i opcode.REPEAT → length ws ≤ i + 3 → Nowhere (ItemAt ws i)
-loop_cut ws i h le =
-    record { none = λ j w y. omega (arith, looped_cut (IsUntil ws) ws i j w (loop_here ws i h j w y)) }
-
-pub loop_counts : (ws : List ℕ) (i low high : ℕ) → Opcode ws i opcode.REPEAT → low ≡ word ws (i + 2)
-    → high ≡ word ws (i + 3) → high < low → Nowhere (ItemAt ws i)
-loop_counts ws i low high h lowest highest lt =
-    record { none = λ j w y. omega (arith, looped_counts (IsUntil ws) ws i j w (loop_here ws i h j w y)) }
-
 -- MAX_UNTIL or MIN_UNTIL behind a body
-pub body_inside : (ws : List ℕ) (end least i : ℕ) → i ≢ end → IsInside ws (Body end least) i
-body_inside ws end least i ne = record { none = λ u j w c. ne c.0 }
-
-body_end : (ws : List ℕ) (end least i : ℕ) → i ≡ end → IsEnd ws (Body end least) i
+pub body_end : (ws : List ℕ) (end least i : ℕ) → i ≡ end → IsEnd ws (Body end least) i
 body_end ws end least i same = record { only = λ k u j w t r c. reads_nothing ws i k t r (c.0 ∙ sym same) }
 
 body_exactly : (ws : List ℕ) (o : Order) (end least i u v : ℕ) → i ≡ end → Opcode ws i (until_opcode o)
@@ -109,34 +97,24 @@ pub body_min : (ws : List ℕ) (end least i u v : ℕ) → i ≡ end → Opcode 
 body_min ws end least i u v same h e =
     (body_end ws end least i same, omega arith, body_exactly ws Lazy end least i u v same h e)
 
-no_until : (ws : List ℕ) (i : ℕ) (o : SreOpcode) → Opcode ws i o → o ≢ opcode.MAX_UNTIL → o ≢ opcode.MIN_UNTIL
+pub no_until : (ws : List ℕ) (i : ℕ) (o : SreOpcode) → Opcode ws i o → o ≢ opcode.MAX_UNTIL → o ≢ opcode.MIN_UNTIL
     → (q : Order) → Opcode ws i (until_opcode q) → ⊥
 no_until ws i o h max_ min_ Greedy w = max_ (same_opcode ws i o opcode.MAX_UNTIL h w)
 no_until ws i o h max_ min_ Lazy w = min_ (same_opcode ws i o opcode.MIN_UNTIL h w)
-
-pub body_open : (ws : List ℕ) (end least i u : ℕ) (o : SreOpcode) (e : CodeError) → i ≡ end → Opcode ws i o
-    → o ≢ opcode.MAX_UNTIL → o ≢ opcode.MIN_UNTIL → IsFault ws e → Unclosed ws (Body end least) i u e
-body_open ws end least i u o e same h max_ min_ le =
-    unclosed (body_end ws end least i same) (λ j w c. no_until ws i o h max_ min_ c.1.0 c.1.1) le
 
 pub body_cut : (ws : List ℕ) (end least i u : ℕ) (e : CodeError) → i ≡ end → NoCode opcode_number ws i → IsFault ws e
     → Unclosed ws (Body end least) i u e
 body_cut ws end least i u e same n le =
     unclosed (body_end ws end least i same) (λ j w c. n.none (until_opcode c.1.0) c.1.1) le
 
--- what `repeat` answers
-pub ruleset repeat_laws = (loop_exactly, loop_cut, loop_counts)
-
--- what `until` answers
-pub ruleset until_laws = (body_inside, body_max, body_min, body_open, body_cut)
+-- what `repeat` and `until` answer
+pub ruleset repeat_laws = (loop_exactly, loop_here, looped_cut, looped_counts)
+pub ruleset until_laws = (body_end, body_max, body_min, no_until, body_cut)
 
 -- Bodies of possessive loops, atomic groups and lookarounds: what the check reads of them is what the grammar says.
 
 -- SUCCESS behind a body
-pub region_inside : (ws : List ℕ) (end least i : ℕ) → i ≢ end → IsInside ws (Region end least) i
-region_inside ws end least i ne = record { none = λ u j w c. ne c.0 }
-
-region_end : (ws : List ℕ) (end least i : ℕ) → i ≡ end → IsEnd ws (Region end least) i
+pub region_end : (ws : List ℕ) (end least i : ℕ) → i ≡ end → IsEnd ws (Region end least) i
 region_end ws end least i same = record { only = λ k u j w t r c. reads_nothing ws i k t r (c.0 ∙ sym same) }
 
 pub region_closed : (ws : List ℕ) (end least i u v : ℕ) → i ≡ end → Opcode ws i opcode.SUCCESS → v ≡ capped (least * u)
@@ -147,21 +125,16 @@ region_closed ws end least i u v same h e = (
   record { sound = λ j w r. (same, h, r.0, r.1 ∙ e); complete = λ j w c. (c.2, c.3 ∙ sym e) },
 )
 
-pub region_open : (ws : List ℕ) (end least i u : ℕ) (o : SreOpcode) (e : CodeError) → i ≡ end → Opcode ws i o
-    → o ≢ opcode.SUCCESS → IsFault ws e → Unclosed ws (Region end least) i u e
-region_open ws end least i u o e same h other le =
-    unclosed (region_end ws end least i same) (λ j w c. other (same_opcode ws i o opcode.SUCCESS h c.1)) le
-
 pub region_cut : (ws : List ℕ) (end least i u : ℕ) (e : CodeError) → i ≡ end → NoCode opcode_number ws i
     → IsFault ws e → Unclosed ws (Region end least) i u e
 region_cut ws end least i u e same n le =
     unclosed (region_end ws end least i same) (λ j w c. n.none opcode.SUCCESS c.1) le
 
 -- POSSESSIVE_REPEAT
-abbrev IsSuccess : List ℕ → ℕ → Type 0
+abbrev pub IsSuccess : List ℕ → ℕ → Type 0
 IsSuccess ws k = Opcode ws k opcode.SUCCESS
 
-possessive_here : (ws : List ℕ) (i : ℕ) → Opcode ws i opcode.POSSESSIVE_REPEAT → (j w : ℕ) → ItemAt ws i j w
+pub possessive_here : (ws : List ℕ) (i : ℕ) → Opcode ws i opcode.POSSESSIVE_REPEAT → (j w : ℕ) → ItemAt ws i j w
     → Looped (IsSuccess ws) ws i j w
 possessive_here ws i h j w y =
     let f = is_possessive ws i j y.0 (role_here ws i opcode.POSSESSIVE_REPEAT ToRepeatPossessively h refl) y.1 in
@@ -174,21 +147,11 @@ possessive_exactly ws i end low high h =
     looped_exactly (Region end low) (IsSuccess ws) ws i end low high (λ k u j w c. c) (λ k u j w c. c)
     (possessive_here ws i h) (λ j w f. (PossessiveLoop f.0 f.1 f.2, (h, f.3), f.4))
 
-pub possessive_cut : (ws : List ℕ) (i : ℕ) → Opcode ws i opcode.POSSESSIVE_REPEAT → length ws ≤ i + 3
-    → Nowhere (ItemAt ws i)
-possessive_cut ws i h le =
-    record { none = λ j w y. omega (arith, looped_cut (IsSuccess ws) ws i j w (possessive_here ws i h j w y)) }
-
-pub possessive_counts : (ws : List ℕ) (i low high : ℕ) → Opcode ws i opcode.POSSESSIVE_REPEAT → low ≡ word ws (i + 2)
-    → high ≡ word ws (i + 3) → high < low → Nowhere (ItemAt ws i)
-possessive_counts ws i low high h lowest highest lt =
-    record { none = λ j w y. omega (arith, looped_counts (IsSuccess ws) ws i j w (possessive_here ws i h j w y)) }
-
 -- what `possessive_repeat` answers
-pub ruleset possessive_repeat_laws = (possessive_exactly, possessive_cut, possessive_counts)
+pub ruleset possessive_repeat_laws = (possessive_exactly, possessive_here, looped_cut, looped_counts)
 
 -- an item at i whose body stands behind n words, with a SUCCESS, and counts so many times for its width
-abbrev Enclosed : List ℕ → ℕ → ℕ → ℕ → ℕ → ℕ → Type 0
+abbrev pub Enclosed : List ℕ → ℕ → ℕ → ℕ → ℕ → ℕ → Type 0
 Enclosed ws i n times j w =
     (body : Tree) × (j ≡ skip ws (i + 1)) × Reads ws (i + n) (j - 1) body × Opcode ws (j - 1) opcode.SUCCESS
     × (w ≡ capped (times * capped (0 + width body)))
@@ -208,22 +171,11 @@ module _ (ws : List ℕ) (i n times tail : ℕ) (form : (j w : ℕ) → ItemAt w
         (j - 1, (f.0, f.2, (omega (arith, f.1), f.3, omega (arith, f.1), f.4)));
   }
 
-  enclosed_short : tail < i + n + 1 → 0 < n → Nowhere (ItemAt ws i)
-  enclosed_short short some =
-      record { none = λ j w y. let f = form j w y in omega (arith, f.1, reads_within f.0 ws (i + n) (j - 1) f.2) }
-
-  enclosed_cut : length ws ≤ i + 1 → 1 < n → Nowhere (ItemAt ws i)
-  enclosed_cut past some = record {
-    none = λ j w y.
-        let f = form j w y in
-        omega (arith, reads_within f.0 ws (i + n) (j - 1) f.2, opcode_within ws (j - 1) opcode.SUCCESS f.3);
-  }
-
 -- ATOMIC_GROUP: a body counts once for the group's width, as the descent adds it up
 once : (t : Tree) → capped (1 * capped (0 + width t)) ≡ width t
 once t = omega (arith, width_held t)
 
-atomic_here : (ws : List ℕ) (i : ℕ) → Opcode ws i opcode.ATOMIC_GROUP → (j w : ℕ) → ItemAt ws i j w
+pub atomic_here : (ws : List ℕ) (i : ℕ) → Opcode ws i opcode.ATOMIC_GROUP → (j w : ℕ) → ItemAt ws i j w
     → Enclosed ws i 2 1 j w
 atomic_here ws i h j w y =
     let f = is_atomic ws i j y.0 (role_here ws i opcode.ATOMIC_GROUP ToGroupAtomically h refl) y.1 in
@@ -235,14 +187,6 @@ atomic_exactly ws i tail h leads long =
     enclosed_exactly ws i 2 1 tail (atomic_here ws i h) leads
     (λ j w f. (Atomic f.0, (h, (f.1, f.2, f.3)), f.4 ∙ once f.0)) (omega arith)
 
-pub atomic_short : (ws : List ℕ) (i tail : ℕ) → Opcode ws i opcode.ATOMIC_GROUP → tail ≡ skip ws (i + 1)
-    → tail < i + 3 → Nowhere (ItemAt ws i)
-atomic_short ws i tail h leads short =
-    enclosed_short ws i 2 1 tail (atomic_here ws i h) leads (omega arith) (omega arith)
-
-pub atomic_cut : (ws : List ℕ) (i : ℕ) → Opcode ws i opcode.ATOMIC_GROUP → length ws ≤ i + 1 → Nowhere (ItemAt ws i)
-atomic_cut ws i h past = enclosed_cut ws i 2 1 (skip ws (i + 1)) (atomic_here ws i h) refl past (omega arith)
-
 -- ASSERT, ASSERT_NOT: a look has no width
 pub assert_there : (ws : List ℕ) (i : ℕ) → Opcode ws i opcode.ASSERT → LookAt ws i
 assert_there ws i h = record { sign = Positive; there = h }
@@ -253,7 +197,7 @@ assert_not_there ws i h = record { sign = Negative; there = h }
 never_counts : (n : ℕ) → capped (0 * n) ≡ 0
 never_counts n = omega arith
 
-look_here : (ws : List ℕ) (i : ℕ) → LookAt ws i → (j w : ℕ) → ItemAt ws i j w → Enclosed ws i 3 0 j w
+pub look_here : (ws : List ℕ) (i : ℕ) → LookAt ws i → (j w : ℕ) → ItemAt ws i j w → Enclosed ws i 3 0 j w
 look_here ws i h j w y =
     let f = is_look ws i j y.0 (role_here ws i (look_opcode h.sign) (ToLook h.sign) h.there (look_role h.sign)) y.1 in
     let r = f.3.1 in
@@ -271,22 +215,10 @@ look_exactly ws i tail h leads long =
       f.4 ∙ never_counts (capped (0 + width f.0)),
     )) (omega arith)
 
-pub look_short : (ws : List ℕ) (i tail : ℕ) → LookAt ws i → tail ≡ skip ws (i + 1) → tail < i + 4
-    → Nowhere (ItemAt ws i)
-look_short ws i tail h leads short =
-    enclosed_short ws i 3 0 tail (look_here ws i h) leads (omega arith) (omega arith)
-
-pub look_cut : (ws : List ℕ) (i : ℕ) → LookAt ws i → length ws ≤ i + 1 → Nowhere (ItemAt ws i)
-look_cut ws i h past = enclosed_cut ws i 3 0 (skip ws (i + 1)) (look_here ws i h) refl past (omega arith)
-
--- what `atomic_group` answers
-pub ruleset atomic_group_laws = (atomic_exactly, atomic_short, atomic_cut)
-
--- what `look` answers
-pub ruleset look_laws = (look_exactly, look_short, look_cut)
-
--- what `end` answers
-pub ruleset end_laws = (region_inside, region_open, region_cut)
+-- what `atomic_group`, `look` and `end` answer
+pub ruleset atomic_group_laws = (atomic_exactly, atomic_here, reads_within, opcode_within)
+pub ruleset look_laws = (look_exactly, look_here, reads_within, opcode_within)
+pub ruleset end_laws = (region_end, region_cut, same_opcode)
 
 -- The result of reading an item, by its opcode.
 

@@ -7,7 +7,7 @@ use Rattle.sre_code.proofs.Terms.{Only, Or, Word, word, skip, JumpsTo, ReadsBran
 use Rattle.sre_code.proofs.Terms.{ItemAt, Nowhere, Leaves, Step, Opens, word_of, word_within, word_past, word_at}
 use Rattle.sre_code.proofs.Terms.{reads_within, alternative_long, reads_nothing, width_held, role_here, is_branch}
 use Rattle.sre_code.proofs.Terms.{⊎_elim, Exists, ExistsElse, ReadsItem, ToCheckGroup, word_there, reads_moved}
-use Rattle.sre_code.proofs.Terms.{TrailingWords, EndGives, MoreAt, More, TreesAt, BoundsExactly, NoTrees, Else}
+use Rattle.sre_code.proofs.Terms.{EndGives, MoreAt, More, TreesAt, BoundsExactly, NoTrees, Else}
 use Rattle.sre_code.specs.declared.code.step.Part.TheVariants.{Whole, Alternative, There, Absent}
 use Rattle.sre_model.proofs.Families.{is_item_role, is_exists}
 use Rattle.sre_model.specs.Width.{least_width}
@@ -39,12 +39,6 @@ pub whole_exactly : (ws : List ℕ) (u i : ℕ) → Opcode ws i opcode.SUCCESS �
     → Exactly ws (Past (i + 1) u) (Closes ws Whole i u)
 whole_exactly ws u i h last = record { sound = λ j w r. (h, last, r.0, r.1); complete = λ j w c. (c.2, c.3) }
 
-pub whole_trails : (ws : List ℕ) (u i : ℕ) → Opcode ws i opcode.SUCCESS → i + 1 ≢ length ws
-    → Unclosed ws Whole i u (TrailingWords (i + 1))
-whole_trails ws u i h ne =
-    unclosed (whole_end ws i h) (λ j w c. ne c.1)
-    (omega (arith, opcode_within ws i opcode.SUCCESS h), λ e. absurd (cc))
-
 -- where no opcode is, no item begins and nothing is closed
 pub no_first : (ws : List ℕ) (i k : ℕ) (t : Tree) → NoCode opcode_number ws i → Reads ws i k t → t ≡ Empty
 no_first ws i k Empty n r = refl
@@ -56,7 +50,7 @@ whole_cut ws u i e n le =
     unclosed (record { only = λ k v j w t r c. no_first ws i k t n r }) (λ j w c. n.none opcode.SUCCESS c.0) le
 
 -- what `whole` answers
-pub ruleset whole_laws = (whole_inside, whole_end, whole_exactly, whole_trails, whole_cut)
+pub ruleset whole_laws = (whole_inside, whole_end, whole_exactly, opcode_within, whole_cut)
 
 -- Branches: what the check reads of them is what the grammar says.
 
@@ -169,12 +163,6 @@ more_last ws q tail least there z e = record {
   );
 }
 
-pub more_unlike : (ws : List ℕ) (q tail least : ℕ) → word ws q ≡ 0 → tail ≢ q + 1 → Nowhere (MoreAt ws q tail least)
-more_unlike ws q tail least z ne = record {
-  none = λ j w c. after ws q tail least w c.0 (λ last. ne last.1)
-      (λ later. omega (arith, alternative_long ws q tail later.0 later.1));
-}
-
 -- what comes after an alternative, where no 0 ends the branch
 trees_left : (ws : List ℕ) (q tail least j w : ℕ) → word ws q ≢ 0 → MoreAt ws q tail least j w
     → TreesAt ws q least tail w
@@ -246,13 +234,9 @@ jump_gives ws e tail least u m i (Ok s) me same h te x =
 jump_gives ws e tail least u m i (Err f) me same h te x =
     (jump_nowhere ws e tail least u i (subst (λ (n : ℕ). Nowhere (MoreAt ws (i + 2) tail n)) me x.0), x.1)
 
--- what `bounds` answers
+-- what `bounds`, `another` and `jump` answer
 pub ruleset bounds_laws = (bounds_exactly, alternative_long, alternative_there, word_past)
-
--- what `another` answers
-pub ruleset another_laws = (more_last, more_unlike, more_next, more_nowhere, more_wrong, more_short)
-
--- what `jump` answers
+pub ruleset another_laws = (more_last, more_next, more_nowhere, more_wrong, more_short, alternative_long)
 pub ruleset jump_laws = (jump_gives, jump_past, jump_cut, same_opcode)
 
 -- Conditionals: what the check reads of them is what the grammar says.
@@ -338,10 +322,6 @@ condition_cut ws i h le =
     condition_short ws i (skip ws (i + 2) - 1) h refl (omega (arith, word_past ws (i + 2) le))
 
 -- behind a yes part
-pub there_inside : (ws : List ℕ) (tail i : ℕ) → i ≢ tail → i + 2 ≢ tail → IsInside ws (There tail) i
-there_inside ws tail i ne far =
-    record { none = λ u j w c. by_end ws tail i u j w c (λ a. ne a.0) (λ b. far b.0) }
-
 pub there_goes_on : (ws : List ℕ) (tail i : ℕ) (o : SreOpcode) → i ≢ tail → Opcode ws i o → o ≢ opcode.JUMP
     → IsInside ws (There tail) i
 there_goes_on ws tail i o ne h other = record {
@@ -408,9 +388,6 @@ pub there_unclosed : (ws : List ℕ) (tail i u : ℕ) (e : CodeError) → Opcode
 there_unclosed ws tail i u e h n le = record { end = jump_end ws tail i h; nowhere = n; fault = le }
 
 -- behind a no part
-pub absent_inside : (ws : List ℕ) (end least i : ℕ) → i ≢ end → IsInside ws (Absent end least) i
-absent_inside ws end least i ne = record { none = λ u j w c. ne c.0 }
-
 pub absent_end : (ws : List ℕ) (end least i : ℕ) → i ≡ end → IsEnd ws (Absent end least) i
 absent_end ws end least i same = record { only = λ k u j w t r c. reads_nothing ws i k t r (c.0 ∙ sym same) }
 
@@ -419,12 +396,8 @@ pub absent_exactly : (ws : List ℕ) (end least i u v : ℕ) → i ≡ end → v
 absent_exactly ws end least i u v same e =
     record { sound = λ j w r. (same, r.0, r.1 ∙ e); complete = λ j w c. (c.1, c.2 ∙ sym e) }
 
--- what `condition` answers
+-- what `condition`, `there` and `absent` answer
 pub ruleset condition_laws = (condition_exactly, condition_short, condition_cut)
-
--- what `there` answers
 pub ruleset there_laws =
-    (there_inside, there_goes_on, tail_end, tail_exactly, jump_end, there_unclosed)
-
--- what `absent` answers
-pub ruleset absent_laws = (absent_inside, absent_end, absent_exactly)
+    (there_goes_on, tail_end, tail_exactly, jump_end, there_unclosed)
+pub ruleset absent_laws = (absent_end, absent_exactly)

@@ -36,13 +36,9 @@ pub category_unknown : (ws : List ℕ) (i v : ℕ) → v ≡ word ws i → 18 �
 category_unknown ws i v e le =
     record { none = λ o a. omega (arith, word_of ws i (category_number o) a, category_low o) }
 
--- what `opcode` answers
+-- what `opcode`, `position` and `category` answer
 pub ruleset opcode_laws = (number_there, code_past, opcode_unknown)
-
--- what `position` answers
 pub ruleset position_laws = (number_there, code_past, at_unknown)
-
--- what `category` answers
 pub ruleset category_laws = (number_there, code_past, category_unknown)
 
 -- Tests of one character: what the check reads of them is what the grammar says.
@@ -155,13 +151,9 @@ no_test ws i o h none = (
   (omega (arith, opcode_within ws i o h), λ e. absurd (cc)),
 )
 
--- what `not_literal` answers
+-- what `not_literal`, `in_set` and `test` answer
 pub ruleset not_literal_laws = (not_literal_exactly, not_literal_cut)
-
--- what `in_set` answers
 pub ruleset in_set_laws = (set_exactly, set_here, set_closed, set_ends_cut, set_wrong)
-
--- what `test` answers
 pub ruleset test_laws = (any_exactly, any_all_exactly, folded_at)
 
 -- Items: what the check reads of them is what the grammar says.

@@ -99,9 +99,6 @@ pub big_cut : (ws : List ℕ) (i : ℕ) → Opcode ws i opcode.BIGCHARSET → le
 big_cut ws i h short =
     record { none = λ j lt s. omega (arith, (parted opcode.BIGCHARSET ws i j s.0 h lt s.1).2.4) }
 
-pub big_short : (ws : List ℕ) (i : ℕ) → Opcode ws i opcode.BIGCHARSET → length ws < i + 66 → NoSetItem ws i
-big_short ws i h short = big_cut ws i h (omega arith)
-
 pub negate_item : (ws : List ℕ) (i : ℕ) → Opcode ws i opcode.NEGATE → SetItemExactly ws i (i + 1)
 negate_item ws i h = record {
   sound = λ j s. (Negate ∷ s.0, (h, s.1));
@@ -134,19 +131,10 @@ pub set_stops : (ws : List ℕ) (start place end : ℕ) → SameSets ws start pl
     → NoSet ws start end
 set_stops ws start place end inv lt n = record { none = λ s. n.none end lt (inv.to s) }
 
-pub set_past : (ws : List ℕ) (start place end : ℕ) → SameSets ws start place end → end ≤ place → place ≢ end
-    → NoSet ws start end
-set_past ws start place end inv le ne =
-    record { none = λ s. let t = inv.to s in ne (omega (arith, set_within ws place end t.0 t.1)) }
-
 pub set_ends : (ws : List ℕ) (start place end : ℕ) → SameSets ws start place end → place ≡ end → IsSet ws start end
 set_ends ws start place end inv e = record { set = inv.from ([], e) }
 
--- what `big_charset` answers
-pub ruleset big_charset_laws = (big_exactly, big_blocks, big_short, big_cut)
-
--- what `item` answers
+-- what `big_charset`, `item` and `items` answer
+pub ruleset big_charset_laws = (big_exactly, big_blocks, big_cut)
 pub ruleset item_laws = (range_there, negate_item, no_item, no_opcode)
-
--- what `items` answers
-pub ruleset items_laws = (set_stops, set_past, set_ends)
+pub ruleset items_laws = (set_stops, set_ends, set_within)

@@ -73,7 +73,7 @@ pub use Rattle.sre_code.specs.Terms.{most_slots, nesting, refers, role, skip, wi
 pub use Rattle.sre_code.specs.declared.ascii_set.AsciiSet.{AsciiSet}
 pub use Rattle.sre_code.specs.declared.code.Hints.{Hints}
 pub use Rattle.sre_code.specs.declared.code.error.CodeError.{CodeError}
-pub use Rattle.sre_code.specs.declared.code.error.CodeError.TheVariants.{BadItem, BadSet, Memory, TrailingWords}
+pub use Rattle.sre_code.specs.declared.code.error.CodeError.TheVariants.{BadItem, BadSet, Memory}
 pub use Rattle.sre_code.specs.declared.code.prices.Kind.{Kind}
 pub use Rattle.sre_code.specs.declared.code.prices.Price.{Price}
 pub use Rattle.sre_code.specs.declared.code.prices.PricedItem.{PricedItem}
