@@ -35,10 +35,6 @@ none_first o e ws i k (Then x t) h r = absurd (no_item ws i r.0 x o h e r.1)
 pub whole_end : (ws : List ℕ) (i : ℕ) → Opcode ws i opcode.SUCCESS → IsEnd ws Whole i
 whole_end ws i h = record { only = λ k u j w t r c. none_first opcode.SUCCESS refl ws i k t h r }
 
-pub whole_exactly : (ws : List ℕ) (u i : ℕ) → Opcode ws i opcode.SUCCESS → i + 1 ≡ length ws
-    → Exactly ws (Past (i + 1) u) (Closes ws Whole i u)
-whole_exactly ws u i h last = record { sound = λ j w r. (h, last, r.0, r.1); complete = λ j w c. (c.2, c.3) }
-
 -- where no opcode is, no item begins and nothing is closed
 pub no_first : (ws : List ℕ) (i k : ℕ) (t : Tree) → NoCode opcode_number ws i → Reads ws i k t → t ≡ Empty
 no_first ws i k Empty n r = refl
@@ -50,7 +46,7 @@ whole_cut ws u i e n le =
     unclosed (record { only = λ k v j w t r c. no_first ws i k t n r }) (λ j w c. n.none opcode.SUCCESS c.0) le
 
 -- what `whole` answers
-pub ruleset whole_laws = (whole_inside, whole_end, whole_exactly, opcode_within, whole_cut)
+pub ruleset whole_laws = (whole_inside, whole_end, opcode_within, whole_cut)
 
 -- Branches: what the check reads of them is what the grammar says.
 
@@ -391,13 +387,8 @@ there_unclosed ws tail i u e h n le = record { end = jump_end ws tail i h; nowhe
 pub absent_end : (ws : List ℕ) (end least i : ℕ) → i ≡ end → IsEnd ws (Absent end least) i
 absent_end ws end least i same = record { only = λ k u j w t r c. reads_nothing ws i k t r (c.0 ∙ sym same) }
 
-pub absent_exactly : (ws : List ℕ) (end least i u v : ℕ) → i ≡ end → v ≡ min least u
-    → Exactly ws (Past end v) (Closes ws (Absent end least) i u)
-absent_exactly ws end least i u v same e =
-    record { sound = λ j w r. (same, r.0, r.1 ∙ e); complete = λ j w c. (c.1, c.2 ∙ sym e) }
-
 -- what `condition`, `there` and `absent` answer
 pub ruleset condition_laws = (condition_exactly, condition_short, condition_cut)
 pub ruleset there_laws =
     (there_goes_on, tail_end, tail_exactly, jump_end, there_unclosed)
-pub ruleset absent_laws = (absent_end, absent_exactly)
+pub ruleset absent_laws = (absent_end)
