@@ -22,10 +22,6 @@ pub unclosed : {ws : List ℕ} {part : Part} {i u : ℕ} {e : CodeError} → IsE
     → ((j w : ℕ) → Closes ws part i u j w → ⊥) → IsFault ws e → Unclosed ws part i u e
 unclosed end none fault = record { end = end; nowhere = record { none = none }; fault = fault }
 
--- SUCCESS as the last word
-pub whole_inside : (ws : List ℕ) (i : ℕ) (o : SreOpcode) → Opcode ws i o → o ≢ opcode.SUCCESS → IsInside ws Whole i
-whole_inside ws i o h ne = record { none = λ u j w c. ne (same_opcode ws i o opcode.SUCCESS h c.0) }
-
 -- where an opcode stands that begins no item, no item is read
 pub none_first : (o : SreOpcode) → is_item_role (role o) ≡ false → (ws : List ℕ) (i k : ℕ) (t : Tree) → Opcode ws i o
     → Reads ws i k t → t ≡ Empty
@@ -46,7 +42,7 @@ whole_cut ws u i e n le =
     unclosed (record { only = λ k v j w t r c. no_first ws i k t n r }) (λ j w c. n.none opcode.SUCCESS c.0) le
 
 -- what `whole` answers
-pub ruleset whole_laws = (whole_inside, whole_end, opcode_within, whole_cut)
+pub ruleset whole_laws = (same_opcode, whole_end, opcode_within, whole_cut)
 
 -- Branches: what the check reads of them is what the grammar says.
 
@@ -190,9 +186,6 @@ more_wrong ws q tail least b ne bounds unlike = record {
 }
 
 -- JUMP after an alternative
-pub alternative_inside : (ws : List ℕ) (e tail least i : ℕ) → i ≢ e → IsInside ws (Alternative e tail least) i
-alternative_inside ws e tail least i ne = record { none = λ u j w c. ne c.0 }
-
 pub alternative_end : (ws : List ℕ) (e tail least i : ℕ) → i ≡ e → IsEnd ws (Alternative e tail least) i
 alternative_end ws e tail least i same = record { only = λ k u j w t r c. reads_nothing ws i k t r (c.0 ∙ sym same) }
 
@@ -331,12 +324,6 @@ tail_end ws tail i same = record {
       (λ b. absurd (omega (arith, b.0, reads_within t ws i k r)));
 }
 
-pub tail_exactly : (ws : List ℕ) (tail i u : ℕ) → i ≡ tail → Exactly ws (Past tail 0) (Closes ws (There tail) i u)
-tail_exactly ws tail i u same = record {
-  sound = λ j w r. inl (same, r.0, r.1);
-  complete = λ j w c. by_end ws tail i u j w c (λ a. (a.1, a.2)) (λ b. absurd (omega (arith, b.0)));
-}
-
 pub there_cut : (ws : List ℕ) (tail i u : ℕ) (e : CodeError) → i ≢ tail → NoCode opcode_number ws i → IsFault ws e
     → Unclosed ws (There tail) i u e
 there_cut ws tail i u e ne n le =
@@ -383,12 +370,8 @@ pub there_unclosed : (ws : List ℕ) (tail i u : ℕ) (e : CodeError) → Opcode
     → Nowhere (Closes ws (There tail) i u) → IsFault ws e → Unclosed ws (There tail) i u e
 there_unclosed ws tail i u e h n le = record { end = jump_end ws tail i h; nowhere = n; fault = le }
 
--- behind a no part
-pub absent_end : (ws : List ℕ) (end least i : ℕ) → i ≡ end → IsEnd ws (Absent end least) i
-absent_end ws end least i same = record { only = λ k u j w t r c. reads_nothing ws i k t r (c.0 ∙ sym same) }
-
 -- what `condition`, `there` and `absent` answer
 pub ruleset condition_laws = (condition_exactly, condition_short, condition_cut)
 pub ruleset there_laws =
-    (there_goes_on, tail_end, tail_exactly, jump_end, there_unclosed)
-pub ruleset absent_laws = (absent_end)
+    (there_goes_on, tail_end, jump_end, there_unclosed)
+pub ruleset absent_laws = (reads_nothing)

@@ -93,7 +93,7 @@ fn jump(
 }
 
 /// The end of an alternative, if it is at `place`.
-#[tactic(auto, using(crate::proofs::ReadBranches::alternative_inside, crate::proofs::ReadBranches::alternative_end))]
+#[tactic(auto, using(crate::proofs::ReadBranches::alternative_end))]
 pub fn alternative(
     words: &[u32],
     place: usize,
