@@ -285,4 +285,5 @@ lengths_right p o long r = sym (overlaps_told p o true long (λ _. r) (λ _. ref
 
 -- what `are_borders` and `border_lengths` answer
 pub ruleset overlaps_laws = (first_right, first_wrong, more_right, more_wrong, all_right)
+
 pub ruleset lengths_laws = (first_right, set_right, lengths_right, all_right)

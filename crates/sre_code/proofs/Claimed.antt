@@ -223,6 +223,7 @@ module _ (ws : List ℕ) (i p : ℕ) (all : Tree → Option Tree) (vs : List ℕ
 
 -- what `behind_adjacent` and `behind_spread` answer
 pub ruleset adjacent_laws = (left_start, adjacent_more, adjacent_stops, adjacent_end, literal_words)
+
 pub ruleset spread_laws = (left_start, spread_more, spread_stops, spread_end, literal_words)
 
 -- both, one after the other

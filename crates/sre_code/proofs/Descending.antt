@@ -267,6 +267,7 @@ descent_refused ws e t x ne w = (x.never ne).none (width t) ((t, w.0, refl), w.1
 
 -- what `read_on` and `descend` answer
 pub ruleset read_on_laws = (step_closes, step_reads, step_no_close, step_no_item)
+
 pub ruleset descend_laws = (descent_starts, descent_goes_on, descent_falls, descent_stops, descent_ends)
 
 -- The INFO block at the front, and what a check says of bytecode whose items it has read.

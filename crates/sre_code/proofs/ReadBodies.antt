@@ -109,6 +109,7 @@ body_cut ws end least i u e same n le =
 
 -- what `repeat` and `until` answer
 pub ruleset repeat_laws = (loop_exactly, loop_here, looped_cut, looped_counts)
+
 pub ruleset until_laws = (body_end, body_max, body_min, no_until, body_cut)
 
 -- Bodies of possessive loops, atomic groups and lookarounds: what the check reads of them is what the grammar says.
@@ -217,7 +218,9 @@ look_exactly ws i tail h leads long =
 
 -- what `atomic_group`, `look` and `end` answer
 pub ruleset atomic_group_laws = (atomic_exactly, atomic_here, reads_within, opcode_within)
+
 pub ruleset look_laws = (look_exactly, look_here, reads_within, opcode_within)
+
 pub ruleset end_laws = (region_end, region_cut, same_opcode)
 
 -- The result of reading an item, by its opcode.

@@ -225,7 +225,9 @@ jump_gives ws e tail least u m i (Err f) me same h te x =
 
 -- what `bounds`, `another` and `jump` answer
 pub ruleset bounds_laws = (bounds_exactly, alternative_long, alternative_there, word_past)
+
 pub ruleset another_laws = (more_last, more_next, more_nowhere, more_wrong, more_short, alternative_long)
+
 pub ruleset jump_laws = (jump_gives, jump_past, jump_cut, same_opcode)
 
 -- Conditionals: what the check reads of them is what the grammar says.
@@ -372,6 +374,8 @@ there_unclosed ws tail i u e h n le = record { end = jump_end ws tail i h; nowhe
 
 -- what `condition`, `there` and `absent` answer
 pub ruleset condition_laws = (condition_exactly, condition_short, condition_cut)
+
 pub ruleset there_laws =
     (there_goes_on, tail_end, jump_end, there_unclosed)
+
 pub ruleset absent_laws = (reads_nothing)

@@ -25,7 +25,9 @@ number_there ws i v n there e same = word_at ws i n there (sym e ∙ sym same)
 
 -- what `opcode`, `position` and `category` answer
 pub ruleset opcode_laws = (number_there, word_within, word_of, opcode_low)
+
 pub ruleset position_laws = (number_there, word_within, word_of, at_low)
+
 pub ruleset category_laws = (number_there, word_within, word_of, category_low)
 
 -- Tests of one character: what the check reads of them is what the grammar says.
@@ -120,8 +122,8 @@ set_wrong ws i t h e n = record {
       );
 }
 
-pub set_closed : (ws : List ℕ) (i t k : ℕ) (x : Test) → FoldedAt set_opcode ws i → t ≡ skip ws (i + 1) → ReadsTest ws i k x
-    → Opcode ws (t - 1) opcode.FAILURE
+pub set_closed : (ws : List ℕ) (i t k : ℕ) (x : Test) → FoldedAt set_opcode ws i → t ≡ skip ws (i + 1)
+    → ReadsTest ws i k x → Opcode ws (t - 1) opcode.FAILURE
 set_closed ws i t k x h e r =
     let f = set_here ws i k x h r in
     opcode_moved ws (k - 1) (t - 1) opcode.FAILURE (ap (λ m. m - 1) (f.ends ∙ sym e)) f.closed
@@ -140,7 +142,9 @@ no_test ws i o h none = (
 
 -- what `not_literal`, `in_set` and `test` answer
 pub ruleset not_literal_laws = (not_literal_exactly, not_literal_cut)
+
 pub ruleset in_set_laws = (set_exactly, set_here, set_closed, set_ends_cut, set_wrong)
+
 pub ruleset test_laws = (any_exactly, any_all_exactly, folded_at)
 
 -- Items: what the check reads of them is what the grammar says.

@@ -136,5 +136,7 @@ set_ends ws start place end inv e = record { set = inv.from ([], e) }
 
 -- what `big_charset`, `item` and `items` answer
 pub ruleset big_charset_laws = (big_exactly, big_blocks, big_cut)
+
 pub ruleset item_laws = (range_there, negate_item, no_item, no_opcode)
+
 pub ruleset items_laws = (set_stops, set_ends, set_within)

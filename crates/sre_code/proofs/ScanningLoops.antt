@@ -2,11 +2,11 @@
 -- have, or that they have too many.
 use Rattle.sre_code.proofs.Terms.{ℕ, ◌+◌, ◌*◌, ◌/◌, ◌≡◌, ◌<◌, ◌≤◌, inl, ⊎_elim, Bool, true, false, List, Option, Some}
 use Rattle.sre_code.proofs.Terms.{None, ◌||◌, max, refl, sym, ap, ◌∙◌, subst, arith, true≢false, or_parts, cases_lt}
-use Rattle.sre_code.proofs.Terms.{le-max_right, mul-le-mul_left, opcode_number, Tree, Empty, Then, refers}
-use Rattle.sre_code.proofs.Terms.{by_references, of_item, of_branch, loop_slots, most_slots, Role, ToCheckGroup, ToMark}
-use Rattle.sre_code.proofs.Terms.{ToBranch, ToGroupAtomically, ToRefer, ToRepeat, ToRepeatPossessively, Word, word}
-use Rattle.sre_code.proofs.Terms.{skip, Reads, HasRole, test_here, test_past, word_of, NoCode, own_words, Behind}
-use Rattle.sre_code.proofs.Terms.{AreTold, ToldAt, div-mul-le_self}
+use Rattle.sre_code.proofs.Terms.{le-max_right, mul-le-mul_left, Tree, Empty, Then, refers, by_references, of_item}
+use Rattle.sre_code.proofs.Terms.{of_branch, loop_slots, most_slots, Role, ToCheckGroup, ToMark, ToBranch}
+use Rattle.sre_code.proofs.Terms.{ToGroupAtomically, ToRefer, ToRepeat, ToRepeatPossessively, Word, word, skip, Reads}
+use Rattle.sre_code.proofs.Terms.{HasRole, test_here, test_past, word_of, own_words, Behind, AreTold, ToldAt}
+use Rattle.sre_code.proofs.Terms.{div-mul-le_self}
 use Rattle.std.proofs.lemmas.Nat.{le-div}
 use Rattle.sre_model.specs.Slots.{by_slots}
 use Rattle.sre_code.specs.SlotScans.{LoopTold, OtherTold, kind_of, ToldBy}
@@ -242,6 +242,3 @@ module _ (ws : List ℕ) (i least greatest slots : ℕ) (first : least ≡ word 
 -- where nothing is left of the slots a body has more
 pub nothing_left : (ws : List ℕ) (i end : ℕ) → AreTold 0 ws i end None
 nothing_left ws i end = record { each = λ t w plain. omega (arith, some_slots t) }
-
-pub none_at : (most : ℕ) (ws : List ℕ) (i : ℕ) → NoCode opcode_number ws i → ToldAt most ws i None
-none_at most ws i none = record { by = λ o w. absurd (none.none o w) }
