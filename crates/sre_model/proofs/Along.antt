@@ -1,16 +1,15 @@
 -- A law of the specification's combinators: match paths stay along a relation between positions, and stop at the same
 -- positions under equivalent captures, if those of the bodies do.
-use Rattle.sre_model.proofs.Terms.{◌≡◌, ℕ, zero, suc, ◌+◌, ◌-◌, ◌<◌, ◌≤◌, max, Bool, true, false, cond, ◌&&◌, ◌||◌}
-use Rattle.sre_model.proofs.Terms.{nat_le, nat_lt, nat_eq, List, [], ◌∷◌, ◌++◌, Option, Some, None, map, refl, subst}
-use Rattle.sre_model.proofs.Terms.{arith, flat_map, AllByRecursion, and_parts, nat_tests, Order, Greedy, Lazy, RunKind}
-use Rattle.sre_model.proofs.Terms.{GreedyRun, LazyRun, PossessiveRun, Sign, Positive, Negative, Test, Fold, Marks}
-use Rattle.sre_model.proofs.Terms.{group, Subject, passes, Way, Body, first, here, unlimited, run_length, most_from}
-use Rattle.sre_model.proofs.Terms.{longest_run, rising, falling, counts, run_ways, within, ordered, may_repeat, more}
-use Rattle.sre_model.proofs.Terms.{least, loop_ways}
+use Rattle.sre_model.proofs.Terms.{◌≡◌, ℕ, zero, suc, ◌+◌, ◌-◌, ◌<◌, ◌≤◌, max, Bool, true, false, cond, ◌&&◌, nat_le}
+use Rattle.sre_model.proofs.Terms.{nat_lt, List, [], ◌∷◌, ◌++◌, Option, Some, None, map, refl, subst, arith, flat_map}
+use Rattle.sre_model.proofs.Terms.{AllByRecursion, and_parts, nat_tests, Order, Greedy, Lazy, RunKind, GreedyRun}
+use Rattle.sre_model.proofs.Terms.{LazyRun, PossessiveRun, Sign, Positive, Negative, Test, Fold, Marks, group, Subject}
+use Rattle.sre_model.proofs.Terms.{passes, Way, Body, first, here, unlimited, run_length, most_from, longest_run}
+use Rattle.sre_model.proofs.Terms.{rising, falling, counts, run_ways, within, ordered, may_repeat, more, least}
+use Rattle.sre_model.proofs.Terms.{loop_ways}
 use Rattle.std.proofs.lemmas.Bool.{leb-true}
 use Rattle.sre_model.specs.Subject.{same_folded}
-use Rattle.sre_model.specs.Ways.{possessive_more}
-use Rattle.sre_model.specs.Ways.{possessive_ways, look_ways, reference_ways}
+use Rattle.sre_model.specs.Ways.{possessive_more, possessive_ways, look_ways, reference_ways}
 use Rattle.sre_model.specs.Loops.{or_here}
 
 -- n rounds of R lead from i to j
@@ -241,13 +240,7 @@ module _ (M : Marks → Marks → Type 0) where
         by_test false y k later = absurd (omega arith)
 
     most : (high p : ℕ) → high < unlimited → most_from s high p ≤ high
-    most high p u = by_tests (nat_eq high unlimited) (nat_lt (s.end - p) high) refl refl
-      where
-        by_tests : (a b : Bool) → nat_eq high unlimited ≡ a → nat_lt (s.end - p) high ≡ b
-            → cond (a || b) (s.end - p) high ≤ high
-        by_tests true b e f = grind (arith, nat_tests)
-        by_tests false true e f = grind (arith, nat_tests)
-        by_tests false false e f = omega arith
+    most high p u = grind (arith, nat_tests)
 
     -- a run
     pub goes-run : {R : ℕ → ℕ → Type 0} (kind : RunKind) (low high : ℕ) (t : Test)

@@ -1,35 +1,20 @@
 -- What a single-character repeat comes to.
-use Rattle.sre_model.proofs.Terms.{ℕ, zero, suc, ◌+◌, ◌-◌, ◌≡◌, ◌<◌, ◌≤◌, Bool, true, false, not, refl, sym, ◌∙◌, ap}
-use Rattle.sre_model.proofs.Terms.{arith, inl, inr, cases_lt, nat_tests, StringCursor, Test, holds, Subject, char_at}
-use Rattle.sre_model.proofs.Terms.{passes, most_from, run_length, TestStands}
+use Rattle.sre_model.proofs.Terms.{ℕ, ◌+◌, ◌-◌, ◌≡◌, ◌<◌, ◌≤◌, Bool, true, false, not, refl, sym, ◌∙◌, ap, arith, inl}
+use Rattle.sre_model.proofs.Terms.{inr, cases_lt, nat_tests, StringCursor, Test, holds, Subject, char_at, passes}
+use Rattle.sre_model.proofs.Terms.{most_from, run_length, TestStands}
 use mathlib.Core.Bool.{beq}
 use Rattle.sre_model.specs.Runs.{Run}
 use Rattle.sre_model.specs.CountedRuns.{Counted, Ended}
 use Rattle.sre_model.proofs.Passing.{read_passes, stands_at_own}
-
--- a run of k characters that a test takes, where it does not take the next one
-run_of_taken : (s : Subject) (t : Test) (n k p : ℕ) → k ≤ n
-    → ((q : ℕ) → p ≤ q → q < p + k → passes s t q ≡ true) → (k < n → passes s t (p + k) ≡ false)
-    → k ≡ run_length s t n p
-run_of_taken s t zero k p l each ends = omega (arith, l)
-run_of_taken s t (suc n) zero p l each ends =
-    let here : p + 0 ≡ p = omega arith in
-    let not_taken : passes s t p ≡ false = ap (λ q. passes s t q) (sym here) ∙ ends (omega arith) in
-    rw not_taken refl
-run_of_taken s t (suc n) (suc k) p l each ends =
-    let on : p + 1 + k ≡ p + suc k = omega arith in
-    let taken : passes s t p ≡ true = each p (omega arith) (omega arith) in
-    rw taken (ap (λ m. suc m) (run_of_taken s t n k (p + 1) (omega (arith, l))
-    (λ q from to. each q (omega (arith, from)) (omega (arith, to)))
-    (λ m. ap (λ q. passes s t q) on ∙ ends (omega (arith, m)))))
+use Rattle.sre_model.proofs.Longest.{run_has}
 
 pub taken_length : (r : Run) (i most count j : ℕ) (start cursor : StringCursor) (t : Test)
     → Ended r i true most start cursor count → TestStands r.words i j t
     → count ≡ run_length r.subject t most start.position
 taken_length r i most count j start cursor t e s =
-    run_of_taken r.subject t most count start.position e.counted.within
-    (λ q from to. e.counted.each j q t s from (omega (arith, to, e.counted.position)))
-    (λ m. ap (λ q. passes r.subject t q) (sym e.counted.position) ∙ e.ends m j t s)
+    sym (run_has r.subject t most start.position count e.counted.within
+    (λ k l. e.counted.each j (start.position + k) t s (omega arith) (omega (arith, e.counted.position)))
+    (λ m. ap (λ q. passes r.subject t q) (sym e.counted.position) ∙ e.ends m j t s))
 
 -- what is not unequal is the same
 pub beq_same : (a b : Bool) → not (beq a b) ≡ false → a ≡ b

@@ -1,9 +1,9 @@
 -- An INFO block that is cut off: the rest has none, and is a code of the same tree.
-use Rattle.sre_model.proofs.Terms.{◌≡◌, ℕ, ◌-◌, Bool, true, false, List, length, zero, suc, ◌<◌, refl, sym, subst}
-use Rattle.sre_model.proofs.Terms.{arith, nat_tests, Tree, Empty, Then, word, Opcode, Reads, WholeItems, has_block}
+use Rattle.sre_model.proofs.Terms.{◌≡◌, ℕ, ◌-◌, Bool, true, false, List, length, ◌<◌, refl, sym, subst, arith}
+use Rattle.sre_model.proofs.Terms.{nat_tests, Tree, Empty, Then, word, Opcode, Reads, WholeItems, has_block}
 use Rattle.sre_model.proofs.Terms.{behind_block, fits_block, Whole}
 use Rattle.sre_chars.specs.declared.constants.SreOpcode.TheVariants as opcode
-use Rattle.sre_model.proofs.Words.{word_of, word_at, word_past}
+use Rattle.sre_model.proofs.Words.{word_of, word_at, opcode_within}
 use Rattle.sre_model.proofs.Families.{no_item}
 
 -- items begin with no block
@@ -23,14 +23,8 @@ no_block ws t w = by_test (has_block ws) refl
     by_test false e = refl
     by_test true e =
         let first : word ws 0 ≡ 14 = grind (arith, nat_tests) in
-        absurd (no_block_at ws (length ws - 1) t w.0 w.1 (word_at ws 0 14 (there ws first) first))
-      where
-        there : (ws : List ℕ) → word ws 0 ≡ 14 → 0 < length ws
-        there ws f = some (length ws) refl
-          where
-            some : (n : ℕ) → length ws ≡ n → 0 < length ws
-            some zero e = absurd (omega (arith, f, word_past ws 0 (omega (arith, e))))
-            some (suc n) e = omega (arith, e)
+        let there : 0 < length ws = omega (arith, opcode_within ws (length ws - 1) opcode.SUCCESS w.1) in
+        absurd (no_block_at ws (length ws - 1) t w.0 w.1 (word_at ws 0 14 there first))
 
 -- words without a block are as they are behind it
 pub none_behind : (ws : List ℕ) → has_block ws ≡ false → (fits_block ws ≡ true) × (behind_block ws ≡ ws)

@@ -38,14 +38,6 @@ pub each-cond : {X : Type 0} (P : X → Type 0) (b : Bool) (xs ys : List X) → 
 each-cond P true xs ys f g = f refl
 each-cond P false xs ys f g = g refl
 
--- of what a filter leaves
-pub each-filtered : {X : Type 0} (P : X → Type 0) (t : X → Bool) (xs : List X) → AllByRecursion P xs
-    → AllByRecursion P (filter t xs)
-each-filtered P t [] h = tt
-each-filtered P t (x ∷ xs) h =
-    let ih = each-filtered P t xs h.1 in
-    each-cond P (t x) (x ∷ filter t xs) (filter t xs) (λ _. (h.0, ih)) (λ _. ih)
-
 -- two facts at once
 pub each-both : {X : Type 0} (P Q : X → Type 0) (xs : List X) → AllByRecursion P xs → AllByRecursion Q xs
     → AllByRecursion (λ x. P x × Q x) xs

@@ -127,11 +127,6 @@ pub role_at : (ws : List ℕ) (i j : ℕ) (r : Role) (x : Item) → HasRole ws i
 role_at ws i j r x h reads =
     sym h.begins ∙ ap role (same_opcode ws i h.code (item_opcode x) h.there reads.0) ∙ role_same x
 
-pub is_fail : (ws : List ℕ) (i j : ℕ) (x : Item) → HasRole ws i ToFail → ReadsItem ws i j x
-    → (x ≡ Fail) × ReadsItem ws i j Fail
-is_fail ws i j Fail h r = (refl, r)
-is_fail ws i j x h r = let e : ToFail ≡ item_role x = role_at ws i j ToFail x h r in absurd (cc)
-
 pub is_one : {kind : TestKind} (ws : List ℕ) (i j : ℕ) (x : Item) → HasRole ws i (ToTest kind) → ReadsItem ws i j x
     → (t : Test) × (x ≡ One t) × ReadsItem ws i j (One t)
 is_one {kind} ws i j (One t) h r = (t, refl, r)

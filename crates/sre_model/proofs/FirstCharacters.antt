@@ -1,18 +1,18 @@
 -- Where the first code words leave no match path.
-use Rattle.sre_model.proofs.Terms.{◌≡◌, ℕ, zero, suc, ◌+◌, ◌-◌, ◌<◌, Bool, true, false, cond, List, [], length, nat_lt}
-use Rattle.sre_model.proofs.Terms.{nat_le, ◌⊎◌, inl, inr, refl, sym, ap, ◌∙◌, subst, arith, true≢false, flat_map}
-use Rattle.sre_model.proofs.Terms.{cases_lt, nat_tests, at_number, SreOpcode, SreAtCode, Tree, Empty, Then, Item, One}
-use Rattle.sre_model.proofs.Terms.{At, Mark, Branch, Loop, Run, PossessiveLoop, Atomic, Look, Test, Trees, Only, Or}
-use Rattle.sre_model.proofs.Terms.{RunKind, GreedyRun, LazyRun, PossessiveRun, Positive, Marks, set_mark, Subject}
-use Rattle.sre_model.proofs.Terms.{passes, holds_at, Word, Opcode, skip, item_opcode, until_opcode, Reads, ReadsBranch}
-use Rattle.sre_model.proofs.Terms.{Operands, ReadsItem, WholeItems, Role, ToTest, role, ToCheckPosition, ToMark}
-use Rattle.sre_model.proofs.Terms.{ToBranch, ToRun, ToRepeat, ToRepeatPossessively, ToGroupAtomically, ToLook, TestKind}
-use Rattle.sre_model.proofs.Terms.{begins_test, Way, Body, first, here, most_from, longest_run, run_ways, within, least}
-use Rattle.sre_model.proofs.Terms.{ways, item_ways, HasTest, is_end, TreeStands}
+use Rattle.sre_model.proofs.Terms.{◌≡◌, ℕ, zero, suc, ◌+◌, ◌-◌, ◌<◌, true, false, List, [], length, nat_lt, nat_le, ◌⊎◌}
+use Rattle.sre_model.proofs.Terms.{inl, inr, refl, sym, ap, ◌∙◌, subst, arith, true≢false, cases_lt, nat_tests}
+use Rattle.sre_model.proofs.Terms.{at_number, SreOpcode, SreAtCode, Tree, Empty, Then, Item, One, At, Mark, Branch}
+use Rattle.sre_model.proofs.Terms.{Loop, Run, PossessiveLoop, Atomic, Look, Test, Trees, Only, Or, RunKind, GreedyRun}
+use Rattle.sre_model.proofs.Terms.{LazyRun, PossessiveRun, Positive, Marks, set_mark, Subject, passes, holds_at, Word}
+use Rattle.sre_model.proofs.Terms.{Opcode, skip, until_opcode, Reads, ReadsBranch, Operands, ReadsItem, WholeItems}
+use Rattle.sre_model.proofs.Terms.{Role, ToTest, role, ToCheckPosition, ToMark, ToBranch, ToRun, ToRepeat}
+use Rattle.sre_model.proofs.Terms.{ToRepeatPossessively, ToGroupAtomically, ToLook, TestKind, begins_test, Way, Body}
+use Rattle.sre_model.proofs.Terms.{first, here, most_from, longest_run, run_ways, within, least, ways, item_ways}
+use Rattle.sre_model.proofs.Terms.{HasTest, is_end, TreeStands}
 use Rattle.sre_chars.specs.declared.constants.SreOpcode.TheVariants as opcode
-use Rattle.sre_model.specs.FirstCharacters.{NoWay, NoneOf, NotPassed, HasTree, HasAlternatives}
-use Rattle.sre_model.specs.FirstCharacters.{Leads}
+use Rattle.sre_model.specs.FirstCharacters.{NoWay, NoneOf, NotPassed, HasTree, HasAlternatives, Leads}
 use Rattle.sre_model.proofs.Words.{same_word, same_opcode, same_at, word_within, opcode_within}
+use Rattle.sre_model.proofs.Places.{reads_within}
 use Rattle.sre_model.proofs.Longest.{run_none}
 use Rattle.sre_model.proofs.LoopCases.{cond-same}
 use Rattle.sre_model.proofs.Families.{HasRole, until_role, is_branch, is_one, is_at, is_mark, is_loop, is_run}
@@ -26,11 +26,7 @@ some_test_here ws i o w e = let k = some_test o e in (k.0, role_here ws i o (ToT
 
 -- what follows an item is left, where the item reads nothing
 at_passed : (s : Subject) (a : SreAtCode) (rest : Tree) (p : ℕ) → NoWay s rest p → NoWay s (Then (At a) rest) p
-at_passed s a rest p w = record { none = λ m. by_code m (holds_at s a p) }
-  where
-    by_code : (m : Marks) (b : Bool) → flat_map (λ v. ways s rest v.stop v.marks) (cond b (here p m) []) ≡ []
-    by_code m true = rw (w.none m) refl
-    by_code m false = refl
+at_passed s a rest p w = record { none = λ m. grind (arith, w.none m) }
 
 mark_passed : (s : Subject) (n : ℕ) (rest : Tree) (p : ℕ) → NoWay s rest p → NoWay s (Then (Mark n) rest) p
 mark_passed s n rest p w = record { none = λ m. rw (w.none (set_mark m n p)) refl }
@@ -97,11 +93,7 @@ leads_on ws t i k far more back l x sum = record {
 -- a tree at a place, by the opcode there
 module _ (ws : List ℕ) (t : Tree) (i : ℕ) (x : TreeStands ws i t) where
   stands_within : i < length ws
-  stands_within = by_tree t x.reads
-    where
-      by_tree : (u : Tree) → Reads ws i x.end u → i < length ws
-      by_tree Empty e = opcode_within ws i x.code (subst (λ k. Opcode ws k x.code) (sym e) x.there)
-      by_tree (Then item rest) r = opcode_within ws i (item_opcode item) r.1.0
+  stands_within = omega (arith, reads_within t ws i x.end x.reads, opcode_within ws x.end x.code x.there)
 
   -- the item with which the tree begins
   pub record Begins : Type 0 where

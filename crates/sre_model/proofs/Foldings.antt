@@ -1,9 +1,8 @@
 -- Folds of trees: what holds of two folds' values of each item holds of trees.
-use Rattle.std.proofs.Common.{◌≡◌, Bool, true, false, ◌||◌, refl, ap, ap₂, ◌∙◌}
-use Rattle.std.proofs.lemmas.Bool.{true≢false}
-use Rattle.sre_model.specs.Tree.{Tree, Empty, Then, Item, Branch, Loop, PossessiveLoop, Atomic, Look}
-use Rattle.sre_model.specs.Tree.{Exists, ExistsElse, Trees, Only, Or}
-use Rattle.sre_model.specs.Folding.{Folding, of_tree, of_parts, of_branch, of_item}
+use Rattle.std.proofs.Common.{◌≡◌, refl, ap, ap₂}
+use Rattle.sre_model.specs.Tree.{Tree, Empty, Then, Item, Branch, Loop, PossessiveLoop, Atomic, Look, Exists}
+use Rattle.sre_model.specs.Tree.{ExistsElse, Trees, Only, Or}
+use Rattle.sre_model.specs.Folding.{Folding, of_tree, of_parts, of_branch}
 
 -- two folds' values are related where what they have and make of nothing, of two parts and of an item is
 module _ {A B : Type 0} (f : Folding A) (g : Folding B) (R : A → B → Type 0) (nothing : R f.nothing g.nothing)
@@ -41,28 +40,3 @@ module _ {A B : Type 0} (f : Folding A) (g : Folding B) where
   tree_paired t = ap₂ (λ a b. (a, b))
       (tree_related paired f (λ p a. p.0 ≡ a) refl (λ p q a b. ap₂ f.both) (λ x p a. ap (f.item x)) t)
       (tree_related paired g (λ p b. p.1 ≡ b) refl (λ p q a b. ap₂ g.both) (λ x p a. ap (g.item x)) t)
-
-  pub item_paired : (x : Item) → of_item paired x ≡ (of_item f x, of_item g x)
-  item_paired x = ap₂ (λ a b. (f.item x a, g.item x b))
-      (parts_related paired f (λ p a. p.0 ≡ a) refl (λ p q a b. ap₂ f.both) (λ y p a. ap (f.item y)) x)
-      (parts_related paired g (λ p b. p.1 ≡ b) refl (λ p q a b. ap₂ g.both) (λ y p a. ap (g.item y)) x)
-
--- whether some item is there, by what an item makes of what is in its parts
-abbrev pub any_of : (Item → Bool → Bool) → Folding Bool
-any_of f = record { nothing = false; both = ◌||◌; item = f }
-
--- what is the same of each item is the same of trees
-pub tree_same : (f g : Item → Bool → Bool) → ((x : Item) (a : Bool) → f x a ≡ g x a) → (t : Tree)
-    → of_tree (any_of f) t ≡ of_tree (any_of g) t
-tree_same f g same = tree_related (any_of f) (any_of g) (λ a b. a ≡ b) refl (λ a c b d. ap₂ (λ x y. x || y))
-    (λ x a b e. same x a ∙ ap (g x) e)
-
-neither : (a b : Bool) → a ≡ false → b ≡ false → (a || b) ≡ false
-neither false b x y = y
-neither true b x y = absurd (true≢false x)
-
--- what no item has that its parts have not, no tree has
-pub tree_never : (f : Item → Bool → Bool) → ((x : Item) (a : Bool) → a ≡ false → f x a ≡ false) → (t : Tree)
-    → of_tree (any_of f) t ≡ false
-tree_never f none = tree_related (any_of f) (any_of f) (λ a b. a ≡ false) refl (λ a c b d. neither a c)
-    (λ x a b. none x a)

@@ -1,8 +1,8 @@
 -- The match that is found is that of the least start, and lies in the range.
-use Rattle.sre_model.proofs.Terms.{◌≡◌, ◌≤◌, ◌<◌, ◌+◌, ◌-◌, ℕ, zero, suc, List, [], ◌∷◌, Bool, true, false, cond}
-use Rattle.sre_model.proofs.Terms.{nat_lt, nat_eq, Option, Some, None, refl, sym, ap, ◌∙◌, subst, arith, ◌⊎◌, inl, inr}
-use Rattle.sre_model.proofs.Terms.{filter, nat_tests, Tree, no_marks, Way, ways, Asked, Match, subject_of, is_accepted}
-use Rattle.sre_model.proofs.Terms.{first_accepted, at_start, found}
+use Rattle.sre_model.proofs.Terms.{◌≡◌, ◌≤◌, ◌<◌, ◌+◌, ◌-◌, ℕ, zero, suc, List, [], ◌∷◌, Bool, true, false, Option}
+use Rattle.sre_model.proofs.Terms.{Some, None, refl, sym, ap, ◌∙◌, subst, arith, ◌⊎◌, inl, inr, filter, Tree, no_marks}
+use Rattle.sre_model.proofs.Terms.{Way, ways, Asked, Match, subject_of, is_accepted, first_accepted, at_start, found}
+use Rattle.sre_model.proofs.Terms.{cases_lt}
 use Rattle.sre_model.specs.Found.{found_from}
 use Rattle.sre_model.proofs.Bounds.{EachBetween, ways-bounded}
 
@@ -45,13 +45,7 @@ either (Some x) = inr (x, refl)
 pub first_accepted-filter : (a : Asked) (s : ℕ) (ws : List Way)
     → first_accepted a s ws ≡ match_of_first s (filter (is_accepted a) ws)
 first_accepted-filter a s [] = refl
-first_accepted-filter a s (w ∷ ws) = by_test (is_accepted a w) (first_accepted-filter a s ws)
-  where
-    by_test : (c : Bool) → first_accepted a s ws ≡ match_of_first s (filter (is_accepted a) ws)
-        → cond c (Some (match_of s w)) (first_accepted a s ws)
-        ≡ match_of_first s (cond c (w ∷ filter (is_accepted a) ws) (filter (is_accepted a) ws))
-    by_test true later = refl
-    by_test false later = later
+first_accepted-filter a s (w ∷ ws) = grind (arith, first_accepted-filter a s ws)
 
 first_accepted-is : (a : Asked) (s : ℕ) (m : Match) (ws : List Way) → EachBetween (subject_of a) s ws
     → first_accepted a s ws ≡ Some m → IsFrom a s m
@@ -73,11 +67,10 @@ at_start-is a t s m h e =
 -- no match at s, and none later on
 after_none : (a : Asked) (t : Tree) (s n r : ℕ) → at_start a t s ≡ None
     → ((r : ℕ) → s + 1 ≤ r → r < n → at_start a t r ≡ None) → s ≤ r → r < n → at_start a t r ≡ None
-after_none a t s n r none later l k = by_place (nat_eq s r) refl
-  where
-    by_place : (c : Bool) → nat_eq s r ≡ c → at_start a t r ≡ None
-    by_place true y = let is : s ≡ r = grind (arith, nat_tests) in subst (λ q. at_start a t q ≡ None) is none
-    by_place false y = later r (grind (arith, nat_tests)) k
+after_none a t s n r none later l k = elim (cases_lt s r) [
+  | inl past ↦ later r (omega arith) k
+  | inr here ↦ let is : s ≡ r = omega arith in subst (λ q. at_start a t q ≡ None) is none
+]
 
 -- what the search of n starts from s on tells
 abbrev Tells : Asked → Tree → ℕ → ℕ → Option Match → Type 0
@@ -121,38 +114,33 @@ found-none a t e s l k = subst (Tells a t (a.end + 1 - a.start) a.start) e (foun
 
 -- of two matches of the least start none comes before the other
 not_before : (a : Asked) (t : Tree) (s : ℕ) (m x : Match) → IsLeast a t s m → IsLeast a t s x → m.start ≤ x.start
-not_before a t s m x is other = by_test (nat_lt x.start m.start) refl
-  where
-    by_test : (c : Bool) → nat_lt x.start m.start ≡ c → m.start ≤ x.start
-    by_test true y =
-        let never : None ≡ Some x = sym (is.least x.start other.from (grind (arith, nat_tests))) ∙ other.here in
-        absurd (cc)
-    by_test false n = grind (arith, nat_tests)
+not_before a t s m x is other = elim (cases_lt x.start m.start) [
+  | inl before ↦ let never : None ≡ Some x = sym (is.least x.start other.from before) ∙ other.here in absurd (cc)
+  | inr order ↦ order
+]
 
 -- the match of the least start is what is found
 pub least-found : (a : Asked) (t : Tree) (m : Match) → IsLeast a t a.start m → found a t ≡ Some m
-least-found a t m is = by_match (either (found a t))
-  where
-    by_match : Either (found a t) → found a t ≡ Some m
-    by_match (inl none) =
-        let never = found-none a t none m.start is.from is.to in
-        absurd (let e : None ≡ Some m = sym never ∙ is.here in cc)
-    by_match (inr (x, some)) =
-        let other = found-least a t x some in
-        let start : x.start ≡ m.start =
-        omega (arith, not_before a t a.start m x is other, not_before a t a.start x m other is) in
-        some ∙ (sym other.here ∙ (ap (at_start a t) start ∙ is.here))
+least-found a t m is = elim (either (found a t)) [
+  | inl none ↦
+      let never : None ≡ Some m = sym (found-none a t none m.start is.from is.to) ∙ is.here in
+      absurd (cc)
+  | inr (x, some) ↦
+      let other = found-least a t x some in
+      let start : x.start ≡ m.start =
+      omega (arith, not_before a t a.start m x is other, not_before a t a.start x m other is) in
+      some ∙ (sym other.here ∙ (ap (at_start a t) start ∙ is.here))
+]
 
 -- where no start in the window has a match nothing is found
 pub none-found : (a : Asked) (t : Tree) → ((s : ℕ) → a.start ≤ s → s ≤ a.end → at_start a t s ≡ None) → found a t ≡ None
-none-found a t h = by_match (either (found a t))
-  where
-    by_match : Either (found a t) → found a t ≡ None
-    by_match (inl none) = none
-    by_match (inr (x, some)) =
-        let is = found-least a t x some in
-        let e : Some x ≡ None = sym is.here ∙ h x.start is.from is.to in
-        absurd (cc)
+none-found a t h = elim (either (found a t)) [
+  | inl none ↦ none
+  | inr (x, some) ↦
+      let is = found-least a t x some in
+      let e : Some x ≡ None = sym is.here ∙ h x.start is.from is.to in
+      absurd (cc)
+]
 
 -- what is found begins and ends in the window, in this order, and is accepted
 pub found-is : (a : Asked) (t : Tree) (m : Match) → found a t ≡ Some m → IsFrom a m.start m

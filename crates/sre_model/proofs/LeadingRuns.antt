@@ -1,10 +1,10 @@
 -- Starts inside the repeat that a tree begins with have no match where the repeat's own start has none.
 use Rattle.sre_model.proofs.Terms.{◌≡◌, ◌≤◌, ◌<◌, ◌+◌, ◌-◌, ℕ, zero, suc, List, [], ◌∷◌, ◌++◌, Bool, true, false, map}
-use Rattle.sre_model.proofs.Terms.{nat_le, nat_lt, Option, Some, None, refl, sym, ap, subst, arith, flat_map}
-use Rattle.sre_model.proofs.Terms.{AllByRecursion, nat_tests, Tree, Then, One, Mark, Run, Test, RunKind, GreedyRun}
-use Rattle.sre_model.proofs.Terms.{LazyRun, PossessiveRun, Marks, no_marks, set_mark, refers, Subject, passes, Way}
-use Rattle.sre_model.proofs.Terms.{unlimited, run_length, longest_run, rising, falling, counts, ways, Asked, Match}
-use Rattle.sre_model.proofs.Terms.{subject_of, is_accepted, first_accepted, at_start, RunLeads}
+use Rattle.sre_model.proofs.Terms.{nat_le, Option, Some, None, refl, sym, ap, subst, arith, flat_map, AllByRecursion}
+use Rattle.sre_model.proofs.Terms.{nat_tests, Tree, Then, One, Mark, Run, Test, RunKind, GreedyRun, LazyRun}
+use Rattle.sre_model.proofs.Terms.{PossessiveRun, Marks, no_marks, set_mark, refers, Subject, passes, Way, unlimited}
+use Rattle.sre_model.proofs.Terms.{run_length, longest_run, rising, falling, counts, ways, Asked, Match, subject_of}
+use Rattle.sre_model.proofs.Terms.{is_accepted, first_accepted, at_start, RunLeads, inl, inr, cases_lt}
 use Rattle.std.proofs.lemmas.List.{append-nil}
 use Rattle.sre_model.specs.LeadingRuns.{front_passes, front_length, NoneEnds}
 use Rattle.sre_model.proofs.Each.{each-flat_map, each-map}
@@ -40,20 +40,17 @@ each_of_map Q f (x ∷ xs) h = (h.0, each_of_map Q f xs h.1)
 module _ (P : ℕ → Type 0) where
   each_falling : (low n c : ℕ) → AllByRecursion P (falling low n) → low ≤ c → c < low + n → P c
   each_falling low zero c h l k = absurd (omega arith)
-  each_falling low (suc n) c h l k = by_place (nat_lt c (low + n)) refl (λ k. each_falling low n c h.1 l k)
-    where
-      by_place : (b : Bool) → nat_lt c (low + n) ≡ b → (c < low + n → P c) → P c
-      by_place true y later = later (grind (arith, nat_tests))
-      by_place false y later = let is : low + n ≡ c = grind (arith, nat_tests) in subst P is h.0
+  each_falling low (suc n) c h l k = elim (cases_lt c (low + n)) [
+    | inl less ↦ each_falling low n c h.1 l less
+    | inr last ↦ let is : low + n ≡ c = omega arith in subst P is h.0
+  ]
 
   each_rising : (low n c : ℕ) → AllByRecursion P (rising low n) → low ≤ c → c < low + n → P c
   each_rising low zero c h l k = absurd (omega arith)
-  each_rising low (suc n) c h l k =
-      by_place (nat_lt low c) refl (λ l. each_rising (low + 1) n c h.1 l (omega arith))
-    where
-      by_place : (b : Bool) → nat_lt low c ≡ b → (low + 1 ≤ c → P c) → P c
-      by_place true y later = later (grind (arith, nat_tests))
-      by_place false y later = let is : low ≡ c = grind (arith, nat_tests) in subst P is h.0
+  each_rising low (suc n) c h l k = elim (cases_lt low c) [
+    | inl more ↦ each_rising (low + 1) n c h.1 (omega arith) (omega arith)
+    | inr first ↦ let is : low ≡ c = omega arith in subst P is h.0
+  ]
 
   each_count : (kind : RunKind) (low k c : ℕ) → AllByRecursion P (counts kind low k) → IsCount kind low k c → P c
   each_count GreedyRun low k c h i = each_falling low (k + 1 - low) c h i.0 (omega (arith, i.0, i.1))

@@ -1,8 +1,8 @@
 -- The cases of a loop: below the least count, and from it on.
-use Rattle.sre_model.proofs.Terms.{◌≡◌, ℕ, zero, suc, ◌+◌, ◌-◌, ◌<◌, ◌≤◌, max, Bool, true, false, cond, nat_lt, List}
-use Rattle.sre_model.proofs.Terms.{[], ◌∷◌, Option, Some, None, refl, sym, ap, ◌∙◌, arith, flat_map, nat_tests, Order}
-use Rattle.sre_model.proofs.Terms.{Greedy, Lazy, Marks, Subject, Way, Body, here, within, ordered, may_repeat, more}
-use Rattle.sre_model.proofs.Terms.{least, loop_ways}
+use Rattle.sre_model.proofs.Terms.{◌≡◌, ℕ, zero, suc, ◌+◌, ◌-◌, ◌<◌, ◌≤◌, max, Bool, true, false, cond, List, [], ◌∷◌}
+use Rattle.sre_model.proofs.Terms.{Option, Some, None, refl, sym, ap, ◌∙◌, arith, flat_map, nat_tests, Order, Greedy}
+use Rattle.sre_model.proofs.Terms.{Lazy, Marks, Subject, Way, Body, here, within, ordered, may_repeat, more, least}
+use Rattle.sre_model.proofs.Terms.{loop_ways, inl, inr, cases_lt}
 use Rattle.sre_model.specs.Loops.{followed, loop_from}
 use Rattle.sre_model.proofs.Each.{flat_map_each}
 use Rattle.sre_model.proofs.Bounds.{Between, EachBetween, Bounded, within-each, within-all}
@@ -26,14 +26,6 @@ followed-same : (s : Subject) (body f g : Body) (p : ℕ) (m : Marks)
 followed-same s body f g p m e =
     flat_map_each (Between s p) (λ w. f w.stop w.marks) (λ w. g w.stop w.marks) e (within s p (body p m))
     (within-each s p (body p m))
-
--- an equation that holds where a body stayed, and where it moved on
-by_progress : {X : Type 0} {x y : X} (p q : ℕ) → p ≤ q → (p ≡ q → x ≡ y) → (p < q → x ≡ y) → x ≡ y
-by_progress {x = x} {y = y} p q l stayed moved = by_test (nat_lt p q) refl
-  where
-    by_test : (b : Bool) → nat_lt p q ≡ b → x ≡ y
-    by_test true e = moved (grind (arith, nat_tests))
-    by_test false e = stayed (grind (arith, nat_tests))
 
 pub cond-same : {X : Type 0} (b : Bool) (x : X) → cond b x x ≡ x
 cond-same true x = refl
@@ -75,9 +67,12 @@ module _ (s : Subject) (o : Order) (low high : ℕ) (body : Body) where
   fuelled-enough (suc a) (suc b) count last p m h k =
       let each : (w : Way) → Between s p w
       → fuelled a (count + 1) (Some p) w.stop w.marks ≡ fuelled b (count + 1) (Some p) w.stop w.marks = λ w l.
-      by_progress p w.stop l.0
-      (λ e. fuelled-stays a (count + 1) p w.stop w.marks e ∙ sym (fuelled-stays b (count + 1) p w.stop w.marks e))
-      (λ n. fuelled-enough a b (count + 1) (Some p) w.stop w.marks (omega arith) (omega arith)) in
+      elim (cases_lt p w.stop) [
+        | inl moved ↦ fuelled-enough a b (count + 1) (Some p) w.stop w.marks (omega arith) (omega arith)
+        | inr stayed ↦
+            fuelled-stays a (count + 1) p w.stop w.marks (omega (arith, l.0))
+            ∙ sym (fuelled-stays b (count + 1) p w.stop w.marks (omega (arith, l.0)))
+      ] in
       ap (λ l. ordered o (cond (may_repeat high count last p) l []) (here p m))
       (followed-same s body (fuelled a (count + 1) (Some p)) (fuelled b (count + 1) (Some p)) p m each)
 
