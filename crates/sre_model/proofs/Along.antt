@@ -228,16 +228,11 @@ module _ (M : Marks → Marks → Type 0) where
         → c ≤ run_length s t n p → (c ≤ n) × Times R c p (p + c)
     run_rounds R t step n p zero l = (omega arith, omega arith)
     run_rounds R t step zero p (suc c) l = absurd (omega arith)
-    run_rounds R t step (suc n) p (suc c) l = by_test (passes s t p) refl l (run_rounds R t step n (p + 1) c)
-      where
-        by_test : (b : Bool) → passes s t p ≡ b → suc c ≤ cond b (suc (run_length s t n (p + 1))) 0
-            → (c ≤ run_length s t n (p + 1) → (c ≤ n) × Times R c (p + 1) (p + 1 + c))
-            → (suc c ≤ suc n) × Times R (suc c) p (p + suc c)
-        by_test true y k later =
-            let x = later (omega arith) in
-            let same : p + 1 + c ≡ p + suc c = omega arith in
-            (omega (arith, x.0), (p + 1, step p y, subst (Times R c (p + 1)) same x.1))
-        by_test false y k later = absurd (omega arith)
+    run_rounds R t step (suc n) p (suc c) l =
+        let y : passes s t p ≡ true = grind arith in
+        let x = run_rounds R t step n (p + 1) c (grind arith) in
+        let same : p + 1 + c ≡ p + suc c = omega arith in
+        (omega (arith, x.0), (p + 1, step p y, subst (Times R c (p + 1)) same x.1))
 
     most : (high p : ℕ) → high < unlimited → most_from s high p ≤ high
     most high p u = grind (arith, nat_tests)

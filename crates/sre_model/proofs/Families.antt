@@ -8,10 +8,8 @@ use Rattle.sre_model.proofs.Terms.{ToMark, ToBranch, ToRun, ToRepeat, ToRepeatPo
 use Rattle.sre_model.proofs.Terms.{role, begins_test, Opcode, test_opcode, until_opcode, reference_opcode, item_opcode}
 use Rattle.sre_model.proofs.Terms.{ReadsItem, TestOperands}
 use Rattle.std.proofs.lemmas.Bool.{true≢false}
-use Rattle.sre_model.specs.Roles.{OfAny, OfAnyAll, OfCategory, OfLiteral, OfNotLiteral, OfSet, ToFail}
-use Rattle.sre_model.specs.Roles.{ToEnd, ToJump, ToLoop}
-use Rattle.sre_model.specs.Roles.{ToRefer, ToCheckGroup, ToNothing}
-use Rattle.sre_model.specs.Roles.{is_test_role}
+use Rattle.sre_model.specs.Roles.{OfAny, OfAnyAll, OfCategory, OfLiteral, OfNotLiteral, OfSet, ToFail, ToEnd, ToJump}
+use Rattle.sre_model.specs.Roles.{ToLoop, ToRefer, ToCheckGroup, ToNothing, is_test_role}
 use Rattle.sre_model.specs.Grammar.{run_opcode, look_opcode}
 use Rattle.sre_model.proofs.Words.{same_opcode}
 
@@ -105,23 +103,23 @@ test_kind_at ws i kind t h a =
 pub is_category : (ws : List ℕ) (i k : ℕ) (t : Test) → HasRole ws i (ToTest OfCategory) → Opcode ws i (test_opcode t)
     → TestOperands ws i k t → (c : SreCatCode) × (t ≡ InCategory c) × TestOperands ws i k (InCategory c)
 is_category ws i k (InCategory c) h a r = (c, refl, r)
-is_category ws i k t h a r = let e : OfCategory ≡ test_kind t = test_kind_at ws i OfCategory t h a in absurd (cc)
+is_category ws i k t h a r = absurd (cc (test_kind_at ws i OfCategory t h a))
 
 pub is_literal : (ws : List ℕ) (i k : ℕ) (t : Test) → HasRole ws i (ToTest OfLiteral) → Opcode ws i (test_opcode t)
     → TestOperands ws i k t → (f : Fold) × (v : ℕ) × (t ≡ Literal f v) × TestOperands ws i k (Literal f v)
 is_literal ws i k (Literal f v) h a r = (f, v, refl, r)
-is_literal ws i k t h a r = let e : OfLiteral ≡ test_kind t = test_kind_at ws i OfLiteral t h a in absurd (cc)
+is_literal ws i k t h a r = absurd (cc (test_kind_at ws i OfLiteral t h a))
 
 pub is_not_literal : (ws : List ℕ) (i k : ℕ) (t : Test) → HasRole ws i (ToTest OfNotLiteral)
     → Opcode ws i (test_opcode t) → TestOperands ws i k t
     → (f : Fold) × (v : ℕ) × (t ≡ NotLiteral f v) × TestOperands ws i k (NotLiteral f v)
 is_not_literal ws i k (NotLiteral f v) h a r = (f, v, refl, r)
-is_not_literal ws i k t h a r = let e : OfNotLiteral ≡ test_kind t = test_kind_at ws i OfNotLiteral t h a in absurd (cc)
+is_not_literal ws i k t h a r = absurd (cc (test_kind_at ws i OfNotLiteral t h a))
 
 pub is_set : (ws : List ℕ) (i k : ℕ) (t : Test) → HasRole ws i (ToTest OfSet) → Opcode ws i (test_opcode t)
     → TestOperands ws i k t → (f : Fold) × (set : List SetItem) × (t ≡ In f set) × TestOperands ws i k (In f set)
 is_set ws i k (In f set) h a r = (f, set, refl, r)
-is_set ws i k t h a r = let e : OfSet ≡ test_kind t = test_kind_at ws i OfSet t h a in absurd (cc)
+is_set ws i k t h a r = absurd (cc (test_kind_at ws i OfSet t h a))
 
 pub role_at : (ws : List ℕ) (i j : ℕ) (r : Role) (x : Item) → HasRole ws i r → ReadsItem ws i j x → r ≡ item_role x
 role_at ws i j r x h reads =
@@ -130,28 +128,28 @@ role_at ws i j r x h reads =
 pub is_one : {kind : TestKind} (ws : List ℕ) (i j : ℕ) (x : Item) → HasRole ws i (ToTest kind) → ReadsItem ws i j x
     → (t : Test) × (x ≡ One t) × ReadsItem ws i j (One t)
 is_one {kind} ws i j (One t) h r = (t, refl, r)
-is_one {kind} ws i j x h r = let e : ToTest kind ≡ item_role x = role_at ws i j (ToTest kind) x h r in absurd (cc)
+is_one {kind} ws i j x h r = absurd (cc (role_at ws i j (ToTest kind) x h r))
 
 pub is_at : (ws : List ℕ) (i j : ℕ) (x : Item) → HasRole ws i ToCheckPosition → ReadsItem ws i j x
     → (a : SreAtCode) × (x ≡ At a) × ReadsItem ws i j (At a)
 is_at ws i j (At a) h r = (a, refl, r)
-is_at ws i j x h r = let e : ToCheckPosition ≡ item_role x = role_at ws i j ToCheckPosition x h r in absurd (cc)
+is_at ws i j x h r = absurd (cc (role_at ws i j ToCheckPosition x h r))
 
 pub is_mark : (ws : List ℕ) (i j : ℕ) (x : Item) → HasRole ws i ToMark → ReadsItem ws i j x
     → (n : ℕ) × (x ≡ Mark n) × ReadsItem ws i j (Mark n)
 is_mark ws i j (Mark n) h r = (n, refl, r)
-is_mark ws i j x h r = let e : ToMark ≡ item_role x = role_at ws i j ToMark x h r in absurd (cc)
+is_mark ws i j x h r = absurd (cc (role_at ws i j ToMark x h r))
 
 pub is_branch : (ws : List ℕ) (i j : ℕ) (x : Item) → HasRole ws i ToBranch → ReadsItem ws i j x
     → (ts : Trees) × (x ≡ Branch ts) × ReadsItem ws i j (Branch ts)
 is_branch ws i j (Branch ts) h r = (ts, refl, r)
-is_branch ws i j x h r = let e : ToBranch ≡ item_role x = role_at ws i j ToBranch x h r in absurd (cc)
+is_branch ws i j x h r = absurd (cc (role_at ws i j ToBranch x h r))
 
 pub is_loop : (ws : List ℕ) (i j : ℕ) (x : Item) → HasRole ws i ToRepeat → ReadsItem ws i j x
     → (o : Order) × (low : ℕ) × (high : ℕ) × (body : Tree) × (x ≡ Loop o low high body)
     × ReadsItem ws i j (Loop o low high body)
 is_loop ws i j (Loop o low high body) h r = (o, low, high, body, refl, r)
-is_loop ws i j x h r = let e : ToRepeat ≡ item_role x = role_at ws i j ToRepeat x h r in absurd (cc)
+is_loop ws i j x h r = absurd (cc (role_at ws i j ToRepeat x h r))
 
 pub is_run : {kind : RunKind} (ws : List ℕ) (i j : ℕ) (x : Item) → HasRole ws i (ToRun kind) → ReadsItem ws i j x
     → (low : ℕ) × (high : ℕ) × (t : Test) × (x ≡ Run kind low high t) × ReadsItem ws i j (Run kind low high t)
@@ -159,20 +157,19 @@ is_run {kind} ws i j (Run k low high t) h r =
     let e : ToRun kind ≡ ToRun k = role_at ws i j (ToRun kind) (Run k low high t) h r in
     let same : k ≡ kind = cc in
     (low, high, t, ap (λ z. Run z low high t) same, subst (λ z. ReadsItem ws i j (Run z low high t)) same r)
-is_run {kind} ws i j x h r = let e : ToRun kind ≡ item_role x = role_at ws i j (ToRun kind) x h r in absurd (cc)
+is_run {kind} ws i j x h r = absurd (cc (role_at ws i j (ToRun kind) x h r))
 
 pub is_possessive : (ws : List ℕ) (i j : ℕ) (x : Item) → HasRole ws i ToRepeatPossessively → ReadsItem ws i j x
     → (low : ℕ) × (high : ℕ) × (body : Tree) × (x ≡ PossessiveLoop low high body)
     × ReadsItem ws i j (PossessiveLoop low high body)
 is_possessive ws i j (PossessiveLoop low high body) h r = (low, high, body, refl, r)
 is_possessive ws i j x h r =
-    let e : ToRepeatPossessively ≡ item_role x = role_at ws i j ToRepeatPossessively x h r in
-    absurd (cc)
+    absurd (cc (role_at ws i j ToRepeatPossessively x h r))
 
 pub is_atomic : (ws : List ℕ) (i j : ℕ) (x : Item) → HasRole ws i ToGroupAtomically → ReadsItem ws i j x
     → (body : Tree) × (x ≡ Atomic body) × ReadsItem ws i j (Atomic body)
 is_atomic ws i j (Atomic body) h r = (body, refl, r)
-is_atomic ws i j x h r = let e : ToGroupAtomically ≡ item_role x = role_at ws i j ToGroupAtomically x h r in absurd (cc)
+is_atomic ws i j x h r = absurd (cc (role_at ws i j ToGroupAtomically x h r))
 
 pub is_look : {sign : Sign} (ws : List ℕ) (i j : ℕ) (x : Item) → HasRole ws i (ToLook sign) → ReadsItem ws i j x
     → (back : ℕ) × (body : Tree) × (x ≡ Look sign back body) × ReadsItem ws i j (Look sign back body)
@@ -180,19 +177,19 @@ is_look {sign} ws i j (Look g back body) h r =
     let e : ToLook sign ≡ ToLook g = role_at ws i j (ToLook sign) (Look g back body) h r in
     let same : g ≡ sign = cc in
     (back, body, ap (λ z. Look z back body) same, subst (λ z. ReadsItem ws i j (Look z back body)) same r)
-is_look {sign} ws i j x h r = let e : ToLook sign ≡ item_role x = role_at ws i j (ToLook sign) x h r in absurd (cc)
+is_look {sign} ws i j x h r = absurd (cc (role_at ws i j (ToLook sign) x h r))
 
 pub is_reference : (ws : List ℕ) (i j : ℕ) (x : Item) → HasRole ws i ToRefer → ReadsItem ws i j x
     → (fold : Fold) × (g : ℕ) × (x ≡ Reference fold g) × ReadsItem ws i j (Reference fold g)
 is_reference ws i j (Reference fold g) h r = (fold, g, refl, r)
-is_reference ws i j x h r = let e : ToRefer ≡ item_role x = role_at ws i j ToRefer x h r in absurd (cc)
+is_reference ws i j x h r = absurd (cc (role_at ws i j ToRefer x h r))
 
 pub is_exists : (ws : List ℕ) (i j : ℕ) (x : Item) → HasRole ws i ToCheckGroup → ReadsItem ws i j x
     → ((g : ℕ) × (a : Tree) × (x ≡ Exists g a) × ReadsItem ws i j (Exists g a))
     ⊎ ((g : ℕ) × (a : Tree) × (b : Tree) × (x ≡ ExistsElse g a b) × ReadsItem ws i j (ExistsElse g a b))
 is_exists ws i j (Exists g a) h r = inl (g, a, refl, r)
 is_exists ws i j (ExistsElse g a b) h r = inr (g, a, b, refl, r)
-is_exists ws i j x h r = let e : ToCheckGroup ≡ item_role x = role_at ws i j ToCheckGroup x h r in absurd (cc)
+is_exists ws i j x h r = absurd (cc (role_at ws i j ToCheckGroup x h r))
 
 -- the roles of opcodes that begin no item
 abbrev pub is_item_role : Role → Bool

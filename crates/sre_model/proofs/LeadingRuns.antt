@@ -3,7 +3,7 @@ use Rattle.sre_model.proofs.Terms.{◌≡◌, ◌≤◌, ◌<◌, ◌+◌, ◌-�
 use Rattle.sre_model.proofs.Terms.{nat_le, Option, Some, None, refl, sym, ap, subst, arith, flat_map, AllByRecursion}
 use Rattle.sre_model.proofs.Terms.{nat_tests, Tree, Then, One, Mark, Run, Test, RunKind, GreedyRun, LazyRun}
 use Rattle.sre_model.proofs.Terms.{PossessiveRun, Marks, no_marks, set_mark, refers, Subject, passes, Way, unlimited}
-use Rattle.sre_model.proofs.Terms.{run_length, longest_run, rising, falling, counts, ways, Asked, Match, subject_of}
+use Rattle.sre_model.proofs.Terms.{run_length, longest_run, rising, falling, counts, ways, Asked, subject_of}
 use Rattle.sre_model.proofs.Terms.{is_accepted, first_accepted, at_start, RunLeads, inl, inr, cases_lt}
 use Rattle.std.proofs.lemmas.List.{append-nil}
 use Rattle.sre_model.specs.LeadingRuns.{front_passes, front_length, NoneEnds}
@@ -186,15 +186,9 @@ accepts_at a p = is_accepted a (record { stop = p; marks = no_marks })
 
 refused_each : (a : Asked) (s : ℕ) (ws : List Way) → first_accepted a s ws ≡ None → NoneEnds (accepts_at a) ws
 refused_each a s [] e = tt
-refused_each a s (w ∷ ws) e = by_test (is_accepted a w) refl (refused_each a s ws)
-  where
-    by_test : (b : Bool) → is_accepted a w ≡ b → (first_accepted a s ws ≡ None → NoneEnds (accepts_at a) ws)
-        → NoneEnds (accepts_at a) (w ∷ ws)
-    by_test true y later =
-        let some : Match = record { start = s; end = w.stop; marks = w.marks } in
-        let never : Some some ≡ None = rw y at e in
-        absurd (cc)
-    by_test false n later = (n, later (rw n at e))
+refused_each a s (w ∷ ws) e =
+    let no_ : is_accepted a w ≡ false = grind arith in
+    (no_, refused_each a s ws (rw no_ at e))
 
 each_refused : (a : Asked) (s : ℕ) (ws : List Way) → NoneEnds (accepts_at a) ws → first_accepted a s ws ≡ None
 each_refused a s [] h = refl

@@ -202,11 +202,9 @@ pub one_item_member : (ws : List ℕ) (table : Table) (i j c : ℕ) (holds : Boo
     → SetStands ws i j set → ItemSays ws table i c holds j → is_member table set c ≡ holds
 one_item_member ws table i j c holds set s x =
     let f = x.each j set s in
-    f.2 true ∙ ap (λ r. cond holds true (verdict table true r c)) (nothing_left ws j j f.0 s.ends f.1) ∙ go holds
-  where
-    go : (b : Bool) → cond b true false ≡ b
-    go true = refl
-    go false = refl
+    let all = ap (λ r. cond holds true (verdict table true r c)) (nothing_left ws j j f.0 s.ends f.1) in
+    let same : cond holds true false ≡ holds = grind arith in
+    f.2 true ∙ all ∙ same
 
 -- the verdict, where the set ends
 pub left_nothing : (ws : List ℕ) (table : Table) (start c i : ℕ) (taken : Bool) → VerdictLeft ws table start c i taken

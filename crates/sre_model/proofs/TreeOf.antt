@@ -190,13 +190,6 @@ stops_within ws k j (inr s) = omega arith
 abbrev pub IsReader : List ℕ → ℕ → Reader → Type 0
 IsReader ws f read = (i j k : ℕ) (t : Tree) → Reads ws i k t → Stops ws k j → k < i + f → read i j ≡ (t, k)
 
--- a length word is not 0
-length_word : (ws : List ℕ) (q j : ℕ) (ts : Trees) → ReadsBranch ws q j ts → nat_eq (word ws q) 0 ≡ false
-length_word ws q j ts r =
-    let l : q + 3 ≤ skip ws q = alternative_long ws q j ts r in
-    let z : 0 < word ws q = omega arith in
-    grind (arith, nat_tests)
-
 trees-read : (ts : Trees) (f : ℕ) (read : Reader) (ws : List ℕ) (q j : ℕ) → IsReader ws f read → ReadsBranch ws q j ts
     → j ≤ q + f → trees_at f read ws q ≡ (ts, j)
 unfolding trees_at
@@ -210,19 +203,12 @@ trees-read (Or t ts) (suc f) read ws q j h r l =
     let k = skip ws q in
     let b : k < j = branch_past ts ws k j r.2 in
     let x : read (q + 1) (k - 2) ≡ (t, k - 2) = h (q + 1) (k - 2) (k - 2) t r.0 (inl refl) (omega arith) in
-    let z : nat_eq (word ws k) 0 ≡ false = length_word ws k j ts r.2 in
+    let long = alternative_long ws k j ts r.2 in
+    let z : nat_eq (word ws k) 0 ≡ false = grind (arith, nat_tests) in
     let a : q + 1 ≤ k - 2 = reads_within t ws (q + 1) (k - 2) r.0 in
     let y : trees_at f read ws k ≡ (ts, j) =
     trees-read ts f read ws k j (λ i v m u reads stops below. h i v m u reads stops (omega arith)) r.2 (omega arith) in
     rw (z, trees_at) (rw (x, y) refl)
-
-items-first : (f : ℕ) (ws : List ℕ) (i j k n : ℕ) (x : Item) (rest : Tree) → i < j
-    → item_by (opcode_at ws i) f (items_at f ws) ws i ≡ Some (x, k) → items_at f ws k j ≡ (rest, n)
-    → items_at (suc f) ws i j ≡ (Then x rest, n)
-unfolding items_at
-items-first f ws i j k n x rest l first after =
-    let t : nat_lt i j ≡ true = grind (arith, nat_tests) in
-    rw (t, items_at) (rw (first, after) refl)
 
 item-test : (t : Test) (f : ℕ) (read : Reader) (ws : List ℕ) (i : ℕ)
     → let r = test_by (test_opcode t) ws i in item_by (test_opcode t) f read ws i ≡ Some (One r.0, r.1)
@@ -311,7 +297,9 @@ items-read (suc f) ws i j k (Then x rest) r s l =
     let first : item_by (opcode_at ws i) f (items_at f ws) ws i ≡ Some (x, m) =
     rw (opcode-read ws i (item_opcode x) r.1.0)
     (item-read x f (items_at f ws) ws i m (items-read f ws) r.1.1 (omega arith)) in
-    items-first f ws i j m k x rest (omega arith) first (items-read f ws m j k rest r.2 s (omega arith))
+    let after = items-read f ws m j k rest r.2 s (omega arith) in
+    let t : nat_lt i j ≡ true = grind (arith, nat_tests) in
+    rw (t, items_at) (rw (first, after) refl)
 
 pub whole-read : (ws : List ℕ) (t : Tree) → WholeItems ws t → tree_of ws ≡ t
 unfolding tree_of

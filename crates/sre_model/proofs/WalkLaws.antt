@@ -1,10 +1,10 @@
 -- An iteration is the match that is found, and the iteration after it; it has a bound, and goes forward.
 use Rattle.sre_model.proofs.Terms.{◌≡◌, ◌≤◌, ◌<◌, ◌+◌, ◌-◌, ◌*◌, ℕ, zero, suc, [], ◌∷◌, length, Bool, true, false, not}
-use Rattle.sre_model.proofs.Terms.{◌||◌, cond, nat_eq, Some, None, refl, sym, ap, ◌∙◌, subst, arith, inl, inr}
-use Rattle.sre_model.proofs.Terms.{and_parts, nat_tests, Tree, Asked, Match, found}
+use Rattle.sre_model.proofs.Terms.{◌||◌, cond, nat_eq, Some, None, refl, sym, ap, ◌∙◌, arith, inl, inr, and_parts}
+use Rattle.sre_model.proofs.Terms.{nat_tests, Tree, Asked, Match, found}
 use Rattle.sre_model.specs.Found.{asked_after, walk_of, walk}
 use Rattle.sre_model.specs.WalkBounds.{most_matches, AreInOrder}
-use Rattle.sre_model.proofs.FoundLaws.{Either, either, found-least, found-is}
+use Rattle.sre_model.proofs.FoundLaws.{either, found-least, found-is}
 
 -- after a match that is accepted fewer matches can come: an empty one must not come again at its place
 fewer : (start end from to : ℕ) (advance : Bool) → start ≤ from → from ≤ to → to ≤ end
@@ -24,11 +24,10 @@ most_matches-falls a t m e =
 
 -- where nothing can be found any more, nothing is
 none-left : (a : Asked) (t : Tree) → most_matches a ≡ 0 → found a t ≡ None
-none-left a t h = by_match (either (found a t))
-  where
-    by_match : Either (found a t) → found a t ≡ None
-    by_match (inl none) = none
-    by_match (inr (x, some)) = absurd (omega (arith, most_matches-falls a t x some))
+none-left a t h = elim (either (found a t)) [
+  | inl none ↦ none
+  | inr (x, some) ↦ absurd (omega (arith, most_matches-falls a t x some))
+]
 
 -- what a walk of at most n more matches gives
 walk_of-none : (n : ℕ) (a : Asked) (t : Tree) → found a t ≡ None → walk_of n a t ≡ []
@@ -44,16 +43,13 @@ walk_of-steps : (n k : ℕ) (a : Asked) (t : Tree) → most_matches a ≤ n → 
     → walk_of n a t ≡ walk_of k a t
 walk_of-steps zero k a t h l = sym (walk_of-none k a t (none-left a t (omega arith)))
 walk_of-steps (suc n) zero a t h l = walk_of-none (suc n) a t (none-left a t (omega arith))
-walk_of-steps (suc n) (suc k) a t h l =
-    by_match (either (found a t)) (λ m e.
-    let less = most_matches-falls a t m e in walk_of-steps n k (asked_after a m) t (omega arith) (omega arith))
-  where
-    by_match : Either (found a t)
-        → ((m : Match) → found a t ≡ Some m → walk_of n (asked_after a m) t ≡ walk_of k (asked_after a m) t)
-        → walk_of (suc n) a t ≡ walk_of (suc k) a t
-    by_match (inl none) later = walk_of-none (suc n) a t none ∙ sym (walk_of-none (suc k) a t none)
-    by_match (inr (m, some)) later =
-        walk_of-some n a t m some ∙ (ap (λ l. m ∷ l) (later m some) ∙ sym (walk_of-some k a t m some))
+walk_of-steps (suc n) (suc k) a t h l = elim (either (found a t)) [
+  | inl none ↦ walk_of-none (suc n) a t none ∙ sym (walk_of-none (suc k) a t none)
+  | inr (m, some) ↦
+      let less = most_matches-falls a t m some in
+      let later = walk_of-steps n k (asked_after a m) t (omega arith) (omega arith) in
+      walk_of-some n a t m some ∙ (ap (λ l. m ∷ l) later ∙ sym (walk_of-some k a t m some))
+]
 
 -- the walk ends where nothing is found
 pub walk-end : (a : Asked) (t : Tree) → found a t ≡ None → walk a t ≡ []
@@ -77,14 +73,12 @@ walk-next a t m e =
 
 walk_of-bound : (n : ℕ) (a : Asked) (t : Tree) → length (walk_of n a t) ≤ most_matches a
 walk_of-bound zero a t = omega arith
-walk_of-bound (suc n) a t = by_match (either (found a t)) (λ m. walk_of-bound n (asked_after a m) t)
-  where
-    by_match : Either (found a t)
-        → ((m : Match) → length (walk_of n (asked_after a m) t) ≤ most_matches (asked_after a m))
-        → length (walk_of (suc n) a t) ≤ most_matches a
-    by_match (inl none) later = rw (walk_of-none (suc n) a t none) (omega arith)
-    by_match (inr (m, some)) later =
-        rw (walk_of-some n a t m some) (omega (arith, later m, most_matches-falls a t m some))
+walk_of-bound (suc n) a t = elim (either (found a t)) [
+  | inl none ↦ rw (walk_of-none (suc n) a t none) (omega arith)
+  | inr (m, some) ↦
+      let later = walk_of-bound n (asked_after a m) t in
+      rw (walk_of-some n a t m some) (omega (arith, later, most_matches-falls a t m some))
+]
 
 -- a walk over n characters has at most 2n + 1 matches, and 2n where it must advance at first
 pub walk-bound : (a : Asked) (t : Tree) → length (walk a t) ≤ most_matches a
@@ -92,14 +86,12 @@ walk-bound a t = walk_of-bound (2 * (a.end - a.start) + 1) a t
 
 walk_of-in_order : (n : ℕ) (a : Asked) (t : Tree) → AreInOrder a.start (walk_of n a t)
 walk_of-in_order zero a t = tt
-walk_of-in_order (suc n) a t = by_match (either (found a t)) (λ m. walk_of-in_order n (asked_after a m) t)
-  where
-    by_match : Either (found a t) → ((m : Match) → AreInOrder m.end (walk_of n (asked_after a m) t))
-        → AreInOrder a.start (walk_of (suc n) a t)
-    by_match (inl none) later = subst (AreInOrder a.start) (sym (walk_of-none (suc n) a t none)) tt
-    by_match (inr (m, some)) later =
-        subst (AreInOrder a.start) (sym (walk_of-some n a t m some))
-        ((found-least a t m some).from, (found-is a t m some).order, later m)
+walk_of-in_order (suc n) a t = elim (either (found a t)) [
+  | inl none ↦ rw (walk_of-none (suc n) a t none) tt
+  | inr (m, some) ↦
+      rw (walk_of-some n a t m some)
+      ((found-least a t m some).from, (found-is a t m some).order, walk_of-in_order n (asked_after a m) t)
+]
 
 -- each match of a walk starts no earlier than the former's end
 pub walk-in_order : (a : Asked) (t : Tree) → AreInOrder a.start (walk a t)
