@@ -1,11 +1,12 @@
 -- The code words of a tree are a code of that tree, and no others without an INFO block are.
-use Rattle.sre_model.proofs.Terms.{ℕ, ◌+◌, ◌-◌, ◌≡◌, ◌<◌, false, List, [], ◌∷◌, length, subst, arith, length-append}
-use Rattle.sre_model.proofs.Terms.{opcode_number, Tree, has_block, WholeItems, Whole, AreWords, LawfulTree, tree_words}
-use Rattle.sre_model.proofs.Terms.{code_words}
+use Rattle.sre_model.proofs.Terms.{ℕ, ◌+◌, ◌-◌, ◌≡◌, ◌<◌, false, List, [], ◌∷◌, length, subst, ap, arith, ◌++◌, ◌∙◌}
+use Rattle.sre_model.proofs.Terms.{length-append, opcode_number, Tree, has_block, WholeItems, Whole, AreWords}
+use Rattle.sre_model.proofs.Terms.{LawfulTree, tree_words, code_words}
 use Rattle.sre_chars.specs.declared.constants.SreOpcode.TheVariants as opcode
+use Rattle.std.proofs.lemmas.List.{append-nil, drop_all}
 use Rattle.sre_model.proofs.Words.{opcode_within}
 use Rattle.sre_model.proofs.CutOff.{none_behind}
-use Rattle.sre_model.proofs.StandingWords.{stands_whole, stands_front, stands_all}
+use Rattle.sre_model.proofs.StandingWords.{stands_whole, stands_front}
 use Rattle.sre_model.proofs.LaidOut.{lay_tree, last}
 use Rattle.sre_model.proofs.ReadBack.{read_tree, spell_then, spell_last}
 
@@ -26,9 +27,8 @@ pub items_are : (ws : List ℕ) (t : Tree) → AreWords ws → WholeItems ws t �
 items_are ws t h w =
     let room : length ws - 1 < length ws = opcode_within ws (length ws - 1) opcode.SUCCESS w.1 in
     let s = read_tree t ws 0 (length ws - 1) h w.0 (omega (arith, room)) in
-    let all = spell_then ws 0 (length ws - 1) (length ws) (tree_words t) (opcode_number opcode.SUCCESS ∷ []) s
-    (spell_last ws (length ws - 1) (length ws) (opcode_number opcode.SUCCESS) w.1 (omega (arith, room))) in
-    stands_all ws (code_words t) all.stands (omega (arith, all.ends))
+    let all = spell_then s (spell_last w.1 (omega (arith, room))) in
+    all.same ∙ ap (λ l. code_words t ++ l) (drop_all (length ws) ws (omega arith)) ∙ append-nil (code_words t)
 
 pub whole_are : (ws : List ℕ) (t : Tree) → AreWords ws → has_block ws ≡ false → Whole ws t → ws ≡ code_words t
 whole_are ws t h e w = items_are ws t h (subst (λ (xs : List ℕ). WholeItems xs t) (none_behind ws e).1 w.1)

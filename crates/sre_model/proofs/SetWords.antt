@@ -8,8 +8,8 @@ use Rattle.std.proofs.lemmas.List.{length-take, length-drop}
 use Rattle.sre_model.proofs.Words.{word_at, word_of, word_within}
 use Rattle.sre_model.proofs.Places.{set_within}
 use Rattle.sre_model.proofs.Unique.{set_same}
-use Rattle.sre_model.proofs.StandingWords.{stands_range, range_long}
-use Rattle.sre_model.proofs.ReadBack.{read_set, spell_then, spell_last}
+use Rattle.sre_model.proofs.StandingWords.{range_long}
+use Rattle.sre_model.proofs.ReadBack.{read_set, spell_then, spell_last, spelled_range}
 
 -- the n words from i on, as a list of their own
 module _ (ws : List ℕ) (i n : ℕ) (le : i + n ≤ length ws) where
@@ -103,8 +103,7 @@ spelled : (ws : List ℕ) (i j : ℕ) (s : List SetItem) → AreWords ws → Set
     → set_words s ++ 0 ∷ [] ≡ slice_range ws i (j + 1)
 spelled ws i j s h a =
     let items = read_set s ws i j h a.items (omega (arith, word_within ws j 0 a.ends)) in
-    let all = spell_then ws i j (j + 1) (set_words s) (0 ∷ []) items (spell_last ws j (j + 1) 0 a.ends refl) in
-    stands_range ws i (j + 1) (set_words s ++ 0 ∷ []) all.stands all.ends
+    spelled_range (spell_then items (spell_last a.ends refl))
 
 -- sets with their FAILURE
 module _ (ws vs : List ℕ) (i j k l : ℕ) (s t : List SetItem) (a : SetStands ws i j s) (b : SetStands vs k l t) where
