@@ -4,24 +4,79 @@ use Rattle.sre_model.proofs.Terms.{slice_index, refl, sym, ◌∙◌, ap, subst,
 use Rattle.sre_model.proofs.Terms.{opcode_number, at_number, category_number, Tree, Empty, Then, Item, Fail, One, At}
 use Rattle.sre_model.proofs.Terms.{Mark, Branch, Loop, Run, PossessiveLoop, Atomic, Look, Reference, Exists, ExistsElse}
 use Rattle.sre_model.proofs.Terms.{Trees, Only, Or, Test, Any, AnyAll, InCategory, Literal, NotLiteral, In, SetItem}
-use Rattle.sre_model.proofs.Terms.{Single, Range, RangeUniIgnore, Category, Charset, BigCharset, Negate, Word, word}
-use Rattle.sre_model.proofs.Terms.{skip, bytes_of, BytesBelow, BlocksBelow, ReadsSet, TestOperands, until_opcode}
-use Rattle.sre_model.proofs.Terms.{JumpsTo, Reads, Operands, ReadsBranch, packed, set_words, test_words, tree_words}
-use Rattle.sre_model.proofs.Terms.{branch_words, item_words, LawfulTree}
+use Rattle.sre_model.proofs.Terms.{Single, Range, RangeUniIgnore, Category, Charset, BigCharset, Negate, word, skip}
+use Rattle.sre_model.proofs.Terms.{bytes_of, BytesBelow, BlocksBelow, ReadsSet, TestOperands, until_opcode, JumpsTo}
+use Rattle.sre_model.proofs.Terms.{Reads, Operands, ReadsBranch, packed, set_words, test_words, tree_words}
+use Rattle.sre_model.proofs.Terms.{branch_words, item_words, LawfulTree, zero, suc, ◌%◌}
 use Rattle.sre_chars.specs.declared.constants.SreOpcode.TheVariants as opcode
 use Rattle.sre_model.proofs.Words.{word_moved, word_of}
-use Rattle.sre_model.specs.Lawful.{LawfulSet, LawfulTest, LawfulItem, LawfulTrees}
-use Rattle.sre_model.proofs.StandingWords.{Stands, stands_moved, stands_front, stands_behind, stands_range}
-use Rattle.sre_model.proofs.Packing.{packed_back, packed_long, packed_below}
+use Rattle.sre_model.specs.Lawful.{NumbersBelow, LawfulSet, LawfulTest, LawfulItem, LawfulTrees}
+use Rattle.sre_model.proofs.StandingWords.{Stands, head, stands_moved, stands_front, stands_behind, stands_range}
 
--- the first of the words
-head : (ws : List ℕ) (i x : ℕ) (xs : List ℕ) → Stands ws i (x ∷ xs) → Word ws i x
-head ws i x xs s = word_moved ws (i + 0) i x (omega arith) (s.at 0 x refl)
+-- Block numbers, packed four to a word
 
--- the word behind some
-pub last : (ws : List ℕ) (i k x : ℕ) (xs ys : List ℕ) → Stands ws i (xs ++ (x ∷ ys)) → i + length xs ≡ k → Word ws k x
-last ws i k x xs ys s e = word_moved ws (i + length xs) k x e
-    (head ws (i + length xs) x ys (stands_behind ws i xs (x ∷ ys) s))
+-- those behind the first four
+further : (count a b c d : ℕ) (ns : List ℕ) → NumbersBelow count (a ∷ b ∷ c ∷ d ∷ ns) → NumbersBelow count ns
+further count a b c d ns h k l = h (suc (suc (suc (suc k)))) (omega (arith, l))
+
+abbrev word_of_four : ℕ → ℕ → ℕ → ℕ → ℕ
+word_of_four a b c d = a + 256 * b + 65536 * c + 16777216 * d
+
+four_back : (a b c d : ℕ) → a < 256 → b < 256 → c < 256 → d < 256
+    → bytes_of (word_of_four a b c d) ≡ a ∷ b ∷ c ∷ d ∷ []
+four_back a b c d p q r s =
+    let w : ℕ = word_of_four a b c d in
+    let one : w % 256 ≡ a = omega arith in
+    let two : w / 256 % 256 ≡ b = omega arith in
+    let three : w / 65536 % 256 ≡ c = omega arith in
+    let four : w / 16777216 % 256 ≡ d = omega arith in
+    cc
+
+pub packed_back : (k count : ℕ) (ns : List ℕ) → length ns ≡ 4 * k → NumbersBelow count ns
+    → flat_map bytes_of (packed ns) ≡ ns
+packed_back k count [] e h = refl
+packed_back (suc k) count (a ∷ b ∷ c ∷ d ∷ ns) e h =
+    let l : 3 < length (a ∷ b ∷ c ∷ d ∷ ns) = omega arith in
+    let front = four_back a b c d (h 0 (omega (arith, l))).0 (h 1 (omega (arith, l))).0 (h 2 (omega (arith, l))).0
+    (h 3 l).0 in
+    let rest = packed_back k count ns (omega arith) (further count a b c d ns h) in
+    ap (λ l. l ++ flat_map bytes_of (packed ns)) front ∙ ap (λ l. a ∷ b ∷ c ∷ d ∷ l) rest
+packed_back k count ns e h = absurd (omega arith)
+
+pub packed_long : (k : ℕ) (ns : List ℕ) → length ns ≡ 4 * k → length (packed ns) ≡ k
+packed_long k [] e = omega arith
+packed_long (suc k) (a ∷ b ∷ c ∷ d ∷ ns) e = omega (arith, packed_long k ns (omega arith))
+packed_long k ns e = absurd (omega arith)
+
+-- each byte of each word is below the count
+pub packed_below : (k count : ℕ) (ns : List ℕ) → length ns ≡ 4 * k → NumbersBelow count ns
+    → (q : ℕ) → q < length (packed ns) → BytesBelow count (slice_index (packed ns) q)
+packed_below (suc k) count (a ∷ b ∷ c ∷ d ∷ ns) e h zero l =
+    let long : 3 < length (a ∷ b ∷ c ∷ d ∷ ns) = omega arith in
+    let p = h 0 (omega (arith, long)) in
+    let q = h 1 (omega (arith, long)) in
+    let r = h 2 (omega (arith, long)) in
+    let s = h 3 long in (
+      omega (arith, p.0, p.1),
+      omega (arith, p.0, q.0, q.1),
+      omega (arith, p.0, q.0, r.0, r.1),
+      omega (arith, p.0, q.0, r.0, s.0, s.1),
+    )
+packed_below (suc k) count (a ∷ b ∷ c ∷ d ∷ ns) e h (suc q) l =
+    packed_below k count ns (omega arith) (further count a b c d ns h) q (omega arith)
+packed_below k count ns e h q l = absurd (omega (arith, packed_long k ns e))
+
+-- the words that were packed are those of their bytes
+pub packed_again : (ws : List ℕ) → ((k : ℕ) → k < length ws → slice_index ws k < 4294967296)
+    → packed (flat_map bytes_of ws) ≡ ws
+packed_again [] h = refl
+packed_again (w ∷ ws) h =
+    let below : w < 4294967296 = h 0 (omega arith) in
+    let front : word_of_four (w % 256) (w / 256 % 256) (w / 65536 % 256) (w / 16777216 % 256) ≡ w = omega arith in
+    let rest = packed_again ws (λ k l. h (suc k) (omega arith)) in
+    ap (λ n. n ∷ packed (flat_map bytes_of ws)) front ∙ ap (λ l. w ∷ l) rest
+
+-- Words that stand at a place
 
 -- the words of [i, j) are some in front, a body and the rest
 record Split (ws : List ℕ) (i j : ℕ) (front body rest : List ℕ) : Type 0 where
@@ -29,22 +84,21 @@ record Split (ws : List ℕ) (i j : ℕ) (front body rest : List ℕ) : Type 0 w
   pub behind : (k : ℕ) → i + length front + length body ≡ k → Stands ws k rest
   pub long : j ≡ i + length front + length body + length rest
 
-split : (ws : List ℕ) (i j : ℕ) (front body rest : List ℕ) → Stands ws i (front ++ (body ++ rest))
+split : {ws : List ℕ} {i j : ℕ} (front body rest : List ℕ) → Stands ws i (front ++ (body ++ rest))
     → j ≡ i + length (front ++ (body ++ rest)) → Split ws i j front body rest
-split ws i j front body rest st e =
-    let after = stands_behind ws i front (body ++ rest) st in
+split front body rest st e =
+    let after = stands_behind front st in
     record {
-      inside = stands_front ws (i + length front) body rest after;
-      behind = λ k at. stands_moved ws (i + length front + length body) k rest at
-          (stands_behind ws (i + length front) body rest after);
+      inside = stands_front body rest after;
+      behind = λ k at. stands_moved k at (stands_behind body after);
       long = omega (arith, e, length-append front (body ++ rest), length-append body rest);
     }
 
 -- a JUMP over the rest
-jumped : (ws : List ℕ) (k j : ℕ) (rest : List ℕ) → Stands ws k (opcode_number opcode.JUMP ∷ (length rest + 1) ∷ rest)
+jumped : {ws rest : List ℕ} {k : ℕ} (j : ℕ) → Stands ws k (opcode_number opcode.JUMP ∷ (length rest + 1) ∷ rest)
     → j ≡ k + 2 + length rest → JumpsTo ws k j
-jumped ws k j rest st e =
-    (head ws k _ _ st, omega (arith, e, word_of ws (k + 1) (length rest + 1) (st.at 1 (length rest + 1) refl)))
+jumped {ws} {rest} {k} j st e =
+    (head st, omega (arith, e, word_of ws (k + 1) (length rest + 1) (st.at 1 (length rest + 1) refl)))
 
 -- each block number of the packed words
 blocks_of : (ws : List ℕ) (a b count : ℕ) (xs : List ℕ) → xs ≡ slice_range ws a b
@@ -53,36 +107,24 @@ blocks_of ws a b count xs e h =
     let P : List ℕ → Type 0 = λ ys. (q : ℕ) → q < length ys → BytesBelow count (slice_index ys q) in
     subst P e h
 
-pub lay_set : (s : List SetItem) (ws : List ℕ) (i j : ℕ) → Stands ws i (set_words s) → j ≡ i + length (set_words s)
+lay_set : (s : List SetItem) (ws : List ℕ) (i j : ℕ) → Stands ws i (set_words s) → j ≡ i + length (set_words s)
     → LawfulSet s → ReadsSet ws i j s
 lay_set [] ws i j st e h = omega arith
-lay_set (Single v ∷ rest) ws i j st e h = (
-  head ws i _ _ st,
-  st.at 1 v refl,
-  lay_set rest ws (i + 2) j (stands_behind ws i (_ ∷ v ∷ []) (set_words rest) st) (omega (arith, e)) h.1,
-)
-lay_set (Range low high ∷ rest) ws i j st e h = (
-  head ws i _ _ st,
-  st.at 1 low refl,
-  st.at 2 high refl,
-  lay_set rest ws (i + 3) j (stands_behind ws i (_ ∷ low ∷ high ∷ []) (set_words rest) st) (omega (arith, e)) h.1,
-)
-lay_set (RangeUniIgnore low high ∷ rest) ws i j st e h = (
-  head ws i _ _ st,
-  st.at 1 low refl,
-  st.at 2 high refl,
-  lay_set rest ws (i + 3) j (stands_behind ws i (_ ∷ low ∷ high ∷ []) (set_words rest) st) (omega (arith, e)) h.1,
-)
-lay_set (Category c ∷ rest) ws i j st e h = (
-  head ws i _ _ st,
-  st.at 1 (category_number c) refl,
-  lay_set rest ws (i + 2) j (stands_behind ws i (_ ∷ category_number c ∷ []) (set_words rest) st) (omega (arith, e))
-      h.1,
-)
+lay_set (Single v ∷ rest) ws i j st e h =
+    (head st, st.at 1 v refl, lay_set rest ws (i + 2) j (stands_behind (_ ∷ v ∷ []) st) (omega (arith, e)) h.1)
+lay_set (Range low high ∷ rest) ws i j st e h =
+    let after = lay_set rest ws (i + 3) j (stands_behind (_ ∷ low ∷ high ∷ []) st) (omega (arith, e)) h.1 in
+    (head st, st.at 1 low refl, st.at 2 high refl, after)
+lay_set (RangeUniIgnore low high ∷ rest) ws i j st e h =
+    let after = lay_set rest ws (i + 3) j (stands_behind (_ ∷ low ∷ high ∷ []) st) (omega (arith, e)) h.1 in
+    (head st, st.at 1 low refl, st.at 2 high refl, after)
+lay_set (Category c ∷ rest) ws i j st e h =
+    let n : ℕ = category_number c in
+    (head st, st.at 1 n refl, lay_set rest ws (i + 2) j (stands_behind (_ ∷ n ∷ []) st) (omega (arith, e)) h.1)
 lay_set (Charset bits ∷ rest) ws i j st e h =
-    let s = split ws i j (_ ∷ []) bits (set_words rest) st e in (
-      head ws i _ _ st,
-      stands_range ws (i + 1) (i + 9) bits s.inside (omega (arith, h.0)),
+    let s = split (_ ∷ []) bits (set_words rest) st e in (
+      head st,
+      stands_range (i + 9) bits s.inside (omega (arith, h.0)),
       omega (arith, s.inside.within, h.0),
       lay_set rest ws (i + 9) j (s.behind (i + 9) (omega (arith, h.0))) (omega (arith, s.long, h.0)) h.1,
     )
@@ -91,31 +133,28 @@ lay_set (BigCharset numbers bits ∷ rest) ws i j st e h =
     let table : List ℕ = packed numbers in
     let long : length table ≡ 64 = packed_long 64 numbers (omega (arith, h.0.0)) in
     let cnt : word ws (i + 1) ≡ count = word_of ws (i + 1) count (st.at 1 count refl) in
-    let first = split ws i j (_ ∷ count ∷ []) table (bits ++ set_words rest) st e in
-    let s = split ws (i + 66) j [] bits (set_words rest) (first.behind (i + 66) (omega (arith, long)))
-    (omega (arith, first.long, long)) in
-    let own : Stands ws (i + 66) bits = stands_moved ws (i + 66 + 0) (i + 66) bits (omega arith) s.inside in
-    let end : i + 66 + length bits ≡ i + 66 + word ws (i + 1) * 8 = omega (arith, cnt, h.0.1) in
+    let k : ℕ = i + 66 + word ws (i + 1) * 8 in
+    let first = split (_ ∷ count ∷ []) table (bits ++ set_words rest) st e in
+    let own = stands_front bits (set_words rest) (first.behind (i + 66) (omega (arith, long))) in
+    let end : i + 66 + length bits ≡ k = omega (arith, cnt, h.0.1) in
+    let after = stands_moved k end (stands_behind bits (first.behind (i + 66) (omega (arith, long)))) in
     let numbers_are : table ≡ slice_range ws (i + 2) (i + 66) =
-    stands_range ws (i + 2) (i + 66) table first.inside (omega (arith, long)) in
+    stands_range (i + 66) table first.inside (omega (arith, long)) in
     let below : BlocksBelow (word ws (i + 1)) (slice_range ws (i + 2) (i + 66)) =
     subst (λ n. BlocksBelow n (slice_range ws (i + 2) (i + 66))) (sym cnt)
     (blocks_of ws (i + 2) (i + 66) count table numbers_are (packed_below 64 count numbers (omega (arith, h.0.0)) h.0.2))
     in (
-      head ws i _ _ st,
+      head st,
       sym (packed_back 64 count numbers (omega (arith, h.0.0)) h.0.2) ∙ ap (λ l. flat_map bytes_of l) numbers_are,
       below,
-      stands_range ws (i + 66) (i + 66 + word ws (i + 1) * 8) bits own (sym end),
+      stands_range k bits own (sym end),
       omega (arith, own.within, end),
-      lay_set rest ws (i + 66 + word ws (i + 1) * 8) j (s.behind (i + 66 + word ws (i + 1) * 8) (omega (arith, end)))
-          (omega (arith, s.long, end)) h.1,
+      lay_set rest ws k j after (omega (arith, first.long, long, length-append bits (set_words rest), end)) h.1,
     )
-lay_set (Negate ∷ rest) ws i j st e h = (
-  head ws i _ _ st,
-  lay_set rest ws (i + 1) j (stands_behind ws i (_ ∷ []) (set_words rest) st) (omega (arith, e)) h.1,
-)
+lay_set (Negate ∷ rest) ws i j st e h =
+    (head st, lay_set rest ws (i + 1) j (stands_behind (_ ∷ []) st) (omega (arith, e)) h.1)
 
-pub lay_test : (t : Test) (ws : List ℕ) (i j : ℕ) → Stands ws i (test_words t) → j ≡ i + length (test_words t)
+lay_test : (t : Test) (ws : List ℕ) (i j : ℕ) → Stands ws i (test_words t) → j ≡ i + length (test_words t)
     → LawfulTest t → TestOperands ws i j t
 lay_test Any ws i j st e h = omega (arith, e)
 lay_test AnyAll ws i j st e h = omega (arith, e)
@@ -123,13 +162,11 @@ lay_test (InCategory c) ws i j st e h = (st.at 1 (category_number c) refl, omega
 lay_test (Literal fold v) ws i j st e h = (st.at 1 v refl, omega (arith, e))
 lay_test (NotLiteral fold v) ws i j st e h = (st.at 1 v refl, omega (arith, e))
 lay_test (In fold set) ws i j st e h =
-    let body : List ℕ = set_words set in
-    let s = split ws i j (_ ∷ (length body + 2) ∷ []) body (opcode_number opcode.FAILURE ∷ []) st e in
-    let leads = word_of ws (i + 1) (length body + 2) (st.at 1 (length body + 2) refl) in (
-      omega (arith, s.long, leads),
-      lay_set set ws (i + 2) (j - 1) s.inside (omega (arith, s.long)) h,
-      head ws (j - 1) _ _ (s.behind (j - 1) (omega (arith, s.long))),
-    )
+    let n : ℕ = length (set_words set) in
+    let s = split (_ ∷ (n + 2) ∷ []) (set_words set) (opcode_number opcode.FAILURE ∷ []) st e in
+    let leads = word_of ws (i + 1) (n + 2) (st.at 1 (n + 2) refl) in
+    let items = lay_set set ws (i + 2) (j - 1) s.inside (omega (arith, s.long)) h in
+    (omega (arith, s.long, leads), items, head (s.behind (j - 1) (omega (arith, s.long))))
 
 mutual
   pub lay_tree : (t : Tree) (ws : List ℕ) (i j : ℕ) → Stands ws i (tree_words t) → j ≡ i + length (tree_words t)
@@ -137,110 +174,90 @@ mutual
   lay_tree Empty ws i j st e h = omega (arith, e)
   lay_tree (Then x rest) ws i j st e h =
       let k : ℕ = i + length (item_words x) in
-      let long : length (item_words x ++ tree_words rest) ≡ length (item_words x) + length (tree_words rest) =
-      length-append (item_words x) (tree_words rest) in
-      let front : Stands ws i (item_words x) = stands_front ws i (item_words x) (tree_words rest) st in (
-        k,
-        (head ws i _ _ front, lay_operands x ws i k front refl h.0),
-        lay_tree rest ws k j (stands_behind ws i (item_words x) (tree_words rest) st) (omega (arith, e, long)) h.1,
-      )
+      let long = length-append (item_words x) (tree_words rest) in
+      let front : Stands ws i (item_words x) = stands_front (item_words x) (tree_words rest) st in
+      let after = lay_tree rest ws k j (stands_behind (item_words x) st) (omega (arith, e, long)) h.1 in
+      (k, (head front, lay_operands x ws i k front refl h.0), after)
 
-  pub lay_operands : (x : Item) (ws : List ℕ) (i j : ℕ) → Stands ws i (item_words x) → j ≡ i + length (item_words x)
+  lay_operands : (x : Item) (ws : List ℕ) (i j : ℕ) → Stands ws i (item_words x) → j ≡ i + length (item_words x)
       → LawfulItem x → Operands ws i j x
   lay_operands Fail ws i j st e h = omega (arith, e)
   lay_operands (One t) ws i j st e h = lay_test t ws i j st e h
   lay_operands (At a) ws i j st e h = (st.at 1 (at_number a) refl, omega (arith, e))
   lay_operands (Mark n) ws i j st e h = (st.at 1 n refl, omega (arith, e))
   lay_operands (Branch ts) ws i j st e h =
-      lay_trees ts ws (i + 1) j (stands_behind ws i (_ ∷ []) (branch_words ts) st) (omega (arith, e)) h
+      lay_trees ts ws (i + 1) j (stands_behind (_ ∷ []) st) (omega (arith, e)) h
   lay_operands (Loop o low high body) ws i j st e h =
       let n : ℕ = length (tree_words body) in
-      let end : List ℕ = opcode_number (until_opcode o) ∷ [] in
-      let s = split ws i j (_ ∷ (n + 3) ∷ low ∷ high ∷ []) (tree_words body) end st e in
-      let leads : skip ws (i + 1) ≡ i + 4 + n = omega (arith, word_of ws (i + 1) (n + 3) (st.at 1 (n + 3) refl)) in (
-        st.at 2 low refl,
-        st.at 3 high refl,
-        h.0,
-        lay_tree body ws (i + 4) (skip ws (i + 1)) s.inside leads h.1,
-        head ws (skip ws (i + 1)) _ _ (s.behind (skip ws (i + 1)) (sym leads)),
-        omega (arith, leads, s.long),
-      )
+      let until : List ℕ = opcode_number (until_opcode o) ∷ [] in
+      let s = split (_ ∷ (n + 3) ∷ low ∷ high ∷ []) (tree_words body) until st e in
+      let leads : skip ws (i + 1) ≡ i + 4 + n = omega (arith, word_of ws (i + 1) (n + 3) (st.at 1 (n + 3) refl)) in
+      let inside = lay_tree body ws (i + 4) (skip ws (i + 1)) s.inside leads h.1 in
+      let end = head (s.behind (skip ws (i + 1)) (sym leads)) in
+      (st.at 2 low refl, st.at 3 high refl, h.0, inside, end, omega (arith, leads, s.long))
   lay_operands (Run kind low high t) ws i j st e h =
       let n : ℕ = length (test_words t) in
-      let end : List ℕ = opcode_number opcode.SUCCESS ∷ [] in
-      let s = split ws i j (_ ∷ (n + 4) ∷ low ∷ high ∷ []) (test_words t) end st e in
+      let s = split (_ ∷ (n + 4) ∷ low ∷ high ∷ []) (test_words t) (opcode_number opcode.SUCCESS ∷ []) st e in
       let leads = word_of ws (i + 1) (n + 4) (st.at 1 (n + 4) refl) in (
         omega (arith, leads, s.long),
         st.at 2 low refl,
         st.at 3 high refl,
         h.0,
-        head ws (i + 4) _ _ s.inside,
+        head s.inside,
         lay_test t ws (i + 4) (j - 1) s.inside (omega (arith, s.long)) h.1,
-        head ws (j - 1) _ _ (s.behind (j - 1) (omega (arith, s.long))),
+        head (s.behind (j - 1) (omega (arith, s.long))),
       )
   lay_operands (PossessiveLoop low high body) ws i j st e h =
       let n : ℕ = length (tree_words body) in
-      let end : List ℕ = opcode_number opcode.SUCCESS ∷ [] in
-      let s = split ws i j (_ ∷ (n + 3) ∷ low ∷ high ∷ []) (tree_words body) end st e in
-      let leads : skip ws (i + 1) ≡ i + 4 + n = omega (arith, word_of ws (i + 1) (n + 3) (st.at 1 (n + 3) refl)) in (
-        st.at 2 low refl,
-        st.at 3 high refl,
-        h.0,
-        lay_tree body ws (i + 4) (skip ws (i + 1)) s.inside leads h.1,
-        head ws (skip ws (i + 1)) _ _ (s.behind (skip ws (i + 1)) (sym leads)),
-        omega (arith, leads, s.long),
-      )
+      let s = split (_ ∷ (n + 3) ∷ low ∷ high ∷ []) (tree_words body) (opcode_number opcode.SUCCESS ∷ []) st e in
+      let leads : skip ws (i + 1) ≡ i + 4 + n = omega (arith, word_of ws (i + 1) (n + 3) (st.at 1 (n + 3) refl)) in
+      let inside = lay_tree body ws (i + 4) (skip ws (i + 1)) s.inside leads h.1 in
+      let end = head (s.behind (skip ws (i + 1)) (sym leads)) in
+      (st.at 2 low refl, st.at 3 high refl, h.0, inside, end, omega (arith, leads, s.long))
   lay_operands (Atomic body) ws i j st e h =
       let n : ℕ = length (tree_words body) in
-      let s = split ws i j (_ ∷ (n + 2) ∷ []) (tree_words body) (opcode_number opcode.SUCCESS ∷ []) st e in (
-        omega (arith, s.long, word_of ws (i + 1) (n + 2) (st.at 1 (n + 2) refl)),
-        lay_tree body ws (i + 2) (j - 1) s.inside (omega (arith, s.long)) h,
-        head ws (j - 1) _ _ (s.behind (j - 1) (omega (arith, s.long))),
-      )
+      let s = split (_ ∷ (n + 2) ∷ []) (tree_words body) (opcode_number opcode.SUCCESS ∷ []) st e in
+      let leads = word_of ws (i + 1) (n + 2) (st.at 1 (n + 2) refl) in
+      let inside = lay_tree body ws (i + 2) (j - 1) s.inside (omega (arith, s.long)) h in
+      (omega (arith, s.long, leads), inside, head (s.behind (j - 1) (omega (arith, s.long))))
   lay_operands (Look sign back body) ws i j st e h =
       let n : ℕ = length (tree_words body) in
-      let s = split ws i j (_ ∷ (n + 3) ∷ back ∷ []) (tree_words body) (opcode_number opcode.SUCCESS ∷ []) st e in (
-        omega (arith, s.long, word_of ws (i + 1) (n + 3) (st.at 1 (n + 3) refl)),
-        st.at 2 back refl,
-        lay_tree body ws (i + 3) (j - 1) s.inside (omega (arith, s.long)) h,
-        head ws (j - 1) _ _ (s.behind (j - 1) (omega (arith, s.long))),
-      )
+      let s = split (_ ∷ (n + 3) ∷ back ∷ []) (tree_words body) (opcode_number opcode.SUCCESS ∷ []) st e in
+      let leads = word_of ws (i + 1) (n + 3) (st.at 1 (n + 3) refl) in
+      let inside = lay_tree body ws (i + 3) (j - 1) s.inside (omega (arith, s.long)) h in
+      let end = head (s.behind (j - 1) (omega (arith, s.long))) in
+      (omega (arith, s.long, leads), st.at 2 back refl, inside, end)
   lay_operands (Reference fold g) ws i j st e h = (st.at 1 g refl, omega (arith, e))
   lay_operands (Exists g there) ws i j st e h =
       let n : ℕ = length (tree_words there) in
-      let leads : word ws (i + 2) ≡ n + 2 = word_of ws (i + 2) (n + 2) (st.at 2 (n + 2) refl) in (
-        st.at 1 g refl,
-        omega (arith, e, leads),
-        lay_tree there ws (i + 3) j (stands_behind ws i (_ ∷ g ∷ (n + 2) ∷ []) (tree_words there) st)
-            (omega (arith, e)) h,
-      )
+      let leads : word ws (i + 2) ≡ n + 2 = word_of ws (i + 2) (n + 2) (st.at 2 (n + 2) refl) in
+      let after = stands_behind (_ ∷ g ∷ (n + 2) ∷ []) st in
+      (st.at 1 g refl, omega (arith, e, leads), lay_tree there ws (i + 3) j after (omega (arith, e)) h)
   lay_operands (ExistsElse g there absent) ws i j st e h =
       let n : ℕ = length (tree_words there) in
       let no : List ℕ = tree_words absent in
       let tail : List ℕ = opcode_number opcode.JUMP ∷ (length no + 1) ∷ no in
-      let s = split ws i j (_ ∷ g ∷ (n + 4) ∷ []) (tree_words there) tail st e in
+      let s = split (_ ∷ g ∷ (n + 4) ∷ []) (tree_words there) tail st e in
       let leads = word_of ws (i + 2) (n + 4) (st.at 2 (n + 4) refl) in
-      let k : ℕ = i + 1 + word ws (i + 2) - 2 in
-      let after = s.behind k (omega (arith, leads)) in (
+      let m : ℕ = i + 1 + word ws (i + 2) in
+      let after = s.behind (m - 2) (omega (arith, leads)) in
+      let behind = stands_moved m (omega (arith, leads)) (stands_behind (_ ∷ (length no + 1) ∷ []) after) in (
         st.at 1 g refl,
-        lay_tree there ws (i + 3) k s.inside (omega (arith, leads)) h.0,
-        jumped ws k j no after (omega (arith, s.long, leads)),
-        lay_tree absent ws (i + 1 + word ws (i + 2)) j
-            (stands_moved ws (k + 2) (i + 1 + word ws (i + 2)) no (omega (arith, leads))
-            (stands_behind ws k (_ ∷ (length no + 1) ∷ []) no after))
-            (omega (arith, s.long, leads)) h.1,
+        lay_tree there ws (i + 3) (m - 2) s.inside (omega (arith, leads)) h.0,
+        jumped j after (omega (arith, s.long, leads)),
+        lay_tree absent ws m j behind (omega (arith, s.long, leads)) h.1,
       )
 
-  pub lay_trees : (ts : Trees) (ws : List ℕ) (q j : ℕ) → Stands ws q (branch_words ts)
-      → j ≡ q + length (branch_words ts) → LawfulTrees ts → ReadsBranch ws q j ts
+  lay_trees : (ts : Trees) (ws : List ℕ) (q j : ℕ) → Stands ws q (branch_words ts) → j ≡ q + length (branch_words ts)
+      → LawfulTrees ts → ReadsBranch ws q j ts
   lay_trees (Only t) ws q j st e h =
       let n : ℕ = length (tree_words t) in
-      let s = split ws q j ((n + 3) ∷ []) (tree_words t) (opcode_number opcode.JUMP ∷ 2 ∷ 0 ∷ []) st e in
-      let leads = word_of ws q (n + 3) (head ws q _ _ st) in
+      let s = split ((n + 3) ∷ []) (tree_words t) (opcode_number opcode.JUMP ∷ 2 ∷ 0 ∷ []) st e in
+      let leads = word_of ws q (n + 3) (head st) in
       let k : ℕ = skip ws q - 2 in
       let after = s.behind k (omega (arith, leads)) in (
         lay_tree t ws (q + 1) k s.inside (omega (arith, leads)) h,
-        jumped ws k j (0 ∷ []) after (omega (arith, s.long, leads)),
+        jumped {rest = 0 ∷ []} j after (omega (arith, s.long, leads)),
         word_moved ws (k + 2) (skip ws q) 0 (omega (arith, leads)) (after.at 2 0 refl),
         omega (arith, s.long, leads),
       )
@@ -248,14 +265,12 @@ mutual
       let n : ℕ = length (tree_words t) in
       let rest : List ℕ = branch_words ts in
       let tail : List ℕ = opcode_number opcode.JUMP ∷ (length rest + 1) ∷ rest in
-      let s = split ws q j ((n + 3) ∷ []) (tree_words t) tail st e in
-      let leads = word_of ws q (n + 3) (head ws q _ _ st) in
+      let s = split ((n + 3) ∷ []) (tree_words t) tail st e in
+      let leads = word_of ws q (n + 3) (head st) in
       let k : ℕ = skip ws q - 2 in
-      let after = s.behind k (omega (arith, leads)) in (
+      let after = s.behind k (omega (arith, leads)) in
+      let next = stands_moved (skip ws q) (omega (arith, leads)) (stands_behind (_ ∷ (length rest + 1) ∷ []) after) in (
         lay_tree t ws (q + 1) k s.inside (omega (arith, leads)) h.0,
-        jumped ws k j rest after (omega (arith, s.long, leads)),
-        lay_trees ts ws (skip ws q) j
-            (stands_moved ws (k + 2) (skip ws q) rest (omega (arith, leads))
-            (stands_behind ws k (_ ∷ (length rest + 1) ∷ []) rest after))
-            (omega (arith, s.long, leads)) h.1,
+        jumped j after (omega (arith, s.long, leads)),
+        lay_trees ts ws (skip ws q) j next (omega (arith, s.long, leads)) h.1,
       )

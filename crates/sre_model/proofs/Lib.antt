@@ -29,7 +29,6 @@ pub mod Longest
 pub mod TreeOf
 pub mod CutOff
 pub mod StandingWords
-pub mod Packing
 pub mod LaidOut
 pub mod ReadBack
 pub mod OneToOne

@@ -6,8 +6,8 @@ use Rattle.sre_chars.specs.declared.constants.SreOpcode.TheVariants as opcode
 use Rattle.std.proofs.lemmas.List.{append-nil, drop_all}
 use Rattle.sre_model.proofs.Words.{opcode_within}
 use Rattle.sre_model.proofs.CutOff.{none_behind}
-use Rattle.sre_model.proofs.StandingWords.{stands_whole, stands_front}
-use Rattle.sre_model.proofs.LaidOut.{lay_tree, last}
+use Rattle.sre_model.proofs.StandingWords.{head, stands_whole, stands_moved, stands_front, stands_behind}
+use Rattle.sre_model.proofs.LaidOut.{lay_tree}
 use Rattle.sre_model.proofs.ReadBack.{read_tree, spell_then, spell_last}
 
 -- the words of a tree that has some are read as it
@@ -16,11 +16,10 @@ code_whole t h =
     let ws : List ℕ = code_words t in
     let n : ℕ = length (tree_words t) in
     let long : length ws ≡ n + 1 = omega (arith, length-append (tree_words t) (opcode_number opcode.SUCCESS ∷ [])) in
-    let front = stands_front ws 0 (tree_words t) (opcode_number opcode.SUCCESS ∷ []) (stands_whole ws) in (
-      lay_tree t ws 0 (length ws - 1) front (omega (arith, long)) h,
-      last ws 0 (length ws - 1) (opcode_number opcode.SUCCESS) (tree_words t) [] (stands_whole ws)
-          (omega (arith, long)),
-    )
+    let front = stands_front (tree_words t) (opcode_number opcode.SUCCESS ∷ []) (stands_whole ws) in
+    let behind = stands_behind (tree_words t) (stands_whole ws) in
+    let end : 0 + n ≡ length ws - 1 = omega (arith, long) in
+    (lay_tree t ws 0 (length ws - 1) front (omega (arith, long)) h, head (stands_moved (length ws - 1) end behind))
 
 -- words that are read as a tree are its words
 pub items_are : (ws : List ℕ) (t : Tree) → AreWords ws → WholeItems ws t → ws ≡ code_words t

@@ -15,7 +15,7 @@ use Rattle.std.proofs.lemmas.List.{append_assoc}
 use Rattle.std.proofs.lemmas.List.Folds.{drop_split}
 use Rattle.sre_model.specs.Written.{repeated}
 use Rattle.sre_model.proofs.StandingWords.{range_long, part_at}
-use Rattle.sre_model.proofs.Packing.{packed_again}
+use Rattle.sre_model.proofs.LaidOut.{packed_again}
 
 -- the words of [i, j) are those of xs
 pub record Spells (ws : List ℕ) (i j : ℕ) (xs : List ℕ) : Type 0 where
