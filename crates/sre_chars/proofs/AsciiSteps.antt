@@ -3,8 +3,7 @@ use Rattle.sre_chars.proofs.Terms.{◌≡◌, ℕ, zero, suc, ◌+◌, ◌-◌, 
 use Rattle.sre_chars.proofs.Terms.{List, [], ◌∷◌, ◌++◌, length, take, drop, get_or, length-append, take-suc, drop-cons}
 use Rattle.sre_chars.proofs.Terms.{append-nil, get_or-take, length-drop, length-take-le, cases_lt, lt-ltb, le-ltb}
 use Rattle.sre_chars.proofs.Terms.{encode_ascii, encodes-append, chars, IsUtf8, encodes, next, offset_of}
-use Rattle.std.proofs.Math.Seq.{get_or-append_seam}
-use Rattle.std.proofs.lemmas.List.{append_assoc}
+use Rattle.sre_chars.proofs.Terms.{get_or-append_seam, append_assoc}
 use lib.Utf8.{encode}
 use Rattle.sre_chars.proofs.TextPlaces.{offset_boundary, past_char, some_after, some_before, take_offset}
 

@@ -3,11 +3,8 @@ use Rattle.sre_chars.proofs.Terms.{◌≡◌, ℕ, ◌+◌, ◌-◌, ◌/◌, �
 use Rattle.sre_chars.proofs.Terms.{arith, List, [], ◌∷◌, ◌++◌, length, take, drop, get_or, count_by, length-append}
 use Rattle.sre_chars.proofs.Terms.{take-add, take-append_seam, cases_lt, lt-ltb, le-ltb, nat_tests, take-append-drop}
 use Rattle.sre_chars.proofs.Terms.{length-take-le, encodes-chars, chars, IsUtf8, IsCharBoundary, encodes, next}
-use Rattle.sre_chars.proofs.Terms.{begins_char, begun, offset_of}
-use Rattle.std.proofs.Common.{cond}
-use Rattle.std.proofs.lemmas.List.{take-take}
-use Rattle.std.proofs.lemmas.List.Sums.{sum_by-append, sum_by-take-drop, count_by_more_yes}
-use Rattle.std.proofs.lemmas.Str.{chars-append, chars_from_encodes, IsUtf8-take}
+use Rattle.sre_chars.proofs.Terms.{begins_char, begun, offset_of, cond, take-take, sum_by-append, sum_by-take-drop}
+use Rattle.sre_chars.proofs.Terms.{count_by_more_yes, chars-append, chars_from_encodes, IsUtf8-take}
 use lib.Utf8.{encode}
 use Rattle.sre_chars.proofs.TextPlaces.{length-chars_le, offset_boundary, take_offset}
 

@@ -1,7 +1,6 @@
 -- Rows of the categories and of the case maps, which the definitions compute.
-use Rattle.sre_chars.proofs.Terms.{◌≡◌, true, false, [], ◌∷◌, refl, Table, table_of, is_alphanumeric}
-use Rattle.sre_chars.specs.Tables.{ascii_table, lower_ascii, upper_ascii, lower_of, upper_of}
-use Rattle.sre_chars.specs.Categories.{category}
+use Rattle.sre_chars.proofs.Terms.{◌≡◌, true, false, [], ◌∷◌, refl, Table, table_of, is_alphanumeric, ascii_table}
+use Rattle.sre_chars.proofs.Terms.{lower_ascii, upper_ascii, lower_of, upper_of, category}
 
 pub underscore_is_word : (t : Table) → category t 4 95 ≡ true
 underscore_is_word t = refl

@@ -1,11 +1,7 @@
 -- Lists that grow at their end, by entries above all that they have, stay without a fault.
 use Rattle.sre_chars.proofs.Terms.{◌≡◌, ℕ, ◌+◌, ◌<◌, ◌≤◌, inl, inr, true, refl, arith, Option, Some, None, List, []}
 use Rattle.sre_chars.proofs.Terms.{◌∷◌, ◌++◌, nat_tests, is_scalar, last_of, entry_fault, list_fault, Listing, Map}
-use Rattle.sre_chars.proofs.Terms.{Ranges}
-use Rattle.std.proofs.Common.{◌⊎◌}
-use Rattle.std.specs.Option.{IfNone, IfSome}
-use Rattle.std.specs.Char.{IsScalar}
-use Rattle.std.proofs.Math.Utf8.{scalar_cases}
+use Rattle.sre_chars.proofs.Terms.{Ranges, ◌⊎◌, IfNone, IfSome, IsScalar, scalar_cases}
 use Rattle.sre_chars.proofs.RisingLists.{both_none}
 
 -- the first number above those that a list takes up

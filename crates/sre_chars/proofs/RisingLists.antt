@@ -2,14 +2,9 @@
 use Rattle.sre_chars.proofs.Terms.{◌≡◌, ℕ, zero, suc, ◌+◌, ◌<◌, ◌≤◌, true, false, Option, Some, None, List, [], ◌∷◌}
 use Rattle.sre_chars.proofs.Terms.{length, get_or, map, refl, arith, nat_le, IsNonDecreasingBy, nat_tests, Table}
 use Rattle.sre_chars.proofs.Terms.{is_scalar, is_alphanumeric, last_of, entry_fault, list_fault, Listing, Map, Ranges}
-use Rattle.std.proofs.Common.{◌==◌, Bool, ◌&&◌, ◌||◌, if◌then◌else◌}
-use Rattle.std.proofs.Common.{unwrap_or}
-use Rattle.std.specs.Prelude.{nat_lt}
-use Rattle.std.specs.Option.{option_or}
-use Rattle.std.proofs.lemmas.List.{length-map}
-use Rattle.std.proofs.Math.ListN.{get_or-map}
-use Rattle.sre_chars.specs.Tables.{is_between, is_in_ranges, mapped, last_up_to}
-use Rattle.sre_chars.specs.Errors.{is_scalar_entry, table_fault}
+use Rattle.sre_chars.proofs.Terms.{◌==◌, Bool, ◌&&◌, ◌||◌, if◌then◌else◌, unwrap_or, nat_lt, option_or, length-map}
+use Rattle.sre_chars.proofs.Terms.{get_or-map, is_between, is_in_ranges, mapped, last_up_to, is_scalar_entry}
+use Rattle.sre_chars.proofs.Terms.{table_fault}
 
 -- two searches that both find nothing
 pub both_none : {T : Type 0} (a b : Option T) → option_or a b ≡ None → (a ≡ None) × (b ≡ None)

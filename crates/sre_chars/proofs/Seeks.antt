@@ -3,12 +3,7 @@ use Rattle.sre_chars.proofs.Terms.{◌≡◌, ℕ, suc, ◌+◌, ◌-◌, ◌<�
 use Rattle.sre_chars.proofs.Terms.{◌∷◌, ◌++◌, length, take, drop, get_or, count_by, length-append, take-add, drop-cons}
 use Rattle.sre_chars.proofs.Terms.{cases_lt, get_or-take, length-drop, length-take-le, encode_ascii, encodes-append}
 use Rattle.sre_chars.proofs.Terms.{length-le-encodes, chars, IsUtf8, encodes, encode, begins_char, begun, offset_of}
-use Rattle.sre_chars.proofs.Terms.{NoneIs}
-use Rattle.std.proofs.Common.{◌≢◌}
-use Rattle.std.proofs.lemmas.List.{get_or-drop}
-use Rattle.std.proofs.lemmas.List.Sums.{count_by-le-length}
-use Rattle.std.proofs.lemmas.Str.{IsCharBoundary-before_ascii}
-use Rattle.sre_chars.specs.Texts.{Sought}
+use Rattle.sre_chars.proofs.Terms.{NoneIs, ◌≢◌, get_or-drop, count_by-le-length, IsCharBoundary-before_ascii, Sought}
 use Rattle.sre_chars.proofs.AsciiSteps.{ascii_after}
 use Rattle.sre_chars.proofs.Beginnings.{begun_block, begun_grows, place_at, place_in, some_begin}
 use Rattle.sre_chars.proofs.TextPlaces.{drop_offset, offset_boundary}

@@ -1,14 +1,12 @@
 -- Positions in UTF-8 text: a step past a character goes to the end of its bytes, a step back to their start.
-use Rattle.std.proofs.Common.{◌≡◌, ℕ, zero, suc, add-one, ◌+◌, ◌-◌, ◌<◌, ◌≤◌, true, refl, ap, sym, ◌∙◌, arith}
-use Rattle.std.proofs.Common.{List, [], ◌∷◌, ◌++◌, length, take, drop, get_or, length-append}
-use Rattle.std.proofs.Math.Seq.{take-append_seam, drop-append_seam, take-suc, drop-cons, drop-nil}
-use Rattle.std.proofs.lemmas.List.{take-append-drop, append-nil, same_from_push}
-use Rattle.std.proofs.lemmas.Bool.{and_parts}
-use Rattle.std.proofs.lemmas.Str.{encodes-append, encodes-chars, scalars-chars, IsCharBoundary-at_seam}
-use Rattle.std.proofs.lemmas.Str.{cons_from_encodes, encodes_same, length-encode, len_utf8_bounds, length-le-encodes}
-use Rattle.std.specs.Str.{chars, IsUtf8, IsCharBoundary}
-use lib.Utf8.{scalars, scalar, encodes, encode}
-use Rattle.sre_chars.specs.Texts.{offset_of}
+use Rattle.sre_chars.proofs.Terms.{◌≡◌, ℕ, zero, suc, add-one, ◌+◌, ◌-◌, ◌<◌, ◌≤◌, true, refl, ap, sym, ◌∙◌, arith}
+use Rattle.sre_chars.proofs.Terms.{List, [], ◌∷◌, ◌++◌, length, take, drop, get_or, length-append, take-append_seam}
+use Rattle.sre_chars.proofs.Terms.{drop-append_seam, take-suc, drop-cons, drop-nil, take-append-drop, append-nil}
+use Rattle.sre_chars.proofs.Terms.{same_from_push, and_parts, encodes-append, encodes-chars, scalars-chars}
+use Rattle.sre_chars.proofs.Terms.{IsCharBoundary-at_seam, cons_from_encodes, encodes_same, length-encode}
+use Rattle.sre_chars.proofs.Terms.{len_utf8_bounds, length-le-encodes, chars, IsUtf8, IsCharBoundary, encodes}
+use Rattle.sre_chars.proofs.Terms.{offset_of}
+use lib.Utf8.{scalars, scalar, encode}
 
 -- the text is the bytes of its first p characters, and then those of the rest
 text_at : (bs : List ℕ) (p : ℕ) → IsUtf8 bs → bs ≡ encodes (take p (chars bs)) ++ encodes (drop p (chars bs))

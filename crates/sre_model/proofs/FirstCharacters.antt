@@ -116,6 +116,11 @@ module _ (ws : List ℕ) (t : Tree) (i : ℕ) (x : TreeStands ws i t) where
       by_tree (Then item rest) r is =
           record { item = item; rest = rest; after = r.0; here = r.1; reads = r.2; same = is }
 
+  -- and what its role tells of it
+  known : (k : Role) → is_end k ≡ false → HasRole ws i k → {P : ℕ → Item → Type 0}
+      → ((j : ℕ) (y : Item) → HasRole ws i k → ReadsItem ws i j y → P j y) → (b : Begins) × P b.after b.item
+  known k other h tells = let b : Begins = begins k other h in (b, tells b.after b.item h b.here)
+
   -- where that item is another form of it
   none_as : (b : Begins) (item : Item) (s : Subject) (p : ℕ) → b.item ≡ item → NoWay s (Then item b.rest) p
       → NoWay s t p
@@ -147,92 +152,80 @@ module _ (ws : List ℕ) (t : Tree) (i : ℕ) (x : TreeStands ws i t) where
   -- a test
   pub test_there : {kind : TestKind} → HasRole ws i (ToTest kind) → HasTest ws i
   test_there {kind} h =
-      let b : Begins = begins (ToTest kind) refl h in
-      let is = is_one ws i b.after b.item h b.here in
-      record { end = b.after; test = is.0; stands = record { code = is.2.0; operands = is.2.1 } }
+      let f = known (ToTest kind) refl h (is_one ws i) in
+      record { end = f.0.after; test = f.1.0; stands = record { code = f.1.2.0; operands = f.1.2.1 } }
 
   pub test_bars : {kind : TestKind} → HasRole ws i (ToTest kind) → (s : Subject) (p : ℕ) → NotPassed ws s i p
       → NoWay s t p
   test_bars {kind} h s p fails =
-      let b : Begins = begins (ToTest kind) refl h in
-      let is = is_one ws i b.after b.item h b.here in
-      let none : passes s is.0 p ≡ false = fails.each b.after is.0 (record { code = is.2.0; operands = is.2.1 }) in
-      barred b (One is.0) s p is.1 (λ m. rw none refl)
+      let f = known (ToTest kind) refl h (is_one ws i) in
+      let none : passes s f.1.0 p ≡ false = fails.each f.0.after f.1.0 (record { code = f.1.2.0; operands = f.1.2.1 }) in
+      barred f.0 (One f.1.0) s p f.1.1 (λ m. rw none refl)
 
   -- a run of a test that owes a character
   pub run_operand : {kind : RunKind} → HasRole ws i (ToRun kind) → i + 2 < length ws
   run_operand {kind} h =
-      let b : Begins = begins (ToRun kind) refl h in
-      let is = is_run ws i b.after b.item h b.here in
-      word_within ws (i + 2) is.0 is.4.1.1
+      let f = known (ToRun kind) refl h (is_run ws i) in
+      word_within ws (i + 2) f.1.0 f.1.4.1.1
 
   pub run_there : {kind : RunKind} → HasRole ws i (ToRun kind) → HasTest ws (i + 4)
   run_there {kind} h =
-      let b : Begins = begins (ToRun kind) refl h in
-      let is = is_run ws i b.after b.item h b.here in
-      let operands = is.4.1 in
-      record { end = b.after - 1; test = is.2; stands = record { code = operands.4; operands = operands.5 } }
+      let f = known (ToRun kind) refl h (is_run ws i) in
+      let operands = f.1.4.1 in
+      record { end = f.0.after - 1; test = f.1.2; stands = record { code = operands.4; operands = operands.5 } }
 
   pub run_bars : {kind : RunKind} (low : ℕ) → HasRole ws i (ToRun kind) → Word ws (i + 2) low → 0 < low
       → (s : Subject) (p : ℕ) → NotPassed ws s (i + 4) p → NoWay s t p
   run_bars {kind} low h w owed s p fails =
-      let b : Begins = begins (ToRun kind) refl h in
-      let is = is_run ws i b.after b.item h b.here in
-      let operands = is.4.1 in
-      let same : is.0 ≡ low = same_word ws (i + 2) is.0 low operands.1 w in
-      barred b (Run kind is.0 is.1 is.2) s p is.3
-      (λ m. run_barred s kind is.0 is.1 is.2 p m (omega (arith, same, owed))
-      (fails.each (b.after - 1) is.2 (record { code = operands.4; operands = operands.5 })))
+      let f = known (ToRun kind) refl h (is_run ws i) in
+      let operands = f.1.4.1 in
+      let same : f.1.0 ≡ low = same_word ws (i + 2) f.1.0 low operands.1 w in
+      barred f.0 (Run kind f.1.0 f.1.1 f.1.2) s p f.1.3
+      (λ m. run_barred s kind f.1.0 f.1.1 f.1.2 p m (omega (arith, same, owed))
+      (fails.each (f.0.after - 1) f.1.2 (record { code = operands.4; operands = operands.5 })))
 
   -- BRANCH: its alternatives
   pub branch_there : HasRole ws i ToBranch → HasAlternatives ws (i + 1)
   branch_there h =
-      let b : Begins = begins ToBranch refl h in
-      let is = is_branch ws i b.after b.item h b.here in
-      record { end = b.after; trees = is.0; reads = is.2.1 }
+      let f = known ToBranch refl h (is_branch ws i) in
+      record { end = f.0.after; trees = f.1.0; reads = f.1.2.1 }
 
   pub branch_bars : HasRole ws i ToBranch → (s : Subject) (p : ℕ)
       → ((j : ℕ) (ts : Trees) → ReadsBranch ws (i + 1) j ts → NoneOf s ts p) → NoWay s t p
   branch_bars h s p each =
-      let b : Begins = begins ToBranch refl h in
-      let is = is_branch ws i b.after b.item h b.here in
-      barred b (Branch is.0) s p is.1 (λ m. (each b.after is.0 is.2.1).none m)
+      let f = known ToBranch refl h (is_branch ws i) in
+      barred f.0 (Branch f.1.0) s p f.1.1 (λ m. (each f.0.after f.1.0 f.1.2.1).none m)
 
   -- AT: where its code does not hold, and on behind it
   pub at_operand : HasRole ws i ToCheckPosition → i + 1 < length ws
   at_operand h =
-      let b : Begins = begins ToCheckPosition refl h in
-      let is = is_at ws i b.after b.item h b.here in
-      word_within ws (i + 1) (at_number is.0) is.2.1.0
+      let f = known ToCheckPosition refl h (is_at ws i) in
+      word_within ws (i + 1) (at_number f.1.0) f.1.2.1.0
 
   at_bars : (a : SreAtCode) → HasRole ws i ToCheckPosition → Word ws (i + 1) (at_number a) → (s : Subject) (p : ℕ)
       → holds_at s a p ≡ false → NoWay s t p
   at_bars a h w s p fails =
-      let b : Begins = begins ToCheckPosition refl h in
-      let is = is_at ws i b.after b.item h b.here in
-      let same : is.0 ≡ a = same_at ws (i + 1) is.0 a is.2.1.0 w in
-      barred b (At a) s p (is.1 ∙ ap At same) (λ m. rw fails refl)
+      let f = known ToCheckPosition refl h (is_at ws i) in
+      let same : f.1.0 ≡ a = same_at ws (i + 1) f.1.0 a f.1.2.1.0 w in
+      barred f.0 (At a) s p (f.1.1 ∙ ap At same) (λ m. rw fails refl)
 
   pub at_leads : HasRole ws i ToCheckPosition → Leads ws t (i + 2) 0
   at_leads h =
-      let b : Begins = begins ToCheckPosition refl h in
-      let is = is_at ws i b.after b.item h b.here in
-      leads_behind b (i + 2) is.2.1.1 (λ s p w. none_as b (At is.0) s p is.1 (at_passed s is.0 b.rest p w))
+      let f = known ToCheckPosition refl h (is_at ws i) in
+      leads_behind f.0 (i + 2) f.1.2.1.1 (λ s p w. none_as f.0 (At f.1.0) s p f.1.1 (at_passed s f.1.0 f.0.rest p w))
 
   -- MARK: on behind it
   pub mark_leads : HasRole ws i ToMark → Leads ws t (i + 2) 0
   mark_leads h =
-      let b : Begins = begins ToMark refl h in
-      let is = is_mark ws i b.after b.item h b.here in
-      leads_behind b (i + 2) is.2.1.1 (λ s p w. none_as b (Mark is.0) s p is.1 (mark_passed s is.0 b.rest p w))
+      let f = known ToMark refl h (is_mark ws i) in
+      leads_behind f.0 (i + 2) f.1.2.1.1 (λ s p w. none_as f.0 (Mark f.1.0) s p f.1.1 (mark_passed s f.1.0 f.0.rest p w))
 
   -- ATOMIC_GROUP: on inside
   pub atomic_leads : HasRole ws i ToGroupAtomically → Leads ws t (i + 2) 0
   atomic_leads h =
-      let b : Begins = begins ToGroupAtomically refl h in
-      let is = is_atomic ws i b.after b.item h b.here in
-      leads_inside (i + 2) is.0 (stands_up_to ws (i + 2) (b.after - 1) is.0 opcode.SUCCESS is.2.1.1 is.2.1.2 refl)
-      (λ s p w. barred b (Atomic is.0) s p is.1 (λ m. rw (w.none m) refl))
+      let f = known ToGroupAtomically refl h (is_atomic ws i) in
+      leads_inside (i + 2) f.1.0 (stands_up_to ws (i + 2) (f.0.after - 1) f.1.0 opcode.SUCCESS f.1.2.1.1 f.1.2.1.2 refl)
+      (λ s p w. barred f.0 (Atomic f.1.0) s p f.1.1 (λ m. rw (w.none m) refl))
 
   -- loops that owe a body: on inside
   record Repeats : Type 0 where
@@ -244,27 +237,25 @@ module _ (ws : List ℕ) (t : Tree) (i : ℕ) (x : TreeStands ws i t) where
 
   repeats : HasRole ws i ToRepeat ⊎ HasRole ws i ToRepeatPossessively → Repeats
   repeats (inl h) =
-      let b : Begins = begins ToRepeat refl h in
-      let is = is_loop ws i b.after b.item h b.here in
+      let f = known ToRepeat refl h (is_loop ws i) in
       record {
-        low = is.1;
-        body = is.3;
-        there = is.5.1.0;
-        stands = stands_up_to ws (i + 4) (skip ws (i + 1)) is.3 (until_opcode is.0) is.5.1.3 is.5.1.4
-            (ap is_end (until_role is.0));
-        none = λ s p l v. barred b (Loop is.0 is.1 is.2 is.3) s p is.4
-            (λ m. least_barred s (ways s is.3) _ is.1 p m l (v.none m));
+        low = f.1.1;
+        body = f.1.3;
+        there = f.1.5.1.0;
+        stands = stands_up_to ws (i + 4) (skip ws (i + 1)) f.1.3 (until_opcode f.1.0) f.1.5.1.3 f.1.5.1.4
+            (ap is_end (until_role f.1.0));
+        none = λ s p l v. barred f.0 (Loop f.1.0 f.1.1 f.1.2 f.1.3) s p f.1.4
+            (λ m. least_barred s (ways s f.1.3) _ f.1.1 p m l (v.none m));
       }
   repeats (inr h) =
-      let b : Begins = begins ToRepeatPossessively refl h in
-      let is = is_possessive ws i b.after b.item h b.here in
+      let f = known ToRepeatPossessively refl h (is_possessive ws i) in
       record {
-        low = is.0;
-        body = is.2;
-        there = is.4.1.0;
-        stands = stands_up_to ws (i + 4) (skip ws (i + 1)) is.2 opcode.SUCCESS is.4.1.3 is.4.1.4 refl;
-        none = λ s p l v. barred b (PossessiveLoop is.0 is.1 is.2) s p is.3
-            (λ m. least_barred s (λ q k. first (within s q (ways s is.2 q k))) _ is.0 p m l (rw (v.none m) refl));
+        low = f.1.0;
+        body = f.1.2;
+        there = f.1.4.1.0;
+        stands = stands_up_to ws (i + 4) (skip ws (i + 1)) f.1.2 opcode.SUCCESS f.1.4.1.3 f.1.4.1.4 refl;
+        none = λ s p l v. barred f.0 (PossessiveLoop f.1.0 f.1.1 f.1.2) s p f.1.3
+            (λ m. least_barred s (λ q k. first (within s q (ways s f.1.2 q k))) _ f.1.0 p m l (rw (v.none m) refl));
       }
 
   pub body_operand : HasRole ws i ToRepeat ⊎ HasRole ws i ToRepeatPossessively → i + 2 < length ws
@@ -283,9 +274,8 @@ module _ (ws : List ℕ) (t : Tree) (i : ℕ) (x : TreeStands ws i t) where
       × Operands ws i b.after (Look Positive back body)
   positive_look w =
       let h : HasRole ws i (ToLook Positive) = role_here ws i opcode.ASSERT (ToLook Positive) w refl in
-      let b : Begins = begins (ToLook Positive) refl h in
-      let is = is_look ws i b.after b.item h b.here in
-      (b, is.0, is.1, is.2, is.3.1)
+      let f = known (ToLook Positive) refl h (is_look ws i) in
+      (f.0, f.1.0, f.1.1, f.1.2, f.1.3.1)
 
   pub look_operand : Opcode ws i opcode.ASSERT → i + 2 < length ws
   look_operand w = let is = positive_look w in word_within ws (i + 2) is.1 is.4.1

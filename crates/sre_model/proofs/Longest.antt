@@ -71,13 +71,10 @@ module _ (s : Subject) (t : Test) (high p : ℕ) (e : p ≤ s.end) where
   abbrev k : ℕ
   k = longest_run s t high p
 
-  within_high : (n : ℕ) → n < most_from s high p → (nat_eq high unlimited || nat_lt n high) ≡ true
-  within_high n l = grind (arith, nat_tests)
-
   pub longest_goes_on : (c : ℕ) → c < k → goes_on s t high c (p + c) ≡ true
   longest_goes_on c l =
-      let more : (nat_eq high unlimited || nat_lt c high) ≡ true =
-      within_high c (omega (arith, run_at_most s t (most_from s high p) p)) in
+      let within : c < most_from s high p = omega (arith, run_at_most s t (most_from s high p) p) in
+      let more : (nat_eq high unlimited || nat_lt c high) ≡ true = grind (arith, nat_tests) in
       rw (more, run_passes s t (most_from s high p) p c l) refl
 
   pub longest_stops : goes_on s t high k (p + k) ≡ false

@@ -46,31 +46,23 @@ module _ (ws : List ℕ) (i n : ℕ) (le : i + n ≤ length ws) where
       → ReadsSet own a b s
   own_set [] q r a b e f l x = omega arith
   own_set (Single v ∷ rest) q r a b e f l x =
-      let w : q + 2 ≤ r = set_within ws (q + 2) r rest x.2 in (
-        carried q a 16 e (omega arith) x.0,
-        carried (q + 1) (a + 1) v (omega arith) (omega arith) x.1,
-        own_set rest (q + 2) r (a + 2) b (omega arith) f l x.2,
-      )
+      let w : q + 2 ≤ r = set_within ws (q + 2) r rest x.2 in
+      let after = own_set rest (q + 2) r (a + 2) b (omega arith) f l x.2 in
+      (carried q a 16 e (omega arith) x.0, carried (q + 1) (a + 1) v (omega arith) (omega arith) x.1, after)
   own_set (Range low high ∷ rest) q r a b e f l x =
-      let w : q + 3 ≤ r = set_within ws (q + 3) r rest x.3 in (
-        carried q a 22 e (omega arith) x.0,
-        carried (q + 1) (a + 1) low (omega arith) (omega arith) x.1,
-        carried (q + 2) (a + 2) high (omega arith) (omega arith) x.2,
-        own_set rest (q + 3) r (a + 3) b (omega arith) f l x.3,
-      )
+      let w : q + 3 ≤ r = set_within ws (q + 3) r rest x.3 in
+      let from = carried (q + 1) (a + 1) low (omega arith) (omega arith) x.1 in
+      let to = carried (q + 2) (a + 2) high (omega arith) (omega arith) x.2 in
+      (carried q a 22 e (omega arith) x.0, from, to, own_set rest (q + 3) r (a + 3) b (omega arith) f l x.3)
   own_set (RangeUniIgnore low high ∷ rest) q r a b e f l x =
-      let w : q + 3 ≤ r = set_within ws (q + 3) r rest x.3 in (
-        carried q a 42 e (omega arith) x.0,
-        carried (q + 1) (a + 1) low (omega arith) (omega arith) x.1,
-        carried (q + 2) (a + 2) high (omega arith) (omega arith) x.2,
-        own_set rest (q + 3) r (a + 3) b (omega arith) f l x.3,
-      )
+      let w : q + 3 ≤ r = set_within ws (q + 3) r rest x.3 in
+      let from = carried (q + 1) (a + 1) low (omega arith) (omega arith) x.1 in
+      let to = carried (q + 2) (a + 2) high (omega arith) (omega arith) x.2 in
+      (carried q a 42 e (omega arith) x.0, from, to, own_set rest (q + 3) r (a + 3) b (omega arith) f l x.3)
   own_set (Category c ∷ rest) q r a b e f l x =
-      let w : q + 2 ≤ r = set_within ws (q + 2) r rest x.2 in (
-        carried q a 8 e (omega arith) x.0,
-        carried (q + 1) (a + 1) _ (omega arith) (omega arith) x.1,
-        own_set rest (q + 2) r (a + 2) b (omega arith) f l x.2,
-      )
+      let w : q + 2 ≤ r = set_within ws (q + 2) r rest x.2 in
+      let after = own_set rest (q + 2) r (a + 2) b (omega arith) f l x.2 in
+      (carried q a 8 e (omega arith) x.0, carried (q + 1) (a + 1) _ (omega arith) (omega arith) x.1, after)
   own_set (Charset bits ∷ rest) q r a b e f l x =
       let w : q + 9 ≤ r = set_within ws (q + 9) r rest x.3 in (
         carried q a 9 e (omega arith) x.0,

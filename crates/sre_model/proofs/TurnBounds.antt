@@ -6,14 +6,9 @@ pub turn_spent : (given left after turned each : ℕ) → given ≤ left + turne
     → given ≤ after + (turned + 1) * each
 turn_spent given left after turned each h l = omega (arith, h, l)
 
--- no more than so many
-pub spent_within : (given left turned limit each : ℕ) → given ≤ left + turned * each → turned ≤ limit
-    → given ≤ left + limit * each
-spent_within given left turned limit each h l = omega (arith, h, mul-le-mul_right each l)
-
 -- the last turn, of no more than so many and one
 pub last_spent : (given left after turned limit each : ℕ) → given ≤ left + turned * each → left ≤ after + each
     → turned ≤ limit → given ≤ after + (limit + 1) * each
 last_spent given left after turned limit each h l w =
     let within : turned + 1 ≤ limit + 1 = omega (arith, w) in
-    spent_within given after (turned + 1) (limit + 1) each (turn_spent given left after turned each h l) within
+    omega (arith, turn_spent given left after turned each h l, mul-le-mul_right each within)

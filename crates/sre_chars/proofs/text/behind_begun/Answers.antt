@@ -37,20 +37,18 @@ char_after-offset-requires-clause-before_end c =
     (c.offset-from.ensures ∙ c.requires.at.1) c.requires.at.2 c.requires.some (omega arith) c.beginnings.ensures in
     omega (arith, c.new-last.ensures.position, c.position.ensures, begin.within, begin.some)
 
-pub returns-clause-at : goal.returns-clause-at
-returns-clause-at c =
+pub returns : goal.returns
+returns c =
     let begin = begin_behind _ _ _ _ c.args.n _ c.as_bytes-bytes.ensures.value c.as_bytes-bytes.ensures.utf8
     (c.offset-from.ensures ∙ c.requires.at.1) c.requires.at.2 c.requires.some (omega arith) c.beginnings.ensures in
     let next : c.new-last.result.position + 1 ≡ c.new.result.position =
-    omega (arith, c.new-last.ensures.position, c.position.ensures, c.new.ensures.position, begin.some) in (
-      refl,
-      c.new.ensures.offset ∙ c.char_after-offset.ensures.offset ∙ ap (offset_of c.args.s.now) next,
-      omega (arith, c.new.ensures.position, c.position.ensures, begin.within),
-    )
-
-pub returns-clause-begun : goal.returns-clause-begun
-returns-clause-begun c =
-    let begin = begin_behind _ _ _ _ c.args.n _ c.as_bytes-bytes.ensures.value c.as_bytes-bytes.ensures.utf8
-    (c.offset-from.ensures ∙ c.requires.at.1) c.requires.at.2 c.requires.some (omega arith) c.beginnings.ensures in
-    c.new.ensures.position ∙ ap (λ p. p + c.beginnings.result) c.position.ensures ∙ sym begin.begun_there
-    ∙ ap (λ o. begun c.args.s.now (o + c.args.n)) (sym c.requires.at.1)
+    omega (arith, c.new-last.ensures.position, c.position.ensures, c.new.ensures.position, begin.some) in
+    record {
+      at = (
+        refl,
+        c.new.ensures.offset ∙ c.char_after-offset.ensures.offset ∙ ap (offset_of c.args.s.now) next,
+        omega (arith, c.new.ensures.position, c.position.ensures, begin.within),
+      );
+      begun = c.new.ensures.position ∙ ap (λ p. p + c.beginnings.result) c.position.ensures ∙ sym begin.begun_there
+          ∙ ap (λ o. begun c.args.s.now (o + c.args.n)) (sym c.requires.at.1);
+    }

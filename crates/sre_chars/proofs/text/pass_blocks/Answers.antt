@@ -1,7 +1,6 @@
-use Rattle.sre_chars.proofs.Terms.{arith, ap, ◌∙◌, count_by, take, length, length-drop, begins_char}
-use Rattle.std.proofs.lemmas.List.{take_rest}
-use Rattle.sre_chars.proofs.Beginnings.{begun_block}
+use Rattle.sre_chars.proofs.Terms.{arith, ap, ◌∙◌, count_by, take, length, length-drop, begins_char, take_rest}
 use Rattle.sre_chars.proofs.text.pass_blocks.Goals as goal
+use Rattle.sre_chars.proofs.Beginnings.{begun_block}
 
 pub blocks-2-preserved : goal.blocks-2-preserved
 blocks-2-preserved g c =

@@ -15,25 +15,8 @@ slice_bounds-first_byte-end c =
     let rest = ap length c.as_bytes-rest.ensures.value in
     sym (length-take-le _ _ (omega (arith, at, room, c.range_from.ensures.len, rest)))
 
-pub returns-in-Some-clause-after : goal.returns-in-Some-clause-after
-returns-in-Some-clause-after c =
-    let at = c.offset-offset.ensures ∙ c.round.invariant.0.1 in
-    let cut = c.as_bytes-rest.ensures.value ∙ c.range_from.ensures.value ∙ ap (λ n. drop n c.args.s.now) at in
-    let found = c.in-Some.ensures in
-    let first = first_begins _ _ c.args.character c.round.cursor.position c.args.end
-    (c.args.end - c.position-in-round.result) c.in-Some.passed c.beginnings.result c.utf8.s c.requires.ascii
-    (omega (arith, c.position.ensures, c.round-test.true)) c.requires.within cut
-    (omega (arith, c.position-in-round.ensures)) found.0 found.1 found.2 c.beginnings.ensures in
-    let to : c.new.result.position ≡ c.round.cursor.position + c.beginnings.result + 1 =
-    omega (arith, c.new.ensures.position, c.position-in-Some.ensures) in
-    rw to (
-      refl,
-      omega (arith, c.new.ensures.offset, at, first.2),
-      omega (arith, first.0, c.requires.within),
-    )
-
-pub returns-in-Some-clause-sought : goal.returns-in-Some-clause-sought
-returns-in-Some-clause-sought c =
+pub returns-in-Some : goal.returns-in-Some
+returns-in-Some c =
     let at = c.offset-offset.ensures ∙ c.round.invariant.0.1 in
     let cut = c.as_bytes-rest.ensures.value ∙ c.range_from.ensures.value ∙ ap (λ n. drop n c.args.s.now) at in
     let found = c.in-Some.ensures in
@@ -45,12 +28,19 @@ returns-in-Some-clause-sought c =
     omega (arith, c.new.ensures.position, c.position-in-Some.ensures) in
     let back : c.round.cursor.position + c.beginnings.result + 1 - 1 ≡ c.round.cursor.position + c.beginnings.result =
     omega arith in
-    rw (to, back) (
-      omega (arith, c.round.invariant.1),
-      omega (arith, first.0),
-      first.1,
-      none_on _ _ _ _ _ c.round.invariant.3 first.3,
-    )
+    record {
+      after = rw to (
+        refl,
+        omega (arith, c.new.ensures.offset, at, first.2),
+        omega (arith, first.0, c.requires.within),
+      );
+      sought = rw (to, back) (
+        omega (arith, c.round.invariant.1),
+        omega (arith, first.0),
+        first.1,
+        none_on _ _ _ _ _ c.round.invariant.3 first.3,
+      );
+    }
 
 pub behind_begun-requires-clause-within : goal.behind_begun-requires-clause-within
 behind_begun-requires-clause-within c =

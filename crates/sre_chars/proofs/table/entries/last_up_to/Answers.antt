@@ -1,8 +1,7 @@
-use Rattle.sre_chars.proofs.Terms.{rules, ◌≡◌, ℕ, List, ◌-◌, true, false, sym, arith, nat_le}
-use Rattle.std.specs.List.Sorted.{IsPartitionPoint}
-use Rattle.std.proofs.lemmas.List.Sorted.{IsPartitionPoint-from_clause, IsPartitionedBy-leb}
-use Rattle.sre_chars.proofs.RisingLists.{last_up_to-none, last_up_to-at}
+use Rattle.sre_chars.proofs.Terms.{rules, ◌≡◌, ℕ, List, ◌-◌, true, false, sym, arith, nat_le, IsPartitionPoint}
+use Rattle.sre_chars.proofs.Terms.{IsPartitionPoint-from_clause, IsPartitionedBy-leb}
 use Rattle.sre_chars.proofs.table.entries.last_up_to.Goals as goal
+use Rattle.sre_chars.proofs.RisingLists.{last_up_to-none, last_up_to-at}
 
 -- the entries before the place begin at c or below, and the others above it
 abbrev IsSplitAt : {X : Type 0} → (X → ℕ × ℕ) → List X → ℕ → ℕ → Type 0
