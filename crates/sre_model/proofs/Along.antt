@@ -6,11 +6,8 @@ use Rattle.sre_model.proofs.Terms.{AllByRecursion, and_parts, nat_tests, Order, 
 use Rattle.sre_model.proofs.Terms.{LazyRun, PossessiveRun, Sign, Positive, Negative, Test, Fold, Marks, group, Subject}
 use Rattle.sre_model.proofs.Terms.{passes, Way, Body, first, here, unlimited, run_length, most_from, longest_run}
 use Rattle.sre_model.proofs.Terms.{rising, falling, counts, run_ways, within, ordered, may_repeat, more, least}
-use Rattle.sre_model.proofs.Terms.{loop_ways}
-use Rattle.std.proofs.lemmas.Bool.{leb-true}
-use Rattle.sre_model.specs.Subject.{same_folded}
-use Rattle.sre_model.specs.Ways.{possessive_more, possessive_ways, look_ways, reference_ways}
-use Rattle.sre_model.specs.Loops.{or_here}
+use Rattle.sre_model.proofs.Terms.{loop_ways, leb-true, same_folded, possessive_more, possessive_ways, look_ways}
+use Rattle.sre_model.proofs.Terms.{reference_ways, or_here}
 
 -- n rounds of R lead from i to j
 abbrev pub Times : (ℕ → ℕ → Type 0) → ℕ → ℕ → ℕ → Type 0

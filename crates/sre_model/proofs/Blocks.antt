@@ -1,9 +1,7 @@
 -- Bits of sets: where the words have a character's bit.
 use Rattle.sre_model.proofs.Terms.{ℕ, zero, suc, ◌+◌, ◌*◌, ◌/◌, ◌%◌, ◌≡◌, ◌<◌, ◌≤◌, List, [], ◌∷◌, length, take}
 use Rattle.sre_model.proofs.Terms.{slice_index, slice_range, refl, sym, ◌∙◌, ap, arith, flat_map, length-take-le}
-use Rattle.sre_model.proofs.Terms.{bytes_of, BytesBelow, BlocksBelow}
-use Rattle.std.proofs.Common.{◌^◌}
-use Rattle.std.proofs.lemmas.List.Concat.{get_or-flat_map}
+use Rattle.sre_model.proofs.Terms.{bytes_of, BytesBelow, BlocksBelow, ◌^◌, get_or-flat_map}
 use Rattle.sre_model.proofs.StandingWords.{part_at, range_long}
 
 -- what holds of each number below four

@@ -5,8 +5,7 @@ use Rattle.sre_model.proofs.Terms.{Tree, Empty, Then, Item, Fail, One, At, Mark,
 use Rattle.sre_model.proofs.Terms.{Atomic, Look, Reference, Exists, ExistsElse, Trees, Only, Or, Test, Marks, set_mark}
 use Rattle.sre_model.proofs.Terms.{group, refers, by_references, of_item, of_branch, Subject, passes, holds_at, Way}
 use Rattle.sre_model.proofs.Terms.{Body, here, most_from, longest_run, within, ways, item_ways, width, least_width}
-use Rattle.sre_model.specs.Ways.{branch_ways}
-use Rattle.sre_model.specs.Width.{item_width}
+use Rattle.sre_model.proofs.Terms.{branch_ways, item_width}
 use Rattle.sre_model.proofs.Each.{each-weaken, filter-each, each-filter}
 use Rattle.sre_model.proofs.Along.{Times, Counted, Goes, none, pair, each_way, weaken, by_cond, by_first, goes-then}
 use Rattle.sre_model.proofs.Along.{goes-or, goes-present, goes-look, goes-loop, goes-possessive, run_rounds, goes-run}

@@ -1,9 +1,8 @@
 -- A FIRST set is confirmed in one way.
 use Rattle.sre_model.proofs.Terms.{ℕ, ◌-◌, ◌≡◌, true, false, List, props, is_prop→PathP, Table, Tree, Empty, Then, One}
 use Rattle.sre_model.proofs.Terms.{Branch, Trees, Only, Or, Literal, In, Plain, SetItem, skip, Opcode, ReadsSet}
-use Rattle.sre_model.proofs.Terms.{HasFirstSet}
+use Rattle.sre_model.proofs.Terms.{HasFirstSet, has_flag, behind_marks, TestIn, EachTestIn, FirstIn}
 use Rattle.sre_chars.specs.declared.constants.SreOpcode.TheVariants as opcode
-use Rattle.sre_model.specs.Claims.{has_flag, behind_marks, TestIn, EachTestIn, FirstIn}
 use Rattle.sre_model.proofs.Unique.{set_same}
 use Rattle.sre_model.proofs.Props.{set_prop}
 

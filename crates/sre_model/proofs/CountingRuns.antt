@@ -1,10 +1,8 @@
 -- What a single-character repeat comes to.
 use Rattle.sre_model.proofs.Terms.{ℕ, ◌+◌, ◌-◌, ◌≡◌, ◌<◌, ◌≤◌, Bool, true, false, not, refl, sym, ◌∙◌, ap, arith, inl}
 use Rattle.sre_model.proofs.Terms.{inr, cases_lt, nat_tests, StringCursor, Test, holds, Subject, char_at, passes}
-use Rattle.sre_model.proofs.Terms.{most_from, run_length, TestStands}
-use mathlib.Core.Bool.{beq}
+use Rattle.sre_model.proofs.Terms.{most_from, run_length, TestStands, beq, Counted, Ended}
 use Rattle.sre_model.specs.Runs.{Run}
-use Rattle.sre_model.specs.CountedRuns.{Counted, Ended}
 use Rattle.sre_model.proofs.Passing.{read_passes, stands_at_own}
 use Rattle.sre_model.proofs.Longest.{run_has}
 

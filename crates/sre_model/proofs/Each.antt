@@ -1,7 +1,6 @@
 -- Facts that hold of each element of a list.
 use Rattle.sre_model.proofs.Terms.{◌≡◌, Bool, true, false, cond, List, [], ◌∷◌, ◌++◌, map, refl, ap, ◌∙◌, flat_map}
-use Rattle.sre_model.proofs.Terms.{filter, AllByRecursion, first}
-use Rattle.std.proofs.lemmas.Grind.{flat_map-append}
+use Rattle.sre_model.proofs.Terms.{filter, AllByRecursion, first, flat_map-append}
 
 -- of a list after another
 pub each-append : {X : Type 0} (P : X → Type 0) (xs ys : List X) → AllByRecursion P xs → AllByRecursion P ys

@@ -6,11 +6,9 @@ use Rattle.sre_model.proofs.Terms.{AnyAll, InCategory, Literal, NotLiteral, In, 
 use Rattle.sre_model.proofs.Terms.{Positive, Fold, Plain, SetItem, Greedy, TestKind, Role, ToTest, ToCheckPosition}
 use Rattle.sre_model.proofs.Terms.{ToMark, ToBranch, ToRun, ToRepeat, ToRepeatPossessively, ToGroupAtomically, ToLook}
 use Rattle.sre_model.proofs.Terms.{role, begins_test, Opcode, test_opcode, until_opcode, reference_opcode, item_opcode}
-use Rattle.sre_model.proofs.Terms.{ReadsItem, TestOperands}
-use Rattle.std.proofs.lemmas.Bool.{true≢false}
-use Rattle.sre_model.specs.Roles.{OfAny, OfAnyAll, OfCategory, OfLiteral, OfNotLiteral, OfSet, ToFail, ToEnd, ToJump}
-use Rattle.sre_model.specs.Roles.{ToLoop, ToRefer, ToCheckGroup, ToNothing, is_test_role}
-use Rattle.sre_model.specs.Grammar.{run_opcode, look_opcode}
+use Rattle.sre_model.proofs.Terms.{ReadsItem, TestOperands, true≢false, OfAny, OfAnyAll, OfCategory, OfLiteral}
+use Rattle.sre_model.proofs.Terms.{OfNotLiteral, OfSet, ToFail, ToEnd, ToJump, ToLoop, ToRefer, ToCheckGroup, ToNothing}
+use Rattle.sre_model.proofs.Terms.{is_test_role, run_opcode, look_opcode}
 use Rattle.sre_model.proofs.Words.{same_opcode}
 
 -- the roles of opcodes that a parameter of a tree picks

@@ -2,8 +2,7 @@
 use Rattle.sre_model.proofs.Terms.{◌≡◌, ◌≤◌, ◌<◌, ◌+◌, ◌-◌, ℕ, zero, suc, List, [], ◌∷◌, Bool, true, false, Option}
 use Rattle.sre_model.proofs.Terms.{Some, None, refl, sym, ap, ◌∙◌, subst, arith, ◌⊎◌, inl, inr, filter, Tree, no_marks}
 use Rattle.sre_model.proofs.Terms.{Way, ways, Asked, Match, subject_of, is_accepted, first_accepted, at_start, found}
-use Rattle.sre_model.proofs.Terms.{cases_lt}
-use Rattle.sre_model.specs.Found.{found_from}
+use Rattle.sre_model.proofs.Terms.{cases_lt, found_from}
 use Rattle.sre_model.proofs.Bounds.{EachBetween, ways-bounded}
 
 -- the way that a match ends

@@ -1,8 +1,7 @@
 -- Worked rows of what is confirmed of blocks, by computation.
-use Rattle.std.specs.Prelude.{refl, ◌≡◌, List, ℕ, Option, Some, None, Bool, true, false, [], ◌∷◌}
-use Rattle.sre_chars.specs.Tables.{ascii_table}
-use Rattle.sre_model.proofs.Terms.{unlimited, behind_block, HasFirstSet, Single}
-use Rattle.sre_model.specs.Claims.{confirmed_width, confirmed_prefix, is_literal, border_length}
+use Rattle.sre_model.proofs.Terms.{refl, ◌≡◌, List, ℕ, Option, Some, None, Bool, true, false, [], ◌∷◌, ascii_table}
+use Rattle.sre_model.proofs.Terms.{unlimited, behind_block, HasFirstSet, Single, confirmed_width, confirmed_prefix}
+use Rattle.sre_model.proofs.Terms.{is_literal, border_length}
 use Rattle.sre_model.proofs.Unique.{set_same}
 use Rattle.sre_model.proofs.TreeOf.{tree_of, items_at, trees_at, set_at}
 

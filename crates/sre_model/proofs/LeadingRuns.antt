@@ -4,9 +4,8 @@ use Rattle.sre_model.proofs.Terms.{nat_le, Option, Some, None, refl, sym, ap, su
 use Rattle.sre_model.proofs.Terms.{nat_tests, Tree, Then, One, Mark, Run, Test, RunKind, GreedyRun, LazyRun}
 use Rattle.sre_model.proofs.Terms.{PossessiveRun, Marks, no_marks, set_mark, refers, Subject, passes, Way, unlimited}
 use Rattle.sre_model.proofs.Terms.{run_length, longest_run, rising, falling, counts, ways, Asked, subject_of}
-use Rattle.sre_model.proofs.Terms.{is_accepted, first_accepted, at_start, RunLeads, inl, inr, cases_lt}
-use Rattle.std.proofs.lemmas.List.{append-nil}
-use Rattle.sre_model.specs.LeadingRuns.{front_passes, front_length, NoneEnds}
+use Rattle.sre_model.proofs.Terms.{is_accepted, first_accepted, at_start, RunLeads, inl, inr, cases_lt, append-nil}
+use Rattle.sre_model.proofs.Terms.{front_passes, front_length, NoneEnds}
 use Rattle.sre_model.proofs.Each.{each-flat_map, each-map}
 use Rattle.sre_model.proofs.MarksApart.{SameStops, ways-apart}
 use Rattle.sre_model.proofs.Along.{IsCount, counts_each}

@@ -4,9 +4,8 @@ use Rattle.sre_model.proofs.Terms.{sym, ap, ◌∙◌, subst, arith, true, SreOp
 use Rattle.sre_model.proofs.Terms.{RunKind, GreedyRun, LazyRun, PossessiveRun, refers, by_references, of_item}
 use Rattle.sre_model.proofs.Terms.{unlimited, Word, Opcode, Reads, ReadsItem, WholeItems, Role, role, ToRun}
 use Rattle.sre_model.proofs.Terms.{begins_test, ToTest, ToMark, TestStands, HasTest, RunLeads, TreeStands, is_end}
-use Rattle.std.proofs.lemmas.Bool.{or_parts}
+use Rattle.sre_model.proofs.Terms.{or_parts, FrontStands, RunStands}
 use Rattle.sre_chars.specs.declared.constants.SreOpcode.TheVariants as opcode
-use Rattle.sre_model.specs.LeadingRuns.{FrontStands, RunStands}
 use Rattle.sre_model.proofs.Words.{same_word, word_within}
 use Rattle.sre_model.proofs.FirstCharacters.{Begins, begins, tree_within}
 use Rattle.sre_model.proofs.Families.{HasRole, is_one, is_mark, is_run, role_here, some_test}

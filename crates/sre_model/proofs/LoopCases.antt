@@ -2,8 +2,7 @@
 use Rattle.sre_model.proofs.Terms.{◌≡◌, ℕ, zero, suc, ◌+◌, ◌-◌, ◌<◌, ◌≤◌, max, Bool, true, false, cond, List, [], ◌∷◌}
 use Rattle.sre_model.proofs.Terms.{Option, Some, None, refl, sym, ap, ◌∙◌, arith, flat_map, nat_tests, Order, Greedy}
 use Rattle.sre_model.proofs.Terms.{Lazy, Marks, Subject, Way, Body, here, within, ordered, may_repeat, more, least}
-use Rattle.sre_model.proofs.Terms.{loop_ways, inl, inr, cases_lt}
-use Rattle.sre_model.specs.Loops.{followed, loop_from}
+use Rattle.sre_model.proofs.Terms.{loop_ways, inl, inr, cases_lt, followed, loop_from}
 use Rattle.sre_model.proofs.Each.{flat_map_each}
 use Rattle.sre_model.proofs.Bounds.{Between, EachBetween, Bounded, within-each, within-all}
 

@@ -3,12 +3,8 @@ use Rattle.sre_model.proofs.Terms.{ℕ, ◌+◌, ◌*◌, ◌≡◌, ◌≢◌, 
 use Rattle.sre_model.proofs.Terms.{length, slice_range, refl, sym, ◌∙◌, ap, arith, flat_map, category_number, Table}
 use Rattle.sre_model.proofs.Terms.{SreOpcode, SreCatCode, SetItem, RangeUniIgnore, Charset, BigCharset, Negate, Word}
 use Rattle.sre_model.proofs.Terms.{Opcode, word, bytes_of, BlocksBelow, ReadsSet, HasCategory, SetStands, HasSet}
-use Rattle.sre_model.proofs.Terms.{ItemSays}
-use Rattle.sre_chars.specs.Tables.{is_between}
-use Rattle.sre_chars.specs.Categories.{category}
+use Rattle.sre_model.proofs.Terms.{ItemSays, is_between, category, item_holds, verdict, is_member, VerdictLeft}
 use Rattle.sre_chars.specs.declared.constants.SreOpcode.TheVariants as opcode
-use Rattle.sre_model.specs.Characters.{item_holds, verdict, is_member}
-use Rattle.sre_model.specs.Standing.{VerdictLeft}
 use Rattle.sre_model.proofs.Words.{word_of, same_opcode, opcode_within, opcode_moved}
 use Rattle.sre_model.proofs.Places.{set_within}
 use Rattle.sre_model.proofs.SetItems.{set_item_opcode, first, begins, set_item_by, item_past, parted, category_at}

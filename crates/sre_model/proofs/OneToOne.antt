@@ -1,9 +1,8 @@
 -- The code words of a tree are a code of that tree, and no others without an INFO block are.
 use Rattle.sre_model.proofs.Terms.{ℕ, ◌+◌, ◌-◌, ◌≡◌, ◌<◌, false, List, [], ◌∷◌, length, subst, ap, arith, ◌++◌, ◌∙◌}
 use Rattle.sre_model.proofs.Terms.{length-append, opcode_number, Tree, has_block, WholeItems, Whole, AreWords}
-use Rattle.sre_model.proofs.Terms.{LawfulTree, tree_words, code_words}
+use Rattle.sre_model.proofs.Terms.{LawfulTree, tree_words, code_words, append-nil, drop_all}
 use Rattle.sre_chars.specs.declared.constants.SreOpcode.TheVariants as opcode
-use Rattle.std.proofs.lemmas.List.{append-nil, drop_all}
 use Rattle.sre_model.proofs.Words.{opcode_within}
 use Rattle.sre_model.proofs.CutOff.{none_behind}
 use Rattle.sre_model.proofs.StandingWords.{head, stands_whole, stands_moved, stands_front, stands_behind}

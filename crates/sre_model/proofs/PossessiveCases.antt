@@ -1,6 +1,5 @@
 -- The first way of a body whose ways lie between is the body's own.
-use Rattle.sre_model.proofs.Terms.{◌≡◌, ℕ, ◌≤◌, ap, Marks, Subject, Way, Body, first, within}
-use Rattle.sre_model.specs.Loops.{first_of_body}
+use Rattle.sre_model.proofs.Terms.{◌≡◌, ℕ, ◌≤◌, ap, Marks, Subject, Way, Body, first, within, first_of_body}
 use Rattle.sre_model.proofs.Each.{each-first}
 use Rattle.sre_model.proofs.Bounds.{Between, Bounded, within-each, within-all}
 

@@ -3,9 +3,7 @@ use Rattle.sre_model.proofs.Terms.{ℕ, ◌+◌, ◌*◌, ◌-◌, ◌≡◌, Li
 use Rattle.sre_model.proofs.Terms.{Then, Item, One, Branch, Loop, Run, PossessiveLoop, Atomic, Look, Exists, ExistsElse}
 use Rattle.sre_model.proofs.Terms.{Trees, Only, Or, Test, In, SetItem, Single, Range, RangeUniIgnore, Category, Charset}
 use Rattle.sre_model.proofs.Terms.{BigCharset, Negate, word, skip, Reads, ReadsItem, ReadsBranch, TestOperands}
-use Rattle.sre_model.proofs.Terms.{ReadsSet, Whole, WholeItems, behind_block}
-use Rattle.std.proofs.Math.Logic.{∥∥₁_elim}
-use Rattle.sre_model.specs.Grammar.{IsCode}
+use Rattle.sre_model.proofs.Terms.{ReadsSet, Whole, WholeItems, behind_block, ∥∥₁_elim, IsCode}
 use Rattle.sre_model.proofs.Unique.{item_same, whole_same}
 
 -- the place between two readings is determined

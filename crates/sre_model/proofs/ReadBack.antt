@@ -7,13 +7,9 @@ use Rattle.sre_model.proofs.Terms.{Any, AnyAll, InCategory, Literal, NotLiteral,
 use Rattle.sre_model.proofs.Terms.{RangeUniIgnore, Category, Charset, BigCharset, Negate, Word, word, skip, Opcode}
 use Rattle.sre_model.proofs.Terms.{ReadsSet, TestOperands, test_opcode, item_opcode, JumpsTo, Reads, Operands}
 use Rattle.sre_model.proofs.Terms.{ReadsBranch, AreWords, packed, set_words, test_words, tree_words, branch_words}
-use Rattle.sre_model.proofs.Terms.{item_words}
+use Rattle.sre_model.proofs.Terms.{item_words, drop-cons, take-append_seam, append_assoc, drop_split, repeated}
 use Rattle.sre_chars.specs.declared.constants.SreOpcode.TheVariants as opcode
 use Rattle.sre_model.proofs.Words.{word_of, word_there, word_at, word_within}
-use Rattle.std.proofs.Math.Seq.{drop-cons, take-append_seam}
-use Rattle.std.proofs.lemmas.List.{append_assoc}
-use Rattle.std.proofs.lemmas.List.Folds.{drop_split}
-use Rattle.sre_model.specs.Written.{repeated}
 use Rattle.sre_model.proofs.StandingWords.{range_long, part_at}
 use Rattle.sre_model.proofs.LaidOut.{packed_again}
 

@@ -1,13 +1,10 @@
 -- Worked rows of reading bytecode, by computation.
-use Rattle.std.specs.Prelude.{refl, ◌≡◌, [], ◌∷◌, ◌++◌, replicate, false}
-use Rattle.sre_chars.specs.declared.constants.SreAtCode.TheVariants.{END}
-use Rattle.sre_chars.specs.declared.constants.SreCatCode.TheVariants.{WORD, UNI_NOT_LINEBREAK}
-use Rattle.sre_model.proofs.Terms.{Empty, Fail, One, At, Mark, Branch, Loop, Run, PossessiveLoop, Atomic, Look}
-use Rattle.sre_model.proofs.Terms.{Reference, Exists, ExistsElse, Only, Or, Any, AnyAll, InCategory, Literal}
-use Rattle.sre_model.proofs.Terms.{NotLiteral, In, Single, Range, RangeUniIgnore, Category, Charset, BigCharset, Negate}
-use Rattle.sre_model.proofs.Terms.{Plain, Ascii, Locale, Unicode, Greedy, Lazy, GreedyRun, LazyRun, PossessiveRun}
-use Rattle.sre_model.proofs.Terms.{Positive, Negative, unlimited, behind_block, fits_block, items, is_a, a, b, c}
-use Rattle.sre_model.specs.Shown.{d}
+use Rattle.sre_model.proofs.Terms.{refl, ◌≡◌, [], ◌∷◌, ◌++◌, replicate, false, END, WORD, UNI_NOT_LINEBREAK, Empty}
+use Rattle.sre_model.proofs.Terms.{Fail, One, At, Mark, Branch, Loop, Run, PossessiveLoop, Atomic, Look, Reference}
+use Rattle.sre_model.proofs.Terms.{Exists, ExistsElse, Only, Or, Any, AnyAll, InCategory, Literal, NotLiteral, In}
+use Rattle.sre_model.proofs.Terms.{Single, Range, RangeUniIgnore, Category, Charset, BigCharset, Negate, Plain, Ascii}
+use Rattle.sre_model.proofs.Terms.{Locale, Unicode, Greedy, Lazy, GreedyRun, LazyRun, PossessiveRun, Positive, Negative}
+use Rattle.sre_model.proofs.Terms.{unlimited, behind_block, fits_block, items, is_a, a, b, c, d}
 use Rattle.sre_model.proofs.TreeOf.{tree_of, items_at, trees_at, set_at}
 
 -- (a)b

@@ -2,8 +2,7 @@
 use Rattle.sre_model.proofs.Terms.{refl, ◌≡◌, [], ◌∷◌, ◌++◌, Empty, One, Mark, Branch, Loop, Run, PossessiveLoop}
 use Rattle.sre_model.proofs.Terms.{Atomic, Look, Exists, ExistsElse, Only, Or, Any, Literal, In, Single, Range, Charset}
 use Rattle.sre_model.proofs.Terms.{BigCharset, Negate, Plain, Greedy, GreedyRun, Negative, unlimited, items, is_a, a, b}
-use Rattle.sre_model.proofs.Terms.{c, code_words}
-use Rattle.std.proofs.Common.{replicate}
+use Rattle.sre_model.proofs.Terms.{c, code_words, replicate}
 
 letter : code_words (items (a ∷ [])) ≡ 16 ∷ 97 ∷ 1 ∷ []
 letter = refl

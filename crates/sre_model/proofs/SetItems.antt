@@ -2,8 +2,7 @@
 use Rattle.sre_model.proofs.Terms.{ℕ, ◌+◌, ◌*◌, ◌≡◌, ◌≢◌, ◌<◌, List, [], ◌∷◌, slice_index_or, slice_range, refl, ap}
 use Rattle.sre_model.proofs.Terms.{◌∙◌, arith, opcode_number, category_number, SreOpcode, SreCatCode, SetItem, Single}
 use Rattle.sre_model.proofs.Terms.{Range, RangeUniIgnore, Category, Charset, BigCharset, Negate, Word, word, Opcode}
-use Rattle.sre_model.proofs.Terms.{bytes_of, ReadsSet}
-use Rattle.std.proofs.Common.{flat_map}
+use Rattle.sre_model.proofs.Terms.{bytes_of, ReadsSet, flat_map}
 use Rattle.sre_chars.specs.declared.constants.SreOpcode.TheVariants as opcode
 use Rattle.sre_chars.specs.declared.constants.SreCatCode.TheVariants as category
 use Rattle.sre_model.proofs.Words.{same_opcode, word_of, opcodes, opcode_back, categories, category_back}

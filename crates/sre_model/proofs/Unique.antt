@@ -1,8 +1,7 @@
 -- The grammar relates at most one tree to a word list: what the reader of TreeOf gives.
 use Rattle.sre_model.proofs.Terms.{ℕ, ◌+◌, ◌≡◌, List, Some, refl, sym, ◌∙◌, ap, arith, SreOpcode, Tree, Item, Reference}
 use Rattle.sre_model.proofs.Terms.{Test, Fold, Plain, SetItem, Opcode, word, test_opcode, item_opcode, reference_opcode}
-use Rattle.sre_model.proofs.Terms.{ReadsItem, TestOperands, ReadsSet, WholeItems, Whole, behind_block}
-use Rattle.std.proofs.lemmas.Option.{same_Some}
+use Rattle.sre_model.proofs.Terms.{ReadsItem, TestOperands, ReadsSet, WholeItems, Whole, behind_block, same_Some}
 use Rattle.sre_model.proofs.Words.{same_opcode}
 use Rattle.sre_model.proofs.TreeOf.{set-read, test_by, test-read, item_by, items_at, item-read, items-read, whole-read}
 use Rattle.sre_model.proofs.TreeOf.{reference_at}

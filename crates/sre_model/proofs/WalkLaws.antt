@@ -1,9 +1,8 @@
 -- An iteration is the match that is found, and the iteration after it; it has a bound, and goes forward.
 use Rattle.sre_model.proofs.Terms.{◌≡◌, ◌≤◌, ◌<◌, ◌+◌, ◌-◌, ◌*◌, ℕ, zero, suc, [], ◌∷◌, length, Bool, true, false, not}
 use Rattle.sre_model.proofs.Terms.{◌||◌, cond, nat_eq, Some, None, refl, sym, ap, ◌∙◌, arith, inl, inr, and_parts}
-use Rattle.sre_model.proofs.Terms.{nat_tests, Tree, Asked, Match, found}
-use Rattle.sre_model.specs.Found.{asked_after, walk_of, walk}
-use Rattle.sre_model.specs.WalkBounds.{most_matches, AreInOrder}
+use Rattle.sre_model.proofs.Terms.{nat_tests, Tree, Asked, Match, found, asked_after, walk, most_matches, AreInOrder}
+use Rattle.sre_model.specs.Found.{walk_of}
 use Rattle.sre_model.proofs.FoundLaws.{either, found-least, found-is}
 
 -- after a match that is accepted fewer matches can come: an empty one must not come again at its place

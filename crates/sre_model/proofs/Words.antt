@@ -1,9 +1,8 @@
 -- Single words, and the opcodes that they are.
 use Rattle.sre_model.proofs.Terms.{ℕ, ◌≡◌, ◌<◌, ◌≤◌, List, [], ◌∷◌, length, slice_index_or, refl, sym, ◌∙◌, ap, subst}
 use Rattle.sre_model.proofs.Terms.{arith, slice_get_within, opcode_number, at_number, category_number, SreOpcode}
-use Rattle.sre_model.proofs.Terms.{SreAtCode, SreCatCode, Word, word, Opcode, AreWords}
-use Rattle.std.proofs.lemmas.Option.{get_or_from_slice_get, slice_get-get_or}
-use Rattle.std.proofs.lemmas.List.{get_or_past}
+use Rattle.sre_model.proofs.Terms.{SreAtCode, SreCatCode, Word, word, Opcode, AreWords, get_or_from_slice_get}
+use Rattle.sre_model.proofs.Terms.{slice_get-get_or, get_or_past}
 use Rattle.sre_chars.specs.declared.constants.SreOpcode.TheVariants as opcode
 use Rattle.sre_chars.specs.declared.constants.SreAtCode.TheVariants as at
 use Rattle.sre_chars.specs.declared.constants.SreCatCode.TheVariants as category
