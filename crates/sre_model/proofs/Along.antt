@@ -8,6 +8,7 @@ use Rattle.sre_model.proofs.Terms.{passes, Way, Body, first, here, unlimited, ru
 use Rattle.sre_model.proofs.Terms.{rising, falling, counts, run_ways, within, ordered, may_repeat, more, least}
 use Rattle.sre_model.proofs.Terms.{loop_ways, leb-true, same_folded, possessive_more, possessive_ways, look_ways}
 use Rattle.sre_model.proofs.Terms.{reference_ways, or_here}
+use Rattle.sre_model.proofs.Each.{each-cond}
 
 -- n rounds of R lead from i to j
 abbrev pub Times : (ℕ → ℕ → Type 0) → ℕ → ℕ → ℕ → Type 0
@@ -53,11 +54,8 @@ module _ (P : ℕ → Type 0) where
       → AllByRecursion P (counts kind low k)
   counts_each GreedyRun low k h = falling_each low (k + 1 - low) (λ c l n. h c (l, omega arith, λ e. absurd (cc)))
   counts_each LazyRun low k h = rising_each low (k + 1 - low) (λ c l n. h c (l, omega arith, λ e. absurd (cc)))
-  counts_each PossessiveRun low k h = by_test (nat_le low k) refl
-    where
-      by_test : (b : Bool) → nat_le low k ≡ b → AllByRecursion P (cond b (k ∷ []) [])
-      by_test true y = (h k (grind (arith, nat_tests), omega arith, λ _. refl), tt)
-      by_test false n = tt
+  counts_each PossessiveRun low k h =
+      each-cond P (nat_le low k) (k ∷ []) [] (λ y. (h k (grind (arith, nat_tests), omega arith, λ _. refl), tt)) (λ _. tt)
 
 module _ (M : Marks → Marks → Type 0) where
   -- each way stops where the other's does, at a position that R holds of, with equivalent captures
@@ -122,8 +120,7 @@ module _ (M : Marks → Marks → Type 0) where
       → Goes R there → Goes R absent
       → Goes R (λ p m. elim (group m g) [ None ↦ absent p m | (Some _) ↦ there p m ])
   goes-present {R = R} g there absent same f h p m n e =
-      subst (λ o. Alike (R p) (elim (group m g) [ None ↦ absent p m | (Some _) ↦ there p m ])
-      (elim o [ None ↦ absent p n | (Some _) ↦ there p n ])) (same m n e) (by_group (group m g))
+      rw (same m n e) (by_group (group n g))
     where
       by_group : (o : Option (ℕ × ℕ)) → Alike (R p) (elim o [ None ↦ absent p m | (Some _) ↦ there p m ])
           (elim o [ None ↦ absent p n | (Some _) ↦ there p n ])

@@ -67,14 +67,6 @@ stands_up_to ws i end t o r w e = record { end = end; reads = r; code = o; there
 pub whole_stands : (ws : List ℕ) (t : Tree) → WholeItems ws t → TreeStands ws 0 t
 whole_stands ws t w = stands_up_to ws 0 (length ws - 1) t opcode.SUCCESS w.0 w.1 refl
 
-pub leads_start : (ws : List ℕ) (t : Tree) (i : ℕ) → TreeStands ws i t → Leads ws t i 0
-leads_start ws t i x = record {
-  tree = t;
-  stands = x;
-  near = λ s p l. absurd (omega (arith, l));
-  leads = λ s p w. let here : p - 0 ≡ p = omega arith in subst (λ q. NoWay s t q) here w;
-}
-
 -- from one place to a further one
 leads_on : (ws : List ℕ) (t : Tree) (i k far more back : ℕ) (l : Leads ws t i far) → Leads ws l.tree k more
     → back ≡ far + more → Leads ws t k back
@@ -292,6 +284,9 @@ module _ (ws : List ℕ) (t : Tree) (i : ℕ) (x : TreeStands ws i t) where
       barred b (Look Positive back is.2) s p is_item (λ m. rw near refl))
       (λ s p v. barred b (Look Positive back is.2) s p is_item
       (λ m. rw (v.none m) (cond-same {X = List Way} (nat_lt p back) [])))
+
+pub leads_start : (ws : List ℕ) (t : Tree) (i : ℕ) → TreeStands ws i t → Leads ws t i 0
+leads_start ws t i x = leads_inside ws t i x i t x (λ s p w. w)
 
 -- The place that the words of a start lead to
 module _ (ws : List ℕ) (start i far : ℕ) (l : (t : Tree) → TreeStands ws start t → Leads ws t i far) where

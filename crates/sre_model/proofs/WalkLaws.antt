@@ -1,7 +1,7 @@
 -- An iteration is the match that is found, and the iteration after it; it has a bound, and goes forward.
-use Rattle.sre_model.proofs.Terms.{◌≡◌, ◌≤◌, ◌<◌, ◌+◌, ◌-◌, ◌*◌, ℕ, zero, suc, [], ◌∷◌, length, Bool, true, false, not}
-use Rattle.sre_model.proofs.Terms.{◌||◌, cond, nat_eq, Some, None, refl, sym, ap, ◌∙◌, arith, inl, inr, and_parts}
-use Rattle.sre_model.proofs.Terms.{nat_tests, Tree, Asked, Match, found, asked_after, walk, most_matches, AreInOrder}
+use Rattle.sre_model.proofs.Terms.{◌≡◌, ◌≤◌, ◌<◌, ◌+◌, ◌-◌, ◌*◌, ℕ, zero, suc, [], ◌∷◌, length, Bool, true, not, ◌||◌}
+use Rattle.sre_model.proofs.Terms.{cond, nat_eq, Some, None, refl, sym, ap, ◌∙◌, arith, inl, inr, and_parts, nat_tests}
+use Rattle.sre_model.proofs.Terms.{Tree, Asked, Match, found, asked_after, walk, most_matches, AreInOrder}
 use Rattle.sre_model.specs.Found.{walk_of}
 use Rattle.sre_model.proofs.FoundLaws.{either, found-least, found-is}
 
@@ -9,8 +9,7 @@ use Rattle.sre_model.proofs.FoundLaws.{either, found-least, found-is}
 fewer : (start end from to : ℕ) (advance : Bool) → start ≤ from → from ≤ to → to ≤ end
     → (not advance || not (nat_eq to start)) ≡ true
     → 2 * (end - to) + cond (nat_eq to from) 0 1 < 2 * (end - start) + cond advance 0 1
-fewer start end from to true l k h e = grind (arith, nat_tests)
-fewer start end from to false l k h e = grind (arith, nat_tests)
+fewer start end from to advance l k h e = grind (arith, nat_tests)
 
 -- the bound on the matches to come falls at each match
 pub most_matches-falls : (a : Asked) (t : Tree) (m : Match) → found a t ≡ Some m
@@ -54,10 +53,6 @@ walk_of-steps (suc n) (suc k) a t h l = elim (either (found a t)) [
 pub walk-end : (a : Asked) (t : Tree) → found a t ≡ None → walk a t ≡ []
 walk-end a t e = walk_of-none (2 * (a.end - a.start) + 1) a t e
 
-at_most_one : (b : Bool) → cond b 0 1 ≤ 1
-at_most_one true = omega arith
-at_most_one false = omega arith
-
 -- else it is that match, and the walk from its end on
 pub walk-next : (a : Asked) (t : Tree) (m : Match) → found a t ≡ Some m → walk a t ≡ m ∷ walk (asked_after a m) t
 walk-next a t m e =
@@ -65,8 +60,8 @@ walk-next a t m e =
     let after : ℕ = 2 * (a.end - m.end) + 1 in
     let some : steps + 1 ≡ suc steps = omega arith in
     let less = most_matches-falls a t m e in
-    let enough : most_matches (asked_after a m) ≤ steps = omega (arith, at_most_one a.must_advance) in
-    let enough_after : most_matches (asked_after a m) ≤ after = omega (arith, at_most_one (nat_eq m.end m.start)) in
+    let enough : most_matches (asked_after a m) ≤ steps = grind arith in
+    let enough_after : most_matches (asked_after a m) ≤ after = grind arith in
     ap (λ n. walk_of n a t) some
     ∙ (walk_of-some steps a t m e ∙ ap (λ l. m ∷ l) (walk_of-steps steps after (asked_after a m) t enough enough_after))
 

@@ -1,8 +1,7 @@
 -- The grammar: which bytecode is a tree's.
 -- Of the specification: what sre_engine makes public rests on it.
-use Rattle.std.specs.Prelude.{ℕ, ◌+◌, ◌*◌, ◌-◌, ◌/◌, ◌%◌, ◌≡◌, ◌<◌, ◌≤◌, List, [], ◌∷◌, length, Some, slice_get}
-use Rattle.std.specs.Prelude.{Bool, true, cond, nat_eq, nat_le, drop}
-use Rattle.std.specs.Prelude.{slice_index, slice_range, EachIndex}
+use Rattle.std.specs.Prelude.{ℕ, ◌+◌, ◌*◌, ◌-◌, ◌/◌, ◌%◌, ◌≡◌, ◌<◌, ◌≤◌, List, [], ◌∷◌, length, Some, slice_get, Bool}
+use Rattle.std.specs.Prelude.{true, cond, nat_eq, nat_le, drop, slice_index, slice_range, EachIndex}
 use Rattle.std.specs.List.{flat_map}
 use Rattle.sre_chars.specs.Numbers.{opcode_number, at_number, category_number}
 use Rattle.sre_chars.specs.declared.constants.SreOpcode.{SreOpcode}

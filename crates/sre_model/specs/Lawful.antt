@@ -1,10 +1,8 @@
 -- Trees that have bytecode: counts in order, sets whose tables are whole.
 -- Public clauses of what writes trees rest on it.
 use Rattle.std.specs.Prelude.{ℕ, ◌*◌, ◌/◌, ◌≡◌, ◌<◌, ◌≤◌, List, [], ◌∷◌, length, slice_index, EachIndex}
-use Rattle.sre_model.specs.Tree.{Tree, Empty, Then, Item, One, Branch, Loop, Run, PossessiveLoop}
-use Rattle.sre_model.specs.Tree.{Atomic, Look, Exists, ExistsElse, Trees, Only, Or, Test}
-use Rattle.sre_model.specs.Tree.{In, SetItem}
-use Rattle.sre_model.specs.Tree.{Charset, BigCharset}
+use Rattle.sre_model.specs.Tree.{Tree, Empty, Then, Item, One, Branch, Loop, Run, PossessiveLoop, Atomic, Look, Exists}
+use Rattle.sre_model.specs.Tree.{ExistsElse, Trees, Only, Or, Test, In, SetItem, Charset, BigCharset}
 
 -- each is a byte, and a block's number
 abbrev pub NumbersBelow : ℕ → List ℕ → Type 0
