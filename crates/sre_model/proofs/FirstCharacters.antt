@@ -109,7 +109,7 @@ module _ (ws : List ℕ) (t : Tree) (i : ℕ) (x : TreeStands ws i t) where
           record { item = item; rest = rest; after = r.0; here = r.1; reads = r.2; same = is }
 
   -- and what its role tells of it
-  known : (k : Role) → is_end k ≡ false → HasRole ws i k → {P : ℕ → Item → Type 0}
+  pub known : (k : Role) → is_end k ≡ false → HasRole ws i k → {P : ℕ → Item → Type 0}
       → ((j : ℕ) (y : Item) → HasRole ws i k → ReadsItem ws i j y → P j y) → (b : Begins) × P b.after b.item
   known k other h tells = let b : Begins = begins k other h in (b, tells b.after b.item h b.here)
 

@@ -7,7 +7,7 @@ use Rattle.sre_model.proofs.Terms.{begins_test, ToTest, ToMark, TestStands, HasT
 use Rattle.sre_model.proofs.Terms.{or_parts, FrontStands, RunStands}
 use Rattle.sre_chars.specs.declared.constants.SreOpcode.TheVariants as opcode
 use Rattle.sre_model.proofs.Words.{same_word, word_within}
-use Rattle.sre_model.proofs.FirstCharacters.{Begins, begins, tree_within}
+use Rattle.sre_model.proofs.FirstCharacters.{Begins, begins, known, tree_within}
 use Rattle.sre_model.proofs.Families.{HasRole, is_one, is_mark, is_run, role_here, some_test}
 use Rattle.sre_model.proofs.Places.{test_past}
 use Rattle.sre_model.proofs.LeadingRuns.{run_leads, front_leads, mark_leads}
@@ -86,29 +86,25 @@ module _ (ws : List ℕ) (t : Tree) (i : ℕ) (first : Option ℕ) (o : SreOpcod
   here : HasRole ws i (ToRun kind)
   here = role_here ws i o (ToRun kind) w (run_is_run o run).1
 
-  abbrev b : Ahead ws t i first a
-  b = ahead ws t i first a (ToRun kind) refl here
-
-  abbrev is : (low : ℕ) × (high : ℕ) × (test : Test) × (b.item ≡ Run kind low high test)
-      × ReadsItem ws i b.after (Run kind low high test)
-  is = is_run ws i b.after b.item here b.here
-
   pub run_operands : i + 3 < length ws
-  run_operands = word_within ws (i + 3) is.1 is.4.1.2
+  run_operands =
+      let f = known ws a.left i (there ws t i first a) (ToRun kind) refl here (is_run ws i) in
+      word_within ws (i + 3) f.1.1 f.1.4.1.2
 
   pub run_stands : Word ws (i + 3) unlimited → RunStands ws t first (i + 4)
   run_stands wide =
-      let high : is.1 ≡ unlimited = same_word ws (i + 3) is.1 unlimited is.4.1.2 wide in
-      let same : b.item ≡ Run kind is.0 unlimited is.2 = is.3 ∙ ap (λ n. Run kind is.0 n is.2) high in
+      let f = known ws a.left i (there ws t i first a) (ToRun kind) refl here (is_run ws i) in
+      let high : f.1.1 ≡ unlimited = same_word ws (i + 3) f.1.1 unlimited f.1.4.1.2 wide in
+      let same : f.0.item ≡ Run kind f.1.0 unlimited f.1.2 = f.1.3 ∙ ap (λ n. Run kind f.1.0 n f.1.2) high in
       record {
         front = a.front;
-        test = is.2;
-        end = b.after - 1;
+        test = f.1.2;
+        end = f.0.after - 1;
         before = a.before;
-        stands = record { code = is.4.1.4; operands = is.4.1.5 };
+        stands = record { code = f.1.4.1.4; operands = f.1.4.1.5 };
         leads =
-            run_first a.front (Then (Run kind is.0 unlimited is.2) b.rest) t is.2
-            (leads_with ws t i first a b (Run kind is.0 unlimited is.2) same) (run_leads kind is.0 is.2 b.rest);
+            run_first a.front (Then (Run kind f.1.0 unlimited f.1.2) f.0.rest) t f.1.2
+            (leads_with ws t i first a f.0 (Run kind f.1.0 unlimited f.1.2) same) (run_leads kind f.1.0 f.1.2 f.0.rest);
       }
 
 -- Tests
@@ -164,19 +160,18 @@ pub mark_ahead : (ws : List ℕ) (t : Tree) (i : ℕ) (first : Option ℕ) → r
     → Opcode ws i opcode.MARK → RunAhead ws t (i + 2) first
 mark_ahead ws t i first none a w =
     let here : HasRole ws i ToMark = record { code = opcode.MARK; there = w; begins = refl } in
-    let b : Ahead ws t i first a = ahead ws t i first a ToMark refl here in
-    let is = is_mark ws i b.after b.item here b.here in
+    let f = known ws a.left i (there ws t i first a) ToMark refl here (is_mark ws i) in
     record {
-      left = b.rest;
+      left = f.0.rest;
       end = a.end;
       front = a.front;
-      reads = subst (λ k. Reads ws k a.end b.rest) is.2.1.1 b.reads;
+      reads = subst (λ k. Reads ws k a.end f.0.rest) f.1.2.1.1 f.0.reads;
       ends = a.ends;
       before = a.before;
       leads =
-          behind_mark a.front is.0 b.rest t (apart_behind ws t i first a b none)
-          (leads_with ws t i first a b (Mark is.0) is.1);
-      apart = apart_behind ws t i first a b;
+          behind_mark a.front f.1.0 f.0.rest t (apart_behind ws t i first a f.0 none)
+          (leads_with ws t i first a f.0 (Mark f.1.0) f.1.1);
+      apart = apart_behind ws t i first a f.0;
     }
 
 -- What is known of a run that is found

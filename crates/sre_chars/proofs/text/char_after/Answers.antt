@@ -5,13 +5,11 @@ use Rattle.sre_chars.proofs.text.char_after.Goals as goal
 
 pub bounds-as_bytes-offset : goal.bounds-as_bytes-offset
 bounds-as_bytes-offset c =
-    let at = c.offset-offset.ensures ∙ c.requires.at.1 in
-    rw c.as_bytes.ensures.value (omega (arith, at, byte_after _ _ c.utf8.s c.requires.before_end))
+    rw c.as_bytes.ensures.value (omega (arith, byte_after _ _ c.utf8.s c.requires.before_end))
 
 pub overflow_add-result : goal.overflow_add-result
 overflow_add-result c =
-    let at = c.offset-offset.ensures ∙ c.requires.at.1 in
-    record { fits = omega (arith, at, byte_after _ _ c.utf8.s c.requires.before_end) }
+    record { fits = omega (arith, byte_after _ _ c.utf8.s c.requires.before_end) }
 
 pub returns-then-byte-lt128 : goal.returns-then-byte-lt128
 returns-then-byte-lt128 c =

@@ -5,19 +5,16 @@ use Rattle.sre_chars.proofs.text.char_before.Goals as goal
 
 pub overflow_sub-byte : goal.overflow_sub-byte
 overflow_sub-byte c =
-    let at = c.offset-offset.ensures ∙ c.requires.at.1 in
-    omega (arith, at, (byte_before _ _ c.utf8.s c.requires.after_start c.requires.at.2).0)
+    omega (arith, (byte_before _ _ c.utf8.s c.requires.after_start c.requires.at.2).0)
 
 pub bounds-as_bytes-offset : goal.bounds-as_bytes-offset
 bounds-as_bytes-offset c =
-    let at = c.offset-offset.ensures ∙ c.requires.at.1 in
     let within = byte_before _ _ c.utf8.s c.requires.after_start c.requires.at.2 in
-    rw c.as_bytes.ensures.value (omega (arith, at, within.0, within.1))
+    rw c.as_bytes.ensures.value (omega (arith, within.0, within.1))
 
 pub overflow_sub-result : goal.overflow_sub-result
 overflow_sub-result c =
-    let at = c.offset-offset.ensures ∙ c.requires.at.1 in
-    omega (arith, at, (byte_before _ _ c.utf8.s c.requires.after_start c.requires.at.2).0)
+    omega (arith, (byte_before _ _ c.utf8.s c.requires.after_start c.requires.at.2).0)
 
 pub returns-then-byte-lt128 : goal.returns-then-byte-lt128
 returns-then-byte-lt128 c =

@@ -1,4 +1,4 @@
-use Rattle.sre_chars.proofs.Terms.{◌≡◌, ◌-◌, ◌∙◌, arith, refl, ap, subst, get_or, IsUtf8}
+use Rattle.sre_chars.proofs.Terms.{◌-◌, ◌∙◌, arith, ap, subst, get_or, IsUtf8}
 use Rattle.sre_chars.proofs.AsciiSteps.{byte_before, later_before}
 use Rattle.sre_chars.proofs.Beginnings.{place_at, place_in}
 use Rattle.sre_chars.proofs.text.RefStrStrDrive.back_over.Goals as goal
@@ -6,17 +6,15 @@ use Rattle.sre_chars.proofs.text.RefStrStrDrive.back_over.Goals as goal
 pub overflow_sub-byte : goal.overflow_sub-byte
 overflow_sub-byte c =
     let bytes = c.as_bytes-bytes.ensures in
-    let at = c.offset-offset.ensures ∙ c.requires.at.1 in
     let u = subst IsUtf8 bytes.value bytes.utf8 in
-    omega (arith, at, (byte_before _ _ u c.requires.after_start c.requires.at.2).0)
+    omega (arith, (byte_before _ _ u c.requires.after_start c.requires.at.2).0)
 
 pub bounds-bytes-offset : goal.bounds-bytes-offset
 bounds-bytes-offset c =
     let bytes = c.as_bytes-bytes.ensures in
-    let at = c.offset-offset.ensures ∙ c.requires.at.1 in
     let u = subst IsUtf8 bytes.value bytes.utf8 in
     let within = byte_before _ _ u c.requires.after_start c.requires.at.2 in
-    rw bytes.value (omega (arith, at, within.0, within.1))
+    rw bytes.value (omega (arith, within.0, within.1))
 
 pub pass_bytes_back-start-requires-clause-within : goal.pass_bytes_back-start-requires-clause-within
 pass_bytes_back-start-requires-clause-within c =

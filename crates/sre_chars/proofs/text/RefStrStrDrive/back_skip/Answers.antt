@@ -35,10 +35,8 @@ pub returns : goal.returns
 returns c =
     let bytes = c.as_bytes-bytes.ensures in
     let from = place_in _ _ _ _ bytes.value bytes.utf8 (c.offset.ensures ∙ c.requires.at.1) c.requires.at.2 in
-    let long = c.pass_blocks_back-behind_long.ensures.passed in
-    let short = c.pass_blocks_back-behind_short.ensures.passed in
     let start = c.pass_bytes_back-start.ensures in
     let to = place_at _ _ _ (c.args.cursor.now.position - c.args.n) bytes.value bytes.utf8 start.at
-    (omega (arith, from.begun_before, long, short, start.passed))
+    (omega (arith, from.begun_before))
     in
     (omega arith, c.new.ensures.offset ∙ to.0, to.1)

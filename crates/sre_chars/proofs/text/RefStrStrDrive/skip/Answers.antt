@@ -11,9 +11,7 @@ pub pass_bytes-end-requires-clause-within : goal.pass_bytes-end-requires-clause-
 pass_bytes-end-requires-clause-within c =
     let bytes = c.as_bytes-bytes.ensures in
     let from = place_in _ _ _ _ bytes.value bytes.utf8 (c.offset.ensures ∙ c.requires.at.1) c.requires.at.2 in
-    let long = c.pass_blocks-behind_long.ensures.passed in
-    let short = c.pass_blocks-behind_short.ensures.passed in
-    omega (arith, from.begun_before, from.begun_in_all, long, short)
+    omega (arith, from.begun_before, from.begun_in_all)
 
 pub overflow_add-position : goal.overflow_add-position
 overflow_add-position c =
@@ -25,9 +23,7 @@ pub returns : goal.returns
 returns c =
     let bytes = c.as_bytes-bytes.ensures in
     let from = place_in _ _ _ _ bytes.value bytes.utf8 (c.offset.ensures ∙ c.requires.at.1) c.requires.at.2 in
-    let long = c.pass_blocks-behind_long.ensures.passed in
-    let short = c.pass_blocks-behind_short.ensures.passed in
     let to = place_at _ _ _ (c.args.cursor.now.position + c.args.n) bytes.value bytes.utf8 c.pass_bytes-end.ensures.at
-    (omega (arith, from.begun_before, long, short, c.pass_bytes-end.ensures.passed))
+    (omega (arith, from.begun_before))
     in
     (omega arith, c.new.ensures.offset ∙ to.0, to.1)
