@@ -100,13 +100,6 @@ jumped : {ws rest : List ℕ} {k : ℕ} (j : ℕ) → Stands ws k (opcode_number
 jumped {ws} {rest} {k} j st e =
     (head st, omega (arith, e, word_of ws (k + 1) (length rest + 1) (st.at 1 (length rest + 1) refl)))
 
--- each block number of the packed words
-blocks_of : (ws : List ℕ) (a b count : ℕ) (xs : List ℕ) → xs ≡ slice_range ws a b
-    → ((q : ℕ) → q < length xs → BytesBelow count (slice_index xs q)) → BlocksBelow count (slice_range ws a b)
-blocks_of ws a b count xs e h =
-    let P : List ℕ → Type 0 = λ ys. (q : ℕ) → q < length ys → BytesBelow count (slice_index ys q) in
-    subst P e h
-
 lay_set : (s : List SetItem) (ws : List ℕ) (i j : ℕ) → Stands ws i (set_words s) → j ≡ i + length (set_words s)
     → LawfulSet s → ReadsSet ws i j s
 lay_set [] ws i j st e h = omega arith
@@ -142,8 +135,7 @@ lay_set (BigCharset numbers bits ∷ rest) ws i j st e h =
     stands_range (i + 66) table first.inside (omega (arith, long)) in
     let below : BlocksBelow (word ws (i + 1)) (slice_range ws (i + 2) (i + 66)) =
     subst (λ n. BlocksBelow n (slice_range ws (i + 2) (i + 66))) (sym cnt)
-    (blocks_of ws (i + 2) (i + 66) count table numbers_are (packed_below 64 count numbers (omega (arith, h.0.0)) h.0.2))
-    in (
+    (subst (BlocksBelow count) numbers_are (packed_below 64 count numbers (omega (arith, h.0.0)) h.0.2)) in (
       head st,
       sym (packed_back 64 count numbers (omega (arith, h.0.0)) h.0.2) ∙ ap (λ l. flat_map bytes_of l) numbers_are,
       below,

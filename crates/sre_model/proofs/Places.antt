@@ -1,8 +1,8 @@
 -- Where readings end.
-use Rattle.sre_model.proofs.Terms.{ℕ, ◌+◌, ◌*◌, ◌-◌, ◌≡◌, ◌<◌, ◌≤◌, List, [], ◌∷◌, length, refl, subst, arith, Tree}
-use Rattle.sre_model.proofs.Terms.{Empty, Then, Item, One, Branch, ExistsElse, Trees, Only, Or, Test, Any, SetItem}
-use Rattle.sre_model.proofs.Terms.{Single, Range, RangeUniIgnore, Category, Charset, BigCharset, Negate, word, skip}
-use Rattle.sre_model.proofs.Terms.{Reads, ReadsBranch, ReadsSet, Operands, TestOperands}
+use Rattle.sre_model.proofs.Terms.{ℕ, ◌+◌, ◌*◌, ◌-◌, ◌≡◌, ◌<◌, ◌≤◌, List, [], ◌∷◌, length, refl, arith, Tree, Empty}
+use Rattle.sre_model.proofs.Terms.{Then, Item, One, Branch, ExistsElse, Trees, Only, Or, Test, Any, SetItem, Single}
+use Rattle.sre_model.proofs.Terms.{Range, RangeUniIgnore, Category, Charset, BigCharset, Negate, word, skip, Reads}
+use Rattle.sre_model.proofs.Terms.{ReadsBranch, ReadsSet, Operands, TestOperands}
 
 -- each item of a set has a word at least
 set_long : (ws : List ℕ) (i j : ℕ) (s : List SetItem) → ReadsSet ws i j s → i + length s ≤ j
@@ -49,17 +49,11 @@ alternative_long ws q j (Only t) r = omega (arith, reads_within t ws (q + 1) (sk
 alternative_long ws q j (Or t ts) r = omega (arith, reads_within t ws (q + 1) (skip ws q - 2) r.0)
 
 pub reads_moved : (ws : List ℕ) (i i2 j j2 : ℕ) (t : Tree) → i ≡ i2 → j ≡ j2 → Reads ws i j t → Reads ws i2 j2 t
-reads_moved ws i i2 j j2 t e f r =
-    let P : ℕ → Type 0 = λ n. Reads ws n j t in
-    let Q : ℕ → Type 0 = λ n. Reads ws i2 n t in
-    subst Q f (subst P e r)
+reads_moved ws i i2 j j2 t e f r = rw (← e, ← f) r
 
 pub set_moved : (ws : List ℕ) (i i2 j j2 : ℕ) (s : List SetItem) → i ≡ i2 → j ≡ j2 → ReadsSet ws i j s
     → ReadsSet ws i2 j2 s
-set_moved ws i i2 j j2 s e f r =
-    let P : ℕ → Type 0 = λ n. ReadsSet ws n j s in
-    let Q : ℕ → Type 0 = λ n. ReadsSet ws i2 n s in
-    subst Q f (subst P e r)
+set_moved ws i i2 j j2 s e f r = rw (← e, ← f) r
 
 -- a reading that ends where it begins is empty
 pub reads_nothing : (ws : List ℕ) (i k : ℕ) (t : Tree) → Reads ws i k t → k ≡ i → t ≡ Empty

@@ -1,10 +1,9 @@
 -- The grammar relates at most one tree to a word list: what the reader of TreeOf gives.
-use Rattle.sre_model.proofs.Terms.{ℕ, ◌+◌, ◌≡◌, List, Some, refl, sym, ◌∙◌, ap, arith, SreOpcode, Tree, Item, Reference}
-use Rattle.sre_model.proofs.Terms.{Test, Fold, Plain, SetItem, Opcode, word, test_opcode, item_opcode, reference_opcode}
+use Rattle.sre_model.proofs.Terms.{Plain, Ascii, Locale, Unicode, ℕ, ◌+◌, ◌≡◌, List, refl, sym, ◌∙◌, ap, arith, Tree}
+use Rattle.sre_model.proofs.Terms.{Item, Test, Fold, SetItem, Opcode, test_opcode, item_opcode, reference_opcode}
 use Rattle.sre_model.proofs.Terms.{ReadsItem, TestOperands, ReadsSet, WholeItems, Whole, behind_block, same_Some}
 use Rattle.sre_model.proofs.Words.{same_opcode}
 use Rattle.sre_model.proofs.TreeOf.{set-read, test_by, test-read, item_by, items_at, item-read, items-read, whole-read}
-use Rattle.sre_model.proofs.TreeOf.{reference_at}
 
 pub set_same : (a b : List SetItem) (ws : List ℕ) (i j : ℕ) → ReadsSet ws i j a → ReadsSet ws i j b → a ≡ b
 set_same a b ws i j r s = sym (set-read a j ws i j r (omega arith)) ∙ set-read b j ws i j s (omega arith)
@@ -28,18 +27,14 @@ item_same x y ws i j k r s =
 -- a reference folds in one way
 pub same_reference_fold : (ws : List ℕ) (i : ℕ) (f g : Fold) → Opcode ws i (reference_opcode f)
     → Opcode ws i (reference_opcode g) → f ≡ g
-same_reference_fold ws i f g x y =
-    let same = same_opcode ws i (reference_opcode f) (reference_opcode g) x y in
-    let read = λ (o : SreOpcode). item_by o 0 (items_at 0 ws) ws i in
-    let e = same_Some (reference_at f ws i) (reference_at g ws i) (sym (back f) ∙ ap read same ∙ back g) in
-    only (ap (λ (p : Item × ℕ). p.0) e)
+same_reference_fold ws i f g x y = same f g (same_opcode ws i (reference_opcode f) (reference_opcode g) x y)
   where
-    back : (h : Fold) → item_by (reference_opcode h) 0 (items_at 0 ws) ws i ≡ Some (reference_at h ws i)
-    back Plain = refl
-    back h = refl
-
-    only : Reference f (word ws (i + 1)) ≡ Reference g (word ws (i + 1)) → f ≡ g
-    only e = cc
+    same : (f g : Fold) → reference_opcode f ≡ reference_opcode g → f ≡ g
+    same Plain Plain e = refl
+    same Ascii Ascii e = refl
+    same Locale Locale e = refl
+    same Unicode Unicode e = refl
+    same f g e = absurd (cc)
 
 pub items_same : (ws : List ℕ) (t u : Tree) → WholeItems ws t → WholeItems ws u → t ≡ u
 items_same ws t u x y = sym (whole-read ws t x) ∙ whole-read ws u y

@@ -9,11 +9,10 @@ range_from-requires c = λ _. rw (c.offset-offset.ensures, c.round.invariant.0.1
 
 pub slice_bounds-first_byte-end : goal.slice_bounds-first_byte-end
 slice_bounds-first_byte-end c =
-    let at = c.offset-offset.ensures ∙ c.round.invariant.0.1 in
     let room = room_ahead c.args.s.now c.round.cursor.position (c.args.end - c.position-in-round.result) c.utf8.s
     (omega (arith, c.position-in-round.ensures, c.position.ensures, c.round-test.true, c.requires.within)) in
     let rest = ap length c.as_bytes-rest.ensures.value in
-    sym (length-take-le _ _ (omega (arith, at, room, c.range_from.ensures.len, rest)))
+    sym (length-take-le _ _ (omega (arith, room, c.range_from.ensures.len, rest)))
 
 pub returns-in-Some : goal.returns-in-Some
 returns-in-Some c =
