@@ -134,8 +134,7 @@ lay_set (BigCharset numbers bits ∷ rest) ws i j st e h =
     let numbers_are : table ≡ slice_range ws (i + 2) (i + 66) =
     stands_range (i + 66) table first.inside (omega (arith, long)) in
     let below : BlocksBelow (word ws (i + 1)) (slice_range ws (i + 2) (i + 66)) =
-    subst (λ n. BlocksBelow n (slice_range ws (i + 2) (i + 66))) (sym cnt)
-    (subst (BlocksBelow count) numbers_are (packed_below 64 count numbers (omega (arith, h.0.0)) h.0.2)) in (
+    rw cnt (subst (BlocksBelow count) numbers_are (packed_below 64 count numbers (omega (arith, h.0.0)) h.0.2)) in (
       head st,
       sym (packed_back 64 count numbers (omega (arith, h.0.0)) h.0.2) ∙ ap (λ l. flat_map bytes_of l) numbers_are,
       below,

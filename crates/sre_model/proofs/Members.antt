@@ -44,11 +44,8 @@ room : (o : SreOpcode) (ws : List ℕ) (i : ℕ) → Opcode ws i o → o ≢ opc
     → (set_item_by o ws i).1 < length ws
 room o ws i w n h =
     let f = item_left o ws i h.end h.set w n h.stands in
-    omega (
-      arith,
-      set_within ws (set_item_by o ws i).1 h.end f.0 f.3,
-      opcode_within ws h.end opcode.FAILURE h.stands.ends,
-    )
+    let end = opcode_within ws h.end opcode.FAILURE h.stands.ends in
+    omega (arith, set_within ws (set_item_by o ws i).1 h.end f.0 f.3, end)
 
 says : (o : SreOpcode) (ws : List ℕ) (table : Table) (i c : ℕ) (holds : Bool) → Opcode ws i o → o ≢ opcode.FAILURE
     → (set_item_by o ws i).0 ≢ Negate → holds ≡ item_holds table (set_item_by o ws i).0 c

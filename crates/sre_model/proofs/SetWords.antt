@@ -1,6 +1,6 @@
 -- A set is read from its own words alone, and sets are the same where their words are.
 use Rattle.sre_model.proofs.Terms.{ℕ, ◌+◌, ◌*◌, ◌-◌, ◌≡◌, ◌<◌, ◌≤◌, List, [], ◌∷◌, ◌++◌, length, take, drop}
-use Rattle.sre_model.proofs.Terms.{slice_range, refl, sym, ◌∙◌, ap, subst, arith, get_or-take, get_or-drop, ext_get_or}
+use Rattle.sre_model.proofs.Terms.{slice_range, refl, sym, ◌∙◌, ap, arith, get_or-take, get_or-drop, ext_get_or}
 use Rattle.sre_model.proofs.Terms.{SetItem, Single, Range, RangeUniIgnore, Category, Charset, BigCharset, Negate, Word}
 use Rattle.sre_model.proofs.Terms.{word, bytes_of, BlocksBelow, ReadsSet, AreWords, SetStands, set_words}
 use Rattle.std.proofs.Common.{flat_map}
@@ -75,11 +75,10 @@ module _ (ws : List ℕ) (i n : ℕ) (le : i + n ≤ length ws) where
       let c : word own (a + 1) ≡ word ws (q + 1) = own_word (q + 1) (a + 1) (omega arith) (omega arith) in
       let blocks : slice_range ws (q + 2) (q + 66) ≡ slice_range own (a + 2) (a + 66) =
       own_range (q + 2) (q + 66) (a + 2) (a + 66) (omega arith) (omega arith) (omega arith) (omega arith) in
-      let below : BlocksBelow (word own (a + 1)) (slice_range ws (q + 2) (q + 66)) =
-      subst (λ k. BlocksBelow k (slice_range ws (q + 2) (q + 66))) (sym c) x.2 in (
+      let below : BlocksBelow (word own (a + 1)) (slice_range own (a + 2) (a + 66)) = rw (c, ← blocks) x.2 in (
         carried q a 10 e (omega arith) x.0,
         x.1 ∙ ap (flat_map bytes_of) blocks,
-        subst (λ bs. BlocksBelow (word own (a + 1)) bs) blocks below,
+        below,
         x.3
             ∙ own_range (q + 66) (q + 66 + word ws (q + 1) * 8) (a + 66) (a + 66 + word own (a + 1) * 8) (omega arith)
             (omega arith) (omega arith) (omega arith),
@@ -110,16 +109,10 @@ module _ (ws vs : List ℕ) (i j k l : ℕ) (s t : List SetItem) (a : SetStands 
       own_set ws i (j + 1 - i) (omega arith) s i j 0 (j - i) (omega arith) (omega arith) (omega arith) a.items in
       let y : ReadsSet (slice_range vs k (l + 1)) 0 (l - k) t =
       own_set vs k (l + 1 - k) (omega arith) t k l 0 (l - k) (omega arith) (omega arith) (omega arith) b.items in
-      let ends : l - k ≡ j - i = omega (
-        arith,
-        ap length e,
-        range_long ws i (j + 1) (omega arith),
-        range_long vs k (l + 1) (omega arith),
-      ) in
-      let z : ReadsSet (slice_range ws i (j + 1)) 0 (j - i) t =
-      subst (λ n. ReadsSet (slice_range ws i (j + 1)) 0 n t) ends
-      (subst (λ xs. ReadsSet xs 0 (l - k) t) (sym e) y) in
-      set_same s t (slice_range ws i (j + 1)) 0 (j - i) x z
+      let long = range_long ws i (j + 1) (omega arith) in
+      let as_long = range_long vs k (l + 1) (omega arith) in
+      let ends : l - k ≡ j - i = omega (arith, ap length e, long, as_long) in
+      set_same s t (slice_range ws i (j + 1)) 0 (j - i) x (rw (e, ← ends) y)
 
   -- and have the same words where they are
   pub same_set_words : AreWords ws → AreWords vs → s ≡ t → slice_range ws i (j + 1) ≡ slice_range vs k (l + 1)
