@@ -119,11 +119,10 @@ later_none s accepts kind low test rest p d m l h = run_none s accepts kind low 
     each : (c : ℕ) → IsCount kind low (longest_run s test unlimited (p + d)) c
         → NoneEnds accepts (ways s rest (p + d + c) m)
     each c i =
-        let left : IsCount kind low (longest_run s test unlimited p - d) c =
-        subst (λ k. IsCount kind low k c) (run_later s test p d l) i in
-        let same : p + (d + c) ≡ p + d + c = omega arith in
-        subst (λ q. NoneEnds accepts (ways s rest q m)) same
-        (none_run s accepts kind low test rest p m h (d + c) (count_later kind low _ d c l left))
+        let left = rw (run_later s test p d l) at i in
+        let same : p + d + c ≡ p + (d + c) = omega arith in
+        let k : ℕ = longest_run s test unlimited p in
+        rw same (none_run s accepts kind low test rest p m h (d + c) (count_later kind low k d c l left))
 
 -- a run that begins the tree
 pub run_leads : (kind : RunKind) (low : ℕ) (test : Test) (rest : Tree)
@@ -133,8 +132,7 @@ run_leads kind low test rest = record {
       let there : p + (q - p) ≡ q = omega arith in
       let here : p + 0 ≡ p = omega arith in
       let within : q - p ≤ longest_run s test unlimited p = omega (arith, ap (longest_run s test unlimited) here) in
-      subst (λ r. NoneEnds accepts (ways s (Then (Run kind low unlimited test) rest) r m)) there
-      (later_none s accepts kind low test rest p (q - p) m within h);
+      rw (← there) (later_none s accepts kind low test rest p (q - p) m within h);
 }
 
 -- a test in front of it

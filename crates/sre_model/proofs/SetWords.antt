@@ -1,10 +1,10 @@
 -- A set is read from its own words alone, and sets are the same where their words are.
 use Rattle.sre_model.proofs.Terms.{ℕ, ◌+◌, ◌*◌, ◌-◌, ◌≡◌, ◌<◌, ◌≤◌, List, [], ◌∷◌, ◌++◌, length, take, drop}
-use Rattle.sre_model.proofs.Terms.{slice_range, refl, sym, ◌∙◌, ap, arith, get_or-take, get_or-drop, ext_get_or}
-use Rattle.sre_model.proofs.Terms.{SetItem, Single, Range, RangeUniIgnore, Category, Charset, BigCharset, Negate, Word}
-use Rattle.sre_model.proofs.Terms.{word, bytes_of, BlocksBelow, ReadsSet, AreWords, SetStands, set_words}
+use Rattle.sre_model.proofs.Terms.{slice_range, refl, sym, ◌∙◌, ap, arith, get_or-take, get_or-drop, SetItem, Single}
+use Rattle.sre_model.proofs.Terms.{Range, RangeUniIgnore, Category, Charset, BigCharset, Negate, Word, word, bytes_of}
+use Rattle.sre_model.proofs.Terms.{BlocksBelow, ReadsSet, AreWords, SetStands, set_words}
+use Rattle.std.proofs.lemmas.List.{drop-drop, drop-take, take-take, length-take, length-drop}
 use Rattle.std.proofs.Common.{flat_map}
-use Rattle.std.proofs.lemmas.List.{length-take, length-drop}
 use Rattle.sre_model.proofs.Words.{word_at, word_of, word_within}
 use Rattle.sre_model.proofs.Places.{set_within}
 use Rattle.sre_model.proofs.Unique.{set_same}
@@ -27,20 +27,13 @@ module _ (ws : List ℕ) (i n : ℕ) (le : i + n ≤ length ws) where
 
   own_range : (q r a b : ℕ) → q ≡ i + a → r ≡ i + b → a ≤ b → b ≤ n → slice_range ws q r ≡ slice_range own a b
   own_range q r a b e f ab bn =
-      let lengths : length (take (r - q) (drop q ws)) ≡ length (take (b - a) (drop a own)) = omega (
-        arith,
-        own_long,
-        length-take (r - q) (drop q ws),
-        length-drop q ws,
-        length-take (b - a) (drop a own),
-        length-drop a own,
-      ) in
-      ext_get_or 0 (take (r - q) (drop q ws)) (take (b - a) (drop a own)) lengths
-      (λ j lj.
-      let near : j < r - q = omega (arith, length-take (r - q) (drop q ws)) in
-      get_or-take (r - q) (drop q ws) j 0 near ∙ get_or-drop q ws j 0
-      ∙ sym (own_word (q + j) (a + j) (omega arith) (omega arith)) ∙ sym (get_or-drop a own j 0)
-      ∙ sym (get_or-take (b - a) (drop a own) j 0 (omega arith)))
+      let room : n ≡ a + (n - a) = omega arith in
+      let same : b - a ≡ r - q = omega arith in
+      let inside : drop a own ≡ take (n - a) (drop q ws) =
+      ap (λ m. drop a (take m (drop i ws))) room ∙ drop-take a (n - a) (drop i ws)
+      ∙ ap (take (n - a)) (drop-drop a i ws ∙ ap (λ m. drop m ws) (sym e)) in
+      let part = take-take (b - a) (n - a) (drop q ws) (omega arith) in
+      sym (ap (take (b - a)) inside ∙ part ∙ ap (λ m. take m (drop q ws)) same)
 
   pub own_set : (s : List SetItem) (q r a b : ℕ) → q ≡ i + a → r ≡ i + b → b ≤ n → ReadsSet ws q r s
       → ReadsSet own a b s
