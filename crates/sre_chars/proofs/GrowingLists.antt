@@ -1,7 +1,7 @@
 -- Lists that grow at their end, by entries above all that they have, stay without a fault.
 use Rattle.sre_chars.proofs.Terms.{◌≡◌, ℕ, ◌+◌, ◌<◌, ◌≤◌, inl, inr, true, refl, arith, Option, Some, None, List, []}
 use Rattle.sre_chars.proofs.Terms.{◌∷◌, ◌++◌, nat_tests, is_scalar, last_of, entry_fault, list_fault, Listing, Map}
-use Rattle.sre_chars.proofs.Terms.{Ranges, ◌⊎◌, IfNone, IfSome, IsScalar, scalar_cases}
+use Rattle.sre_chars.proofs.Terms.{Ranges, IfNone, IfSome, IsScalar, scalar_cases}
 use Rattle.sre_chars.proofs.RisingLists.{both_none}
 
 -- the first number above those that a list takes up
@@ -54,13 +54,12 @@ pub lawful_longer : (next low high code : ℕ) → entry_fault Ranges next (low,
     → high + 1 ≡ code → entry_fault Ranges next (low, code) ≡ None
 lawful_longer next low high code h s e = grind (arith, nat_tests)
 
-scalar_by_cases : (c : ℕ) → (c < 55296) ⊎ ((57344 ≤ c) × (c < 1114112)) → is_scalar c ≡ true
-scalar_by_cases c (inl h) = grind (arith, nat_tests)
-scalar_by_cases c (inr h) = let low = h.0 in let high = h.1 in grind (arith, nat_tests)
-
 -- the number of a `char`
 pub scalar_char : (c : ℕ) → IsScalar c → is_scalar c ≡ true
-scalar_char c h = scalar_by_cases c (scalar_cases c h)
+scalar_char c h = elim (scalar_cases c h) [
+  | inl low ↦ grind (arith, nat_tests)
+  | inr high ↦ let least = high.0 in let most = high.1 in grind (arith, nat_tests)
+]
 
 -- a map's list with one entry more
 pub grown_map : (es : List (ℕ × ℕ)) (from to : ℕ) → IsRisingBelow Map es from → is_scalar from ≡ true

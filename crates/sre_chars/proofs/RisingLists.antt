@@ -128,11 +128,6 @@ is_in_ranges-last_up_to next (e ∷ es) c h =
     let beyond : c < e.1 + 1 → last_up_to es c ≡ None = none_up_to Ranges (e.1 + 1) es c head.1 in
     reach_of_both e es c (last_up_to es c) rest head.0.rises beyond
 
-is_scalar-in_both : (low high c : ℕ) (b : Bool) → is_scalar_entry Ranges (low, high) ≡ true → (is_scalar c && b) ≡ b
-    → (is_scalar c && (is_between low high c || b)) ≡ (is_between low high c || b)
-is_scalar-in_both low high c true s h = grind (arith, nat_tests)
-is_scalar-in_both low high c false s h = grind (arith, nat_tests)
-
 -- ranges without a fault have scalar values alone
 pub is_scalar-in_ranges : (next : ℕ) (es : List (ℕ × ℕ)) (c : ℕ) → list_fault Ranges next es ≡ None
     → (is_scalar c && is_in_ranges es c) ≡ is_in_ranges es c
@@ -140,7 +135,8 @@ is_scalar-in_ranges next [] c h = grind (arith, nat_tests)
 is_scalar-in_ranges next (e ∷ es) c h =
     let head = head_of Ranges next e es h in
     let rest = is_scalar-in_ranges (e.1 + 1) es c head.1 in
-    is_scalar-in_both e.0 e.1 c (is_in_ranges es c) head.0.scalar rest
+    let scalar = head.0.scalar in
+    grind (arith, nat_tests)
 
 -- the three lists of a table without a fault
 pub record AreLawful (t : Table) : Type 0 where

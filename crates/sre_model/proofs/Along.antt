@@ -55,7 +55,8 @@ module _ (P : ℕ → Type 0) where
   counts_each GreedyRun low k h = falling_each low (k + 1 - low) (λ c l n. h c (l, omega arith, λ e. absurd (cc)))
   counts_each LazyRun low k h = rising_each low (k + 1 - low) (λ c l n. h c (l, omega arith, λ e. absurd (cc)))
   counts_each PossessiveRun low k h =
-      each-cond P (nat_le low k) (k ∷ []) [] (λ y. (h k (grind (arith, nat_tests), omega arith, λ _. refl), tt)) (λ _. tt)
+      each-cond P (nat_le low k) (k ∷ []) []
+      (λ y. (h k (grind (arith, nat_tests), omega arith, λ _. refl), tt)) (λ _. tt)
 
 module _ (M : Marks → Marks → Type 0) where
   -- each way stops where the other's does, at a position that R holds of, with equivalent captures

@@ -151,7 +151,8 @@ module _ (ws : List ℕ) (t : Tree) (i : ℕ) (x : TreeStands ws i t) where
       → NoWay s t p
   test_bars {kind} h s p fails =
       let f = known (ToTest kind) refl h (is_one ws i) in
-      let none : passes s f.1.0 p ≡ false = fails.each f.0.after f.1.0 (record { code = f.1.2.0; operands = f.1.2.1 }) in
+      let none : passes s f.1.0 p ≡ false =
+      fails.each f.0.after f.1.0 (record { code = f.1.2.0; operands = f.1.2.1 }) in
       barred f.0 (One f.1.0) s p f.1.1 (λ m. rw none refl)
 
   -- a run of a test that owes a character
@@ -210,7 +211,8 @@ module _ (ws : List ℕ) (t : Tree) (i : ℕ) (x : TreeStands ws i t) where
   pub mark_leads : HasRole ws i ToMark → Leads ws t (i + 2) 0
   mark_leads h =
       let f = known ToMark refl h (is_mark ws i) in
-      leads_behind f.0 (i + 2) f.1.2.1.1 (λ s p w. none_as f.0 (Mark f.1.0) s p f.1.1 (mark_passed s f.1.0 f.0.rest p w))
+      leads_behind f.0 (i + 2) f.1.2.1.1
+      (λ s p w. none_as f.0 (Mark f.1.0) s p f.1.1 (mark_passed s f.1.0 f.0.rest p w))
 
   -- ATOMIC_GROUP: on inside
   pub atomic_leads : HasRole ws i ToGroupAtomically → Leads ws t (i + 2) 0

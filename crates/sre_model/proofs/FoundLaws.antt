@@ -1,8 +1,8 @@
 -- The match that is found is that of the least start, and lies in the range.
-use Rattle.sre_model.proofs.Terms.{◌≡◌, ◌≤◌, ◌<◌, ◌+◌, ◌-◌, ℕ, zero, suc, List, [], ◌∷◌, Bool, true, false, Option}
-use Rattle.sre_model.proofs.Terms.{Some, None, refl, sym, ap, ◌∙◌, subst, arith, ◌⊎◌, inl, inr, filter, Tree, no_marks}
-use Rattle.sre_model.proofs.Terms.{Way, ways, Asked, Match, subject_of, is_accepted, first_accepted, at_start, found}
-use Rattle.sre_model.proofs.Terms.{cases_lt, found_from}
+use Rattle.sre_model.proofs.Terms.{◌≡◌, ◌≤◌, ◌<◌, ◌+◌, ◌-◌, ℕ, zero, suc, List, [], ◌∷◌, true, Option, Some, None, refl}
+use Rattle.sre_model.proofs.Terms.{sym, ap, ◌∙◌, subst, arith, ◌⊎◌, inl, inr, filter, Tree, no_marks, Way, ways, Asked}
+use Rattle.sre_model.proofs.Terms.{Match, subject_of, is_accepted, first_accepted, at_start, found, cases_lt}
+use Rattle.sre_model.proofs.Terms.{found_from, cases_Bool}
 use Rattle.sre_model.proofs.Bounds.{EachBetween, ways-bounded}
 
 -- the way that a match ends
@@ -49,14 +49,13 @@ first_accepted-filter a s (w ∷ ws) = grind (arith, first_accepted-filter a s w
 first_accepted-is : (a : Asked) (s : ℕ) (m : Match) (ws : List Way) → EachBetween (subject_of a) s ws
     → first_accepted a s ws ≡ Some m → IsFrom a s m
 first_accepted-is a s m [] b e = absurd (cc)
-first_accepted-is a s m (w ∷ ws) b e = by_test (is_accepted a w) refl (first_accepted-is a s m ws b.1)
-  where
-    by_test : (c : Bool) → is_accepted a w ≡ c → (first_accepted a s ws ≡ Some m → IsFrom a s m) → IsFrom a s m
-    by_test true y later =
-        let same : Some (match_of s w) ≡ Some m = rw y at e in
-        let is : match_of s w ≡ m = cc in
-        subst (IsFrom a s) is (record { start = refl; order = b.0.0; end = b.0.1; accepted = y })
-    by_test false n later = later (rw n at e)
+first_accepted-is a s m (w ∷ ws) b e = elim (cases_Bool (is_accepted a w)) [
+  | inl y ↦
+      let same : Some (match_of s w) ≡ Some m = rw y at e in
+      let is : match_of s w ≡ m = cc in
+      subst (IsFrom a s) is (record { start = refl; order = b.0.0; end = b.0.1; accepted = y })
+  | inr n ↦ first_accepted-is a s m ws b.1 (rw n at e)
+]
 
 -- the match from s begins there, ends between s and the window's end, and is accepted
 pub at_start-is : (a : Asked) (t : Tree) (s : ℕ) (m : Match) → s ≤ a.end → at_start a t s ≡ Some m → IsFrom a s m

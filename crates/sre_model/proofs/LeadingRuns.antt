@@ -5,7 +5,7 @@ use Rattle.sre_model.proofs.Terms.{nat_tests, Tree, Then, One, Mark, Run, Test, 
 use Rattle.sre_model.proofs.Terms.{PossessiveRun, Marks, no_marks, set_mark, refers, Subject, passes, Way, unlimited}
 use Rattle.sre_model.proofs.Terms.{run_length, longest_run, rising, falling, counts, ways, Asked, subject_of}
 use Rattle.sre_model.proofs.Terms.{is_accepted, first_accepted, at_start, RunLeads, inl, inr, cases_lt, append-nil}
-use Rattle.sre_model.proofs.Terms.{front_passes, front_length, NoneEnds}
+use Rattle.sre_model.proofs.Terms.{front_passes, front_length, NoneEnds, cases_Bool}
 use Rattle.sre_model.proofs.Each.{each-flat_map, each-map}
 use Rattle.sre_model.proofs.MarksApart.{SameStops, ways-apart}
 use Rattle.sre_model.proofs.Along.{IsCount, counts_each}
@@ -142,19 +142,18 @@ front_leads x test rest l = record { none = none }
     none : (s : Subject) (accepts : ℕ → Bool) (p q : ℕ) (m : Marks) → passes s x p ≡ true → p ≤ q
         → q ≤ p + longest_run s test unlimited (p + 1) → NoneEnds accepts (ways s (Then (One x) rest) p m)
         → NoneEnds accepts (ways s (Then (One x) rest) q m)
-    none s accepts p q m pass from to h = by_test (passes s x q) refl
+    none s accepts p q m pass from to h = elim (cases_Bool (passes s x q)) [
+      | inl y ↦
+          rw (y, append-nil) (l.none s accepts (p + 1) (q + 1) m refl (omega arith)
+          (omega (arith, ap (longest_run s test unlimited) here)) behind)
+      | inr n ↦ rw n tt
+    ]
       where
         here : p + 1 + 0 ≡ p + 1
         here = omega arith
 
         behind : NoneEnds accepts (ways s rest (p + 1) m)
         behind = each_left _ (ways s rest (p + 1) m) [] (rw pass at h)
-
-        by_test : (b : Bool) → passes s x q ≡ b → NoneEnds accepts (ways s (Then (One x) rest) q m)
-        by_test true y =
-            rw (y, append-nil) (l.none s accepts (p + 1) (q + 1) m refl (omega arith)
-            (omega (arith, ap (longest_run s test unlimited) here)) behind)
-        by_test false n = rw n tt
 
 -- a mark in front of it, where nothing behind it depends on marks
 none_apart : (accepts : ℕ → Bool) (xs ys : List Way) → SameStops xs ys → NoneEnds accepts xs → NoneEnds accepts ys

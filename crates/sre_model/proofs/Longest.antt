@@ -1,7 +1,7 @@
 -- The longest run of a test, by the tests at each of its characters.
-use Rattle.sre_model.proofs.Terms.{ℕ, zero, suc, ◌+◌, ◌-◌, ◌≡◌, ◌<◌, ◌≤◌, inl, inr, Bool, true, false, cond, ◌&&◌, ◌||◌}
+use Rattle.sre_model.proofs.Terms.{ℕ, zero, suc, ◌+◌, ◌-◌, ◌≡◌, ◌<◌, ◌≤◌, inl, inr, Bool, true, false, ◌&&◌, ◌||◌}
 use Rattle.sre_model.proofs.Terms.{nat_eq, nat_lt, refl, arith, nat_tests, Test, Subject, passes, unlimited, run_length}
-use Rattle.sre_model.proofs.Terms.{most_from, longest_run, cases_lt}
+use Rattle.sre_model.proofs.Terms.{most_from, longest_run, cases_lt, cases_Bool}
 use Rattle.sre_model.proofs.Along.{run_rounds}
 use Rattle.sre_model.proofs.Bounds.{passes-below}
 
@@ -22,16 +22,13 @@ run_none s t (suc n) p no_ = rw no_ refl
 pub run_stopped : (s : Subject) (t : Test) (n p : ℕ) → run_length s t n p < n
     → passes s t (p + run_length s t n p) ≡ false
 run_stopped s t zero p l = absurd (omega arith)
-run_stopped s t (suc n) p l = go (passes s t p) refl l (λ k. run_stopped s t n (p + 1) k)
-  where
-    go : (y : Bool) → passes s t p ≡ y → cond (passes s t p) (suc (run_length s t n (p + 1))) 0 < suc n
-        → (run_length s t n (p + 1) < n → passes s t (p + 1 + run_length s t n (p + 1)) ≡ false)
-        → passes s t (p + cond (passes s t p) (suc (run_length s t n (p + 1))) 0) ≡ false
-    go true y k later =
-        let e : p + suc (run_length s t n (p + 1)) ≡ p + 1 + run_length s t n (p + 1) = omega arith in
-        let short : suc (run_length s t n (p + 1)) < suc n = rw y at k in
-        rw (y, e) (later (omega arith))
-    go false y k later = let e : p + 0 ≡ p = omega arith in rw (y, e) y
+run_stopped s t (suc n) p l = elim (cases_Bool (passes s t p)) [
+  | inl y ↦
+      let e : p + suc (run_length s t n (p + 1)) ≡ p + 1 + run_length s t n (p + 1) = omega arith in
+      let short : suc (run_length s t n (p + 1)) < suc n = rw y at l in
+      rw (y, e) (run_stopped s t n (p + 1) (omega arith))
+  | inr none ↦ let e : p + 0 ≡ p = omega arith in rw (none, e) none
+]
 
 pub run_at_most : (s : Subject) (t : Test) (n p : ℕ) → run_length s t n p ≤ n
 run_at_most s t n p =
@@ -78,16 +75,15 @@ module _ (s : Subject) (t : Test) (high p : ℕ) (e : p ≤ s.end) where
       rw (more, run_passes s t (most_from s high p) p c l) refl
 
   pub longest_stops : goes_on s t high k (p + k) ≡ false
-  longest_stops = by_test (passes s t (p + k)) refl
-    where
-      by_test : (b : Bool) → passes s t (p + k) ≡ b → ((nat_eq high unlimited || nat_lt k high) && b) ≡ false
-      by_test false n = grind arith
-      by_test true y =
-          let inside : p + k < s.end = passes-below s t (p + k) y in
-          elim (cases_lt k (most_from s high p)) [
-            | inl short ↦ let no_ = run_stopped s t (most_from s high p) p short in absurd (cc)
-            | inr all ↦ grind (arith, nat_tests)
-          ]
+  longest_stops = elim (cases_Bool (passes s t (p + k))) [
+    | inl y ↦
+        let inside : p + k < s.end = passes-below s t (p + k) y in
+        elim (cases_lt k (most_from s high p)) [
+          | inl short ↦ let no_ = run_stopped s t (most_from s high p) p short in absurd (cc)
+          | inr all ↦ grind (arith, nat_tests)
+        ]
+    | inr none ↦ grind arith
+  ]
 
   -- the first characters of a run that is as long as the least count
   pub least_there : (low : ℕ) → low ≤ k → run_length s t low p ≡ low

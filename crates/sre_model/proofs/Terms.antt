@@ -7,11 +7,11 @@ pub use Rattle.std.proofs.Math.Logic.{∥∥₁_elim}
 pub use Rattle.std.proofs.Math.Nat.{mul-le-mul, mul-le-mul_left, mul-le-mul_right}
 pub use Rattle.std.proofs.Math.Seq.{drop-cons, take-append_seam}
 pub use Rattle.std.proofs.Props.{props}
-pub use Rattle.std.proofs.lemmas.Bool.{and_parts, cases_lt, leb-true, or_parts}
+pub use Rattle.std.proofs.lemmas.Bool.{and_parts, cases_Bool, cases_lt, leb-true, or_parts}
 pub use Rattle.std.proofs.lemmas.Bool.Decides.{nat_tests}
 pub use Rattle.std.proofs.lemmas.Grind.{flat_map-append}
 pub use Rattle.std.proofs.lemmas.List.{append-nil, append_assoc, drop_all, ext_get_or, get_or-drop, get_or-take}
-pub use Rattle.std.proofs.lemmas.List.{get_or_past, length-take, length-take-le}
+pub use Rattle.std.proofs.lemmas.List.{get_or_past, length-take-le}
 pub use Rattle.std.proofs.lemmas.List.Concat.{get_or-flat_map}
 pub use Rattle.std.proofs.lemmas.List.Folds.{drop_split}
 pub use Rattle.std.proofs.lemmas.Option.{get_or_from_slice_get, same_Some, slice_get-get_or, slice_get_within}
@@ -32,8 +32,7 @@ pub use Rattle.sre_model.specs.Characters.{holds, is_member, item_holds, verdict
 pub use Rattle.sre_model.specs.Claims.{EachTestIn, FirstIn, HasFirstSet, TestIn, behind_marks, border_length}
 pub use Rattle.sre_model.specs.Claims.{confirmed_prefix, confirmed_width, has_flag, is_literal}
 pub use Rattle.sre_model.specs.CountedRuns.{Counted, Ended}
-pub use Rattle.sre_model.specs.FirstCharacters.{HasAlternatives, HasTree, Leads, NoWay, NoneOf, NotPassed, TreeStands}
-pub use Rattle.sre_model.specs.FirstCharacters.{is_end}
+pub use Rattle.sre_model.specs.FirstCharacters.{TreeStands, is_end}
 pub use Rattle.sre_model.specs.Folding.{Folding, of_branch, of_item, of_parts, of_tree}
 pub use Rattle.sre_model.specs.Found.{Asked, Match, asked_after, at_start, first_accepted, found, found_from}
 pub use Rattle.sre_model.specs.Found.{is_accepted, subject_of, walk}
@@ -41,7 +40,7 @@ pub use Rattle.sre_model.specs.Grammar.{BlocksBelow, BytesBelow, IsCode, JumpsTo
 pub use Rattle.sre_model.specs.Grammar.{ReadsItem, ReadsSet, TestOperands, Whole, WholeItems, Word, behind_block}
 pub use Rattle.sre_model.specs.Grammar.{bytes_of, fits_block, has_block, item_opcode, look_opcode, reference_opcode}
 pub use Rattle.sre_model.specs.Grammar.{run_opcode, skip, test_opcode, until_opcode, word}
-pub use Rattle.sre_model.specs.Lawful.{LawfulItem, LawfulSet, LawfulTest, LawfulTree, LawfulTrees, NumbersBelow}
+pub use Rattle.sre_model.specs.Lawful.{LawfulTree}
 pub use Rattle.sre_model.specs.LeadingRuns.{FrontStands, NoneEnds, RunLeads, RunStands, front_length, front_passes}
 pub use Rattle.sre_model.specs.Loops.{first_of_body, followed, loop_from, or_here}
 pub use Rattle.sre_model.specs.Marks.{Marks, group, no_marks, set_mark}
