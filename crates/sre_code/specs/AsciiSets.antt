@@ -1,10 +1,9 @@
 -- Which ASCII characters the items of a set take.
 -- Definitions for the check's contracts; what sre_engine makes public does not rest on it.
 use Rattle.sre_code.specs.Terms.{ℕ, ◌≡◌, ◌<◌, Bool, true, ◌&&◌, ◌||◌, List, Option, Some, None, Table, SetItem}
-use Rattle.sre_code.specs.Terms.{is_member, SetStands, ItemSays}
+use Rattle.sre_code.specs.Terms.{is_member, SetStands, ItemSays, verdict}
 use Rattle.sre_code.specs.AsciiSet.{contains}
 use Rattle.sre_code.specs.declared.ascii_set.AsciiSet.{AsciiSet}
-use Rattle.sre_model.specs.Characters.{verdict}
 
 -- the item at i holds for the ASCII characters of a set, and the next one begins at next
 pub record HoldsFor (ws : List ℕ) (i : ℕ) (members : AsciiSet) (next : ℕ) : Type 0 where

@@ -2,9 +2,7 @@
 -- Definitions for the check's contracts; what sre_engine makes public does not rest on it.
 use Rattle.sre_code.specs.Terms.{ℕ, ◌+◌, ◌≡◌, ◌<◌, ◌⊎◌, List, Option, Some, None, SreOpcode, Test, Opcode, Role, ToFail}
 use Rattle.sre_code.specs.Terms.{ToMark, ToBranch, ToRun, ToRepeat, ToRepeatPossessively, ToGroupAtomically, ToLook}
-use Rattle.sre_code.specs.Terms.{ToRefer, role}
-use Rattle.sre_model.specs.Roles.{ToEnd, ToCheckPosition, ToJump}
-use Rattle.sre_model.specs.Roles.{ToLoop}
+use Rattle.sre_code.specs.Terms.{ToRefer, role, ToEnd, ToCheckPosition, ToJump, ToLoop}
 use Rattle.sre_code.specs.Reading.{ReadsTest}
 
 -- how many words an instruction has before its body or what is behind it: with a BRANCH and a JUMP goes the length word

@@ -4,13 +4,9 @@
 use Rattle.sre_code.specs.Terms.{ℕ, ◌+◌, ◌-◌, ◌*◌, ◌^◌, ◌≡◌, ◌<◌, ◌≤◌, Bool, true, false, ◌&&◌, cond, max, List, Option}
 use Rattle.sre_code.specs.Terms.{Some, None, SreOpcode, Tree, Item, Loop, Trees, Order, Word, skip, Opcode, Operands}
 use Rattle.sre_code.specs.Terms.{Reads, ReadsBranch, Role, ToFail, ToRun, ToBranch, ToRepeat, ToRepeatPossessively}
-use Rattle.sre_code.specs.Terms.{ToGroupAtomically, ToLook, role, refers, nesting, scan_price}
-use Rattle.sre_model.specs.Tree.{Branch, PossessiveLoop, Atomic}
-use Rattle.sre_model.specs.Tree.{PossessiveRun}
-use Rattle.sre_model.specs.References.{by_references}
-use Rattle.sre_model.specs.Folding.{of_item}
-use Rattle.sre_model.specs.Nesting.{by_nesting}
-use Rattle.sre_model.specs.TreePrices.{steps_of, item_steps, other_ends, cost_of, item_cost, most_steps}
+use Rattle.sre_code.specs.Terms.{ToGroupAtomically, ToLook, role, refers, nesting, scan_price, Branch, PossessiveLoop}
+use Rattle.sre_code.specs.Terms.{Atomic, PossessiveRun, by_references, of_item, by_nesting, steps_of, item_steps}
+use Rattle.sre_code.specs.Terms.{other_ends, cost_of, item_cost, most_steps}
 use Rattle.sre_code.specs.Saturating.{Held}
 use Rattle.sre_code.specs.Instructions.{Behind, NoneBehind}
 use Rattle.sre_code.specs.declared.code.prices.Price.{Price}

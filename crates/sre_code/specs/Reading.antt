@@ -1,9 +1,7 @@
 -- Words, sets and tests: what the check's answers say of them.
 -- Definitions for the check's contracts; what sre_engine makes public does not rest on it.
-use Rattle.std.specs.Prelude.{ℕ, ◌≡◌, ◌≢◌, ◌<◌, ◌≤◌, List, length, Result, Ok, Err}
-use Rattle.sre_chars.specs.declared.constants.SreOpcode.{SreOpcode}
-use Rattle.sre_model.specs.Tree.{Fold, Test, SetItem}
-use Rattle.sre_model.specs.Grammar.{Word, word, skip, Opcode, ReadsSet, test_opcode, TestOperands}
+use Rattle.sre_code.specs.Terms.{ℕ, ◌≡◌, ◌≢◌, ◌<◌, ◌≤◌, List, length, Result, Ok, Err, SreOpcode, Fold, Test, SetItem}
+use Rattle.sre_code.specs.Terms.{Word, word, skip, Opcode, ReadsSet, test_opcode, TestOperands}
 use Rattle.sre_code.specs.Refusals.{place_of}
 use Rattle.sre_code.specs.declared.code.error.CodeError.{CodeError}
 use Rattle.sre_code.specs.declared.code.error.CodeError.TheVariants.{Memory}

@@ -6,10 +6,7 @@
 ghost use Rattle.sre_code.specs.Terms.{◌≡◌, ℕ, ◌+◌, ◌*◌, ◌/◌, ◌%◌, ◌^◌, ◌<◌, ◌≤◌, ◌≢◌, List, length, nat_eq};
 ghost use Rattle.sre_code.specs.Terms.{slice_index, slice_range, category_number, category, Table, is_between, SetItem};
 ghost use Rattle.sre_code.specs.Terms.{Charset, item_holds, is_member, Opcode, word, BlocksBelow, SetStands, HasSet};
-ghost use Rattle.sre_code.specs.Terms.{ItemSays};
-ghost use Rattle.std.specs.List.{flat_map};
-ghost use Rattle.sre_model.specs.Tree.{RangeUniIgnore, BigCharset};
-ghost use Rattle.sre_model.specs.Grammar.{bytes_of};
+ghost use Rattle.sre_code.specs.Terms.{ItemSays, flat_map, RangeUniIgnore, BigCharset, bytes_of};
 
 use crate::ascii_set::AsciiSet;
 use crate::operands::{category_code, operand, word};

@@ -1,7 +1,6 @@
 //! Operands of checked bytecode, which a proof knows to exist.
 
-ghost use Rattle.sre_code.specs.Terms.{◌≡◌, ◌+◌, ◌<◌, ◌^◌, length, category_number, Word, word};
-ghost use Rattle.sre_model.specs.Standing.{AreWords, HasCategory};
+ghost use Rattle.sre_code.specs.Terms.{◌≡◌, ◌+◌, ◌<◌, ◌^◌, length, category_number, Word, word, AreWords, HasCategory};
 
 use sre_chars::constants::SreCatCode;
 use std::convert::TryFrom;

@@ -4,8 +4,7 @@
 //! the counter states.
 
 ghost use Rattle.sre_code.specs.Terms.{◌≡◌, ◌+◌, ℕ, ◌-◌, ◌*◌, ◌^◌, length, min, true, false, IfSome, ◌≤◌, Tree};
-ghost use Rattle.sre_code.specs.Terms.{WholeItems, refers, longest_lookbehind};
-ghost use Rattle.std.specs.Prelude.{nat_le};
+ghost use Rattle.sre_code.specs.Terms.{WholeItems, refers, longest_lookbehind, nat_le};
 ghost use Rattle.sre_code.specs.MostSlots.{SlotsTold};
 ghost use Rattle.sre_code.specs.Bounds.{CountedTold, BoundTold, NumberBy, AreWhole, room_by, bound_by, bound_of};
 ghost use Rattle.sre_code.specs.Prices.{AreHeld};

@@ -4,8 +4,7 @@
 //! with a branch whose alternatives all begin like this.
 
 ghost use Rattle.sre_code.specs.Terms.{◌≡◌, ◌≤◌, ◌↔◌, IsTrue, List, length, slice_range, Decides, Tree, SetItem};
-ghost use Rattle.sre_code.specs.Terms.{is_member, WholeItems, behind_marks, HasFirstSet};
-ghost use Rattle.sre_model.specs.Claims.{TestIn, EachTestIn, FirstIn};
+ghost use Rattle.sre_code.specs.Terms.{is_member, WholeItems, behind_marks, HasFirstSet, TestIn, EachTestIn, FirstIn};
 ghost use Rattle.sre_code.specs.Fronts.{HasBlock};
 ghost use Rattle.sre_code.specs.Prefixes.{Ends};
 ghost use Rattle.sre_code.specs.FirstSets.{HasBlockSet, IsSetUpTo, Tells, TellsEach};

@@ -1,7 +1,6 @@
 //! Sets: items, one after the other.
 
-ghost use Rattle.std.specs.Prelude.{◌≤◌, ◌⊎◌, length, IsTrue, ◌↔◌};
-ghost use Rattle.sre_model.specs.Grammar.{Opcode, BytesBelow, BlocksBelow};
+ghost use Rattle.sre_code.specs.Terms.{◌≤◌, ◌⊎◌, length, IsTrue, ◌↔◌, Opcode, BytesBelow, BlocksBelow};
 ghost use Rattle.sre_code.specs.Reading.{SetItemEnds, SetFills};
 
 use crate::code::error::CodeError;

@@ -8,8 +8,7 @@
 //! calls. The counter states of a possessive loop are not multiplied with those inside, since its bodies are matched
 //! apart. A conditional ends the scan.
 
-ghost use Rattle.sre_code.specs.Terms.{◌≡◌, ◌<◌, ◌≤◌, length, IfSome, Opcode, role, loop_slots};
-ghost use Rattle.sre_model.specs.Slots.{counted_to};
+ghost use Rattle.sre_code.specs.Terms.{◌≡◌, ◌<◌, ◌≤◌, length, IfSome, Opcode, role, loop_slots, counted_to};
 ghost use Rattle.sre_code.specs.SlotScans.{kind_of, AreTold, LoopTold, OtherTold, PossessiveTold, ToldAt};
 
 use crate::code::instructions::next;
