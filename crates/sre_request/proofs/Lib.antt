@@ -1,3 +1,3 @@
 mod AsciiTests
 pub mod Repeating
-mod TestOperands
+pub mod Terms

@@ -1,14 +1,9 @@
 -- Which ASCII characters a set or a test takes.
 -- Definitions for the request's contracts; what sre_engine makes public does not rest on it.
-use Rattle.std.specs.Prelude.{ℕ, ◌≡◌, ◌<◌, Bool, true, false, List}
-use Rattle.sre_code.specs.AsciiSet.{contains}
+use Rattle.sre_request.specs.Terms.{ℕ, ◌≡◌, ◌<◌, Bool, true, false, List, contains, Table, SreOpcode, SetItem, Test}
+use Rattle.sre_request.specs.Terms.{is_member, holds, SetStands, HasSet, TestStands}
 use Rattle.sre_code.specs.declared.ascii_set.AsciiSet.{AsciiSet}
-use Rattle.sre_chars.specs.Tables.{Table}
-use Rattle.sre_chars.specs.declared.constants.SreOpcode.{SreOpcode}
 use Rattle.sre_chars.specs.declared.constants.SreOpcode.TheVariants as opcode
-use Rattle.sre_model.specs.Tree.{SetItem, Test}
-use Rattle.sre_model.specs.Characters.{is_member, holds}
-use Rattle.sre_model.specs.Standing.{SetStands, HasSet, TestStands}
 
 -- a set that stands at i takes the ASCII characters of members, and no other ASCII ones
 pub record IsAsciiPart (ws : List ℕ) (table : Table) (i : ℕ) (members : AsciiSet) : Type 0 where

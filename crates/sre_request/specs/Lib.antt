@@ -4,3 +4,4 @@ pub mod Runs
 pub mod AsciiSets
 pub mod Stretches
 pub mod Reads
+pub mod Terms

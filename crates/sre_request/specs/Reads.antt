@@ -1,11 +1,6 @@
 -- What is read of a request's words and text: a word, a test, a character.
 -- Definitions for the request's contracts; what sre_engine makes public does not rest on it.
-use Rattle.std.specs.Prelude.{ℕ, ◌<◌, Bool, length}
-use Rattle.sre_chars.specs.declared.string.StrDrive.{Ghosts}
-use Rattle.sre_model.specs.Tree.{Test}
-use Rattle.sre_model.specs.Characters.{holds}
-use Rattle.sre_model.specs.Grammar.{Word}
-use Rattle.sre_model.specs.Standing.{TestStands}
+use Rattle.sre_request.specs.Terms.{ℕ, ◌<◌, Bool, length, Ghosts, Test, holds, Word, TestStands}
 use Rattle.sre_model.specs.Subject.{char_at}
 use Rattle.sre_request.specs.declared.request.Request.{Request}
 use Rattle.sre_request.specs.Runs.{run_of}

@@ -1,12 +1,8 @@
 -- What a request asks.
 -- Public clauses rest on it.
-use Rattle.std.specs.Prelude.{ℕ, Bool, List}
+use Rattle.sre_request.specs.Terms.{ℕ, Bool, List, Ghosts, StringCursor, Asked, items_of, uni_of}
 use Rattle.std.specs.Borrow.{Bor}
 use Rattle.sre_chars.specs.declared.constants.EmptyRule.{EmptyRule}
-use Rattle.sre_chars.specs.declared.string.StrDrive.{Ghosts}
-use Rattle.sre_chars.specs.declared.string.StringCursor.{StringCursor}
-use Rattle.sre_model.specs.Found.{Asked}
-use Rattle.sre_code.specs.Codes.{items_of, uni_of}
 use Rattle.sre_code.specs.declared.code.Code.{Code}
 use Rattle.sre_request.specs.declared.admitted.Admitted.{Admitted}
 use Rattle.sre_request.specs.declared.request.Request.{Request}

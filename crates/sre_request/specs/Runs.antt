@@ -1,14 +1,8 @@
 -- The run of the machine for a request.
 -- Definitions for the machine's contracts. What sre_engine makes public rests on them by `Starts::beyond` alone.
-use Rattle.std.specs.Prelude.{ℕ}
-use Rattle.sre_chars.specs.declared.constants.SreOpcode.{SreOpcode}
-use Rattle.sre_chars.specs.declared.string.StrDrive.{Ghosts}
-use Rattle.sre_chars.specs.declared.string.StringCursor.{StringCursor}
-use Rattle.sre_model.specs.Found.{subject_of, is_accepted}
-use Rattle.sre_model.specs.Grammar.{Opcode}
+use Rattle.sre_request.specs.Terms.{ℕ, SreOpcode, Ghosts, StringCursor, subject_of, is_accepted, Opcode, items_of}
 use Rattle.sre_model.specs.Standing.{HasTest}
 use Rattle.sre_model.specs.Runs.{Run}
-use Rattle.sre_code.specs.Codes.{items_of}
 use Rattle.sre_request.specs.declared.request.Request.{Request}
 use Rattle.sre_request.specs.Requests.{asked_of, stands_in}
 

@@ -1,13 +1,8 @@
 //! Tests of one character with their operands at hand, for the loops of repeats.
 
-ghost use Rattle.std.specs.Prelude.{⊤, ◌≡◌, ℕ, ◌+◌, ◌<◌, ◌≤◌, Bool, List, length, slice_range};
+ghost use Rattle.sre_request.specs.Terms.{⊤, ◌≡◌, ℕ, ◌+◌, ◌<◌, ◌≤◌, Bool, List, length, slice_range, category, Table};
+ghost use Rattle.sre_request.specs.Terms.{is_between, SetItem, Charset, item_holds, is_member, SetStands, contains};
 ghost use Rattle.sre_chars.specs.Numbers.{category_number};
-ghost use Rattle.sre_chars.specs.Categories.{category};
-ghost use Rattle.sre_chars.specs.Tables.{Table, is_between};
-ghost use Rattle.sre_model.specs.Tree.{SetItem, Charset};
-ghost use Rattle.sre_model.specs.Characters.{item_holds, is_member};
-ghost use Rattle.sre_model.specs.Standing.{SetStands};
-ghost use Rattle.sre_code.specs.AsciiSet.{contains};
 ghost use Rattle.sre_request.specs.AsciiSets.{IsAsciiPart};
 
 use sre_chars::constants::SreCatCode;

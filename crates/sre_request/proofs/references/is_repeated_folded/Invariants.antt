@@ -1,5 +1,4 @@
-use Rattle.std.proofs.Common.{◌-◌}
-use Rattle.sre_request.specs.Runs.{run_of}
+use Rattle.sre_request.proofs.Terms.{◌-◌, run_of}
 use Rattle.sre_request.proofs.Repeating.{Repeated}
 use Rattle.sre_request.proofs.references.is_repeated_folded.Given as goal
 

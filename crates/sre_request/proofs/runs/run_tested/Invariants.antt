@@ -1,6 +1,4 @@
-use Rattle.std.proofs.Common.{◌-◌, not, nat_eq}
-use Rattle.sre_model.specs.CountedRuns.{Counted}
-use Rattle.sre_request.specs.Runs.{run_of}
+use Rattle.sre_request.proofs.Terms.{◌-◌, not, nat_eq, Counted, run_of}
 use Rattle.sre_request.proofs.runs.run_tested.Given as goal
 
 abbrev pub invariant-character : goal.invariant-character

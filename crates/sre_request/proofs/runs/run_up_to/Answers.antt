@@ -1,4 +1,4 @@
-use Rattle.sre_request.specs.Runs.{run_of}
+use Rattle.sre_request.proofs.Terms.{run_of}
 use Rattle.sre_model.proofs.CountingRuns.{taken_length}
 use Rattle.sre_request.proofs.runs.run_up_to.Goals as goal
 

@@ -5,19 +5,5 @@ use Rattle.sre_request.proofs.request.Request.with_admitted.Goals as goal
 
 pub returns : goal.returns
 returns g c = λ all.
-    let r = c.args.self.now in
-    ap₂
-    (λ w l. record {
-      string = r.string;
-      start = r.start;
-      end = r.end;
-      pattern_codes = r.pattern_codes;
-      match_all = r.match_all;
-      must_advance = r.must_advance;
-      empty_rule = r.empty_rule;
-      admitted = c.args.admitted;
-      in_window = w;
-      all_admitted = l;
-    })
-    (×_prop (×_prop le_prop le_prop) le_prop _ _)
-    (one_all_admitted _ _)
+    ap₂ (λ w l. record c.args.self.now { admitted = c.args.admitted; in_window = w; all_admitted = l })
+    (×_prop (×_prop le_prop le_prop) le_prop _ _) (one_all_admitted _ _)
