@@ -1,15 +1,12 @@
 -- A text of UTF-8 with as many bytes as characters has one byte a character, each below 128.
-use Rattle.sre_patterns.proofs.Terms.{◌≡◌, ℕ, ◌+◌, ◌-◌, ◌<◌, ◌≤◌, List, Some, ap, ◌∙◌, inl, inr, arith, cases_lt}
-use Rattle.sre_patterns.proofs.Terms.{nat_tests, len_utf8, Subject, char_at, InBytes, InUtf8}
+use Rattle.sre_patterns.proofs.Terms.{◌≡◌, ℕ, ◌+◌, ◌-◌, ◌<◌, ◌≤◌, List, Some, ap, ◌∙◌, arith, nat_tests, len_utf8}
+use Rattle.sre_patterns.proofs.Terms.{Subject, char_at, InBytes, InUtf8}
 use Rattle.sre_patterns.proofs.Edges.{utf8-sided}
 use Rattle.sre_patterns.proofs.OverUtf8.{utf8-apart}
 
 -- a character of one byte is that byte
 one-byte : (c : ℕ) → len_utf8 c ≡ 1 → c < 128
-one-byte c e = elim (cases_lt c 128) [
-  | (inl below) ↦ below
-  | (inr past) ↦ absurd (grind (arith, nat_tests))
-]
+one-byte c e = grind (arith, nat_tests)
 
 module _ (s : Subject) (hay : List ℕ) (off : ℕ → ℕ) (v : InUtf8 s hay off) (same : off s.end ≡ s.end) where
   at-place : (p : ℕ) → p ≤ s.end → off p ≡ p

@@ -1,21 +1,17 @@
 -- Patterns that cover the parts of a tree, combined to one that covers it, and rounds of a pattern as a repetition.
 use Rattle.sre_patterns.proofs.Terms.{◌≡◌, ℕ, zero, suc, ◌-◌, ◌<◌, ◌≤◌, min, max, Bool, true, false, cond, ◌||◌, nat_lt}
 use Rattle.sre_patterns.proofs.Terms.{Option, Some, None, inl, inr, refl, sym, subst, arith, List, ◌+◌, [], ◌∷◌, ap}
-use Rattle.sre_patterns.proofs.Terms.{nat_tests, none-some, same_Some, Re, cat, plus, empty, alt, byte_in, optional}
-use Rattle.sre_patterns.proofs.Terms.{copies, up_to, at_least, Rounds, one_round, next_round, Matches, unlimited, Way}
-use Rattle.sre_patterns.proofs.Terms.{Body, here, ways, item_ways, branch_ways, repeated, AllByRecursion, SreAtCode}
-use Rattle.sre_patterns.proofs.Terms.{Table, Tree, Empty, Then, Item, Fail, At, Mark, Run, Atomic, Reference, Exists}
-use Rattle.sre_patterns.proofs.Terms.{ExistsElse, Trees, Only, Or, Test, AnyAll, Order, RunKind, Sign, Fold, Marks}
-use Rattle.sre_patterns.proofs.Terms.{no_marks, holds, Subject, passes, holds_at, char_at, each-weaken, each-cond}
-use Rattle.sre_patterns.proofs.Terms.{ways-bounded, Leads, Along, IsWider, View, CoversBody, Covers, CoversItem}
-use Rattle.sre_patterns.proofs.Terms.{CoversTest}
-use Rattle.regex_hir.specs.Meaning.{repeat}
+use Rattle.sre_patterns.proofs.Terms.{nat_tests, none-some, same_Some, Re, cat, plus, empty, alt, byte_in, Rounds}
+use Rattle.sre_patterns.proofs.Terms.{one_round, next_round, Matches, unlimited, Way, Body, here, ways, item_ways}
+use Rattle.sre_patterns.proofs.Terms.{branch_ways, repeated, AllByRecursion, SreAtCode, Table, Tree, Then, Item, Fail}
+use Rattle.sre_patterns.proofs.Terms.{At, Mark, Run, Test, AnyAll, Order, RunKind, Sign, Marks, no_marks, holds}
+use Rattle.sre_patterns.proofs.Terms.{Subject, passes, holds_at, char_at, each-weaken, each-cond, ways-bounded, Leads}
+use Rattle.sre_patterns.proofs.Terms.{Along, IsWider, View, CoversBody, Covers, CoversItem, CoversTest, group}
+use Rattle.sre_patterns.proofs.Terms.{each-first, passes-below, Atomic}
+use Rattle.sre_model.specs.Tree.{Empty, Reference, Trees, Only, Or, Fold, Exists, ExistsElse, Look}
+use Rattle.regex_hir.specs.Meaning.{optional, copies, up_to, at_least, repeat}
 use Rattle.sre_model.proofs.Along.{Times, Counted, Alike, Goes, none, pair, each_way, weaken, goes-then, goes-or}
 use Rattle.sre_model.proofs.Along.{goes-present, goes-look, goes-loop, goes-possessive, goes-run, goes-reference}
-use Rattle.sre_model.specs.Tree.{Look}
-use Rattle.sre_model.specs.Marks.{group}
-use Rattle.sre_model.proofs.Each.{each-first}
-use Rattle.sre_model.proofs.Bounds.{passes-below}
 use Rattle.sre_patterns.proofs.Items.{loop_of}
 
 -- a round before others

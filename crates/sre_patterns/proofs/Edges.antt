@@ -3,27 +3,23 @@
 use Rattle.sre_patterns.proofs.Terms.{◌≡◌, ℕ, zero, suc, ◌+◌, ◌-◌, ◌<◌, ◌≤◌, Bool, true, false, cond, not, ◌&&◌, ◌||◌}
 use Rattle.sre_patterns.proofs.Terms.{nat_eq, nat_lt, List, length, Option, None, Some, slice_get, refl, sym, ap, ap₂}
 use Rattle.sre_patterns.proofs.Terms.{◌∙◌, subst, inl, inr, arith, slice_index, and_parts, cases_lt, nat_tests}
-use Rattle.sre_patterns.proofs.Terms.{slice_get_past, slice_get-get_or, look, Look, char_at_fits, Table, SreAtCode, At}
-use Rattle.sre_patterns.proofs.Terms.{Subject, char_at, holds_at, View, CoversItem, InBytes, InUtf8, exact_look}
-use Rattle.sre_patterns.proofs.Terms.{len_utf8_bounds, len_utf8}
-use Rattle.std.proofs.Common.{◌==◌}
-use Rattle.std.proofs.Common.{is_some}
+use Rattle.sre_patterns.proofs.Terms.{slice_get_past, slice_get-get_or, look, Look, Table, SreAtCode, At, Subject}
+use Rattle.sre_patterns.proofs.Terms.{char_at, holds_at, View, CoversItem, InBytes, InUtf8, exact_look, len_utf8_bounds}
+use Rattle.sre_patterns.proofs.Terms.{len_utf8, look_of, in_ascii, after, is_boundary, is_on_nothing, bars_non_boundary}
+use Rattle.regex_hir.proofs.TextLemmas.{char_at_fits, byte_before-zero, byte_before-add-one}
+use Rattle.std.proofs.Common.{◌==◌, is_some}
 use Rattle.ucd_perl.specs.Perl.{is_word_byte}
-use Rattle.regex_hir.specs.Text as bytes
-use Rattle.regex_hir.specs.Looks as looks
 use Rattle.regex_hir.specs.declared.look.Look.TheVariants.{EndLf, WordAsciiNegate}
-use Rattle.regex_hir.proofs.TextLemmas.{byte_before-zero, byte_before-add-one}
 use Rattle.sre_chars.specs.Tables.{is_ascii_alphanumeric, is_scalar, is_in_ranges}
 use Rattle.sre_chars.specs.Categories.{is_word, is_unicode_word, is_linebreak}
 use Rattle.sre_chars.specs.declared.constants.SreAtCode.TheVariants.{BEGINNING, BEGINNING_LINE, BEGINNING_STRING}
 use Rattle.sre_chars.specs.declared.constants.SreAtCode.TheVariants.{BOUNDARY, NON_BOUNDARY, END, END_LINE, END_STRING}
 use Rattle.sre_chars.specs.declared.constants.SreAtCode.TheVariants.{LOC_BOUNDARY, LOC_NON_BOUNDARY, UNI_BOUNDARY}
 use Rattle.sre_chars.specs.declared.constants.SreAtCode.TheVariants.{UNI_NON_BOUNDARY}
-use Rattle.sre_model.specs.Subject.{after, is_boundary, is_on_nothing}
-use Rattle.sre_model.specs.Subject.{bars_non_boundary}
-use Rattle.sre_patterns.specs.Looks.{look_of, in_ascii}
 use Rattle.sre_patterns.proofs.Composed.{covers-position}
 use Rattle.regex_hir.proofs.Utf8Lemmas.{char_at_cases}
+use Rattle.regex_hir.specs.Text as bytes
+use Rattle.regex_hir.specs.Looks as looks
 
 -- a byte at an edge of a character: an ASCII character itself, and no ASCII byte else
 pub record Alike (b c : ℕ) : Type 0 where
@@ -66,10 +62,10 @@ line = ((λ c l. refl), (λ b c k l. grind (arith, nat_tests)))
 word : Agree is_word_byte is_word
 word = ((λ c l. grind (arith, nat_tests)), (λ b c k l. grind (arith, nat_tests)))
 
-tested : {c : ℕ} {o : Option ℕ} {x : Bool} (T U : ℕ → Bool) → Agree T U → Beside c o x
+tested : {c : ℕ} {o : Option ℕ} {x : Bool} {T U : ℕ → Bool} → Agree T U → Beside c o x
     → bytes.is_some_and o T ≡ (x && U c)
-tested T U g nothing = refl
-tested {c = c} T U g (something b a) = elim (cases_lt c 128) [
+tested g nothing = refl
+tested {c = c} {T = T} g (something b a) = elim (cases_lt c 128) [
   | (inl low) ↦ ap T (a.ascii low) ∙ g.0 c low
   | (inr high) ↦ g.1 b c (a.other high) high
 ]
@@ -110,8 +106,7 @@ module _ (s : Subject) (hay : List ℕ) (off : ℕ → ℕ) (v : Sided s hay off
       (not (bytes.is_some_and (slice_get hay (off p)) is_word_byte))
       (bytes.is_some_and (slice_get hay (off p)) is_word_byte) ≡ is_boundary s is_word p
   boundary p l =
-      ap₂ (λ x y. cond x (not y) y) (tested is_word_byte is_word word (before-beside p l))
-      (tested is_word_byte is_word word (after-beside p l))
+      ap₂ (λ x y. cond x (not y) y) (tested word (before-beside p l)) (tested word (after-beside p l))
 
   -- on nothing no boundary is anyway
   some-boundary : (T : ℕ → Bool) (p : ℕ) → is_boundary s T p ≡ (not (is_on_nothing s p) && is_boundary s T p)
@@ -125,12 +120,10 @@ module _ (s : Subject) (hay : List ℕ) (off : ℕ → ℕ) (v : Sided s hay off
   agrees : (a : SreAtCode) → Agrees a (exact_look a)
   unfolding looks.holds looks.holds_between
   agrees BEGINNING = starts
-  agrees BEGINNING_LINE =
-      λ p l. ap₂ (λ x y. x || y) (starts p l) (tested (λ b. b == 10) is_linebreak line (before-beside p l))
+  agrees BEGINNING_LINE = λ p l. ap₂ (λ x y. x || y) (starts p l) (tested line (before-beside p l))
   agrees BEGINNING_STRING = starts
   agrees BOUNDARY = λ p l. boundary p l ∙ some-boundary is_word p
-  agrees END_LINE =
-      λ p l. ap₂ (λ x y. x || y) (ends p l) (tested (λ b. b == 10) is_linebreak line (after-beside p l))
+  agrees END_LINE = λ p l. ap₂ (λ x y. x || y) (ends p l) (tested line (after-beside p l))
   agrees END_STRING = ends
   agrees LOC_BOUNDARY = λ p l. boundary p l ∙ some-boundary is_word p
   agrees a = tt
@@ -251,11 +244,9 @@ utf8-sided s hay off v = record {
             ascii = λ l.
                 let at : k ≡ off p = omega (arith, from, to, all.one l) in
                 ap (slice_index hay) at ∙ (all.one l).1;
-            other = λ l. elim (cases_lt (off p) k) [
-              | (inl after) ↦ (all.later k after to).0
-              | (inr at) ↦
-                  let same : k ≡ off p = omega (arith, from, at) in
-                  omega (arith, all.first l, ap (slice_index hay) same)
-            ];
+            other = λ l.
+                let same : k ≡ off p → slice_index hay k ≡ slice_index hay (off p) = λ e. ap (slice_index hay) e in
+                let later : off p < k → 128 ≤ slice_index hay k = λ h. (all.later k h to).0 in
+                let high = all.first l in grind arith;
           },
         )

@@ -1,8 +1,7 @@
 -- Patterns for starts alone: where the pattern has no match the tree has no match path.
 use Rattle.sre_patterns.proofs.Terms.{◌≡◌, ℕ, List, [], ◌∷◌, ◌++◌, refl, ap₂, flat_map, AllByRecursion, Re, empty, cat}
 use Rattle.sre_patterns.proofs.Terms.{Matches, Table, Tree, Then, Item, Subject, Way, Body, ways, item_ways, Leads}
-use Rattle.sre_patterns.proofs.Terms.{IsWider, Along, View, Covers, CoversItem, CoversStart}
-use Rattle.sre_patterns.specs.Covers.{Fronts}
+use Rattle.sre_patterns.proofs.Terms.{IsWider, Along, View, Covers, CoversItem, CoversStart, Fronts}
 use Rattle.sre_patterns.proofs.Composed.{Leg}
 
 module _ (s : Subject) (hay : List ℕ) (off : ℕ → ℕ) where

@@ -1,22 +1,16 @@
--- An exact pattern tries the match paths of its tree in their order, so its first match is their first, and it has a
--- match along each of them.
+-- An exact pattern tries the match paths of its tree in their order, so its first match is their first.
 use Rattle.sre_patterns.proofs.Terms.{◌≡◌, ℕ, zero, suc, ◌+◌, ◌-◌, ◌<◌, ◌≤◌, Bool, true, false, cond, ◌&&◌, ◌||◌}
 use Rattle.sre_patterns.proofs.Terms.{nat_lt, nat_eq, List, [], ◌∷◌, ◌++◌, Option, Some, None, refl, sym, ap, ap₂, ◌∙◌}
-use Rattle.sre_patterns.proofs.Terms.{arith, subst, flat_map, AllByRecursion, option_or, nat_tests, Re, cat, plus}
-use Rattle.sre_patterns.proofs.Terms.{Trace, accept, optional, copies, up_to, at_least, option_or-None, attempt_sound}
-use Rattle.sre_patterns.proofs.Terms.{holds, Order, Greedy, Lazy, One, Test, Marks, Subject, char_at, Way, Body, here}
-use Rattle.sre_patterns.proofs.Terms.{unlimited, ordered, loop_ways, item_ways, loop_from, each-weaken, Between}
-use Rattle.sre_patterns.proofs.Terms.{Bounded, loop-below-all, loop-beyond-all, loop-ways, is_greedy, Matches}
-use Rattle.std.proofs.lemmas.Bool.{cond-true}
+use Rattle.sre_patterns.proofs.Terms.{arith, flat_map, AllByRecursion, nat_tests, Re, cat, plus, holds, Order, Greedy}
+use Rattle.sre_patterns.proofs.Terms.{Lazy, One, Test, Marks, Subject, char_at, Way, Body, here, unlimited, ordered}
+use Rattle.sre_patterns.proofs.Terms.{loop_ways, item_ways, loop_from, Between, Bounded, is_greedy, cond-true}
+use Rattle.sre_patterns.proofs.Terms.{may_repeat, each-both, IsMinLen, none-some, option_or, Trace, accept}
 use Rattle.regex_hir.specs.Re.{Rest, prefer, more_rounds, attempt}
-use Rattle.regex_hir.specs.Meaning.{repeat}
-use Rattle.regex_hir.proofs.OptionLemmas.{option_or_assoc}
-use Rattle.regex_hir.proofs.AttemptLemmas.{more_rounds_unfold, cond_some}
-use Rattle.sre_model.specs.Ways.{may_repeat}
-use Rattle.sre_model.proofs.Each.{each-both}
-use Rattle.sre_model.proofs.LoopCases.{alone}
+use Rattle.sre_model.proofs.LoopCases.{loop-below-all, loop-beyond-all, loop-ways, alone}
+use Rattle.regex_hir.proofs.AttemptLemmas.{more_rounds_unfold, attempt_cong_after}
+use Rattle.regex_hir.specs.Meaning.{optional, copies, up_to, at_least, repeat}
+use Rattle.regex_hir.proofs.OptionLemmas.{option_or-None, option_or_assoc, option_or_none}
 use Rattle.sre_patterns.specs.Exact as exact
-use Rattle.regex_hir.specs.Matches.{IsMinLen}
 
 -- the last body began before here
 abbrev pub Passed : Option ℕ → ℕ → Type 0
@@ -234,56 +228,30 @@ module _ (s : Subject) (hay : List ℕ) (off : ℕ → ℕ) where
       its [] = refl
       its (w ∷ ws) = refl
 
--- what follows goes on at one place alone
-only_at : ℕ → Rest
-only_at j i = cond (nat_eq i j) (Some (record { end = j; writes = [] })) None
+  -- what goes on at one place alone
+  abbrev only_at : ℕ → Rest
+  only_at j i = cond (nat_eq i j) (Some (record { end = i; writes = [] })) None
 
-module _ (s : Subject) (hay : List ℕ) (off : ℕ → ℕ) (re : Re) (body : Body) (x : exact.Exact s hay off re body) where
-  -- some trace comes of what is tried
-  abbrev Comes : ℕ → List Way → Type 0
-  Comes j ws = (t : Trace) × (exact.tried off (only_at j) ws ≡ Some t)
-
-  comes-here : (w : Way) (ws : List Way) → Comes (off w.stop) (w ∷ ws)
-  unfolding only_at
-  comes-here w ws =
-      let t : Trace = record { end = off w.stop; writes = [] } in
-      let same : nat_eq (off w.stop) (off w.stop) ≡ true = grind (arith, nat_tests) in
-      (t, ap (λ b. option_or (cond b (Some t) None) (exact.tried off (only_at (off w.stop)) ws)) same)
-
-  comes-later : (j : ℕ) (w : Way) (ws : List Way) → Comes j ws → Comes j (w ∷ ws)
-  comes-later j w ws c = by_first (only_at j (off w.stop))
+  -- where each match reads a byte, each way moves on: what goes on at the start alone is never reached
+  pub exact-moves : (re : Re) (body : Body) → Exact re body → IsMinLen re 1 → Bounded s body → (p : ℕ) (m : Marks)
+      → p ≤ s.end → AllByRecursion (λ w. p < w.stop) (body p m)
+  exact-moves re body x least b p m h =
+      each (body p m) (b p m h)
+      (sym (x (only_at (off p)) p m h)
+      ∙ attempt_cong_after hay re (only_at (off p)) (λ _. None) (off p) least (λ j l u. grind (arith, nat_tests))
+      ∙ x (λ _. None) p m h
+      ∙ nothing (body p m))
     where
-      by_first : (o : Option Trace) → (t : Trace) × (option_or o (exact.tried off (only_at j) ws) ≡ Some t)
-      by_first None = c
-      by_first (Some t) = (t, refl)
+      nothing : (ws : List Way) → tried (λ _. None) ws ≡ None
+      nothing [] = refl
+      nothing (w ∷ ws) = nothing ws
 
-  -- where the pattern goes on to a place, it has a match up to there
-  comes-from : (p : ℕ) (m : Marks) (j : ℕ) → p ≤ s.end → Comes j (body p m) → Matches hay re (off p) j
-  unfolding only_at
-  comes-from p m j h c =
-      let e : attempt hay re (only_at j) (off p) ≡ Some c.0 = x (only_at j) p m h ∙ c.1 in
-      let k = attempt_sound hay re (only_at j) (off p) c.0 e in
-      let there = cond_some (nat_eq k.at j) (Some (record { end = j; writes = [] })) k.rest k.gave in
-      let same : k.at ≡ j = grind (arith, nat_tests, there.0) in
-      subst (λ i. Matches hay re (off p) i) same k.leads
+      moved : (w : Way) → Between s p w → only_at (off p) (off w.stop) ≡ None → p < w.stop
+      moved w b e = let same : w.stop ≡ p → off w.stop ≡ off p = λ i. ap off i in grind (arith, nat_tests, none-some)
 
-  each : (p : ℕ) (ws : List Way) → ((j : ℕ) → Comes j ws → Matches hay re (off p) j)
-      → AllByRecursion (λ w. Matches hay re (off p) (off w.stop)) ws
-  each p [] f = tt
-  each p (w ∷ ws) f = (f (off w.stop) (comes-here w ws), each p ws (λ j c. f j (comes-later j w ws c)))
-
-  pub exact-leads : (p : ℕ) (m : Marks) → p ≤ s.end
-      → AllByRecursion (λ w. Matches hay re (off p) (off w.stop)) (body p m)
-  exact-leads p m h = each p (body p m) (λ j c. comes-from p m j h c)
-
-  -- where each match reads a byte, each way moves on
-  pub exact-moves : IsMinLen re 1 → Bounded s body → (p : ℕ) (m : Marks) → p ≤ s.end
-      → AllByRecursion (λ w. p < w.stop) (body p m)
-  unfolding IsMinLen
-  exact-moves least b p m h =
-      each-weaken (λ w. Between s p w × Matches hay re (off p) (off w.stop)) (λ w. p < w.stop)
-      (λ w f. moves w f.0 (least hay (off p) (off w.stop) f.1)) (body p m)
-      (each-both (Between s p) (λ w. Matches hay re (off p) (off w.stop)) (body p m) (b p m h) (exact-leads p m h))
-    where
-      moves : (w : Way) → Between s p w → off p + 1 ≤ off w.stop → p < w.stop
-      moves w b l = let same : p ≡ w.stop → off p ≡ off w.stop = λ e. ap off e in grind arith
+      each : (ws : List Way) → AllByRecursion (Between s p) ws → tried (only_at (off p)) ws ≡ None
+          → AllByRecursion (λ w. p < w.stop) ws
+      each [] b e = tt
+      each (w ∷ ws) b e =
+          let parts = option_or_none (only_at (off p) (off w.stop)) (tried (only_at (off p)) ws) e in
+          (moved w b.0 parts.0, each ws b.1 parts.1)

@@ -1,22 +1,16 @@
 -- What is read at an address, by its opcode: the item has a property if all items of this form have it.
-use Rattle.std.proofs.Common.{◌≡◌, ℕ, ◌+◌, ◌-◌, ◌<◌, ◌≤◌, ◌⊎◌, List, length, refl, sym, ap, ◌∙◌, subst, inl, inr}
-use Rattle.std.proofs.Common.{arith, ⊎_elim, Option, Some, None}
-use Rattle.std.proofs.lemmas.Bool.{cases_lt}
-use Rattle.sre_chars.specs.declared.constants.SreOpcode.{SreOpcode}
-use Rattle.sre_chars.specs.declared.constants.SreOpcode.TheVariants as opcode
-use Rattle.sre_model.specs.Tree.{Tree, Item, One, Mark, Loop, Run, PossessiveLoop, Atomic, Look}
-use Rattle.sre_model.specs.Tree.{Reference, Test, Order, RunKind, Sign, Fold, GreedyRun, LazyRun, PossessiveRun}
-use Rattle.sre_model.specs.Tree.{Positive, Negative}
-use Rattle.sre_model.specs.Roles.{role, ToMark, ToRun, ToRepeat, ToRepeatPossessively}
-use Rattle.sre_model.specs.Roles.{ToLook, ToRefer}
-use Rattle.sre_model.specs.Grammar.{Word, word, skip, Opcode, item_opcode, until_opcode, Reads, ReadsItem}
-use Rattle.sre_model.specs.Standing.{HasTest, TestStands}
-use Rattle.sre_model.proofs.Families.{role_here, test_here, is_one, is_mark, is_loop, is_run}
-use Rattle.sre_model.proofs.Families.{is_possessive, is_look, is_reference}
+use Rattle.sre_patterns.proofs.Terms.{◌≡◌, ℕ, ◌+◌, ◌-◌, ◌<◌, ◌≤◌, ◌⊎◌, List, length, refl, sym, ap, ◌∙◌, subst, inl}
+use Rattle.sre_patterns.proofs.Terms.{inr, arith, ⊎_elim, Option, Some, None, cases_lt, SreOpcode, Tree, Item, One}
+use Rattle.sre_patterns.proofs.Terms.{Mark, Loop, Run, Test, Order, RunKind, Sign, Word, word, skip, Opcode, Reads}
+use Rattle.sre_patterns.proofs.Terms.{ReadsItem, HasTest, TestStands, role_here, Atomic, Negative, item_opcode}
+use Rattle.sre_patterns.proofs.Terms.{until_opcode, item_same}
+use Rattle.sre_patterns.specs.Patterns.{HasItems, AtItem, HasItem, HasRun, HasAtomic, HasLoop}
+use Rattle.sre_model.specs.Tree.{Reference, Fold, PossessiveLoop, Look, GreedyRun, LazyRun, PossessiveRun, Positive}
+use Rattle.sre_model.specs.Roles.{role, ToRun, ToMark, ToRepeat, ToRepeatPossessively, ToLook, ToRefer}
 use Rattle.sre_model.proofs.Words.{same_word, opcode_within, word_within, word_past}
 use Rattle.sre_model.proofs.Places.{reads_within}
-use Rattle.sre_model.proofs.Unique.{item_same}
-use Rattle.sre_patterns.specs.Patterns.{AtItem, HasItem, HasItems, HasRun, HasAtomic, HasLoop}
+use Rattle.sre_model.proofs.Families.{test_here, is_one, is_mark, is_loop, is_run, is_possessive, is_look, is_reference}
+use Rattle.sre_chars.specs.declared.constants.SreOpcode.TheVariants as opcode
 
 -- items whose end is known
 pub items-to : (ws : List ℕ) (i j e : ℕ) (t : Tree) → Reads ws i j t → j ≡ e → HasItems ws i e
@@ -44,16 +38,14 @@ LoopAt ws i j x =
     × Opcode ws (skip ws (i + 1)) (end_of k) × (j ≡ skip ws (i + 1) + 1)
 
 loop-at : (ws : List ℕ) (i : ℕ) (h : HasLoop ws i) (j : ℕ) (x : Item) → ReadsItem ws i j x → LoopAt ws i j x
-loop-at ws i h j x r = go h.is
-  where
-    go : (role (item_opcode h.item) ≡ ToRepeat) ⊎ (role (item_opcode h.item) ≡ ToRepeatPossessively)
-        → LoopAt ws i j x
-    go (inl e) =
-        let f = is_loop ws i j x (role_here ws i (item_opcode h.item) ToRepeat h.reads.0 e) r in
-        let o = f.5.1 in (Some f.0, f.1, f.2, f.3, f.4, o.0, o.1, o.2, o.3, o.4, o.5)
-    go (inr e) =
-        let f = is_possessive ws i j x (role_here ws i (item_opcode h.item) ToRepeatPossessively h.reads.0 e) r in
-        let o = f.4.1 in (None, f.0, f.1, f.2, f.3, o.0, o.1, o.2, o.3, o.4, o.5)
+loop-at ws i h j x r = elim h.is [
+  | (inl e) ↦
+      let f = is_loop ws i j x (role_here ws i (item_opcode h.item) ToRepeat h.reads.0 e) r in
+      let o = f.5.1 in (Some f.0, f.1, f.2, f.3, f.4, o.0, o.1, o.2, o.3, o.4, o.5)
+  | (inr e) ↦
+      let f = is_possessive ws i j x (role_here ws i (item_opcode h.item) ToRepeatPossessively h.reads.0 e) r in
+      let o = f.4.1 in (None, f.0, f.1, f.2, f.3, o.0, o.1, o.2, o.3, o.4, o.5)
+]
 
 -- what stands in a loop
 pub record LoopRead (ws : List ℕ) (i : ℕ) : Type 0 where
@@ -72,13 +64,13 @@ loop-read ws i h =
       counts = word_within ws (i + 3) f.2 f.6;
     }
 
--- what stands in a body that is not entered again
-pub record AtomicRead (ws : List ℕ) (i : ℕ) : Type 0 where
-  pub items : HasItems ws (i + 2) (skip ws (i + 1) - 1)
-  pub within : i + 1 < length ws
-  pub long : i + 3 ≤ skip ws (i + 1)
+-- what stands in a part of an item, and that the word which tells where the part ends is there
+pub record PartRead (ws : List ℕ) (from to at : ℕ) : Type 0 where
+  pub items : HasItems ws from to
+  pub within : at < length ws
 
-pub atomic-read : (ws : List ℕ) (i : ℕ) → HasAtomic ws i → AtomicRead ws i
+-- the body of an atomic group
+pub atomic-read : (ws : List ℕ) (i : ℕ) → HasAtomic ws i → PartRead ws (i + 2) (skip ws (i + 1) - 1) (i + 1)
 atomic-read ws i h =
     let r = h.reads.1 in
     let order = reads_within h.body ws (i + 2) (h.end - 1) r.1 in
@@ -86,7 +78,6 @@ atomic-read ws i h =
     record {
       items = items-to ws (i + 2) (h.end - 1) (skip ws (i + 1) - 1) h.body r.1 (ap (λ n. n - 1) r.0);
       within = omega arith;
-      long = omega arith;
     }
 
 -- what opcodes that are read alike begin

@@ -3,9 +3,7 @@ pub mod Onto
 pub mod Serving
 pub mod Tests
 pub mod Items
-pub mod Sequences
-pub mod Branches
-pub mod Conditions
+pub mod Nested
 pub mod SettledTests
 pub mod OverBytes
 pub mod Composed
@@ -14,7 +12,6 @@ pub mod Edges
 pub mod Fronts
 pub mod InOrder
 pub mod RunsInOrder
-pub mod AtPlaces
 pub mod ExactTrees
 pub mod FirstFound
 pub mod AsciiSeen

@@ -23,9 +23,6 @@ cat-all (x ∷ xs) = ap (λ z. cat x z) (cat-all xs)
 pub empty-first : (b : Re) → IsWider (cat empty b) b
 empty-first b hay i j m = subst (λ l. Matches hay b l j) m.1 m.2
 
-pub alone : (a : Re) → IsWider (cat a empty) a
-alone a hay i j m = subst (λ l. Matches hay a i l) (sym m.2) m.1
-
 pub alt-last : (all : List Re) (a b : Re) → alt_onto (all ++ a ∷ []) b ≡ alt_onto all (alt a b)
 alt-last [] a b = refl
 alt-last (x ∷ xs) a b = ap (λ z. alt x z) (alt-last xs a b)

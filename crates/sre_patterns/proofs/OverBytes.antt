@@ -1,8 +1,7 @@
 -- Texts of bytes are seen as their bytes, and a class has each byte that passes.
 use Rattle.sre_patterns.proofs.Terms.{◌≡◌, ℕ, zero, suc, ◌+◌, ◌<◌, ◌≤◌, true, List, length, take, Some, refl, sym, ap}
 use Rattle.sre_patterns.proofs.Terms.{◌∙◌, arith, slice_get-get_or, get_or-take, length-take-le, in_ranges, byte_in}
-use Rattle.sre_patterns.proofs.Terms.{Table, Test, holds, Subject, char_at, InBytes, CoversTest}
-use Rattle.sre_patterns.specs.Covers.{place, read_bytes}
+use Rattle.sre_patterns.proofs.Terms.{Table, Test, holds, Subject, char_at, InBytes, CoversTest, place, read_bytes}
 use Rattle.sre_patterns.proofs.Composed.{covers-one}
 
 -- a text of bytes up to the window's end

@@ -1,20 +1,16 @@
 -- Texts of UTF-8 are seen as their bytes, in which each character is whole.
 use Rattle.sre_patterns.proofs.Terms.{◌≡◌, ℕ, zero, suc, ◌+◌, ◌<◌, ◌≤◌, true, refl, ap, sym, ◌∙◌, arith, List, [], ◌∷◌}
-use Rattle.sre_patterns.proofs.Terms.{◌++◌, length, take, drop, get_or, Some, drop-cons, and_parts, nat_tests}
-use Rattle.sre_patterns.proofs.Terms.{get_or-take, length-take-le, len_utf8_bounds, IsScalar, len_utf8, in_ranges}
-use Rattle.sre_patterns.proofs.Terms.{literal, char_in, cat, Matches, char_at_parts, has_bytes_at_from, Table, Test}
-use Rattle.sre_patterns.proofs.Terms.{Plain, Literal, holds, Subject, char_at, InUtf8, CoversTest}
-use Rattle.std.proofs.Common.{length-append}
-use Rattle.std.proofs.Math.Seq.{take-suc}
-use Rattle.std.proofs.lemmas.List.{take-take, append_assoc}
+use Rattle.sre_patterns.proofs.Terms.{◌++◌, length, take, drop, get_or, Some, and_parts, nat_tests, get_or-take}
+use Rattle.sre_patterns.proofs.Terms.{length-take-le, len_utf8_bounds, IsScalar, len_utf8, in_ranges, literal, char_in}
+use Rattle.sre_patterns.proofs.Terms.{cat, Matches, Table, Test, Plain, Literal, holds, Subject, char_at, InUtf8}
+use Rattle.sre_patterns.proofs.Terms.{CoversTest, length-append, take-take, append_assoc, encode_utf8, read_utf8}
+use Rattle.std.proofs.Math.Seq.{drop-cons, take-suc}
+use Rattle.regex_hir.proofs.TextLemmas.{char_at_parts, has_bytes_at_from, char_at_from, has_bytes_at_parts}
 use Rattle.std.proofs.lemmas.Str.{encodes-append, scalars-chars, chars_from_encodes, length-encode, IsUtf8-take}
 use Rattle.std.specs.Str.{chars, IsUtf8}
-use Rattle.std.specs.Char.{encode_utf8}
 use lib.Utf8.{scalars, scalar, encodes, encode}
-use Rattle.regex_hir.proofs.TextLemmas.{char_at_from, has_bytes_at_parts}
 use Rattle.sre_chars.specs.Texts.{offset_of}
 use Rattle.sre_chars.proofs.TextPlaces.{take_offset, drop_offset, offset_boundary}
-use Rattle.sre_patterns.specs.Covers.{read_utf8}
 use Rattle.sre_patterns.proofs.Composed.{covers-one}
 
 scalar-at : (cs : List ℕ) (p : ℕ) → scalars cs ≡ true → p < length cs → scalar (get_or cs p 0) ≡ true

@@ -3,10 +3,9 @@ use Rattle.sre_patterns.proofs.Terms.{◌≡◌, ℕ, zero, suc, ◌+◌, ◌-�
 use Rattle.sre_patterns.proofs.Terms.{nat_lt, nat_eq, List, [], ◌∷◌, ◌++◌, map, Option, Some, None, refl, sym, ap, ap₂}
 use Rattle.sre_patterns.proofs.Terms.{◌∙◌, arith, flat_map, nat_tests, Test, Order, Greedy, Lazy, One, Marks, Subject}
 use Rattle.sre_patterns.proofs.Terms.{passes, Way, Body, here, unlimited, ordered, loop_ways, item_ways, loop_from}
-use Rattle.sre_patterns.proofs.Terms.{item-bounded, loop-below-all, loop-beyond-all, loop-ways, kind_of}
-use Rattle.std.proofs.lemmas.List.{append-nil}
+use Rattle.sre_patterns.proofs.Terms.{item-bounded, kind_of, append-nil, longest_run-fits}
+use Rattle.sre_model.proofs.LoopCases.{loop-below-all, loop-beyond-all, loop-ways}
 use Rattle.sre_model.specs.Ways.{longest_run, rising, falling, counts, run_ways}
-use Rattle.sre_model.proofs.Bounds.{longest_run-fits}
 use Rattle.sre_model.proofs.Longest.{goes_on, longest_goes_on, longest_stops}
 use Rattle.sre_patterns.proofs.InOrder.{Passed, repeats}
 

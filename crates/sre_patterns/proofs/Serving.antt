@@ -1,18 +1,18 @@
 -- Patterns that serve a purpose for the parts of a tree, combined to one that serves it for the tree.
 use Rattle.sre_patterns.proofs.Terms.{◌≡◌, ℕ, ◌≤◌, ◌<◌, Bool, List, Option, Some, None, sym, ◌∙◌, subst, Re, look}
 use Rattle.sre_patterns.proofs.Terms.{IsMinLen, Look, Table, SreAtCode, SreOpcode, Tree, One, At, Run, Test, Order}
-use Rattle.sre_patterns.proofs.Terms.{RunKind, role, ToRun, Opcode, Subject, Body, unlimited, item_ways, View}
-use Rattle.sre_patterns.proofs.Terms.{CoversBody, ExactBody, Rises, AreKept, repeated, kind_of, Purpose, view_of}
-use Rattle.sre_patterns.proofs.Terms.{position_in, ServesBody, look_for, OnlyCovers}
+use Rattle.sre_patterns.proofs.Terms.{RunKind, Opcode, Subject, Body, unlimited, item_ways, View, CoversBody, ExactBody}
+use Rattle.sre_patterns.proofs.Terms.{Rises, AreKept, repeated, kind_of, Purpose, view_of, position_in, ServesBody}
+use Rattle.sre_patterns.proofs.Terms.{look_for, OnlyCovers}
+use Rattle.sre_model.specs.Roles.{role, ToRun}
 use Rattle.sre_patterns.proofs.Composed.{Composes, covers-parts, covers-wider, covers-run, covers-loop}
 use Rattle.sre_patterns.proofs.Edges.{covers-look_of}
 use Rattle.sre_patterns.proofs.ExactTrees.{exact-parts, exact-run, exact-loop, exact-at}
 use Rattle.sre_patterns.specs.declared.encoding.Encoding.{Encoding}
-use Rattle.sre_patterns.specs.declared.task.Purpose.TheVariants as purpose
-use Rattle.sre_patterns.specs.Purposes.{ServesFor, Replaces, WhenInOrder, RunsSo}
-use Rattle.sre_patterns.specs.Purposes.{LoopsSo}
+use Rattle.sre_patterns.specs.Purposes.{ServesFor, Replaces, WhenInOrder, RunsSo, LoopsSo}
 use Rattle.sre_patterns.proofs.Items.{loop_of, end_of}
 use Rattle.sre_patterns.proofs.SidesSeen.{sided, alike}
+use Rattle.sre_patterns.specs.declared.task.Purpose.TheVariants as purpose
 
 module _ (V : View) (table : Table) where
   pub serves-parts : (u : Purpose) → Composes (ServesBody u V table)

@@ -1,19 +1,16 @@
 -- From which character on categories, sets and tests give one answer.
 use Rattle.sre_patterns.proofs.Terms.{◌≡◌, ℕ, ◌+◌, ◌<◌, ◌≤◌, Bool, false, not, ◌&&◌, cond, nat_eq, nat_lt, List, refl}
 use Rattle.sre_patterns.proofs.Terms.{sym, ap, ap₂, ◌∙◌, arith, nat_tests, Table, Word, word, Opcode, slice_get-get_or}
-use Rattle.std.proofs.Common.{slice_range}
+use Rattle.sre_patterns.proofs.Terms.{slice_range, category_number, Charset, set_same}
 use Rattle.sre_chars.specs.Categories.{category}
-use Rattle.sre_chars.specs.Numbers.{category_number}
 use Rattle.sre_chars.specs.Tables.{ascii_table, is_between}
 use Rattle.sre_chars.specs.declared.constants.SreCatCode.{SreCatCode}
-use Rattle.sre_chars.specs.declared.constants.SreOpcode.TheVariants as opcode
-use Rattle.sre_model.specs.Tree.{Charset}
 use Rattle.sre_model.specs.Characters.{item_holds, bit_of, verdict}
 use Rattle.sre_model.specs.Standing.{HasSet, ItemSays}
 use Rattle.sre_model.proofs.Members.{single_room, charset_room, category_there, range_room, single_says, range_says}
 use Rattle.sre_model.proofs.Members.{category_says, charset_says, negated, nothing_left}
-use Rattle.sre_model.proofs.Unique.{set_same}
 use Rattle.sre_patterns.specs.Settling.{SettledFrom, SettledSet, SettlesBehind}
+use Rattle.sre_chars.specs.declared.constants.SreOpcode.TheVariants as opcode
 
 -- a test that is false from a number on answers alike from there, and so does its opposite
 none-past : (from : ℕ) (test : ℕ → Bool) → ((c : ℕ) → from ≤ c → test c ≡ false) → SettledFrom from test

@@ -1,7 +1,6 @@
 -- Positions in each kind of text: what is on both sides of them, which of them hold equally, and their order.
 use Rattle.sre_patterns.proofs.Terms.{ℕ, List, refl, SreAtCode, Subject, Rises, view_of, position_in}
-use Rattle.sre_patterns.proofs.Edges.{Sided, HoldAlike, bytes-sided, ascii-alike}
-use Rattle.sre_patterns.proofs.Edges.{utf8-sided}
+use Rattle.sre_patterns.proofs.Edges.{Sided, HoldAlike, bytes-sided, ascii-alike, utf8-sided}
 use Rattle.sre_patterns.proofs.ExactTrees.{bytes-rise, utf8-rise}
 use Rattle.sre_patterns.specs.declared.encoding.Encoding as encoding_type
 use Rattle.sre_patterns.specs.declared.encoding.Encoding.TheVariants as encoding

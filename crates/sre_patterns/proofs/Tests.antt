@@ -1,22 +1,21 @@
 -- Classes that have what a test takes, or just that.
 use Rattle.sre_patterns.proofs.Terms.{◌≡◌, ℕ, ◌+◌, ◌<◌, ◌≤◌, Bool, true, List, [], ◌∷◌, ◌++◌, sym, ap, ◌∙◌, arith, drop}
-use Rattle.sre_patterns.proofs.Terms.{get_or, suc, false, ◌&&◌, nat_lt, refl, nat_tests, IsScalar, drop-cons, literal}
-use Rattle.sre_patterns.proofs.Terms.{byte_in, char_in, has_bytes_at_from, Table, Word, Opcode, TestStands, char_at}
-use Rattle.sre_patterns.proofs.Terms.{Test, Literal, Plain, One, same_word, CoversTest, InBytes, InUtf8, HasJust, holds}
-use Rattle.sre_patterns.proofs.Terms.{item_ways, Purpose, ServesBody}
+use Rattle.sre_patterns.proofs.Terms.{get_or, suc, false, ◌&&◌, nat_lt, refl, nat_tests, IsScalar, literal, byte_in}
+use Rattle.sre_patterns.proofs.Terms.{char_in, Table, Word, Opcode, TestStands, char_at, Test, Literal, Plain, One}
+use Rattle.sre_patterns.proofs.Terms.{CoversTest, InBytes, InUtf8, HasJust, holds, item_ways, Purpose, ServesBody}
+use Rattle.sre_patterns.proofs.Terms.{HasBelow, HasFor, test_opcode, TestOperands}
+use Rattle.std.proofs.Math.Seq.{drop-cons}
+use Rattle.regex_hir.proofs.TextLemmas.{has_bytes_at_from}
+use Rattle.sre_model.proofs.Words.{same_word, same_opcode}
 use Rattle.std.proofs.lemmas.Option.{get_or_from_slice_get, slice_get_within}
 use Rattle.regex_class.specs.Ranges.{in_range, in_ranges, HasExactly}
 use Rattle.regex_class.proofs.RangesLemmas.{in_ranges-push}
-use Rattle.sre_chars.specs.declared.constants.SreOpcode.TheVariants as opcode
-use Rattle.sre_model.specs.Grammar.{test_opcode, TestOperands}
-use Rattle.sre_model.proofs.Words.{same_opcode}
 use Rattle.sre_patterns.proofs.Composed.{covers-one}
-use Rattle.sre_patterns.specs.Patterns.{HasBelow}
 use Rattle.sre_patterns.proofs.ExactTrees.{bytes-exact, chars-exact}
-use Rattle.sre_patterns.specs.declared.task.Purpose.TheVariants as purpose
-use Rattle.sre_patterns.specs.Purposes.{HasFor}
 use Rattle.sre_patterns.proofs.OverBytes.{bytes-take}
 use Rattle.sre_patterns.proofs.OverUtf8.{utf8-take}
+use Rattle.sre_chars.specs.declared.constants.SreOpcode.TheVariants as opcode
+use Rattle.sre_patterns.specs.declared.task.Purpose.TheVariants as purpose
 
 pub scalar-most : (c : ℕ) → IsScalar c → c ≤ 1114111
 scalar-most c s = grind (arith, nat_tests)

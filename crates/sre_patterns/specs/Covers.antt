@@ -1,12 +1,11 @@
 -- When a pattern of bytes has a match wherever a tree has a match path.
 use Rattle.sre_patterns.specs.Terms.{ℕ, ◌≡◌, ◌+◌, ◌≤◌, ◌<◌, List, [], length, Some, Re, Matches, Table, Tree, Item, One}
-use Rattle.sre_patterns.specs.Terms.{Test, Marks, Subject, Body, ways, item_ways}
-use Rattle.std.specs.Prelude.{take, slice_get}
+use Rattle.sre_patterns.specs.Terms.{Test, Subject, Body, ways, item_ways, take, slice_get, char_at}
+use Rattle.sre_model.specs.Marks.{Marks}
 use Rattle.std.specs.List.{AllByRecursion}
 use Rattle.std.specs.Char.{len_utf8}
-use Rattle.regex_hir.specs.Text as bytes
 use Rattle.sre_chars.specs.Texts.{offset_of}
-use Rattle.sre_model.specs.Subject.{char_at}
+use Rattle.regex_hir.specs.Text as bytes
 
 -- the pattern leads from one position of the text to another, where `off` tells at which byte a position stands
 abbrev pub Leads : List ℕ → (ℕ → ℕ) → Re → ℕ → ℕ → Type 0

@@ -1,9 +1,8 @@
 -- When a pattern of bytes tries the match paths of a tree in their order.
 use Rattle.sre_patterns.specs.Terms.{ℕ, ◌≡◌, ◌<◌, ◌≤◌, ◌⊎◌, List, [], ◌∷◌, Option, None, Re, Matches, Table, Tree, Item}
-use Rattle.sre_patterns.specs.Terms.{One, Test, Marks, Subject, Body, ways, item_ways}
+use Rattle.sre_patterns.specs.Terms.{One, Test, Subject, Body, ways, item_ways, Rest, Trace, attempt, Way, unlimited}
+use Rattle.sre_model.specs.Marks.{Marks}
 use Rattle.std.specs.Option.{option_or}
-use Rattle.regex_hir.specs.Re.{Rest, Trace, attempt}
-use Rattle.sre_model.specs.Ways.{Way, unlimited}
 use Rattle.sre_patterns.specs.Covers.{View}
 
 -- what follows, tried from the end of each of some ways in turn

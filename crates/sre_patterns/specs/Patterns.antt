@@ -1,14 +1,12 @@
 -- What is said of a pattern for the bytecode at an address.
 use Rattle.sre_patterns.specs.Terms.{ℕ, ◌≡◌, ◌<◌, ◌≤◌, ◌⊎◌, Bool, true, nat_lt, List, [], ◌∷◌, Re, cat, alt, Table}
-use Rattle.sre_patterns.specs.Terms.{SreOpcode, SreAtCode, Tree, Item, Test, RunKind, role, ToRun, Opcode, TestStands}
-use Rattle.std.specs.Prelude.{◌&&◌}
+use Rattle.sre_patterns.specs.Terms.{SreOpcode, SreAtCode, Tree, Item, Test, RunKind, Opcode, TestStands, ◌&&◌, Branch}
+use Rattle.sre_patterns.specs.Terms.{Run, Atomic, Trees, item_opcode, Reads, ReadsItem}
+use Rattle.sre_model.specs.Roles.{role, ToRun, ToRepeat, ToRepeatPossessively, ToCheckGroup}
 use Rattle.regex_class.specs.Ranges.{in_ranges}
-use Rattle.sre_chars.specs.declared.constants.SreOpcode.TheVariants as opcode
-use Rattle.sre_model.specs.Tree.{Branch, Run, Atomic, Trees}
-use Rattle.sre_model.specs.Roles.{ToRepeat, ToRepeatPossessively, ToCheckGroup}
-use Rattle.sre_model.specs.Grammar.{item_opcode, Reads, ReadsItem}
 use Rattle.sre_patterns.specs.Covers.{View, InBytes, InUtf8, CoversStart}
 use Rattle.sre_patterns.specs.Looks.{in_ascii}
+use Rattle.sre_chars.specs.declared.constants.SreOpcode.TheVariants as opcode
 use Rattle.sre_patterns.specs.declared.encoding.Encoding as encoding_type
 use Rattle.sre_patterns.specs.declared.encoding.Encoding.TheVariants as encoding
 

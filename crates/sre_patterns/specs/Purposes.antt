@@ -1,17 +1,16 @@
 -- What a pattern does for a tree, by its purpose.
 use Rattle.sre_patterns.specs.Terms.{ℕ, ◌≡◌, Bool, List, Option, Re, Look, Table, SreAtCode, SreOpcode, Tree, Item, One}
-use Rattle.sre_patterns.specs.Terms.{Test, Order, role, ToRun, Opcode, Subject, Body, ways, item_ways, uni_of}
-use Rattle.std.specs.Prelude.{⊤}
-use Rattle.sre_chars.specs.declared.constants.SreOpcode.TheVariants as opcode
-use Rattle.sre_model.specs.Grammar.{until_opcode}
+use Rattle.sre_patterns.specs.Terms.{Test, Order, Opcode, Subject, Body, ways, item_ways, uni_of, ⊤, until_opcode}
+use Rattle.sre_model.specs.Roles.{role, ToRun}
 use Rattle.sre_patterns.specs.Covers.{View, IsWider, CoversBody}
 use Rattle.sre_patterns.specs.Exact.{ExactBody}
 use Rattle.sre_patterns.specs.Looks.{look_of, exact_look}
 use Rattle.sre_patterns.specs.Repeated.{is_greedy, kind_of}
 use Rattle.sre_patterns.specs.declared.task.Purpose.{Purpose}
-use Rattle.sre_patterns.specs.declared.task.Purpose.TheVariants as purpose
 use Rattle.sre_patterns.specs.declared.task.Task.{Task}
 use Rattle.sre_patterns.specs.Patterns.{view_of, HasBelow, HasJust}
+use Rattle.sre_chars.specs.declared.constants.SreOpcode.TheVariants as opcode
+use Rattle.sre_patterns.specs.declared.task.Purpose.TheVariants as purpose
 
 -- it tries the match paths of a body in their order where that is the purpose, or else it covers them
 abbrev pub ServesBody : Purpose → View → Table → Re → (Subject → Body) → Type 0

@@ -1,7 +1,6 @@
 -- Repetitions, whose counts are preserved while they are small.
-use Rattle.sre_patterns.specs.Terms.{ℕ, Bool, true, Option, Some, None, nat_lt, Re, repeat, Order, RunKind}
-use Rattle.std.specs.Prelude.{min, false, ◌||◌, cond}
-use Rattle.sre_model.specs.Tree.{Greedy, Lazy, GreedyRun, LazyRun}
+use Rattle.sre_patterns.specs.Terms.{ℕ, Bool, true, Option, Some, None, nat_lt, Re, repeat, Order, RunKind, min, false}
+use Rattle.sre_patterns.specs.Terms.{◌||◌, cond, Greedy, Lazy, GreedyRun, LazyRun}
 
 -- the greatest count of a repetition, unless it or the least one is more than is kept
 abbrev pub most_kept : ℕ → ℕ → ℕ → Option ℕ

@@ -1,8 +1,5 @@
 -- From which character on a test, or a set, gives one answer.
-use Rattle.sre_patterns.specs.Terms.{ℕ, ◌≡◌, ◌≤◌, ◌<◌, Bool, List, Table, HasSet}
-use Rattle.sre_model.specs.Tree.{SetItem}
-use Rattle.sre_model.specs.Characters.{verdict}
-use Rattle.sre_model.specs.Standing.{SetStands}
+use Rattle.sre_patterns.specs.Terms.{ℕ, ◌≡◌, ◌≤◌, ◌<◌, Bool, List, Table, HasSet, SetItem, verdict, SetStands}
 
 -- from a number on a test has the same answer
 abbrev pub SettledFrom : ℕ → (ℕ → Bool) → Type 0

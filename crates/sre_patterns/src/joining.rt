@@ -1,7 +1,6 @@
 //! Concatenation and alternation of patterns.
 
-ghost use Rattle.sre_patterns.specs.Terms.{OnOk, IfOk, Re, cat, alt, empty, literal, meaning};
-ghost use Rattle.std.specs.Prelude.{map};
+ghost use Rattle.sre_patterns.specs.Terms.{OnOk, IfOk, Re, cat, alt, empty, literal, meaning, map};
 ghost use Rattle.sre_patterns.specs.Covers.{IsWider};
 ghost use Rattle.sre_patterns.specs.Patterns.{cat_onto};
 ghost use Rattle.sre_patterns.specs.Purposes.{Replaces};

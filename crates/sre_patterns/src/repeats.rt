@@ -1,11 +1,10 @@
 //! Repetitions, whose counts are exact up to a limit.
 
 ghost use Rattle.sre_patterns.specs.Terms.{◌≡◌, ◌≤◌, ◌+◌, ◌<◌, ◌^◌, IfOk, length, true, None, meaning, repeat, Word};
-ghost use Rattle.sre_patterns.specs.Terms.{items_of};
-ghost use Rattle.regex_hir.specs.Matches.{IsMinLen};
+ghost use Rattle.sre_patterns.specs.Terms.{items_of, IsMinLen};
 ghost use Rattle.sre_patterns.specs.Exact.{AreKept};
-ghost use Rattle.sre_patterns.specs.Repeated as repetitions;
 ghost use Rattle.sre_patterns.specs.Purposes.{WhenInOrder, RunsSo, LoopsSo};
+ghost use Rattle.sre_patterns.specs.Repeated as repetitions;
 
 use crate::fault::Fault;
 use crate::task::{Purpose, Task, only_covers};

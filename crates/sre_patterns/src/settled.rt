@@ -4,10 +4,8 @@
 //! decides: for case, and for Unicode's letters and digits.
 
 ghost use Rattle.sre_patterns.specs.Terms.{◌≡◌, ◌+◌, ℕ, Table, Test, Opcode, HasSet, HasTest, TestStands, holds};
-ghost use Rattle.sre_patterns.specs.Terms.{items_of, uni_of};
-ghost use Rattle.std.specs.Prelude.{IfSome};
+ghost use Rattle.sre_patterns.specs.Terms.{items_of, uni_of, IfSome, category_number};
 ghost use Rattle.sre_chars.specs.Categories.{category};
-ghost use Rattle.sre_chars.specs.Numbers.{category_number};
 ghost use Rattle.sre_patterns.specs.Settling.{SettledFrom, SettledSet, SettlesBehind};
 
 use sre_chars::constants::{SreCatCode, SreOpcode};

@@ -10,8 +10,8 @@ ghost use Rattle.sre_patterns.specs.Terms.{◌≡◌, IfOk, Some, meaning, empty
 ghost use Rattle.sre_model.specs.Grammar.{WholeItems};
 ghost use Rattle.sre_patterns.specs.Covers.{Covers, CoversStart};
 ghost use Rattle.sre_patterns.specs.Exact.{ExactTree};
-ghost use Rattle.sre_patterns.specs.Patterns.{view_of, HasItems, HasItem, AtItems, AtItem, CoversFrontAt};
-ghost use Rattle.sre_patterns.specs.Patterns.{HasRun, HasLoop, HasAtomic, HasCondition, HasBranch};
+ghost use Rattle.sre_patterns.specs.Patterns.{view_of, HasItems, HasItem, AtItems, AtItem, CoversFrontAt, HasRun};
+ghost use Rattle.sre_patterns.specs.Patterns.{HasLoop, HasAtomic, HasCondition, HasBranch};
 ghost use Rattle.sre_patterns.specs.Purposes.{Serves, ServesFor, ServesItem};
 
 use crate::classes::{anything, end_of_test, pattern_of};

@@ -1,9 +1,8 @@
 //! Reads code words where the tree determines what they are.
 
-ghost use Rattle.sre_patterns.specs.Terms.{◌≡◌, ◌+◌, ◌<◌, ◌^◌, length, Word, Opcode, HasTest, items_of};
-ghost use Rattle.sre_chars.specs.Numbers.{at_number};
-ghost use Rattle.sre_model.specs.Grammar as grammar;
+ghost use Rattle.sre_patterns.specs.Terms.{◌≡◌, ◌+◌, ◌<◌, ◌^◌, length, Word, Opcode, HasTest, items_of, at_number};
 ghost use Rattle.sre_patterns.specs.Patterns.{HasItem};
+ghost use Rattle.sre_model.specs.Grammar as grammar;
 
 use sre_chars::constants::{SreAtCode, SreOpcode};
 use sre_code::{Code, operands};

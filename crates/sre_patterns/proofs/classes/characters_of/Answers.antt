@@ -1,5 +1,4 @@
-use Rattle.sre_patterns.proofs.Tests.{below-on}
-use Rattle.sre_patterns.proofs.Tests.{just-below}
+use Rattle.sre_patterns.proofs.Tests.{below-on, just-below}
 use Rattle.sre_patterns.proofs.classes.characters_of.Goals as goal
 
 pub returns-then-from-le-NEAR : goal.returns-then-from-le-NEAR

@@ -1,4 +1,4 @@
-use Rattle.std.proofs.Common.{◌∙◌, sym, refl, arith}
+use Rattle.sre_patterns.proofs.Terms.{◌∙◌, sym, refl, arith}
 use Rattle.sre_patterns.proofs.Tests.{just-on, just-off}
 use Rattle.sre_patterns.proofs.classes.taken_and_on.Goals.{then-is_taken+in_ok-push, else-is_taken}
 use Rattle.sre_patterns.proofs.classes.taken_and_on.Goals as goal

@@ -1,6 +1,5 @@
 use Rattle.sre_patterns.proofs.Terms.{subst, Opcode, items_of, uni_of}
-use Rattle.sre_patterns.proofs.Tests.{plain-literal}
-use Rattle.sre_patterns.proofs.Tests.{just-literal, just-no_literal}
+use Rattle.sre_patterns.proofs.Tests.{plain-literal, just-literal, just-no_literal}
 use Rattle.sre_patterns.proofs.classes.taken_at.Goals.{then-value-bound+in_ok-push, else-value-bound}
 use Rattle.sre_patterns.proofs.classes.taken_at.Goals as goal
 

@@ -1,4 +1,4 @@
-use Rattle.sre_patterns.proofs.Terms.{◌∙◌, ◌≡◌, ◌+◌, refl, sym, subst, true, false, arith, holds, uni_of, HasJust}
+use Rattle.sre_patterns.proofs.Terms.{◌∙◌, ◌≡◌, ◌+◌, refl, sym, true, false, arith, holds, uni_of}
 use Rattle.sre_patterns.proofs.Tests.{just-begun, just-on, just-off, at-one}
 use Rattle.sre_patterns.proofs.classes.taken_below.Goals.{then-takes+in_ok-push, else-takes}
 use Rattle.sre_patterns.proofs.classes.taken_below.Goals as goal
@@ -22,5 +22,4 @@ loop-character-init c j t s = rw c.new-ranges.ensures.items (just-begun (holds (
 pub returns : goal.returns
 returns c j t s =
     let same : c.loop-character.character ≡ c.args.bound = omega arith in
-    subst (λ n. HasJust n (holds (uni_of c.args.task.now.code) t) c.loop-character.ranges.items) same
-    (c.loop-character.invariant j t s)
+    rw (← same) (c.loop-character.invariant j t s)

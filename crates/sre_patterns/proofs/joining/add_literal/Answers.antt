@@ -1,9 +1,7 @@
 use Rattle.sre_patterns.proofs.Terms.{◌≡◌, ◌++◌, ◌∷◌, [], List, ℕ, ap, ◌∙◌, sym, map, Re, literal, cat, meaning}
-use Rattle.sre_patterns.proofs.Terms.{cat_onto}
-use Rattle.std.proofs.Common.{Vec, Global}
-use Rattle.regex_hir.specs.declared.hir.Hir.TheVariants as hir
-use Rattle.regex_hir.proofs.MeaningLemmas.{meaning-Literal}
+use Rattle.sre_patterns.proofs.Terms.{cat_onto, Vec, Global, meaning-Literal}
 use Rattle.sre_patterns.proofs.Onto.{cat-wider, pushed, wider-same, literals-join}
+use Rattle.regex_hir.specs.declared.hir.Hir.TheVariants as hir
 use Rattle.sre_patterns.proofs.joining.add_literal.Goals as goal
 
 pub returns-in_ok-push-in-Some-Literal : goal.returns-in_ok-push-in-Some-Literal

@@ -1,5 +1,4 @@
-use Rattle.sre_patterns.proofs.Terms.{◌∙◌, sym, map, meaning}
-use Rattle.regex_hir.proofs.MeaningLemmas.{meaning-Concat}
+use Rattle.sre_patterns.proofs.Terms.{◌∙◌, sym, map, meaning, meaning-Concat}
 use Rattle.sre_patterns.proofs.Onto.{cat-all, wider-same}
 use Rattle.sre_patterns.proofs.joining.joined.Goals as goal
 

@@ -1,5 +1,4 @@
-use Rattle.sre_patterns.proofs.Terms.{arith, nat_tests, meaning}
-use Rattle.regex_hir.proofs.MatchesLemmas.{IsMinLen-le}
+use Rattle.sre_patterns.proofs.Terms.{arith, nat_tests, meaning, IsMinLen-le}
 use Rattle.sre_patterns.proofs.repeats.iterates.Goals as goal
 
 pub returns-in-InOrder : goal.returns-in-InOrder

@@ -1,4 +1,4 @@
-use Rattle.std.proofs.Common.{◌-◌, length}
+use Rattle.sre_patterns.proofs.Terms.{◌-◌, length}
 use Rattle.sre_patterns.proofs.SettledTests.{LeftSettled}
 use Rattle.sre_patterns.proofs.settled.settled_set.Given as goal
 

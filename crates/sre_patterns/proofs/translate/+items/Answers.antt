@@ -1,16 +1,15 @@
-use Rattle.sre_patterns.proofs.Terms.{◌+◌, ◌-◌, ◌∙◌, ap, sym, subst, [], ◌∷◌, map, length, ◌<◌, refl, arith, inl, inr}
-use Rattle.sre_patterns.proofs.Terms.{true, map-append, alt, meaning, meaning-Empty, meaning-Bytes, Fail, Word, Opcode}
-use Rattle.sre_patterns.proofs.Terms.{items_of, uni_of, IsWider, view_of, HasItems}
-use Rattle.regex_hir.proofs.MeaningLemmas.{meaning-Alternation}
+use Rattle.sre_patterns.proofs.Terms.{◌+◌, ◌-◌, ◌∙◌, ap, sym, subst, [], ◌∷◌, map, refl, arith, inl, inr, true}
+use Rattle.sre_patterns.proofs.Terms.{map-append, meaning, meaning-Empty, meaning-Bytes, Fail, Opcode, items_of, uni_of}
+use Rattle.sre_patterns.proofs.Terms.{view_of, meaning-Alternation}
 use Rattle.sre_patterns.proofs.Composed.{covers-atomic, covers-look, covers-reference}
 use Rattle.sre_patterns.proofs.Onto.{alt-all}
 use Rattle.sre_patterns.proofs.Items.{items-to, loop-read, atomic-read, at-item, marks, loops, atomics, looks}
 use Rattle.sre_patterns.proofs.Items.{references, run-kind, look-sign, refers, has-run}
 use Rattle.sre_patterns.proofs.Serving.{serves-parts, replaced, serves-loop, covered, serves-covered}
 use Rattle.sre_patterns.proofs.SidesSeen.{rises}
-use Rattle.sre_patterns.proofs.Sequences.{no-jump, item-long, word-next, item-next, more, ended}
-use Rattle.sre_patterns.proofs.Conditions.{condition-read, without, else-read, with-else}
-use Rattle.sre_patterns.proofs.Branches.{branch-begun, word-there, alternative-read, alternative, branches}
+use Rattle.sre_patterns.proofs.Nested.{no-jump, item-long, word-next, item-next, more, ended, condition-read, without}
+use Rattle.sre_patterns.proofs.Nested.{else-read, with-else, branch-begun, word-there, alternative-read, alternative}
+use Rattle.sre_patterns.proofs.Nested.{branches}
 use Rattle.sre_patterns.proofs.translate.+items.Goals.{sequence-else-each-test, sequence-then-each-test+then-word}
 use Rattle.sre_patterns.proofs.translate.+items.Goals as goal
 
@@ -44,8 +43,7 @@ sequence-returns t c =
     (λ x. replaced V (uni_of s.code) s.purpose _ _ _ c.joined.ensures) c.each.invariant
     (elim c.each-test.branch [
       | sequence-else-each-test w ↦ inl w.each-test.false
-      | sequence-then-each-test+then-word w ↦
-          inr (subst (Word (items_of s.code) c.each.place) w.if-word.true w.word.ensures.word)
+      | sequence-then-each-test+then-word w ↦ inr (rw w.if-word.true at w.word.ensures.word)
     ])
 
 pub item-run-requires : goal.item-run-requires
@@ -93,9 +91,7 @@ pub counted-counts_at-requires : goal.counted-counts_at-requires
 counted-counts_at-requires t c = (loop-read _ _ c.requires).counts
 
 pub counted-greedy_loop-requires : goal.counted-greedy_loop-requires
-counted-greedy_loop-requires t c =
-    subst (λ n. n < length (items_of c.args.task.now.code)) (sym c.skip-until.ensures.to)
-    (loop-read _ _ c.requires).until
+counted-greedy_loop-requires t c = rw c.skip-until.ensures.to (loop-read _ _ c.requires).until
 
 pub counted-sequence-requires : goal.counted-sequence-requires
 counted-sequence-requires t c =
@@ -117,11 +113,8 @@ pub atomic-skip-end-requires : goal.atomic-skip-end-requires
 atomic-skip-end-requires t c = (atomic-read _ _ c.requires).within
 
 pub atomic-sequence-requires : goal.atomic-sequence-requires
-atomic-sequence-requires t c = (
-  omega (arith, c.decreases),
-  subst (λ n. HasItems (items_of c.args.task.now.code) (c.args.place + 2) (n - 1)) (sym c.skip-end.ensures.to)
-      (atomic-read _ _ c.requires).items,
-)
+atomic-sequence-requires t c =
+    (omega (arith, c.decreases), rw c.skip-end.ensures.to (atomic-read _ _ c.requires).items)
 
 pub atomic-returns : goal.atomic-returns
 atomic-returns t c =
@@ -138,18 +131,13 @@ pub condition-skip-behind-requires : goal.condition-skip-behind-requires
 condition-skip-behind-requires t c = (condition-read _ _ c.requires).within
 
 pub condition-sequence-requires : goal.condition-sequence-requires
-condition-sequence-requires t c = (
-  omega (arith, c.decreases),
-  subst (λ n. HasItems (items_of c.args.task.now.code) (c.args.place + 3) n) (sym c.skip-behind.ensures.to)
-      (condition-read _ _ c.requires).items,
-)
+condition-sequence-requires t c =
+    (omega (arith, c.decreases), rw c.skip-behind.ensures.to (condition-read _ _ c.requires).items)
 
 pub condition-returns-then-stop-behind : goal.condition-returns-then-stop-behind
 condition-returns-then-stop-behind t c =
-    let whole = meaning c.in_ok-either.field-0 in
     without c.args.task.now _ _ c.requires c.in_ok-only_covers.ensures _ c.skip-behind.ensures.to _ _
-    c.in_ok-hir.ensures whole c.if-stop-behind.true
-    (subst (λ z. IsWider (alt (meaning c.in_ok-hir.field-0.hir) z) whole) meaning-Empty c.in_ok-either.ensures)
+    c.in_ok-hir.ensures _ c.if-stop-behind.true (rw meaning-Empty at c.in_ok-either.ensures)
 
 pub condition-skip-end-requires : goal.condition-skip-end-requires
 condition-skip-end-requires t c =
@@ -158,13 +146,10 @@ condition-skip-end-requires t c =
 
 pub condition-sequence-requires-2 : goal.condition-sequence-requires-2
 condition-sequence-requires-2 t c =
-    let s = c.args.task.now in
     let r =
-    else-read s _ _ c.requires c.in_ok-only_covers.ensures _ c.skip-behind.ensures.to _ _ c.in_ok-hir.ensures
-    c.if-stop-behind.false in (
-      omega (arith, c.decreases),
-      subst (λ n. HasItems (items_of s.code) c.skip-behind.result n) (sym c.skip-end.ensures.to) r.items,
-    )
+    else-read c.args.task.now _ _ c.requires c.in_ok-only_covers.ensures _ c.skip-behind.ensures.to _ _
+    c.in_ok-hir.ensures c.if-stop-behind.false in
+    (omega (arith, c.decreases), rw c.skip-end.ensures.to r.items)
 
 pub condition-returns : goal.condition-returns
 condition-returns t c =
@@ -177,31 +162,22 @@ branch-alternative-init t c =
     rw c.new-all.ensures.items (branch-begun c.args.task.now (items_of c.args.task.now.code) c.args.place c.requires)
 
 pub branch-word-long-requires : goal.branch-word-long-requires
-branch-word-long-requires t c = word-there c.args.task.now _ _ _ c.alternative.invariant.left
+branch-word-long-requires t c = word-there _ _ c.alternative.invariant
 
 pub branch-overflow_sub-behind : goal.branch-overflow_sub-behind
 branch-overflow_sub-behind t c =
-    omega (
-      arith,
-      (alternative-read c.args.task.now _ _ _ _ c.alternative.invariant.left c.word-long.ensures.word
-          c.if-long-eq0.false).long,
-    )
+    let r = alternative-read _ _ c.alternative.invariant c.word-long.ensures.word c.if-long-eq0.false in
+    omega (arith, r.long)
 
 pub branch-sequence-requires : goal.branch-sequence-requires
-branch-sequence-requires t c = (
-  omega (arith, c.decreases),
-  (alternative-read c.args.task.now _ _ _ _ c.alternative.invariant.left c.word-long.ensures.word
-      c.if-long-eq0.false).items,
-)
+branch-sequence-requires t c =
+    let r = alternative-read _ _ c.alternative.invariant c.word-long.ensures.word c.if-long-eq0.false in
+    (omega (arith, c.decreases), r.items)
 
 pub branch-alternative-smaller : goal.branch-alternative-smaller
 branch-alternative-smaller t c =
-    omega (
-      arith,
-      (alternative-read c.args.task.now _ _ _ _ c.alternative.invariant.left c.word-long.ensures.word
-          c.if-long-eq0.false).long,
-      word-there c.args.task.now _ _ _ c.alternative.invariant.left,
-    )
+    let r = alternative-read _ _ c.alternative.invariant c.word-long.ensures.word c.if-long-eq0.false in
+    omega (arith, r.long, word-there _ _ c.alternative.invariant)
 
 pub branch-alternative-preserved : goal.branch-alternative-preserved
 branch-alternative-preserved t c =
@@ -212,6 +188,5 @@ branch-alternative-preserved t c =
 
 pub branch-returns : goal.branch-returns
 branch-returns t c =
-    branches c.args.task.now _ _ _ _ _ c.alternative.invariant
-    (subst (Word (items_of c.args.task.now.code) c.alternative.at) c.if-long-eq0.true c.word-long.ensures.word)
+    branches c.args.task.now _ _ _ _ _ c.alternative.invariant (rw c.if-long-eq0.true at c.word-long.ensures.word)
     (meaning-Alternation c.alternative.all ∙ sym (alt-all (map meaning c.alternative.all.items)))

@@ -1,7 +1,5 @@
-use Rattle.sre_patterns.proofs.Terms.{◌+◌, ◌-◌, length, map, meaning, items_of, Serves}
-use Rattle.std.proofs.Common.{◌*◌}
-use Rattle.sre_patterns.proofs.Branches.{BranchSoFar}
-use Rattle.sre_patterns.proofs.Sequences.{SoFar}
+use Rattle.sre_patterns.proofs.Terms.{◌+◌, ◌-◌, length, map, meaning, items_of, Serves, ◌*◌}
+use Rattle.sre_patterns.proofs.Nested.{BranchSoFar, SoFar}
 use Rattle.sre_patterns.proofs.translate.+items.Given as goal
 
 -- an item stands above its parts, and items in a row above each of them

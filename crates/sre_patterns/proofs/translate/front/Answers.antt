@@ -1,6 +1,6 @@
 use Rattle.sre_patterns.proofs.Terms.{arith, empty, items_of, uni_of, view_of}
 use Rattle.sre_patterns.proofs.Fronts.{start-empty, start-then, start-wider}
-use Rattle.sre_patterns.proofs.Sequences.{no-jump, item-long, word-next, item-next, more}
+use Rattle.sre_patterns.proofs.Nested.{no-jump, item-long, word-next, item-next, more}
 use Rattle.sre_patterns.proofs.translate.front.Goals as goal
 
 pub word-first-requires : goal.word-first-requires

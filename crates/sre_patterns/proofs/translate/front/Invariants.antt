@@ -1,5 +1,5 @@
 use Rattle.sre_patterns.proofs.Terms.{◌-◌, map, meaning, items_of, uni_of, CoversStart, view_of}
-use Rattle.sre_patterns.proofs.Sequences.{SoFar}
+use Rattle.sre_patterns.proofs.Nested.{SoFar}
 use Rattle.sre_patterns.proofs.translate.front.Given as goal
 
 abbrev pub invariant-each : goal.invariant-each

@@ -1,5 +1,4 @@
-use Rattle.sre_patterns.proofs.Terms.{◌∙◌, ap, refl, sym, At, uni_of, view_of, look_for}
-use Rattle.regex_hir.proofs.MeaningLemmas.{meaning-Look}
+use Rattle.sre_patterns.proofs.Terms.{◌∙◌, ap, refl, sym, At, uni_of, view_of, look_for, meaning-Look}
 use Rattle.sre_patterns.proofs.Composed.{covers-at}
 use Rattle.sre_patterns.proofs.Items.{at-item}
 use Rattle.sre_patterns.proofs.Serving.{serves-look, serves-covered}
