@@ -9,21 +9,19 @@ use Rattle.sre_patterns.proofs.Terms.{AllByRecursion, nat_tests, slice_get_past,
 use Rattle.sre_patterns.proofs.Terms.{Tree, Fail, One, At, Loop, Run, Test, Order, Marks, holds, passes, holds_at, Body}
 use Rattle.sre_patterns.proofs.Terms.{here, unlimited, ways, item_ways, loop_ways, branch_ways, each-cond, Between}
 use Rattle.sre_patterns.proofs.Terms.{Bounded, ways-bounded, item-bounded, View, ExactBody, ExactTree, Rises, AreKept}
-use Rattle.sre_patterns.proofs.Terms.{repeated, is_greedy, kind_of, exact_look, most_kept, option_or}
+use Rattle.sre_patterns.proofs.Terms.{repeated, is_greedy, kind_of, exact_look, most_kept, option_or, option_or-None}
 use Rattle.regex_hir.proofs.TextLemmas.{char_at_fits, char_at_parts, char_at_past}
 use Rattle.sre_patterns.specs.Exact.{AtPlaces, tried, Exact, ExactItem, ExactTest}
 use Rattle.regex_hir.specs.Meaning.{optional, copies, up_to, at_least, repeat}
 use Rattle.regex_class.specs.Ranges.{in_ranges}
 use Rattle.sre_patterns.proofs.Edges.{IsLater, char-bytes, Sided, HoldAlike, look-agrees}
 use Rattle.sre_patterns.proofs.OverBytes.{bytes-places}
-use Rattle.regex_hir.proofs.OptionLemmas.{option_or-None}
 use Rattle.regex_hir.specs.Re.{attempt}
 use Rattle.regex_hir.specs.Text.{is_some_and}
 use Rattle.sre_patterns.proofs.Composed.{Composes}
 use Rattle.sre_patterns.proofs.InOrder.{tried-append, tried-flat, tried-here, tried-cond, one-exact, counted-exact}
-use Rattle.sre_patterns.proofs.InOrder.{endless-exact, exact-moves}
+use Rattle.sre_patterns.proofs.InOrder.{endless-exact, exact-moves, run-loop}
 use Rattle.sre_patterns.proofs.OverUtf8.{utf8-apart}
-use Rattle.sre_patterns.proofs.RunsInOrder.{run-loop}
 use Rattle.regex_hir.specs.Text as bytes
 
 module _ (s : Subject) (hay : List ℕ) (off : ℕ → ℕ) where

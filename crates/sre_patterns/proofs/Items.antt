@@ -96,10 +96,7 @@ pub refers : (o : SreOpcode)
     → (o ≡ opcode.GROUPREF)
     ⊎ ((o ≡ opcode.GROUPREF_IGNORE) ⊎ ((o ≡ opcode.GROUPREF_LOC_IGNORE) ⊎ (o ≡ opcode.GROUPREF_UNI_IGNORE)))
     → role o ≡ ToRefer
-refers o (inl e) = ap role e
-refers o (inr (inl e)) = ap role e
-refers o (inr (inr (inl e))) = ap role e
-refers o (inr (inr (inr e))) = ap role e
+refers o = ⊎_elim (ap role) (⊎_elim (ap role) (⊎_elim (ap role) (ap role)))
 
 pub has-run : (ws : List ℕ) (i : ℕ) (h : HasItem ws i) (o : SreOpcode) → Opcode ws i o
     → (k : RunKind) → role o ≡ ToRun k → HasRun ws i o

@@ -15,6 +15,7 @@ pub use Rattle.regex_class.specs.Ranges.{in_ranges}
 pub use Rattle.regex_hir.proofs.MatchesLemmas.{IsMinLen-le, Matches-IsSpan}
 pub use Rattle.regex_hir.proofs.MeaningLemmas.{meaning-Alternation, meaning-Bytes, meaning-Chars, meaning-Concat}
 pub use Rattle.regex_hir.proofs.MeaningLemmas.{meaning-Empty, meaning-Literal, meaning-Look}
+pub use Rattle.regex_hir.proofs.OptionLemmas.{option_or-None, option_or_assoc, option_or_none}
 pub use Rattle.regex_hir.specs.Matches.{Rounds, next_round, one_round}
 pub use Rattle.regex_hir.specs.Re.{accept, byte_in, char_in, look, plus}
 pub use Rattle.sre_model.proofs.Bounds.{Between, Bounded, item-bounded, longest_run-fits, passes-below, ways-bounded}
@@ -22,11 +23,10 @@ pub use Rattle.sre_model.proofs.Each.{each-both, each-cond, each-first, each-wea
 pub use Rattle.sre_model.proofs.Families.{is_exists, no_item, role_here}
 pub use Rattle.sre_model.proofs.Unique.{item_same, set_same}
 pub use Rattle.sre_model.specs.Grammar.{ReadsBranch, TestOperands, skip, test_opcode, word}
-pub use Rattle.sre_model.specs.Loops.{loop_from}
 pub use Rattle.sre_model.specs.Marks.{Marks, group, no_marks}
 pub use Rattle.sre_model.specs.Subject.{after, bars_non_boundary, holds_at, is_boundary, is_on_nothing, passes}
 pub use Rattle.sre_model.specs.Tree.{At, Charset, Fail, Loop, Mark, Negative, Sign, Then}
-pub use Rattle.sre_model.specs.Ways.{branch_ways, here, loop_ways, may_repeat, ordered}
+pub use Rattle.sre_model.specs.Ways.{branch_ways, here, loop_ways}
 pub use Rattle.sre_patterns.specs.Covers.{Along, Covers, CoversBody, CoversItem, CoversStart, CoversTest, Fronts}
 pub use Rattle.sre_patterns.specs.Covers.{InBytes, InUtf8, IsWider, Leads, View, place, read_bytes, read_utf8}
 pub use Rattle.sre_patterns.specs.Exact.{AreKept, ExactBody, ExactTree, IsPlace, Rises}

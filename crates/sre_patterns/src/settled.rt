@@ -43,7 +43,7 @@ fn settled_category(code: SreCatCode) -> Option<u32>
 }
 
 // From which character on an item of a set is constant.
-#[tactic(auto, using(crate::proofs::SettledTests::item_laws))]
+#[tactic(auto, using(crate::proofs::Tests::item_laws))]
 fn settled_item(words: &[u32], place: usize, opcode: SreOpcode) -> Option<SettledItem>
     requires opcode { Opcode words.now place opcode }
     requires stands { HasSet words.now place }

@@ -1,3 +1,2 @@
-mod AsciiTests
 pub mod Repeating
 pub mod Terms

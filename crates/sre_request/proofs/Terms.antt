@@ -5,5 +5,5 @@ pub use Rattle.sre_code.specs.declared.code.Code.{Code}
 pub use Rattle.sre_model.proofs.OneCharacter.{one_item_takes, set_stands, set_test_end}
 pub use Rattle.sre_model.specs.CountedRuns.{Counted}
 pub use Rattle.sre_request.specs.Runs.{run_of}
-pub use Rattle.sre_request.specs.Terms.{Fold, Opcode, SetStands, SreOpcode, StringCursor, Table, Word, contains, folded}
-pub use Rattle.sre_request.specs.Terms.{holds, is_member, items_of, reference_opcode}
+pub use Rattle.sre_request.specs.Terms.{Fold, SetStands, SreOpcode, StringCursor, Table, Word, contains, folded, holds}
+pub use Rattle.sre_request.specs.Terms.{is_member, items_of, reference_opcode}

@@ -1,5 +1,5 @@
 use Rattle.sre_patterns.proofs.Terms.{subst, Opcode}
-use Rattle.sre_patterns.proofs.SettledTests.{category-settles}
+use Rattle.sre_patterns.proofs.Tests.{category-settles}
 use Rattle.sre_patterns.proofs.settled.settled_item.Goals as goal
 
 pub returns-in_ok-settled_category-in-CATEGORY : goal.returns-in_ok-settled_category-in-CATEGORY

@@ -1,4 +1,4 @@
-use Rattle.sre_patterns.proofs.SettledTests.{settled-ended}
+use Rattle.sre_patterns.proofs.Tests.{settled-ended}
 use Rattle.sre_patterns.proofs.settled.settled_set.Goals as goal
 
 pub returns-in-FAILURE : goal.returns-in-FAILURE

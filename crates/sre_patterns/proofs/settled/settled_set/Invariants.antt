@@ -1,5 +1,5 @@
 use Rattle.sre_patterns.proofs.Terms.{◌-◌, length}
-use Rattle.sre_patterns.proofs.SettledTests.{LeftSettled}
+use Rattle.sre_patterns.proofs.Tests.{LeftSettled}
 use Rattle.sre_patterns.proofs.settled.settled_set.Given as goal
 
 abbrev pub invariant-item : goal.invariant-item
