@@ -12,12 +12,9 @@ use Rattle.ucd_perl.specs.Perl.{is_word_byte}
 use Rattle.regex_hir.specs.declared.look.Look.TheVariants.{EndLf, WordAsciiNegate}
 use Rattle.sre_chars.specs.Tables.{is_ascii_alphanumeric, is_scalar, is_in_ranges}
 use Rattle.sre_chars.specs.Categories.{is_word, is_unicode_word, is_linebreak}
-use Rattle.sre_chars.specs.declared.constants.SreAtCode.TheVariants.{BEGINNING, BEGINNING_LINE, BEGINNING_STRING}
-use Rattle.sre_chars.specs.declared.constants.SreAtCode.TheVariants.{BOUNDARY, NON_BOUNDARY, END, END_LINE, END_STRING}
-use Rattle.sre_chars.specs.declared.constants.SreAtCode.TheVariants.{LOC_BOUNDARY, LOC_NON_BOUNDARY, UNI_BOUNDARY}
-use Rattle.sre_chars.specs.declared.constants.SreAtCode.TheVariants.{UNI_NON_BOUNDARY}
 use Rattle.sre_patterns.proofs.Composed.{covers-position}
 use Rattle.regex_hir.proofs.Utf8Lemmas.{char_at_cases}
+use Rattle.sre_chars.specs.declared.constants.SreAtCode.TheVariants as position
 use Rattle.regex_hir.specs.Text as bytes
 use Rattle.regex_hir.specs.Looks as looks
 
@@ -119,13 +116,13 @@ module _ (s : Subject) (hay : List ℕ) (off : ℕ → ℕ) (v : Sided s hay off
 
   agrees : (a : SreAtCode) → Agrees a (exact_look a)
   unfolding looks.holds looks.holds_between
-  agrees BEGINNING = starts
-  agrees BEGINNING_LINE = λ p l. ap₂ (λ x y. x || y) (starts p l) (tested line (before-beside p l))
-  agrees BEGINNING_STRING = starts
-  agrees BOUNDARY = λ p l. boundary p l ∙ some-boundary is_word p
-  agrees END_LINE = λ p l. ap₂ (λ x y. x || y) (ends p l) (tested line (after-beside p l))
-  agrees END_STRING = ends
-  agrees LOC_BOUNDARY = λ p l. boundary p l ∙ some-boundary is_word p
+  agrees position.BEGINNING = starts
+  agrees position.BEGINNING_LINE = λ p l. ap₂ (λ x y. x || y) (starts p l) (tested line (before-beside p l))
+  agrees position.BEGINNING_STRING = starts
+  agrees position.BOUNDARY = λ p l. boundary p l ∙ some-boundary is_word p
+  agrees position.END_LINE = λ p l. ap₂ (λ x y. x || y) (ends p l) (tested line (after-beside p l))
+  agrees position.END_STRING = ends
+  agrees position.LOC_BOUNDARY = λ p l. boundary p l ∙ some-boundary is_word p
   agrees a = tt
 
   pub look-agrees : (a : SreAtCode) (l : Look) → exact_look a ≡ Some l → Agrees a (Some l)
@@ -136,20 +133,20 @@ module _ (s : Subject) (hay : List ℕ) (off : ℕ → ℕ) (v : Sided s hay off
   Implies a None = Unit {0}
   Implies a (Some l) = (p : ℕ) → p ≤ s.end → holds_at s a p ≡ true → looks.holds l hay (off p) ≡ true
 
-  end : Implies END (Some EndLf)
-  end p l h = agrees END_LINE p l ∙ grind (arith, nat_tests)
+  end : Implies position.END (Some EndLf)
+  end p l h = agrees position.END_LINE p l ∙ grind (arith, nat_tests)
 
-  non_boundary : Implies NON_BOUNDARY (Some WordAsciiNegate)
+  non_boundary : Implies position.NON_BOUNDARY (Some WordAsciiNegate)
   unfolding looks.holds looks.holds_between
   non_boundary p l h =
       ap not (boundary p l) ∙ (and_parts (not (bars_non_boundary s p)) (not (is_boundary s is_word p)) h).1
 
   implies : (a : SreAtCode) → Implies a (look_of a)
-  implies END = end
-  implies NON_BOUNDARY = non_boundary
-  implies LOC_NON_BOUNDARY = non_boundary
-  implies UNI_BOUNDARY = tt
-  implies UNI_NON_BOUNDARY = tt
+  implies position.END = end
+  implies position.NON_BOUNDARY = non_boundary
+  implies position.LOC_NON_BOUNDARY = non_boundary
+  implies position.UNI_BOUNDARY = tt
+  implies position.UNI_NON_BOUNDARY = tt
   implies a = λ p l h. agrees a p l ∙ h
 
   look-implies : (a : SreAtCode) (l : Look) → look_of a ≡ Some l → Implies a (Some l)
@@ -189,8 +186,8 @@ module _ (s : Subject) (hay : List ℕ) (off : ℕ → ℕ) (v : InBytes 128 s h
   ascii-boundary = same-boundary is_word (is_unicode_word s.table) ascii-word
 
   pub ascii-alike : (a : SreAtCode) → HoldAlike s (in_ascii a) a
-  ascii-alike UNI_BOUNDARY p l = ap (λ y. not (is_on_nothing s p) && y) (ascii-boundary p l)
-  ascii-alike UNI_NON_BOUNDARY p l = ap (λ y. not (bars_non_boundary s p) && not y) (ascii-boundary p l)
+  ascii-alike position.UNI_BOUNDARY p l = ap (λ y. not (is_on_nothing s p) && y) (ascii-boundary p l)
+  ascii-alike position.UNI_NON_BOUNDARY p l = ap (λ y. not (bars_non_boundary s p) && not y) (ascii-boundary p l)
   ascii-alike a p l = refl
 
 -- a byte inside a character

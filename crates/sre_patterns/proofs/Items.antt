@@ -7,7 +7,7 @@ use Rattle.sre_patterns.proofs.Terms.{until_opcode, item_same}
 use Rattle.sre_patterns.specs.Patterns.{HasItems, AtItem, HasItem, HasRun, HasAtomic, HasLoop}
 use Rattle.sre_model.specs.Tree.{Reference, Fold, PossessiveLoop, Look, GreedyRun, LazyRun, PossessiveRun, Positive}
 use Rattle.sre_model.specs.Roles.{role, ToRun, ToMark, ToRepeat, ToRepeatPossessively, ToLook, ToRefer}
-use Rattle.sre_model.proofs.Words.{same_word, opcode_within, word_within, word_past}
+use Rattle.sre_model.proofs.Words.{same_word, opcode_within, word_past}
 use Rattle.sre_model.proofs.Places.{reads_within}
 use Rattle.sre_model.proofs.Families.{test_here, is_one, is_mark, is_loop, is_run, is_possessive, is_look, is_reference}
 use Rattle.sre_chars.specs.declared.constants.SreOpcode.TheVariants as opcode
@@ -51,18 +51,10 @@ loop-at ws i h j x r = elim h.is [
 pub record LoopRead (ws : List ℕ) (i : ℕ) : Type 0 where
   pub body : Tree
   pub reads : Reads ws (i + 4) (skip ws (i + 1)) body
-  pub until : skip ws (i + 1) < length ws
-  pub counts : i + 3 < length ws
 
 pub loop-read : (ws : List ℕ) (i : ℕ) → HasLoop ws i → LoopRead ws i
 loop-read ws i h =
-    let f = loop-at ws i h h.end h.item h.reads in
-    record {
-      body = f.3;
-      reads = f.8;
-      until = opcode_within ws (skip ws (i + 1)) (end_of f.0) f.9;
-      counts = word_within ws (i + 3) f.2 f.6;
-    }
+    let f = loop-at ws i h h.end h.item h.reads in record { body = f.3; reads = f.8 }
 
 -- what stands in a part of an item, and that the word which tells where the part ends is there
 pub record PartRead (ws : List ℕ) (from to at : ℕ) : Type 0 where

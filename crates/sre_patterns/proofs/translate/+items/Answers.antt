@@ -84,15 +84,6 @@ item-returns-in_ok-any_number-in-GROUPREF t c =
     (covers-reference (view_of s.encoding) (uni_of s.code) true _ f g
     (c.in_ok-anything-in-GROUPREF.ensures (uni_of s.code)))))
 
-pub counted-skip-until-requires : goal.counted-skip-until-requires
-counted-skip-until-requires t c = omega (arith, (loop-read _ _ c.requires).counts)
-
-pub counted-counts_at-requires : goal.counted-counts_at-requires
-counted-counts_at-requires t c = (loop-read _ _ c.requires).counts
-
-pub counted-greedy_loop-requires : goal.counted-greedy_loop-requires
-counted-greedy_loop-requires t c = rw c.skip-until.ensures.to (loop-read _ _ c.requires).until
-
 pub counted-sequence-requires : goal.counted-sequence-requires
 counted-sequence-requires t c =
     let r = loop-read _ _ c.requires in
@@ -108,9 +99,6 @@ counted-returns t c =
     (λ l k b r w. serves-loop (view_of s.encoding) (uni_of s.code) (rises s.encoding) 1000 _ _ (omega arith) _ _
     s.purpose _ until k b w l c.in_ok-counts.ensures.kept c.in_ok-greedy.ensures.greedy
     (c.iterates.ensures c.if-not-iterates.false) (c.in_ok-body.ensures until b r (omega arith, inl refl)).1))
-
-pub atomic-skip-end-requires : goal.atomic-skip-end-requires
-atomic-skip-end-requires t c = (atomic-read _ _ c.requires).within
 
 pub atomic-sequence-requires : goal.atomic-sequence-requires
 atomic-sequence-requires t c =
