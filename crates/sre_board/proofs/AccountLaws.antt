@@ -4,10 +4,8 @@ use Rattle.sre_board.proofs.Terms.{◌≡◌, ℕ, ◌+◌, ◌*◌, ◌<◌, �
 use Rattle.sre_board.proofs.Terms.{slice_get, slice_index, refl, sym, ap, ◌∙◌, subst, arith, append_assoc, bit_at}
 use Rattle.sre_board.proofs.Terms.{AllByRecursion, StringCursor, has_forked_region, Run, Alike, Attempt, Lies, Counted}
 use Rattle.sre_board.proofs.Terms.{BitOf, IsOwned, RowLies, Account, toll_at, charge, IsIn, Apart, EndsTable, HoldsEnd}
-use Rattle.sre_board.proofs.Terms.{BitsKept, Kept, kept_of, Sets, BitsStay, RowsStay, Laid, Row}
-use Rattle.sre_board.specs.Accounts.{IsSet, IsEnded, StaysEnded, BitsOf, IsRoomy}
-use Rattle.sre_board.specs.Accounts.{most_paid}
-use Rattle.sre_board.specs.Failures.{IsOpen}
+use Rattle.sre_board.proofs.Terms.{BitsKept, Kept, kept_of, Sets, BitsStay, RowsStay, Laid, Row, IsSet, IsEnded}
+use Rattle.sre_board.proofs.Terms.{StaysEnded, BitsOf, IsRoomy, most_paid, IsOpen}
 use Rattle.sre_board.proofs.EndsKept.{one_number, number_stays}
 use Rattle.sre_board.proofs.OneEntry.{one_entry}
 use Rattle.sre_board.proofs.OwnedBits.{owned_bit, owned_still, few_charged}

@@ -2,11 +2,7 @@
 use Rattle.sre_board.proofs.Terms.{◌≡◌, ℕ, ◌+◌, ◌*◌, ◌<◌, ◌≤◌, Bool, true, false, List, [], ◌∷◌, length, Option, Some}
 use Rattle.sre_board.proofs.Terms.{None, cond, refl, sym, ap, ◌∙◌, subst, arith, nat_tests, same_from_place}
 use Rattle.sre_board.proofs.Terms.{get_or_from_slice_get, same_Some, Word, FramesAlike, LoopsAlike, Frame, digit, radix}
-use Rattle.sre_board.proofs.Terms.{IsPassed, HasSlot}
-use Rattle.std.proofs.Common.{min}
-use Rattle.sre_model.specs.Grammar.{word}
-use Rattle.sre_turns.specs.Alike.{counted_to, is_last}
-use Rattle.sre_board.specs.Failures.{counted_at}
+use Rattle.sre_board.proofs.Terms.{IsPassed, HasSlot, min, word, counted_to, is_last, counted_at}
 
 -- a test as a number
 abbrev pub one_if : Bool → ℕ

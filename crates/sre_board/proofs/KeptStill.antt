@@ -3,10 +3,9 @@ use Rattle.sre_board.proofs.Terms.{◌≡◌, ℕ, zero, suc, ◌+◌, ◌-◌, 
 use Rattle.sre_board.proofs.Terms.{length, replicate, Some, slice_get, slice_index, Bool, true, false, cond, refl, sym}
 use Rattle.sre_board.proofs.Terms.{ap, ◌∙◌, subst, arith, length-append, bit_at, append-nil, bit_at-zero}
 use Rattle.sre_board.proofs.Terms.{slice_get_within, Frame, Kept, kept_of, HoldsNoMore, BitsStay, BitsKept, OneRowMore}
-use Rattle.sre_board.proofs.Terms.{HasSlot, Laid, ones_below, radix, digit, HasNoRow, Row}
+use Rattle.sre_board.proofs.Terms.{HasSlot, Laid, ones_below, radix, digit, HasNoRow, Row, get_or_append_left}
+use Rattle.sre_board.proofs.Terms.{get_or-append_right, length-replicate, Grows}
 use Rattle.std.proofs.Common.{sum_by}
-use Rattle.std.proofs.lemmas.List.{get_or_append_left, get_or-append_right, length-replicate}
-use Rattle.sre_board.specs.Failures.{Grows}
 use Rattle.sre_board.proofs.AlikeBySlot.{slot_length}
 use Rattle.sre_board.proofs.CountingBits.{sum_filled, none_in_zero}
 use Rattle.sre_board.proofs.KeptSpots.{still_kept}

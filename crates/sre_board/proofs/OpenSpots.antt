@@ -4,17 +4,9 @@ use Rattle.sre_board.proofs.Terms.{◌∷◌, ◌++◌, drop, length, map, rever
 use Rattle.sre_board.proofs.Terms.{subst, arith, length-reverse, slice_get-get_or, slice_get_within}
 use Rattle.sre_board.proofs.Terms.{get_or_from_slice_get, StringCursor, Marks, Choice, Trying, choice, Spot, spot_at}
 use Rattle.sre_board.proofs.Terms.{Frame, Region, Point, Inside, Kept, Fits, Saved, EndsTable, HoldsEnd, HoldsOpenMore}
-use Rattle.sre_board.proofs.Terms.{HasEnd, KeepsOpenEnds}
-use Rattle.std.proofs.Common.{option_map}
-use Rattle.std.proofs.lemmas.List.{append_assoc, drop_all, drop_more, get_or-reverse}
-use Rattle.std.proofs.lemmas.Option.{slice_get-map}
-use Rattle.sre_turns.specs.Board.{Keep}
-use Rattle.sre_turns.specs.OpenMarks.{open_spots}
-use Rattle.sre_turns.specs.declared.Point.TheVariants.{Tried, TriedAgain}
-use Rattle.sre_board.specs.Choices.{is_tried}
-use Rattle.std.proofs.lemmas.Bool.{true≢false}
-use Rattle.sre_board.specs.Ends.{HoldsSpotMore, IsOpenSpot}
-use Rattle.sre_board.specs.Ends.{KeepsSpotEnds, HoldsOpenEnds}
+use Rattle.sre_board.proofs.Terms.{HasEnd, KeepsOpenEnds, option_map, append_assoc, drop_all, drop_more, get_or-reverse}
+use Rattle.sre_board.proofs.Terms.{slice_get-map, Keep, open_spots, Tried, TriedAgain, is_tried, true≢false}
+use Rattle.sre_board.proofs.Terms.{HoldsSpotMore, IsOpenSpot, KeepsSpotEnds, HoldsOpenEnds}
 use Rattle.sre_board.proofs.EndsKept.{each_among}
 
 -- a choice by how many are newer, as the board has it and as its value has it

@@ -1,11 +1,10 @@
 -- Pages of entries, one for each word of bits: the end of a number there, and what one more page, more entries and one
 -- more end change.
-use Rattle.std.proofs.Common.{◌≡◌, ◌≢◌, ℕ, zero, suc, ◌+◌, ◌-◌, ◌/◌, ◌%◌, ◌<◌, ◌≤◌, inl, inr, List, [], length}
-use Rattle.std.proofs.Common.{Option, Some, None, slice_index_or, slice_set, refl, sym, ap, ◌∙◌, subst, arith}
-use Rattle.std.proofs.lemmas.Bool.Decides.{eqb_tells, leb_tells}
-use Rattle.std.proofs.lemmas.List.{get_or_past, get_or-set_same, get_or-set_other}
-use Rattle.sre_chars.specs.declared.string.StringCursor.{StringCursor}
-use Rattle.sre_board.specs.Ends.{EndsTable, end_at, end_in, page_at, IsPaged, SameEnds, PutsEnd, HoldsNoEnd, table_of}
+use Rattle.sre_board.proofs.Terms.{◌≡◌, ◌≢◌, ℕ, zero, suc, ◌+◌, ◌-◌, ◌/◌, ◌%◌, ◌<◌, ◌≤◌, inl, inr, List, [], length}
+use Rattle.sre_board.proofs.Terms.{Option, Some, None, slice_index_or, slice_set, refl, sym, ap, ◌∙◌, subst, arith}
+use Rattle.sre_board.proofs.Terms.{eqb_tells, leb_tells, get_or_past, get_or-set_same, get_or-set_other, StringCursor}
+use Rattle.sre_board.proofs.Terms.{EndsTable, end_in, page_at, IsPaged, SameEnds, PutsEnd, HoldsNoEnd, table_of}
+use Rattle.sre_board.specs.Ends.{end_at}
 
 abbrev Places : Type 0
 Places = List (Option StringCursor)

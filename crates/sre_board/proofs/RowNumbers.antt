@@ -1,7 +1,6 @@
 -- Each row's number is stored at its address, so an address without a number has no row.
 use Rattle.sre_board.proofs.Terms.{◌≡◌, ◌≢◌, ℕ, List, [], ◌∷◌, ◌++◌, length, cond, Bool, true, false, Some, slice_get}
-use Rattle.sre_board.proofs.Terms.{sym, ap, ◌∙◌, inl, inr, Kept, kept_of, HasNoRow, Row}
-use Rattle.sre_board.specs.Failures.{Numbered}
+use Rattle.sre_board.proofs.Terms.{sym, ap, ◌∙◌, inl, inr, Kept, kept_of, HasNoRow, Row, Numbered}
 use Rattle.sre_board.proofs.Listed.{got_more}
 
 -- the number of a place that has no row is another

@@ -2,8 +2,7 @@
 use Rattle.sre_board.proofs.Terms.{◌≡◌, ℕ, ◌+◌, ◌-◌, ◌*◌, ◌/◌, ◌%◌, ◌<◌, ◌≤◌, Bool, List, [], ◌∷◌, Some, sym, subst}
 use Rattle.sre_board.proofs.Terms.{refl, slice_get, arith, Option, None, mul_assoc, mul-le-mul_right, Frame}
 use Rattle.sre_board.proofs.Terms.{placed_from, Spot, repeats, slots, place_of, is_again, Row, Kept, IsPassed, digit}
-use Rattle.sre_board.proofs.Terms.{radix, HasSlot, HasShape, HasBit, RowFor, WordsThere}
-use Rattle.sre_turns.specs.Nested.{BegunBy, AllBegunBy, Passed}
+use Rattle.sre_board.proofs.Terms.{radix, HasSlot, HasShape, HasBit, RowFor, WordsThere, BegunBy, AllBegunBy, Passed}
 use Rattle.sre_board.proofs.AlikeBySlot.{one_if, one_if_few, digit_below}
 
 -- a loop that was passed has a digit

@@ -5,8 +5,7 @@ use Rattle.sre_turns.specs.Terms.{⊤, ℕ, ◌+◌, ◌≡◌, ◌<◌, Bool, t
 use Rattle.sre_turns.specs.Terms.{Subject, char_at, Way, Opcode, word, skip, Role, ToFail, ToEnd, ToTest}
 use Rattle.sre_turns.specs.Terms.{ToCheckPosition, ToMark, ToBranch, ToJump, ToRun, ToRepeat, ToLoop}
 use Rattle.sre_turns.specs.Terms.{ToRepeatPossessively, ToGroupAtomically, ToLook, ToRefer, ToCheckGroup, ToNothing}
-use Rattle.sre_turns.specs.Terms.{TestStands}
-use Rattle.sre_model.specs.Grammar.{until_opcode}
+use Rattle.sre_turns.specs.Terms.{TestStands, until_opcode}
 use Rattle.sre_turns.specs.declared.Frame.{Frame}
 use Rattle.sre_turns.specs.declared.Point.TheVariants.{Instruction, Alternatives}
 use Rattle.sre_turns.specs.declared.Point.{Point}

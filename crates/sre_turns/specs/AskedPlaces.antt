@@ -4,9 +4,8 @@
 use Rattle.sre_turns.specs.Terms.{⊤, ℕ, ◌+◌, ◌*◌, ◌≡◌, ◌<◌, ◌≤◌, ◌⊎◌, Bool, true, List, [], ◌∷◌, Some, SreOpcode, Test}
 use Rattle.sre_turns.specs.Terms.{Marks, Word, Opcode, word, skip, Role, ToFail, ToEnd, ToTest, ToCheckPosition, ToMark}
 use Rattle.sre_turns.specs.Terms.{ToBranch, ToJump, ToRun, ToRepeat, ToLoop, ToRepeatPossessively, ToGroupAtomically}
-use Rattle.sre_turns.specs.Terms.{ToLook, ToRefer, ToCheckGroup, ToNothing, role, TestStands, Subject, Way}
-use Rattle.std.specs.Prelude.{slice_get}
-use Rattle.sre_model.proofs.MarksApart.{SameStops}
+use Rattle.sre_turns.specs.Terms.{ToLook, ToRefer, ToCheckGroup, ToNothing, role, TestStands, Subject, Way, slice_get}
+use Rattle.sre_turns.specs.Terms.{SameStops}
 use Rattle.sre_turns.specs.declared.Frame.{Frame}
 use Rattle.sre_turns.specs.declared.Point.TheVariants.{Instruction, Alternatives, Shorter, Longer, Again}
 use Rattle.sre_turns.specs.declared.Point.{Point}

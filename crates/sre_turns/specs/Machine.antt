@@ -3,12 +3,10 @@
 -- Definitions for the machine's contracts; what sre_engine makes public does not rest on it.
 use Rattle.sre_turns.specs.Terms.{⊤, ℕ, suc, ◌+◌, ◌≡◌, ◌<◌, ◌≤◌, Bool, false, List, [], ◌∷◌, ◌++◌, drop, length, Option}
 use Rattle.sre_turns.specs.Terms.{Some, None, filter, SreOpcode, Table, Tree, Test, holds, mark_at, no_marks, char_at}
-use Rattle.sre_turns.specs.Terms.{first, here, TestStands}
+use Rattle.sre_turns.specs.Terms.{first, here, TestStands, Literal, Plain, ways}
 pub use Rattle.sre_chars.specs.declared.string.StringCursor.{StringCursor}
-use Rattle.sre_model.specs.Tree.{Literal, Plain}
 pub use Rattle.sre_model.specs.Marks.{Marks}
 pub use Rattle.sre_model.specs.Subject.{Subject, passes}
-use Rattle.sre_model.specs.Ways.{ways}
 pub use Rattle.sre_model.specs.Ways.{Way}
 pub use Rattle.sre_model.specs.Grammar.{Word, Opcode, skip}
 pub use Rattle.sre_model.specs.Runs.{Run}

@@ -1,11 +1,7 @@
 -- Moves: what the machine does in one step, by the role of the opcode. Nothing here is recursive.
 -- Definitions for the machine's contracts; what sre_engine makes public does not rest on it.
 use Rattle.sre_turns.specs.Terms.{ℕ, ◌+◌, ◌≡◌, ◌<◌, length, drop, cond, nat_eq, List, [], ◌∷◌, Test, Marks, Subject}
-use Rattle.sre_turns.specs.Terms.{passes, Word, skip, TestStands, Way}
-use Rattle.sre_chars.specs.Numbers.{at_number}
-use Rattle.sre_chars.specs.declared.constants.SreAtCode.{SreAtCode}
-use Rattle.sre_model.specs.Marks.{set_mark}
-use Rattle.sre_model.specs.Subject.{holds_at}
+use Rattle.sre_turns.specs.Terms.{passes, Word, skip, TestStands, Way, at_number, SreAtCode, set_mark, holds_at}
 use Rattle.sre_turns.specs.declared.Frame.{Frame}
 use Rattle.sre_turns.specs.declared.Region.TheVariants.{AtomicGroup, Ahead, NotAhead, Owed, Further}
 use Rattle.sre_turns.specs.declared.Region.{Region}

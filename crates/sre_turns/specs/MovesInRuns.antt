@@ -1,10 +1,8 @@
 -- What the machine does in one step at a single-character repeat.
 -- Definitions for the machine's contracts; what sre_engine makes public does not rest on it.
 use Rattle.sre_turns.specs.Terms.{ℕ, ◌+◌, ◌-◌, ◌≡◌, ◌≤◌, ◌&&◌, cond, nat_eq, nat_lt, List, Test, GreedyRun, LazyRun}
-use Rattle.sre_turns.specs.Terms.{PossessiveRun, Subject, passes, unlimited, Word, skip, TestStands}
-use Rattle.std.specs.Prelude.{◌||◌}
-use Rattle.sre_model.specs.Tree.{RunKind}
-use Rattle.sre_model.specs.Ways.{run_length, longest_run}
+use Rattle.sre_turns.specs.Terms.{PossessiveRun, Subject, passes, unlimited, Word, skip, TestStands, ◌||◌, RunKind}
+use Rattle.sre_turns.specs.Terms.{run_length, longest_run}
 use Rattle.sre_turns.specs.declared.Point.TheVariants.{Instruction, Shorter, Longer}
 use Rattle.sre_turns.specs.Moves.{Spot, to_place, Move, Stop, Go, Split}
 

@@ -5,12 +5,10 @@
 use Rattle.sre_turns.specs.Terms.{ℕ, suc, ◌+◌, ◌-◌, ◌*◌, ◌≤◌, ◌≡◌, Bool, true, List, [], ◌∷◌, length, cond, min, nat_eq}
 use Rattle.sre_turns.specs.Terms.{SreOpcode, GreedyRun, LazyRun, PossessiveRun, word, skip, unlimited, Role, ToEnd}
 use Rattle.sre_turns.specs.Terms.{ToTest, ToCheckPosition, ToMark, ToBranch, ToJump, ToRun, ToRepeat, ToLoop}
-use Rattle.sre_turns.specs.Terms.{ToRepeatPossessively, ToGroupAtomically, ToLook, ToRefer, ToCheckGroup, role}
-use Rattle.std.specs.Prelude.{zero, max}
-use Rattle.std.specs.Prelude.{slice_index_or}
+use Rattle.sre_turns.specs.Terms.{ToRepeatPossessively, ToGroupAtomically, ToLook, ToRefer, ToCheckGroup, role, zero}
+use Rattle.sre_turns.specs.Terms.{max, slice_index_or, other_ends, scan_price, TestKind, OfAny, OfAnyAll, OfCategory}
+use Rattle.sre_turns.specs.Terms.{OfLiteral, OfNotLiteral, OfSet}
 use Rattle.sre_chars.specs.declared.constants.SreOpcode.TheVariants as opcode
-use Rattle.sre_model.specs.TreePrices.{other_ends, scan_price}
-use Rattle.sre_model.specs.Roles.{TestKind, OfAny, OfAnyAll, OfCategory, OfLiteral, OfNotLiteral, OfSet}
 use Rattle.sre_turns.specs.declared.Point.TheVariants.{Instruction, Alternatives, Shorter, Longer, Again}
 use Rattle.sre_turns.specs.declared.Point.{Point}
 use Rattle.sre_turns.specs.declared.Region.{Region}

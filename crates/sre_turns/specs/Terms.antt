@@ -1,19 +1,29 @@
 -- The words from elsewhere which contracts and definitions of this crate name.
 pub use Rattle.std.specs.List.{AllByRecursion, filter}
-pub use Rattle.std.specs.Prelude.{Bool, List, None, Option, Some, [], cond, drop, false, length, map, min, nat_eq}
-pub use Rattle.std.specs.Prelude.{nat_lt, suc, true, ◌&&◌, ◌*◌, ◌++◌, ◌+◌, ◌-◌, ◌<◌, ◌∷◌, ◌≡◌, ◌≤◌, ◌⊎◌, ℕ, ⊤}
+pub use Rattle.std.specs.Prelude.{Bool, List, None, Option, Some, [], cond, drop, false, length, map, max, min, nat_eq}
+pub use Rattle.std.specs.Prelude.{nat_le, nat_lt, slice_get, slice_index_or, suc, true, zero, ◌&&◌, ◌*◌, ◌++◌, ◌+◌, ◌-◌}
+pub use Rattle.std.specs.Prelude.{◌<◌, ◌||◌, ◌∷◌, ◌≡◌, ◌≤◌, ◌⊎◌, ℕ, ⊤}
+pub use Rattle.sre_chars.specs.Numbers.{at_number}
 pub use Rattle.sre_chars.specs.Tables.{Table}
+pub use Rattle.sre_chars.specs.declared.constants.SreAtCode.{SreAtCode}
 pub use Rattle.sre_chars.specs.declared.constants.SreOpcode.{SreOpcode}
 pub use Rattle.sre_chars.specs.declared.string.StringCursor.{StringCursor}
+pub use Rattle.sre_model.proofs.MarksApart.{SameStops}
 pub use Rattle.sre_model.specs.Characters.{holds}
-pub use Rattle.sre_model.specs.Grammar.{Opcode, Reads, WholeItems, Word, skip, word}
-pub use Rattle.sre_model.specs.Marks.{Marks, mark_at, no_marks}
-pub use Rattle.sre_model.specs.References.{refers}
-pub use Rattle.sre_model.specs.Roles.{Role, ToBranch, ToCheckGroup, ToCheckPosition, ToEnd, ToFail, ToGroupAtomically}
-pub use Rattle.sre_model.specs.Roles.{ToJump, ToLook, ToLoop, ToMark, ToNothing, ToRefer, ToRepeat}
-pub use Rattle.sre_model.specs.Roles.{ToRepeatPossessively, ToRun, ToTest, role}
+pub use Rattle.sre_model.specs.Grammar.{Opcode, Reads, WholeItems, Word, reference_opcode, skip, until_opcode, word}
+pub use Rattle.sre_model.specs.LooksBehind.{backs}
+pub use Rattle.sre_model.specs.Marks.{Marks, group, mark_at, no_marks, set_mark}
+pub use Rattle.sre_model.specs.MarksSet.{marks_in_regions, sets_mark}
+pub use Rattle.sre_model.specs.References.{asked_from, asked_to, refers}
+pub use Rattle.sre_model.specs.Regions.{forks, has_forked_region}
+pub use Rattle.sre_model.specs.Roles.{OfAny, OfAnyAll, OfCategory, OfLiteral, OfNotLiteral, OfSet, Role, TestKind}
+pub use Rattle.sre_model.specs.Roles.{ToBranch, ToCheckGroup, ToCheckPosition, ToEnd, ToFail, ToGroupAtomically, ToJump}
+pub use Rattle.sre_model.specs.Roles.{ToLook, ToLoop, ToMark, ToNothing, ToRefer, ToRepeat, ToRepeatPossessively, ToRun}
+pub use Rattle.sre_model.specs.Roles.{ToTest, role}
 pub use Rattle.sre_model.specs.Runs.{Run}
 pub use Rattle.sre_model.specs.Standing.{HasTest, TestStands}
-pub use Rattle.sre_model.specs.Subject.{Subject, char_at, passes}
-pub use Rattle.sre_model.specs.Tree.{GreedyRun, LazyRun, Order, PossessiveRun, Test, Tree}
-pub use Rattle.sre_model.specs.Ways.{Way, first, here, may_repeat, unlimited}
+pub use Rattle.sre_model.specs.Subject.{Subject, char_at, holds_at, passes, same_folded}
+pub use Rattle.sre_model.specs.Tree.{Fold, Greedy, GreedyRun, Lazy, LazyRun, Literal, Order, Plain, PossessiveRun}
+pub use Rattle.sre_model.specs.Tree.{RunKind, Test, Tree}
+pub use Rattle.sre_model.specs.TreePrices.{other_ends, scan_price}
+pub use Rattle.sre_model.specs.Ways.{Way, first, here, longest_run, may_repeat, run_length, unlimited, ways}

@@ -8,11 +8,8 @@ use Rattle.sre_turns.proofs.Terms.{Opcode, word, skip, until_opcode, Role, ToLoo
 use Rattle.sre_turns.proofs.Terms.{AtomicGroup, Owed, Further, Shorter, Longer, Again, Point, Spot, Move, End, Split}
 use Rattle.sre_turns.proofs.Terms.{Enter, closing_move, RunOperands, first_frame, next_frame, UntilMove, again_move}
 use Rattle.sre_turns.proofs.Terms.{AgainMove, in_order, InRole, Moves, Runs, turns, Comes, stops, goes, splits, enters}
-use Rattle.sre_turns.proofs.Terms.{until_role, run_none, word_of, same_opcode}
-use Rattle.sre_model.specs.Subject.{Subject}
-use Rattle.sre_turns.specs.declared.Frame.{Frame}
-use Rattle.sre_turns.specs.declared.Point.TheVariants.{Instruction}
-use Rattle.sre_turns.specs.Moves.{spot_at, Stop, Go}
+use Rattle.sre_turns.proofs.Terms.{until_role, run_none, word_of, same_opcode, Subject, Frame, Instruction, spot_at}
+use Rattle.sre_turns.proofs.Terms.{Stop, Go}
 use Rattle.sre_turns.specs.Admitting.{NextOutside, AdmitsOnly, TestsOnly, HasAll, RepeatsOnly, RunsOnly, LeadsOnly}
 use Rattle.sre_turns.proofs.semantics.Turned.{GoesOn, behind_test, behind_reference, behind_run, run_on, group_there}
 use Rattle.sre_turns.proofs.semantics.Turned.{group_missing, Forks, greedy_run, lazy_run, Begins, plain_loop}

@@ -2,10 +2,7 @@
 -- The machine's list of live captures is filled by it; nothing in this crate rests on it.
 use Rattle.sre_turns.proofs.Terms.{◌≡◌, ℕ, ◌+◌, ◌⊎◌, inl, inr, List, sym, subst, SreOpcode, Word, Opcode, skip, Role}
 use Rattle.sre_turns.proofs.Terms.{ToTest, ToMark, ToBranch, role, Asks, Within, PlacesAsk, GroupLies, AsksAt}
-use Rattle.sre_turns.proofs.Terms.{AskedByPlace}
-use Rattle.std.proofs.Common.{rules}
-use Rattle.sre_turns.specs.AskedPlaces.{MarkRange, AlternativesAsk}
-use Rattle.sre_turns.specs.AskedPlaces.{GroupAsked}
+use Rattle.sre_turns.proofs.Terms.{AskedByPlace, rules, MarkRange, AlternativesAsk, GroupAsked}
 
 -- no more is told of any place
 pub record IsNarrower (b a : PlacesAsk) : Type 0 where

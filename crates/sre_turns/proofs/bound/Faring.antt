@@ -4,15 +4,9 @@ use Rattle.sre_turns.proofs.Terms.{SreOpcode, Marks, Way, begins_test, some_test
 use Rattle.sre_turns.proofs.Terms.{Alternatives, Shorter, Longer, Point, Spot, Move, End, Split, Enter, price, price_of}
 use Rattle.sre_turns.proofs.Terms.{toll, toll_by, split_toll, Covers, Counted, Attempt, Limit, earlier, raised, pool}
 use Rattle.sre_turns.proofs.Terms.{CodeAt, tried_spots, Fares, FaresAt, FaresBack, FaresEnd, HereIn, Reopens, Settling}
-use Rattle.sre_turns.proofs.Terms.{end_share, FaresBoth, Wider, Stage, share, Coming, is_inside, InBody}
+use Rattle.sre_turns.proofs.Terms.{end_share, FaresBoth, Wider, Stage, share, Coming, is_inside, InBody, StringCursor}
+use Rattle.sre_turns.proofs.Terms.{Run, Frame, Instruction, spot_at, Stop, Go, repeats, MovesAt, Moves, Runs, turns}
 use Rattle.sre_chars.specs.declared.constants.SreOpcode.TheVariants as opcode
-use Rattle.sre_chars.specs.declared.string.StringCursor.{StringCursor}
-use Rattle.sre_model.specs.Runs.{Run}
-use Rattle.sre_turns.specs.declared.Frame.{Frame}
-use Rattle.sre_turns.specs.declared.Point.TheVariants.{Instruction}
-use Rattle.sre_turns.specs.Moves.{spot_at, Stop, Go}
-use Rattle.sre_turns.specs.Lying.{repeats}
-use Rattle.sre_turns.specs.Turning.{MovesAt, Moves, Runs, turns}
 use Rattle.sre_turns.proofs.bound.HereMoves.{OntoHere, here_moves}
 use Rattle.sre_turns.proofs.bound.PriceMoves.{enters_at, step_covered, IsPlace, is_place, some_price}
 

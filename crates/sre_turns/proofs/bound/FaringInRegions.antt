@@ -5,13 +5,8 @@ use Rattle.sre_turns.proofs.Terms.{◌≡◌, ℕ, ◌≤◌, length, List, [], 
 use Rattle.sre_turns.proofs.Terms.{arith, true≢false, Marks, Attempt, Choice, Else, Keep, Trying, from_region, Limit}
 use Rattle.sre_turns.proofs.Terms.{earlier, without_open, Reopens, Settling, Fares, FaresAt, FaresBack, FaresEnd}
 use Rattle.sre_turns.proofs.Terms.{EndsIn, end_share, tried_spots, is_inside, price, open_spots, Counted, point_behind}
-use Rattle.sre_turns.proofs.Terms.{Point, Region, Further}
-use Rattle.sre_chars.specs.declared.string.StringCursor.{StringCursor}
-use Rattle.sre_model.specs.Runs.{Run}
+use Rattle.sre_turns.proofs.Terms.{Point, Region, Further, StringCursor, Run, spot_at, Frame, Instruction}
 use Rattle.sre_turns.specs.Limits.{waiting, open_attempts}
-use Rattle.sre_turns.specs.Moves.{spot_at}
-use Rattle.sre_turns.specs.declared.Frame.{Frame}
-use Rattle.sre_turns.specs.declared.Point.TheVariants.{Instruction}
 use Rattle.sre_turns.proofs.bound.Faring.{fares_earlier}
 use Rattle.sre_turns.proofs.bound.PriceMoves.{behind_covered}
 

@@ -6,12 +6,9 @@ use Rattle.sre_turns.proofs.Terms.{add-mul, one-mul, mul-le-mul_right, nat_tests
 use Rattle.sre_turns.proofs.Terms.{LazyRun, PossessiveRun, Way, unlimited, word, Opcode, Word, Role, ToBranch, ToRun}
 use Rattle.sre_turns.proofs.Terms.{ToRepeat, ToLoop, ToRepeatPossessively, role, other_ends, word_of, CodeAt, Frame}
 use Rattle.sre_turns.proofs.Terms.{Instruction, spot_at, Subject, Runs, toll, toll_by, bit_by, bit_toll, end_price}
-use Rattle.sre_turns.proofs.Terms.{ends_beside, split_toll, split_by, role_at, forking}
+use Rattle.sre_turns.proofs.Terms.{ends_beside, split_toll, split_by, role_at, forking, Point, Again, Marks, has_toll}
+use Rattle.sre_turns.proofs.Terms.{scan_by, scan_toll, RunsOn}
 use Rattle.sre_chars.specs.declared.constants.SreOpcode.TheVariants as opcode
-use Rattle.sre_turns.specs.Limits.{has_toll}
-use Rattle.sre_turns.specs.Machine.{Point, Again, Marks}
-use Rattle.sre_turns.specs.Prices.{scan_by, scan_toll}
-use Rattle.sre_turns.specs.RunEnds.{RunsOn}
 use Rattle.sre_turns.proofs.semantics.Moving.{in_role}
 use Rattle.sre_turns.proofs.bound.Steps.{role_there}
 

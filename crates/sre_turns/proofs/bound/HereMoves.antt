@@ -6,13 +6,9 @@ use Rattle.sre_turns.proofs.Terms.{arith, ⊤, true≢false, Tree, Opcode, Reads
 use Rattle.sre_turns.proofs.Terms.{least_from, Choice, Else, Keep, Trying, is_inside, HereIn, Reopens, EndsIn, Moves}
 use Rattle.sre_turns.proofs.Terms.{Spot, Move, End, Split, Enter, repeats, LiesIn, AllBegunBy, ClosesAt, LeadsTo}
 use Rattle.sre_turns.proofs.Terms.{Counted, SettledIn, point_behind, goes_behind, BodyOf, IsBodyIn, InBody, Point}
-use Rattle.sre_turns.proofs.Terms.{AtomicGroup, Further, Region, first, LiesInBody}
+use Rattle.sre_turns.proofs.Terms.{AtomicGroup, Further, Region, first, LiesInBody, Run, spot_at, Stop, Go, Frame}
+use Rattle.sre_turns.proofs.Terms.{Instruction, Passed}
 use Rattle.sre_chars.specs.declared.constants.SreOpcode.TheVariants as opcode
-use Rattle.sre_model.specs.Runs.{Run}
-use Rattle.sre_turns.specs.Moves.{spot_at, Stop, Go}
-use Rattle.sre_turns.specs.Nested.{Passed}
-use Rattle.sre_turns.specs.declared.Frame.{Frame}
-use Rattle.sre_turns.specs.declared.Point.TheVariants.{Instruction}
 use Rattle.sre_turns.proofs.bound.NestedMoves.{begins, body_moves}
 use Rattle.sre_turns.proofs.semantics.Onward.{outer_begun, Reaches, Reaching, point_reaches, all_later, least_position}
 use Rattle.sre_turns.proofs.memoization.Straight.{StraightPoint, body_straight, GoesBack, counted_entry, point_entered}

@@ -8,13 +8,9 @@ use Rattle.sre_turns.proofs.Terms.{Opcode, Reads, ReadsItem, Operands, until_opc
 use Rattle.sre_turns.proofs.Terms.{ToRepeat, ToLoop, ToRepeatPossessively, ToGroupAtomically, ToLook, role, same_opcode}
 use Rattle.sre_turns.proofs.Terms.{word_of, test_same, item_role, until_role, Region, Alternatives, Shorter, Longer}
 use Rattle.sre_turns.proofs.Terms.{Again, Point, Spot, Move, Moves, repeats, LiesIn, LiesInItem, LeadsTo, ClosesAt}
+use Rattle.sre_turns.proofs.Terms.{Subject, Frame, Instruction, item_opcode, role_same}
 use Rattle.sre_chars.specs.declared.constants.SreOpcode.TheVariants as opcode
 use Rattle.sre_model.specs.Tree.{Run}
-use Rattle.sre_model.specs.Subject.{Subject}
-use Rattle.sre_model.specs.Grammar.{item_opcode}
-use Rattle.sre_model.proofs.Families.{role_same}
-use Rattle.sre_turns.specs.declared.Frame.{Frame}
-use Rattle.sre_turns.specs.declared.Point.TheVariants.{Instruction}
 pub use Rattle.sre_turns.proofs.semantics.Parts.{begins}
 use Rattle.sre_turns.proofs.semantics.Parts.{branch_begins, Own, Ends, Law, lies_law, alternative, no_more, shorter}
 use Rattle.sre_turns.proofs.semantics.Parts.{longer, possessive, with_item, jump, until, success}

@@ -6,11 +6,8 @@ use Rattle.sre_turns.proofs.Terms.{ap, Option, Some, None, sym, ◌∙◌, subst
 use Rattle.sre_turns.proofs.Terms.{Branch, Loop, PossessiveLoop, Atomic, Look, Exists, ExistsElse, Trees, Only, Or}
 use Rattle.sre_turns.proofs.Terms.{word, skip, Reads, Operands, ReadsBranch, WholeItems, reads_within, Alternatives}
 use Rattle.sre_turns.proofs.Terms.{Shorter, Longer, Again, least_from, Point, Spot, repeats, IsAt, LiesIn, LiesInItem}
-use Rattle.sre_turns.proofs.Terms.{LiesInBranch, Lies, place_under, place_of}
+use Rattle.sre_turns.proofs.Terms.{LiesInBranch, Lies, place_under, place_of, Instruction, operands_past, is_again}
 use Rattle.sre_model.specs.Tree.{Run}
-use Rattle.sre_model.proofs.Places.{operands_past}
-use Rattle.sre_turns.specs.declared.Point.TheVariants.{Instruction}
-use Rattle.sre_turns.specs.Nested.{is_again}
 use Rattle.sre_turns.proofs.semantics.Parts.{Own, Ends, Law, lies_law, alternative, no_more, shorter, longer}
 use Rattle.sre_turns.proofs.semantics.Parts.{possessive, with_item, jump, until, success}
 

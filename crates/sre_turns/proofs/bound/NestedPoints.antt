@@ -3,10 +3,9 @@
 use Rattle.sre_turns.proofs.Terms.{ℕ, List, [], ◌∷◌, refl, Tree, Empty, Then, Item, Branch, Loop, PossessiveLoop, Trees}
 use Rattle.sre_turns.proofs.Terms.{Order, RunKind, Test, Folding, of_tree, of_item, of_parts, Reads, Operands}
 use Rattle.sre_turns.proofs.Terms.{ReadsItem, until_opcode, ToEnd, ToJump, ToLoop, HasRole, role_here, until_role}
-use Rattle.sre_turns.proofs.Terms.{Alternatives, Shorter, Longer, Again, Point, LiesIn}
+use Rattle.sre_turns.proofs.Terms.{Alternatives, Shorter, Longer, Again, Point, LiesIn, Instruction}
 use Rattle.sre_chars.specs.declared.constants.SreOpcode.TheVariants as opcode
 use Rattle.sre_model.specs.Tree.{Run}
-use Rattle.sre_turns.specs.declared.Point.TheVariants.{Instruction}
 use Rattle.sre_turns.proofs.semantics.Parts.{Own, Ends, Law, lies_law, alternative, no_more, shorter, longer}
 use Rattle.sre_turns.proofs.semantics.Parts.{possessive, with_item, jump, until, success}
 

@@ -3,10 +3,9 @@
 use Rattle.sre_turns.proofs.Terms.{◌≡◌, ℕ, ◌+◌, ◌*◌, ◌-◌, ◌≤◌, List, [], ◌∷◌, length, refl, sym, ap, ◌∙◌, arith, Tree}
 use Rattle.sre_turns.proofs.Terms.{Empty, Then, Item, Loop, PossessiveLoop, word, Word, Reads, Operands, WholeItems}
 use Rattle.sre_turns.proofs.Terms.{word_of, Point, Spot, counted_to, repeats, Lies, slots, of_tree, of_parts, of_item}
-use Rattle.std.proofs.Common.{max}
-use Rattle.std.proofs.Math.Nat.{mul_assoc, mul_left_comm, mul-le-mul_left, mul-le-mul_right, one-le-mul, le-max_left}
-use Rattle.std.proofs.Math.Nat.{le-max_right, mul-one}
-use Rattle.sre_turns.specs.Nested.{loop_slots, most_slots, by_slots}
+use Rattle.sre_turns.proofs.Terms.{max, mul_assoc, mul_left_comm, mul-le-mul_left, one-le-mul, le-max_left}
+use Rattle.sre_turns.proofs.Terms.{le-max_right, mul-one, loop_slots, most_slots, by_slots}
+use Rattle.std.proofs.Math.Nat.{mul-le-mul_right}
 use Rattle.sre_turns.proofs.semantics.Parts.{IsIn, Own, Ends, Law, lies_law, possessive, until, success}
 
 -- products

@@ -2,10 +2,8 @@
 -- That the step bound suffices (`enough` of sre_engine) rests on this.
 use Rattle.sre_turns.proofs.Terms.{◌≡◌, ℕ, zero, suc, ◌*◌, ◌-◌, ◌≤◌, inr, List, [], length, refl, subst, arith, Tree}
 use Rattle.sre_turns.proofs.Terms.{Empty, Then, behind_items, ReadsBehind, Reads, WholeItems, AreWords, LiesIn, Lies}
-use Rattle.sre_turns.proofs.Terms.{Instruction, spot_at}
-use Rattle.sre_model.proofs.ReadBack.{read_tree}
+use Rattle.sre_turns.proofs.Terms.{Instruction, spot_at, Marks, read_tree}
 use Rattle.sre_turns.proofs.bound.NestedMoves.{begins}
-use Rattle.sre_turns.specs.Machine.{Marks}
 
 -- the place behind some items lies there
 after_items : (ws : List ℕ) (i j : ℕ) (t : Tree) (r : Reads ws i j t) (js : List ℕ) (n : ℕ)

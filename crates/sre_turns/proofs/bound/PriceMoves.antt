@@ -9,15 +9,9 @@ use Rattle.sre_turns.proofs.Terms.{ToGroupAtomically, ToLook, role, word_of, sam
 use Rattle.sre_turns.proofs.Terms.{passes-below, Region, Further, Alternatives, Longer, Again, Inside, Tried}
 use Rattle.sre_turns.proofs.Terms.{TriedAgain, Point, Spot, Move, MovesAt, test_end, steps_by, steps, end_price}
 use Rattle.sre_turns.proofs.Terms.{ends_beside, price, loop_toll, toll_by, toll, split_toll, split_by, Covers, CodeAt}
-use Rattle.sre_turns.proofs.Terms.{point_behind, test_kind, test_role, role_here, ⊤}
-use Rattle.sre_model.specs.Subject.{Subject}
-use Rattle.sre_model.specs.Ways.{most_from}
-use Rattle.sre_turns.specs.declared.Frame.{Frame}
-use Rattle.sre_turns.specs.declared.Point.TheVariants.{Instruction}
-use Rattle.sre_turns.specs.Lying.{repeats}
-use Rattle.sre_turns.specs.Moves.{spot_at}
-use Rattle.sre_turns.specs.Prices.{branch_in, branch_price}
-use Rattle.sre_turns.specs.Prices.{more_ends, again_toll, aside}
+use Rattle.sre_turns.proofs.Terms.{point_behind, test_kind, test_role, role_here, ⊤, Subject, Frame, Instruction}
+use Rattle.sre_turns.proofs.Terms.{repeats, spot_at, most_from, branch_price, more_ends, again_toll, aside}
+use Rattle.sre_turns.specs.Prices.{branch_in}
 use Rattle.sre_turns.proofs.semantics.Turned.{GoesOn, behind_test, run_on, Forks, greedy_run, lazy_run}
 use Rattle.sre_turns.proofs.semantics.Turned.{next_alternative, next_shorter, next_longer, Begins, plain_loop}
 use Rattle.sre_turns.proofs.semantics.Turned.{possessive_loop, Enters, atomic_group, lookaround, Turned, stopped, ended}

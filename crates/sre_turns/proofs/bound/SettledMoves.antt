@@ -1,10 +1,7 @@
 -- In bytecode whose steps are counted a run begins at a settled configuration.
 -- That the step bound suffices (`enough` of sre_engine) rests on this.
-use Rattle.sre_turns.proofs.Terms.{ℕ, ◌*◌, ◌≤◌, List, [], Tree, Marks, WholeItems, ReadsBehind, AreWords}
-use Rattle.sre_model.specs.Subject.{Subject}
-use Rattle.sre_turns.specs.declared.Point.TheVariants.{Instruction}
-use Rattle.sre_turns.specs.Moves.{spot_at}
-use Rattle.sre_turns.specs.Settled.{Settled}
+use Rattle.sre_turns.proofs.Terms.{ℕ, ◌*◌, ◌≤◌, List, [], Tree, Marks, WholeItems, ReadsBehind, AreWords, Subject}
+use Rattle.sre_turns.proofs.Terms.{Instruction, spot_at, Settled}
 use Rattle.sre_turns.proofs.bound.NestedStarts.{lies_behind}
 
 -- where a run begins

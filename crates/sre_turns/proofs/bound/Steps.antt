@@ -1,16 +1,12 @@
 -- The steps from an instruction, by those from what follows it.
 -- That the step bound suffices (`enough` of sre_engine) rests on this.
-use Rattle.std.proofs.Common.{◌≡◌, ℕ, zero, suc, ◌+◌, ◌-◌, ◌<◌, ◌≤◌, List, length, refl, sym, ap, ◌∙◌, arith}
-use Rattle.std.specs.Prelude.{slice_index_or}
-use Rattle.sre_chars.specs.Numbers.{opcode_number}
-use Rattle.sre_chars.specs.declared.constants.SreOpcode.{SreOpcode}
+use Rattle.sre_turns.proofs.Terms.{◌≡◌, ℕ, zero, suc, ◌+◌, ◌-◌, ◌<◌, ◌≤◌, List, length, refl, sym, ap, ◌∙◌, arith}
+use Rattle.sre_turns.proofs.Terms.{slice_index_or, SreOpcode, Test, Literal, word, skip, Opcode, TestOperands, Role}
+use Rattle.sre_turns.proofs.Terms.{ToFail, ToTest, role, HasRole, test_kind, word_of, word_past, opcode_within, role_at}
+use Rattle.sre_turns.proofs.Terms.{test_end, steps_by, steps, opcode_number, Any, AnyAll, InCategory, NotLiteral, In}
+use Rattle.sre_turns.proofs.Terms.{OfAny, opcode_back, numbered}
 use Rattle.sre_chars.specs.declared.constants.SreOpcode.TheVariants as opcode
-use Rattle.sre_model.specs.Tree.{Test, Any, AnyAll, InCategory, Literal, NotLiteral, In}
-use Rattle.sre_model.specs.Grammar.{word, skip, Opcode, TestOperands}
-use Rattle.sre_model.specs.Roles.{Role, OfAny, ToFail, ToTest, role}
-use Rattle.sre_model.proofs.Families.{HasRole, test_kind}
-use Rattle.sre_model.proofs.Words.{word_of, word_past, opcode_within, opcode_back}
-use Rattle.sre_turns.specs.Prices.{numbered, role_at, test_end, steps_by, steps_in, steps}
+use Rattle.sre_turns.specs.Prices.{steps_in}
 
 -- an instruction takes a step at least
 pub by_some : (ws : List ℕ) (later : ℕ → ℕ) (i : ℕ) (f : Role) → 1 ≤ steps_by ws later i f

@@ -9,20 +9,14 @@ use Rattle.sre_turns.proofs.Terms.{ExistsElse, Trees, Only, Or, PossessiveRun, w
 use Rattle.sre_turns.proofs.Terms.{ReadsBranch, JumpsTo, WholeItems, until_opcode, Role, ToEnd, ToJump, ToLoop}
 use Rattle.sre_turns.proofs.Terms.{steps_of, other_ends, HasRole, role_here, item_role, item_here, until_role, word_of}
 use Rattle.sre_turns.proofs.Terms.{Alternatives, Shorter, Longer, Again, Point, IsAt, LiesIn, LiesInItem, LiesInBranch}
-use Rattle.sre_turns.proofs.Terms.{slots, steps, bit_by, bit_toll, end_price, nat_tests}
-use Rattle.std.proofs.Math.Dec.{eqb}
-use Rattle.std.proofs.lemmas.Bool.{eqb-true}
-use Rattle.std.proofs.lemmas.List.{length-map}
-use Rattle.std.proofs.lemmas.List.Elements.{All-from_recursion}
-use Rattle.std.proofs.lemmas.List.Sums.{sum_by-cons, sum_by-le}
-use Rattle.std.proofs.lemmas.Map.Steps.{length-le_from_distinct_below}
-use Rattle.std.specs.List.{IsDistinct, list_any, sum_by}
-use Rattle.sre_model.proofs.Each.{each-map}
+use Rattle.sre_turns.proofs.Terms.{slots, steps, bit_by, bit_toll, end_price, nat_tests, loop_slots, Instruction, eqb}
+use Rattle.sre_turns.proofs.Terms.{eqb-true, length-map, All-from_recursion, sum_by-cons, sum_by-le}
+use Rattle.sre_turns.proofs.Terms.{length-le_from_distinct_below, list_any, sum_by, each-map, branch_steps, cost_of}
+use Rattle.sre_turns.proofs.Terms.{branch_cost, scan_price}
+use Rattle.std.specs.List.{IsDistinct}
 use Rattle.sre_chars.specs.declared.constants.SreOpcode.TheVariants as opcode
 use Rattle.sre_model.specs.Tree.{Run}
-use Rattle.sre_model.specs.Slots.{loop_slots}
-use Rattle.sre_model.specs.TreePrices.{branch_steps, cost_of, item_cost, branch_cost, scan_price}
-use Rattle.sre_turns.specs.declared.Point.TheVariants.{Instruction}
+use Rattle.sre_model.specs.TreePrices.{item_cost}
 use Rattle.sre_turns.specs.Prices.{branch_in}
 use Rattle.sre_turns.proofs.bound.NestedMoves.{begins}
 use Rattle.sre_turns.proofs.bound.Steps.{role_there, steps_told}

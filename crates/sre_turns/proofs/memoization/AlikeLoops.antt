@@ -2,8 +2,7 @@
 -- stores of a loop its count, as far as it makes a difference, and one bit of its last body.
 use Rattle.sre_turns.proofs.Terms.{◌≡◌, ℕ, ◌+◌, ◌≤◌, not, ◌&&◌, ◌||◌, List, [], ◌∷◌, min, drop, nat_eq, nat_lt, Option}
 use Rattle.sre_turns.proofs.Terms.{Some, None, refl, sym, ap, ◌∙◌, arith, nat_tests, unlimited, may_repeat, Word}
-use Rattle.sre_turns.proofs.Terms.{next_frame, is_last, counted_to, FramesAlike, LoopsAlike}
-use Rattle.sre_turns.specs.declared.Frame.{Frame}
+use Rattle.sre_turns.proofs.Terms.{next_frame, is_last, counted_to, FramesAlike, LoopsAlike, Frame}
 
 -- from a position on, so from a later one on
 frame_later : (ws : List ℕ) (p q : ℕ) (f g : Frame) → p ≤ q → FramesAlike ws p f g → FramesAlike ws q f g

@@ -9,13 +9,8 @@ use Rattle.sre_turns.proofs.Terms.{Split, Enter, closing_move, first_frame, next
 use Rattle.sre_turns.proofs.Terms.{until_move, enter_body, again_move, LoopMove, Asks, asks, MarksAgree, OutcomesAlike}
 use Rattle.sre_turns.proofs.Terms.{Within, PlacesAsk, GroupLies, AsksAt, AskedByPlace, PointAsks, LoopsAsk, Matters}
 use Rattle.sre_turns.proofs.Terms.{MattersBehind, Moves, MovesAt, is_last, LoopsAlike, FramesAlike, least_from, Alike}
-use Rattle.sre_turns.proofs.Terms.{goes_behind}
-use Rattle.sre_model.specs.Subject.{Subject}
-use Rattle.sre_turns.specs.declared.Frame.{Frame}
-use Rattle.sre_turns.specs.declared.Point.TheVariants.{Instruction}
-use Rattle.sre_turns.specs.Moves.{spot_at, Stop, Go}
-use Rattle.sre_turns.specs.AskedPlaces.{Lies, MarkLeads}
-use Rattle.sre_turns.specs.AskedPlaces.{RegionAsks}
+use Rattle.sre_turns.proofs.Terms.{goes_behind, Subject, Frame, Instruction, spot_at, Stop, Go, MarkLeads, RegionAsks}
+use Rattle.sre_turns.specs.AskedPlaces.{Lies}
 use Rattle.sre_turns.proofs.memoization.Asked.{agree_less, agree_set, group_agrees}
 use Rattle.sre_turns.proofs.semantics.Onward.{EndFrom}
 use Rattle.sre_turns.proofs.semantics.Turned.{GoesOn, behind_test, behind_reference, behind_look, run_on, group_there}

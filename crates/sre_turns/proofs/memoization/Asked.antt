@@ -2,9 +2,8 @@
 use Rattle.sre_turns.proofs.Terms.{◌≡◌, ℕ, zero, suc, ◌+◌, ◌-◌, ◌*◌, ◌<◌, ◌≤◌, List, [], ◌∷◌, ◌++◌, length, replicate}
 use Rattle.sre_turns.proofs.Terms.{cond, slice_set, slice_index_or, Option, Some, None, refl, sym, ap, ◌∙◌, arith}
 use Rattle.sre_turns.proofs.Terms.{nat_le, ◌⊎◌, inl, inr, Marks, lengthened, set_mark, mark_at, group, Way, SameStops}
-use Rattle.sre_turns.proofs.Terms.{HasReference, Asks, MarksAgree, AskedMark, MarksAlike, OutcomesAlike}
-use Rattle.std.proofs.lemmas.List.{length-append, length-replicate}
-use Rattle.sre_turns.specs.Asked.{Unmarked}
+use Rattle.sre_turns.proofs.Terms.{HasReference, Asks, MarksAgree, AskedMark, MarksAlike, OutcomesAlike, length-append}
+use Rattle.sre_turns.proofs.Terms.{length-replicate, Unmarked}
 
 -- one entry of a list
 abbrev entry : List (Option ℕ) → ℕ → Option ℕ

@@ -7,15 +7,9 @@ use Rattle.sre_turns.proofs.Terms.{of_item, of_parts, Opcode, WholeItems, Role, 
 use Rattle.sre_turns.proofs.Terms.{HasRole, role_here, item_role, item_here, items_same, same_opcode, NotAhead, Further}
 use Rattle.sre_turns.proofs.Terms.{Region, Point, Spot, Move, End, Split, Enter, closing_move, Moves, Runs, turns}
 use Rattle.sre_turns.proofs.Terms.{Comes, stops, ends, goes, splits, enters, repeats, ClosesAt, LeadsTo, LoopsAlike}
-use Rattle.sre_turns.proofs.Terms.{Alike, LiesInBody, Confined, MarklessRegions, AllMarked, MarksStay}
+use Rattle.sre_turns.proofs.Terms.{Alike, LiesInBody, Confined, MarklessRegions, AllMarked, MarksStay, Subject, Run}
+use Rattle.sre_turns.proofs.Terms.{Frame, Instruction, Stop, Go, by_marks, MarklessBody}
 use Rattle.sre_chars.specs.declared.constants.SreOpcode.TheVariants as opcode
-use Rattle.sre_model.specs.MarksSet.{by_marks}
-use Rattle.sre_model.specs.Subject.{Subject}
-use Rattle.sre_model.specs.Runs.{Run}
-use Rattle.sre_turns.specs.declared.Frame.{Frame}
-use Rattle.sre_turns.specs.declared.Point.TheVariants.{Instruction}
-use Rattle.sre_turns.specs.Moves.{Stop, Go}
-use Rattle.sre_turns.specs.Bodies.{MarklessBody}
 use Rattle.sre_turns.proofs.bound.NestedMoves.{body_moves}
 use Rattle.sre_turns.proofs.semantics.Turned.{Turned, stopped, ended, went, forked, marked, grouped, begun, entered}
 use Rattle.sre_turns.proofs.semantics.Turned.{looped, repeated, point_turned}

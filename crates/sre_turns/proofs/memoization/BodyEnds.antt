@@ -7,14 +7,11 @@ use Rattle.sre_turns.proofs.Terms.{HereIn, EndsIn, Limit, Instruction, spot_at, 
 use Rattle.sre_turns.proofs.Terms.{Subject, Runs, turns, Comes, stops, ends, goes, splits, enters, Waits, otherwise}
 use Rattle.sre_turns.proofs.Terms.{tried, Arrives, Ends, Later, spot, point_behind, goes_behind, InBody, SameFruit}
 use Rattle.sre_turns.proofs.Terms.{is_inside, MarksAlike, Confined, MarklessRegions, AllMarked, MarksStay, AllConfined}
-use Rattle.sre_turns.proofs.Terms.{open_spots, SameStops}
-use Rattle.sre_turns.specs.Machine.{Point, Region, Ahead, NotAhead, Further, Spot, Move}
-use Rattle.sre_turns.specs.Machine.{End, Split, Enter, closing_move, Choice, Else, Keep, Trying}
-use Rattle.sre_turns.specs.Machine.{Counted, Marks}
+use Rattle.sre_turns.proofs.Terms.{open_spots, SameStops, Point, Region, Ahead, NotAhead, Further, Spot, Move, End}
+use Rattle.sre_turns.proofs.Terms.{Split, Enter, closing_move, Choice, Else, Keep, Trying, Counted, Marks, EndsAt}
+use Rattle.sre_turns.proofs.Terms.{CameToEnd, EachOpen}
 use Rattle.sre_turns.proofs.bound.HereMoves.{InsideOnto, inside_moves}
 use Rattle.sre_turns.specs.declared.Next.TheVariants as next
-use Rattle.sre_turns.specs.BodyEnds.{EndsAt, CameToEnd}
-use Rattle.sre_turns.specs.OpenMarks.{EachOpen}
 use Rattle.sre_turns.proofs.memoization.Bodies.{confined_stay}
 use Rattle.sre_turns.proofs.semantics.FirstOutcomes.{fruit_waits}
 use Rattle.sre_turns.proofs.memoization.SameComes.{marked_come}

@@ -3,9 +3,8 @@
 use Rattle.sre_turns.proofs.Terms.{◌≡◌, ℕ, Bool, true, List, [], ◌∷◌, Marks, no_marks, Frame, spot_at, Stop, Go}
 use Rattle.sre_turns.proofs.Terms.{StringCursor, Subject, Moves, is_inside, repeats, ClosesAt, LeadsTo, LiesInBody}
 use Rattle.sre_turns.proofs.Terms.{IsConfined, Confined, ConfinedInside, AllConfined, ChoicesConfined, StandsConfined}
-use Rattle.sre_turns.proofs.Terms.{BothConfined}
-use Rattle.sre_turns.specs.Machine.{Point, Region, Further, Spot, Move, End, Split, Enter}
-use Rattle.sre_turns.specs.Machine.{Choice, Else, Keep, Trying, from_region}
+use Rattle.sre_turns.proofs.Terms.{BothConfined, Point, Region, Further, Spot, Move, End, Split, Enter, Choice, Else}
+use Rattle.sre_turns.proofs.Terms.{Keep, Trying, from_region}
 use Rattle.sre_turns.proofs.memoization.Bodies.{confined_moves}
 
 -- what holds of each point of one kind holds of another

@@ -2,10 +2,8 @@
 -- The memo of failures, which stores hopeless configurations, rests on these laws.
 use Rattle.sre_turns.proofs.Terms.{◌≡◌, ℕ, Bool, true, false, List, [], ◌∷◌, refl, sym, ◌∙◌, inl, inr, ap, true≢false}
 use Rattle.sre_turns.proofs.Terms.{Tree, refers, WholeItems, SameStops, HasReference, Run, Runs, Waits, Alike, Hopeless}
-use Rattle.sre_turns.proofs.Terms.{MarksServe, AcceptsByStop, first}
+use Rattle.sre_turns.proofs.Terms.{MarksServe, AcceptsByStop, first, Spot, Choice, Marks, Way, Fruitless, is_inside}
 use Rattle.sre_model.specs.Found.{Asked, is_accepted}
-use Rattle.sre_turns.specs.Machine.{Spot, Choice, Marks, Way}
-use Rattle.sre_turns.specs.Hopeless.{Fruitless, is_inside}
 use Rattle.sre_turns.proofs.semantics.FirstOutcomes.{none_passes, fruit_waits}
 use Rattle.sre_turns.proofs.memoization.SameComes.{marked_come}
 

@@ -2,8 +2,7 @@
 -- one reached has fewer to come than the one that is tried. That the step bound suffices rests on this.
 use Rattle.sre_turns.proofs.Terms.{ℕ, ◌+◌, ◌≤◌, List, [], ◌∷◌, arith, HasReference, Limit, tried_spots, BoardValue, Run}
 use Rattle.sre_turns.proofs.Terms.{StringCursor, Runs, Waits, otherwise, kept, tried, Arrives, spot, AllByRecursion}
-use Rattle.sre_turns.proofs.Terms.{Alike, Attempt}
-use Rattle.sre_turns.specs.Machine.{Point, Spot, Choice, Else, Keep, Trying, Way}
+use Rattle.sre_turns.proofs.Terms.{Alike, Attempt, Point, Spot, Choice, Else, Keep, Trying, Way}
 use Rattle.sre_turns.proofs.memoization.SameComes.{same_comes}
 
 -- what is tried is of no spot that is alike to this one

@@ -4,14 +4,9 @@ use Rattle.sre_turns.proofs.Terms.{◌≡◌, ℕ, suc, ◌+◌, List, [], ◌�
 use Rattle.sre_turns.proofs.Terms.{Some, Marks, Way, SameStops, Again, Point, Region, Spot, Move, End, Split, Enter}
 use Rattle.sre_turns.proofs.Terms.{closing_move, HasReference, Runs, turns, Comes, stops, ends, goes, splits, enters}
 use Rattle.sre_turns.proofs.Terms.{least_from, LoopsAlike, Alike, AskedMark, MarksAlike, OutcomesAlike, PlacesAsk}
-use Rattle.sre_turns.proofs.Terms.{AskedByPlace, PointAsks, LoopsAsk, Matters, MattersBehind}
-use Rattle.std.proofs.Common.{slice_get}
-use Rattle.sre_model.specs.Subject.{Subject}
-use Rattle.sre_turns.specs.declared.Frame.{Frame}
-use Rattle.sre_turns.specs.declared.Point.TheVariants.{Instruction}
-use Rattle.sre_turns.specs.Moves.{spot_at, Stop, Go}
+use Rattle.sre_turns.proofs.Terms.{AskedByPlace, PointAsks, LoopsAsk, Matters, MattersBehind, Subject, Frame}
+use Rattle.sre_turns.proofs.Terms.{Instruction, spot_at, Stop, Go, slice_get, MarksIdle, SaysOfBodies, SaysOf, AreIdle}
 use Rattle.sre_turns.specs.AskedPlaces.{Lies}
-use Rattle.sre_turns.specs.AskedPlaces.{MarksIdle, SaysOfBodies, SaysOf, AreIdle}
 use Rattle.sre_turns.proofs.memoization.AlikeLoops.{loops-alike}
 use Rattle.sre_turns.proofs.analyses.AskedPlaces.{told_alike}
 use Rattle.sre_turns.proofs.semantics.Onward.{outcomes-onward}

@@ -7,17 +7,10 @@ use Rattle.sre_turns.proofs.Terms.{Loop, PossessiveLoop, Atomic, Look, Sign, Mar
 use Rattle.sre_turns.proofs.Terms.{of_parts, skip, Opcode, Operands, ReadsItem, backs, forks, has_forked_region, Role}
 use Rattle.sre_turns.proofs.Terms.{ToEnd, role, HasRole, item_role, item_here, same_opcode, same_word, Owed, Further}
 use Rattle.sre_turns.proofs.Terms.{Region, Again, Point, Spot, Move, Enter, MovesAt, repeats, LiesIn, forking, BodyOf}
-use Rattle.sre_turns.proofs.Terms.{IsBodyIn}
+use Rattle.sre_turns.proofs.Terms.{IsBodyIn, Subject, Frame, Instruction, spot_at, by_backs, by_forks}
+use Rattle.sre_turns.proofs.Terms.{by_forked_regions, paired, tree_paired, ForksAt}
 use Rattle.sre_chars.specs.declared.constants.SreOpcode.TheVariants as opcode
 use Rattle.sre_model.specs.Tree.{Run}
-use Rattle.sre_model.specs.Subject.{Subject}
-use Rattle.sre_model.specs.LooksBehind.{by_backs}
-use Rattle.sre_model.specs.Regions.{by_forks, by_forked_regions}
-use Rattle.sre_model.proofs.Foldings.{paired, tree_paired}
-use Rattle.sre_turns.specs.declared.Frame.{Frame}
-use Rattle.sre_turns.specs.declared.Point.TheVariants.{Instruction}
-use Rattle.sre_turns.specs.Moves.{spot_at}
-use Rattle.sre_turns.specs.Straight.{ForksAt}
 use Rattle.sre_turns.proofs.bound.NestedPoints.{HoldsInGood, tree_holds}
 use Rattle.sre_turns.proofs.bound.PriceMoves.{enters}
 use Rattle.sre_turns.proofs.semantics.Turned.{Enters, atomic_group, lookaround, Turned, stopped, ended, went, forked}

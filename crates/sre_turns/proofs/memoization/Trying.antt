@@ -3,11 +3,9 @@
 use Rattle.sre_turns.proofs.Terms.{◌≡◌, ℕ, ◌≤◌, Bool, List, [], ◌∷◌, drop, ap, refl, sym, subst, arith, Limit, Stage}
 use Rattle.sre_turns.proofs.Terms.{Going, Splitting, spare, FaresBack, Frame, BoardValue, Run, StringCursor, Runs}
 use Rattle.sre_turns.proofs.Terms.{Waits, tried, GoesWith, Goes, Arrives, Tries, Backs, Later, spot, ChoicesConfined}
-use Rattle.sre_turns.proofs.Terms.{is_inside, Alike, LoopsAlike, least_from, Hopeless, AcceptsByStop, MarksServe}
+use Rattle.sre_turns.proofs.Terms.{is_inside, Alike, LoopsAlike, least_from, Hopeless, AcceptsByStop, MarksServe, Point}
+use Rattle.sre_turns.proofs.Terms.{Spot, Trying, Counted, Marks, Way, Fruitless, attempt, with_tried, without_tried}
 use Rattle.sre_turns.specs.declared.Next.TheVariants as next
-use Rattle.sre_turns.specs.Limits.{attempt, with_tried, without_tried}
-use Rattle.sre_turns.specs.Machine.{Point, Spot, Trying, Counted, Marks, Way}
-use Rattle.sre_turns.specs.Fruit.{Fruitless}
 use Rattle.sre_turns.proofs.semantics.FirstOutcomes.{first_none}
 use Rattle.sre_turns.proofs.memoization.Hopeless.{hopeless_again, fruitless_waits, fruitless_none}
 use Rattle.sre_turns.proofs.semantics.Moving.{standing, back_from}

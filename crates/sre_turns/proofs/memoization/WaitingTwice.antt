@@ -3,12 +3,9 @@
 use Rattle.sre_turns.proofs.Terms.{◌≡◌, inl, inr, ℕ, ◌+◌, ◌≤◌, Bool, true, false, List, [], ◌∷◌, ◌++◌, refl, sym, subst}
 use Rattle.sre_turns.proofs.Terms.{arith, SameStops, Else, HasReference, AcceptsByStop, Instruction, Stop, Go, Run}
 use Rattle.sre_turns.proofs.Terms.{StringCursor, Subject, Runs, turns, Comes, stops, ends, goes, splits, enters, Waits}
-use Rattle.sre_turns.proofs.Terms.{otherwise, Arrives, Later, spot, Coming}
-use Rattle.sre_turns.specs.Board.{BoardValue, Dropped}
+use Rattle.sre_turns.proofs.Terms.{otherwise, Arrives, Later, spot, Coming, BoardValue, SameFruit, is_inside, Spot}
+use Rattle.sre_turns.proofs.Terms.{Move, End, Split, Enter, closing_move, Limit, earlier, Marks, Way, Dropped}
 use Rattle.sre_turns.specs.declared.Next.TheVariants as next
-use Rattle.sre_turns.specs.Hopeless.{SameFruit, is_inside}
-use Rattle.sre_turns.specs.Machine.{Spot, Move, End, Split, Enter, closing_move, Limit, earlier}
-use Rattle.sre_turns.specs.Machine.{Marks, Way}
 use Rattle.sre_turns.proofs.semantics.FirstOutcomes.{SameFirsts, firsts_begin, firsts_again, fruit_waits}
 use Rattle.sre_turns.proofs.semantics.Moving.{standing}
 use Rattle.sre_turns.proofs.semantics.OneTurn.{comes}

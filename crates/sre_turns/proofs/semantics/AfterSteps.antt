@@ -1,9 +1,8 @@
 -- What comes of a configuration whose step is known: what comes of those to which it leads.
-use Rattle.std.proofs.Common.{◌≡◌, ℕ, suc, ◌+◌, ◌≤◌, List, [], ◌++◌, refl, sym, ap, ◌∙◌, subst, arith}
-use Rattle.sre_turns.specs.Machine.{Frame, Point, Spot, spot_at, Stop, Go, Split, Run, StringCursor, Marks, Subject}
-use Rattle.sre_turns.specs.Machine.{Way, Moves, Runs, turns, Comes, stops, goes, splits, HasRun}
+use Rattle.sre_turns.proofs.Terms.{◌≡◌, ℕ, suc, ◌+◌, ◌≤◌, List, [], ◌++◌, refl, sym, ap, ◌∙◌, subst, arith, Frame}
+use Rattle.sre_turns.proofs.Terms.{Point, Spot, spot_at, Stop, Go, Split, Run, StringCursor, Marks, Subject, Way, Moves}
+use Rattle.sre_turns.proofs.Terms.{Runs, turns, Comes, stops, goes, splits, HasRun, first}
 use Rattle.sre_turns.proofs.semantics.OneTurn.{comes}
-use Rattle.sre_model.specs.Ways.{first}
 
 -- nothing, in one step
 pub stopped : {ws : List ℕ} {s : Subject} {x : Spot} {os : List Way} {n : ℕ} → Moves ws s x Stop → Runs ws s x os n

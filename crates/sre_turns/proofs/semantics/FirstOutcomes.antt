@@ -2,10 +2,8 @@
 -- is, as long as it depends on where they stop. So what waits twice may be left out where it comes later.
 use Rattle.sre_turns.proofs.Terms.{◌≡◌, Bool, true, false, List, [], ◌∷◌, ◌++◌, refl, sym, ap, ◌∙◌, ℕ, Way, first}
 use Rattle.sre_turns.proofs.Terms.{SameStops, Region, NotAhead, Spot, closing_move, SameFruit, is_inside, Waits}
-use Rattle.sre_turns.proofs.Terms.{outermost, otherwise, kept, tried, Choice, Else, Keep, Trying}
-use Rattle.std.specs.List.{filter}
-use Rattle.std.proofs.lemmas.List.Elements.{filter-append}
-use Rattle.sre_model.specs.Runs.{Run}
+use Rattle.sre_turns.proofs.Terms.{outermost, otherwise, kept, tried, Choice, Else, Keep, Trying, Run, filter}
+use Rattle.sre_turns.proofs.Terms.{filter-append}
 
 -- a test that looks at where an outcome stops
 abbrev pub ByStop : (Way → Bool) → Type 0

@@ -2,10 +2,8 @@
 use Rattle.sre_turns.proofs.Terms.{◌≡◌, ℕ, ◌≤◌, List, [], ◌∷◌, refl, sym, ap, ◌∙◌, subst, arith, Else, Keep, choice}
 use Rattle.sre_turns.proofs.Terms.{Limit, earlier, Wider, FaresBack, Coming, Instruction, Run, StringCursor, spot}
 use Rattle.sre_turns.proofs.Terms.{Waits, outermost, otherwise, Goes, Arrives, Backs, Stands, Later, without_outcome}
-use Rattle.sre_turns.proofs.Terms.{without_loop, HasRun, ChoicesConfined, Next}
-use Rattle.sre_turns.specs.Board.{BoardValue}
-use Rattle.sre_turns.specs.Machine.{Point, Again, Inside, Region, Way}
-use Rattle.sre_turns.specs.Machine.{IsBack}
+use Rattle.sre_turns.proofs.Terms.{without_loop, HasRun, ChoicesConfined, Next, BoardValue, Point, Again, Inside}
+use Rattle.sre_turns.proofs.Terms.{Region, Way, IsBack}
 use Rattle.sre_turns.specs.declared.Next.TheVariants as next
 use Rattle.sre_turns.proofs.semantics.FirstOutcomes.{first_none}
 use Rattle.sre_turns.proofs.semantics.Moving.{arrived, standing}

@@ -4,11 +4,10 @@
 use Rattle.sre_turns.proofs.Terms.{◌≡◌, ℕ, ◌+◌, ◌<◌, ◌≤◌, inl, inr, true, List, [], refl, arith, Tree, Item, LazyRun}
 use Rattle.sre_turns.proofs.Terms.{Way, unlimited, first, Word, Opcode, Reads, Operands, HasTest, passes-below, Limit}
 use Rattle.sre_turns.proofs.Terms.{HereIn, FaresBoth, Frame, Instruction, spot_at, StringCursor, GoesBoth, IsConfined}
-use Rattle.sre_turns.proofs.Terms.{IsAt, LiesIn, repeats, price_of, AllPass}
+use Rattle.sre_turns.proofs.Terms.{IsAt, LiesIn, repeats, price_of, AllPass, Point, Longer, Spot, Choice, Counted}
+use Rattle.sre_turns.proofs.Terms.{Marks, passes, Run}
 use Rattle.sre_chars.specs.declared.constants.SreOpcode.TheVariants as opcode
 use Rattle.sre_model.specs.Runs as runs
-use Rattle.sre_turns.specs.Machine.{Point, Longer, Spot, Choice, Counted}
-use Rattle.sre_turns.specs.Machine.{Marks, passes}
 use Rattle.sre_turns.proofs.bound.PriceMoves.{later_run_covered}
 use Rattle.sre_turns.proofs.bound.Faring.{fares_less}
 use Rattle.sre_turns.proofs.bound.HereMoves.{here_reached}
@@ -16,7 +15,6 @@ use Rattle.sre_turns.proofs.semantics.LazyRunEnds.{longer_run}
 use Rattle.sre_turns.proofs.semantics.Onward.{all_later}
 use Rattle.sre_turns.proofs.semantics.Parts.{Own, Law, lies_law, longer}
 use Rattle.sre_turns.proofs.semantics.Moving.{both_standing}
-use Rattle.sre_model.specs.Runs.{Run}
 
 -- where the longer counts of a repeat lie in the words of a tree, its instruction does
 module _ (ws : List ℕ) where

@@ -3,10 +3,8 @@
 use Rattle.sre_turns.proofs.Terms.{◌≡◌, ℕ, zero, suc, ◌+◌, ◌-◌, ◌<◌, ◌≤◌, Bool, true, false, List, ◌++◌, refl, sym, ap}
 use Rattle.sre_turns.proofs.Terms.{subst, arith, Test, Way, unlimited, run_length, HasTest, passes-below, run_has}
 use Rattle.sre_turns.proofs.Terms.{word_of, Frame, Instruction, spot_at, Stop, Run, Subject, Moves, Runs, turns, stops}
-use Rattle.sre_turns.proofs.Terms.{RunOperands, AllPass}
+use Rattle.sre_turns.proofs.Terms.{RunOperands, AllPass, Longer, Spot, Split, Marks, passes, Word, Opcode, skip}
 use Rattle.sre_chars.specs.declared.constants.SreOpcode.TheVariants as opcode
-use Rattle.sre_turns.specs.Machine.{Longer, Spot, Split, Marks, passes}
-use Rattle.sre_turns.specs.Machine.{Word, Opcode, skip}
 use Rattle.sre_turns.proofs.semantics.AtRuns.{lazy_none, lazy_splits, longer_none, longer_splits}
 use Rattle.sre_turns.proofs.semantics.AfterSteps.{stopped, parted, split}
 

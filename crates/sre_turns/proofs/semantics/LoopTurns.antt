@@ -2,8 +2,7 @@
 -- in either order.
 use Rattle.sre_turns.proofs.Terms.{ℕ, ◌+◌, Bool, true, false, cond, nat_lt, Some, List, Order, Greedy, Lazy, may_repeat}
 use Rattle.sre_turns.proofs.Terms.{first, skip, Owed, Further, Spot, Move, Split, at_body, behind, in_order, enter_body}
-use Rattle.sre_turns.proofs.Terms.{UntilMove, AgainMove}
-use Rattle.sre_turns.specs.Moves.{Go}
+use Rattle.sre_turns.proofs.Terms.{UntilMove, AgainMove, Go}
 
 module _ (Q : Move → Type 0) where
   by_test : (b : Bool) {v w : Move} → Q v → Q w → Q (cond b v w)

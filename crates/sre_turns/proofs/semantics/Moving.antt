@@ -8,21 +8,14 @@ use Rattle.sre_turns.proofs.Terms.{Counted, StandsConfined, BothConfined, Placed
 use Rattle.sre_turns.proofs.Terms.{Comes, stops, ends, goes, splits, enters, Waits, outermost, otherwise, kept, tried}
 use Rattle.sre_turns.proofs.Terms.{Goes, Arrives, Tries, GoesBoth, Later, spot, HasRun, GoesWith, Refuses, Skips}
 use Rattle.sre_turns.proofs.Terms.{SkipsBoth, Exhausted, Continues, Advances, Chooses, Role, ToTest, role, begins_test}
-use Rattle.sre_turns.proofs.Terms.{same_opcode, opcode_within, some_test, MarklessRegions}
-use Rattle.sre_chars.specs.declared.string.StringCursor.{StringCursor}
-use Rattle.sre_model.specs.Subject.{Subject}
-use Rattle.sre_turns.specs.Board.{BoardValue}
-use Rattle.sre_turns.specs.declared.Frame.{Frame}
-use Rattle.sre_turns.specs.declared.Point.TheVariants.{Instruction}
-use Rattle.sre_turns.specs.Moves.{spot_at, Stop, Go, TestMove}
-use Rattle.sre_turns.specs.Lying.{repeats}
+use Rattle.sre_turns.proofs.Terms.{same_opcode, opcode_within, some_test, MarklessRegions, StringCursor, Subject}
+use Rattle.sre_turns.proofs.Terms.{BoardValue, Frame, Instruction, spot_at, Stop, Go, repeats, Run, TestMove}
 use Rattle.sre_turns.proofs.memoization.Confining.{turn_confined, goes_confined, splits_confined, first_confined}
 use Rattle.sre_turns.proofs.memoization.Confining.{first_left, second_left}
 use Rattle.sre_turns.proofs.bound.Faring.{FreeOfToll, turn_leaves, fares_less, first_waits, first_alone, second_alone}
 use Rattle.sre_turns.proofs.bound.Faring.{second_goes, run_code, with_tolls, with_toll, run_place, place_left}
 use Rattle.sre_turns.proofs.bound.Faring.{share_more}
 use Rattle.sre_turns.specs.Machine.{IsAt}
-use Rattle.sre_model.specs.Runs.{Run}
 use Rattle.sre_turns.specs.declared.Next.TheVariants as next
 use Rattle.sre_turns.proofs.semantics.OneTurn.{comes}
 use Rattle.sre_turns.proofs.semantics.AfterSteps.{has_run, stopped, went, parted}

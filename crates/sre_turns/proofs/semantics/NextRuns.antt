@@ -7,12 +7,9 @@ use Rattle.sre_turns.proofs.Terms.{SreOpcode, Way, unlimited, run_length, longes
 use Rattle.sre_turns.proofs.Terms.{FaresAt, FaresBoth, Splitting, Coming, Frame, Instruction, spot_at, Stop, BoardValue}
 use Rattle.sre_turns.proofs.Terms.{Run, StringCursor, Subject, Moves, Tries, GoesBoth, Later, spot, RunOperands}
 use Rattle.sre_turns.proofs.Terms.{price_of, end_price, split_toll, steps, RunKind, GreedyRun, LazyRun, PossessiveRun}
-use Rattle.sre_turns.proofs.Terms.{Test, ToRun, role, word_of, AllPass}
-use Rattle.std.proofs.Common.{append-nil}
+use Rattle.sre_turns.proofs.Terms.{Test, ToRun, role, word_of, AllPass, append-nil, Shorter, Longer, Spot, Split}
+use Rattle.sre_turns.proofs.Terms.{Choice, Counted, passes, Word, Opcode, skip, Marks}
 use Rattle.sre_chars.specs.declared.constants.SreOpcode.TheVariants as opcode
-use Rattle.sre_turns.specs.Machine.{Shorter, Longer, Spot, Split, Choice}
-use Rattle.sre_turns.specs.Machine.{Counted, passes, Word, Opcode, skip}
-use Rattle.sre_turns.specs.Machine.{Marks}
 use Rattle.sre_turns.proofs.bound.PriceMoves.{split_is}
 use Rattle.sre_turns.specs.declared.Next.TheVariants as next
 use Rattle.sre_turns.proofs.memoization.Confining.{splits_confined, first_left}

@@ -1,8 +1,6 @@
 -- A step is determined: no configuration has two moves, so its outcomes come of its one step.
 use Rattle.sre_turns.proofs.Terms.{◌≡◌, ℕ, ◌+◌, List, ◌∷◌, refl, sym, ◌∙◌, subst, Marks, group, Way, Word, same_word}
-use Rattle.sre_turns.proofs.Terms.{Point, Spot, Move, LoopMove, Moves, Runs, turns, Comes}
-use Rattle.sre_model.specs.Subject.{Subject}
-use Rattle.sre_turns.specs.declared.Frame.{Frame}
+use Rattle.sre_turns.proofs.Terms.{Point, Spot, Move, LoopMove, Moves, Runs, turns, Comes, Subject, Frame}
 use Rattle.sre_turns.proofs.semantics.Turned.{Turned, stopped, ended, went, forked, marked, grouped, begun, entered}
 use Rattle.sre_turns.proofs.semantics.Turned.{looped, repeated, point_turned}
 

@@ -5,12 +5,7 @@ use Rattle.sre_turns.proofs.Terms.{◌≡◌, ℕ, ◌≤◌, true, List, [], �
 use Rattle.sre_turns.proofs.Terms.{⊤, AllByRecursion, Marks, group, Way, first, Ahead, NotAhead, Further, Region, Point}
 use Rattle.sre_turns.proofs.Terms.{Spot, Move, End, Split, Enter, closing_move, next_frame, MovesAt, Runs, turns, Comes}
 use Rattle.sre_turns.proofs.Terms.{stops, ends, goes, splits, enters, least_from, goes_behind, AllBegunBy, each-append}
-use Rattle.sre_turns.proofs.Terms.{each-weaken}
-use Rattle.sre_model.specs.Subject.{Subject}
-use Rattle.sre_turns.specs.declared.Frame.{Frame}
-use Rattle.sre_turns.specs.declared.Point.TheVariants.{Instruction}
-use Rattle.sre_turns.specs.Moves.{spot_at, Stop, Go}
-use Rattle.sre_turns.specs.Nested.{BegunBy}
+use Rattle.sre_turns.proofs.Terms.{each-weaken, Subject, Frame, Instruction, spot_at, Stop, Go, BegunBy}
 use Rattle.sre_turns.proofs.semantics.Turned.{Turned, stopped, ended, went, forked, marked, grouped, begun, entered}
 use Rattle.sre_turns.proofs.semantics.Turned.{looped, repeated, point_turned}
 use Rattle.sre_turns.proofs.semantics.LoopTurns.{until_holds, again_holds}

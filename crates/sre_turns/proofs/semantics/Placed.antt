@@ -1,8 +1,7 @@
 -- Captured positions lie in the text.
-use Rattle.std.proofs.Common.{◌≡◌, ℕ, zero, suc, ◌≤◌, ◌⊎◌, inl, inr, ⊎_elim, List, [], ◌∷◌, ◌++◌, length, replicate}
-use Rattle.std.proofs.Common.{slice_set, slice_index_or, Option, Some, None, arith}
-use Rattle.sre_model.specs.Marks.{Marks, mark_at, no_marks, set_mark, lengthened}
-use Rattle.sre_turns.specs.Machine.{Subject, Placed}
+use Rattle.sre_turns.proofs.Terms.{◌≡◌, ℕ, zero, suc, ◌≤◌, ◌⊎◌, inl, inr, ⊎_elim, List, [], ◌∷◌, ◌++◌, length}
+use Rattle.sre_turns.proofs.Terms.{replicate, slice_set, slice_index_or, Option, Some, None, arith, Marks, mark_at}
+use Rattle.sre_turns.proofs.Terms.{no_marks, set_mark, lengthened, Subject, Placed}
 
 some_same : {a b : ℕ} → Some a ≡ Some b → a ≡ b
 some_same e = cc

@@ -5,11 +5,8 @@ use Rattle.sre_turns.proofs.Terms.{◌≡◌, ℕ, zero, suc, ◌+◌, ◌-◌, 
 use Rattle.sre_turns.proofs.Terms.{arith, nat_lt, nat_eq, cond, nat_tests, Test, PossessiveRun, Way, unlimited}
 use Rattle.sre_turns.proofs.Terms.{run_length, longest_run, run_passes, run_stopped, run_has, past_end, Frame}
 use Rattle.sre_turns.proofs.Terms.{Instruction, spot_at, Stop, Go, Subject, Moves, Runs, turns, goes, RunOperands}
-use Rattle.sre_turns.proofs.Terms.{AllPass}
+use Rattle.sre_turns.proofs.Terms.{AllPass, Spot, Move, Marks, passes, Opcode, skip, onward_turn}
 use Rattle.sre_chars.specs.declared.constants.SreOpcode.TheVariants as opcode
-use Rattle.sre_turns.specs.Machine.{Spot, Move, Marks, passes, Opcode}
-use Rattle.sre_turns.specs.Machine.{skip}
-use Rattle.sre_turns.specs.MovesInRuns.{onward_turn}
 use Rattle.sre_turns.proofs.semantics.AtRuns.{at_run, bounded_stops, bounded_goes}
 use Rattle.sre_turns.proofs.semantics.AfterSteps.{went, stopped}
 use Rattle.sre_turns.proofs.semantics.LazyRunEnds.{least_passed}

@@ -7,18 +7,13 @@ use Rattle.sre_turns.proofs.Terms.{asked_from, asked_to, of_item, of_branch, Mar
 use Rattle.sre_turns.proofs.Terms.{item_ways, marks_in_regions, by_marked_regions, word, skip, Opcode, Reads, ReadsItem}
 use Rattle.sre_turns.proofs.Terms.{ReadsBranch, AreWords, IsConfined, MarklessRegions, MayAsk, Frame, Instruction}
 use Rattle.sre_turns.proofs.Terms.{spot_at, Stop, Go, Subject, Runs, turns, stops, goes, ToFail, ToBranch}
-use Rattle.sre_turns.proofs.Terms.{flat_map-flat_map, opcode_within, reads_within, Costs, cost, item_cost}
+use Rattle.sre_turns.proofs.Terms.{flat_map-flat_map, opcode_within, reads_within, Costs, cost, item_cost, Alternatives}
+use Rattle.sre_turns.proofs.Terms.{by_groups, by_last_groups, branch_ways, sets_mark, ways-bounded, word_there}
+use Rattle.sre_turns.proofs.Terms.{alternative_long, branch_past}
 use Rattle.sre_chars.specs.declared.constants.SreOpcode.TheVariants as opcode
 use Rattle.sre_model.specs.Tree.{Run}
-use Rattle.sre_model.specs.References.{by_groups, by_last_groups}
-use Rattle.sre_model.specs.Ways.{branch_ways}
-use Rattle.sre_model.specs.MarksSet.{sets_mark}
-use Rattle.sre_turns.specs.Machine.{Alternatives}
 use Rattle.sre_turns.proofs.semantics.Moving.{at_instruction}
 use Rattle.sre_turns.proofs.bound.NestedMoves.{begins}
-use Rattle.sre_model.proofs.Bounds.{ways-bounded}
-use Rattle.sre_model.proofs.Words.{word_there}
-use Rattle.sre_model.proofs.Places.{alternative_long, branch_past}
 use Rattle.sre_model.specs.Cost.{branch_cost}
 use Rattle.sre_turns.proofs.semantics.Outcomes.{followed, Follows, Ran, moved, alone}
 use Rattle.sre_turns.proofs.semantics.RanAtItems.{one-ran, at-ran, mark-ran, alternative-ran, last_alternative}

@@ -10,15 +10,11 @@ use Rattle.sre_turns.proofs.Terms.{Instruction, spot_at, Stop, Go, Runs, turns, 
 use Rattle.sre_turns.proofs.Terms.{Comes, ToTest, ToCheckPosition, ToMark, ToJump, ToRefer, ToCheckGroup}
 use Rattle.sre_turns.proofs.Terms.{ToGroupAtomically, ToLook, test_kind, test_role, reference_role, look_role}
 use Rattle.sre_turns.proofs.Terms.{word_past, Costs, item_cost, ending, atomic_cost, leb-true, and_parts, MayAsk, Asks}
-use Rattle.sre_turns.proofs.Terms.{asks, reference_turn, condition_place, IsConfined, MarklessRegions, look}
+use Rattle.sre_turns.proofs.Terms.{asks, reference_turn, condition_place, IsConfined, MarklessRegions, look, Subject}
+use Rattle.sre_turns.proofs.Terms.{Alternatives, AtomicGroup, Spot, Move, Enter, closing_move, reference_ways}
+use Rattle.sre_turns.proofs.Terms.{look_ways, reference_cost, condition_cost, look_cost, looked_cost}
 use Rattle.sre_chars.specs.declared.constants.SreOpcode.TheVariants as opcode
-use Rattle.sre_model.specs.Subject.{Subject}
-use Rattle.sre_model.specs.Ways.{reference_ways, look_ways}
-use Rattle.sre_turns.specs.Machine.{Alternatives, AtomicGroup, Spot, Move, Enter}
-use Rattle.sre_turns.specs.Machine.{closing_move}
 use Rattle.sre_turns.proofs.semantics.Moving.{at_instruction}
-use Rattle.sre_model.specs.Cost.{reference_cost, condition_cost, look_cost}
-use Rattle.sre_model.specs.Cost.{looked_cost}
 use Rattle.sre_turns.proofs.semantics.Outcomes.{followed, Ran, moved, alone, Follows, region}
 
 -- a step that goes on where a test holds, and else comes to nothing

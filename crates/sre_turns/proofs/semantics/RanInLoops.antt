@@ -6,20 +6,14 @@ use Rattle.sre_turns.proofs.Terms.{Lazy, Way, Body, here, unlimited, may_repeat,
 use Rattle.sre_turns.proofs.Terms.{until_opcode, in_order, until_move, again_move, Frame, Instruction, spot_at, Go}
 use Rattle.sre_turns.proofs.Terms.{Subject, Moves, Runs, turns, goes, splits, stops, enters, Comes, ToRepeat, ToLoop}
 use Rattle.sre_turns.proofs.Terms.{ToRepeatPossessively, until_role, flat_map-flat_map, Bounded, EachBetween}
-use Rattle.sre_turns.proofs.Terms.{word_within, Costs, ending, atomic_cost, IsConfined, MarklessRegions}
+use Rattle.sre_turns.proofs.Terms.{word_within, Costs, ending, atomic_cost, IsConfined, MarklessRegions, Again, Owed}
+use Rattle.sre_turns.proofs.Terms.{Further, Spot, Move, Split, Enter, closing_move, Marks, within, ordered, more, least}
+use Rattle.sre_turns.proofs.Terms.{loop_ways, possessive_more, possessive_ways, within-all, Between, stays, least_cost}
+use Rattle.sre_turns.proofs.Terms.{more_cost, owed_cost, further_cost, possessive_cost, first_of_body, or_here}
+use Rattle.sre_turns.proofs.Terms.{first-bounded, first_of_body-all}
 use Rattle.sre_chars.specs.declared.constants.SreOpcode.TheVariants as opcode
-use Rattle.sre_model.specs.Ways.{within, ordered, more, least, loop_ways}
-use Rattle.sre_model.specs.Ways.{possessive_more, possessive_ways}
-use Rattle.sre_turns.specs.Machine.{Again, Owed, Further, Spot, Move, Split, Enter}
-use Rattle.sre_turns.specs.Machine.{closing_move, Marks}
 use Rattle.sre_turns.proofs.semantics.Moving.{at_instruction}
-use Rattle.sre_model.proofs.Bounds.{within-all, Between}
-use Rattle.sre_model.proofs.LoopCases.{stays}
-use Rattle.sre_model.specs.Cost.{least_cost, more_cost, owed_cost, further_cost}
-use Rattle.sre_model.specs.Cost.{possessive_cost}
 use Rattle.sre_turns.proofs.semantics.Outcomes.{followed, Follows, Ran, alone, region}
-use Rattle.sre_model.specs.Loops.{first_of_body, or_here}
-use Rattle.sre_model.proofs.PossessiveCases.{first-bounded, first_of_body-all}
 use Rattle.sre_turns.proofs.semantics.OneTurn.{loop_move}
 
 -- counts that are held at the greatest word decide alike

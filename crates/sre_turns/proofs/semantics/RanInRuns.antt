@@ -3,14 +3,12 @@ use Rattle.sre_turns.proofs.Terms.{[], ◌∷◌, ◌≡◌, ℕ, zero, suc, ◌
 use Rattle.sre_turns.proofs.Terms.{nat_eq, List, map, refl, arith, nat_le, nat_tests, GreedyRun, Test, LazyRun}
 use Rattle.sre_turns.proofs.Terms.{PossessiveRun, Body, unlimited, run_length, longest_run, Word, Opcode, skip}
 use Rattle.sre_turns.proofs.Terms.{test_opcode, TestOperands, RunOperands, Frame, Instruction, spot_at, Stop, Subject}
-use Rattle.sre_turns.proofs.Terms.{Runs, turns, stops, splits, longest_run-fits, goes_on, Costs}
+use Rattle.sre_turns.proofs.Terms.{Runs, turns, stops, splits, longest_run-fits, goes_on, Costs, Shorter, Longer, Marks}
+use Rattle.sre_turns.proofs.Terms.{falling, rising, run_ways, longest_goes_on, longest_stops, least_there, least_short}
+use Rattle.sre_turns.proofs.Terms.{shorter_cost, run_cost, longer_cost, lazy_run_cost, longest_run_cost}
 use Rattle.sre_chars.specs.declared.constants.SreOpcode.TheVariants as opcode
-use Rattle.sre_model.specs.Ways.{falling, rising, run_ways}
-use Rattle.sre_turns.specs.Machine.{Shorter, Longer, Marks}
 use Rattle.sre_turns.proofs.semantics.AtRuns.{greedy_stops, greedy_splits, lazy_none, lazy_splits, longer_none}
 use Rattle.sre_turns.proofs.semantics.AtRuns.{longer_splits}
-use Rattle.sre_model.proofs.Longest.{longest_goes_on, longest_stops, least_there, least_short}
-use Rattle.sre_model.specs.Cost.{shorter_cost, run_cost, longer_cost, lazy_run_cost, longest_run_cost}
 use Rattle.sre_turns.proofs.semantics.Outcomes.{followed, Follows, Ran, moved, alone}
 use Rattle.sre_turns.proofs.semantics.PossessiveRunEnds.{longest_runs, longest_none}
 

@@ -4,12 +4,9 @@ use Rattle.sre_turns.proofs.Terms.{◌≡◌, ℕ, zero, suc, ◌+◌, ◌-◌, 
 use Rattle.sre_turns.proofs.Terms.{◌∙◌, ap, subst, arith, nat_lt, nat_tests, Test, Way, unlimited, run_length}
 use Rattle.sre_turns.proofs.Terms.{longest_run, HasTest, passes-below, run_passes, run_stopped, run_at_most, run_has}
 use Rattle.sre_turns.proofs.Terms.{word_of, Frame, Instruction, spot_at, Stop, Run, Subject, Moves, Runs, turns, stops}
-use Rattle.sre_turns.proofs.Terms.{RunOperands, AllPass}
-use Rattle.std.proofs.Common.{append-nil}
-use Rattle.std.proofs.lemmas.List.{append_assoc}
+use Rattle.sre_turns.proofs.Terms.{RunOperands, AllPass, append-nil, Shorter, Spot, Split, Marks, passes, Word, Opcode}
+use Rattle.sre_turns.proofs.Terms.{skip, append_assoc}
 use Rattle.sre_chars.specs.declared.constants.SreOpcode.TheVariants as opcode
-use Rattle.sre_turns.specs.Machine.{Shorter, Spot, Split, Marks}
-use Rattle.sre_turns.specs.Machine.{passes, Word, Opcode, skip}
 use Rattle.sre_turns.proofs.semantics.AtRuns.{greedy_stops, greedy_splits}
 use Rattle.sre_turns.proofs.semantics.AfterSteps.{Parted, stopped, parted, split}
 use Rattle.sre_turns.proofs.semantics.StepsInRuns.{shorter_stop, shorter_moves, shorter_within}

@@ -6,11 +6,9 @@ use Rattle.sre_turns.proofs.Terms.{behind_items, no_marks, Way, first, ways, Opc
 use Rattle.sre_turns.proofs.Terms.{Choice, Else, Keep, Trying, from_region, SameFruit, is_inside, MayAsk, price}
 use Rattle.sre_turns.proofs.Terms.{Counted, SettledIn, Instruction, spot_at, Run, StringCursor, Waits, outermost}
 use Rattle.sre_turns.proofs.Terms.{otherwise, tried, Arrives, Ends, Stands, Later, Next, cost, ending, items_same}
+use Rattle.sre_turns.proofs.Terms.{BoardValue, bare, Limit, SaysAccepted, outcomes}
 use Rattle.sre_chars.specs.declared.constants.SreOpcode.TheVariants as opcode
-use Rattle.sre_turns.specs.Board.{BoardValue, bare}
 use Rattle.sre_turns.proofs.bound.FaringInRegions.{end_refused}
-use Rattle.sre_turns.specs.Machine.{Limit}
-use Rattle.sre_turns.specs.Machine.{SaysAccepted, outcomes}
 use Rattle.sre_turns.specs.declared.Next.TheVariants as next
 use Rattle.sre_turns.proofs.semantics.Outcomes.{region}
 use Rattle.sre_turns.proofs.semantics.Placed.{none_placed}

@@ -4,21 +4,15 @@ use Rattle.sre_turns.proofs.Terms.{at_number, SreAtCode, SreOpcode, Test, Litera
 use Rattle.sre_turns.proofs.Terms.{passes, char_at, holds_at, Frame, Instruction, spot_at, Go, BoardValue, Run}
 use Rattle.sre_turns.proofs.Terms.{StringCursor, Moves, HasRun, Refuses, Demands, Continues, Advances, TestStands}
 use Rattle.sre_turns.proofs.Terms.{HasTest, ToFail, ToEnd, ToCheckPosition, ToMark, ToJump, begins_test, same_word}
-use Rattle.sre_turns.proofs.Terms.{word_of, word_within, past_end, read_passes}
-use Rattle.std.proofs.Common.{◌≢◌}
+use Rattle.sre_turns.proofs.Terms.{word_of, word_within, past_end, read_passes, Subject, repeats, Word, Opcode, ◌≢◌}
+use Rattle.sre_turns.proofs.Terms.{at_low, stands_at_own, is_literal}
 use Rattle.sre_chars.specs.declared.constants.SreOpcode.TheVariants as opcode
-use Rattle.sre_model.specs.Subject.{Subject}
-use Rattle.sre_turns.specs.Lying.{repeats}
-use Rattle.sre_turns.specs.Machine.{Word, Opcode}
 use Rattle.sre_turns.specs.declared.Next.TheVariants as next
-use Rattle.sre_model.proofs.Words.{at_low}
 use Rattle.sre_turns.proofs.bound.Faring.{next_less, test_pool}
 use Rattle.sre_turns.proofs.semantics.Moving.{in_role, in_test, at_instruction, at_test, run_nothing, turn_stops}
 use Rattle.sre_turns.proofs.semantics.Moving.{turn_ends, turn_goes}
 use Rattle.sre_turns.proofs.memoization.Confining.{turn_confines}
-use Rattle.sre_model.proofs.Passing.{stands_at_own}
 use Rattle.sre_turns.proofs.semantics.Placed.{set_placed}
-use Rattle.sre_model.proofs.Families.{is_literal}
 use Rattle.sre_turns.proofs.semantics.AfterSteps.{run_on, nothing_after, has_run}
 
 -- FAILURE

@@ -3,9 +3,8 @@ use Rattle.sre_turns.proofs.Terms.{◌≡◌, ℕ, ◌+◌, ◌-◌, ◌<◌, tr
 use Rattle.sre_turns.proofs.Terms.{subst, SreOpcode, Fold, group, same_folded, Word, Opcode, reference_opcode, Asks}
 use Rattle.sre_turns.proofs.Terms.{reference_turn, condition_place, ToRefer, role, ToCheckGroup, Instruction, Stop, Go}
 use Rattle.sre_turns.proofs.Terms.{BoardValue, Run, StringCursor, Moves, Goes, spot, HasRun, Advances, reference_role}
-use Rattle.sre_turns.proofs.Terms.{same_opcode, word_of, word_within}
+use Rattle.sre_turns.proofs.Terms.{same_opcode, word_of, word_within, Move, Limit, Way}
 use Rattle.sre_chars.specs.declared.constants.SreOpcode.TheVariants as opcode
-use Rattle.sre_turns.specs.Machine.{Move, Limit, Way}
 use Rattle.sre_turns.specs.declared.Next.TheVariants as next
 use Rattle.sre_turns.proofs.semantics.Moving.{in_role, at_instruction, turn_stops, turn_goes}
 

@@ -2,11 +2,9 @@
 use Rattle.sre_turns.proofs.Terms.{◌≡◌, ℕ, zero, suc, ◌+◌, ◌<◌, ◌≤◌, false, nat_eq, List, length, refl, arith}
 use Rattle.sre_turns.proofs.Terms.{nat_tests, Spot, Split, Instruction, BoardValue, Run, StringCursor, Subject, Moves}
 use Rattle.sre_turns.proofs.Terms.{Runs, turns, Goes, GoesBoth, spot, HasRun, Refuses, Exhausted, Continues, Advances}
-use Rattle.sre_turns.proofs.Terms.{ToBranch, word_within, no_marks}
+use Rattle.sre_turns.proofs.Terms.{ToBranch, word_within, no_marks, spot_at, Stop, Go, Alternatives, Limit, earlier}
+use Rattle.sre_turns.proofs.Terms.{Way, Word, Opcode, to_point}
 use Rattle.sre_chars.specs.declared.constants.SreOpcode.TheVariants as opcode
-use Rattle.sre_turns.specs.Moves.{spot_at, Stop, Go, to_point}
-use Rattle.sre_turns.specs.Machine.{Alternatives, Limit, earlier}
-use Rattle.sre_turns.specs.Machine.{Way, Word, Opcode}
 use Rattle.sre_turns.specs.declared.Next.TheVariants as next
 use Rattle.sre_turns.proofs.bound.Faring.{second_less, alternatives_free}
 use Rattle.sre_turns.proofs.semantics.AfterSteps.{run_on, both_run, run_second, has_run}

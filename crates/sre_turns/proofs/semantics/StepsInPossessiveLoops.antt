@@ -3,10 +3,9 @@ use Rattle.sre_turns.proofs.Terms.{◌≡◌, ℕ, ◌+◌, ◌<◌, ◌≤◌, 
 use Rattle.sre_turns.proofs.Terms.{Some, refl, ap, arith, nat_tests, Way, may_repeat, repeats, place_under, place_of}
 use Rattle.sre_turns.proofs.Terms.{first_frame, next_frame, enter_body, again_move, Frame, Instruction, BoardValue, Run}
 use Rattle.sre_turns.proofs.Terms.{StringCursor, Moves, Runs, turns, spot, Advances, ToRepeatPossessively, word_of}
-use Rattle.sre_turns.proofs.Terms.{word_within}
+use Rattle.sre_turns.proofs.Terms.{word_within, Again, Region, Owed, Further, Move, Keep, Word, Opcode}
 use Rattle.sre_chars.specs.declared.constants.SreOpcode.TheVariants as opcode
-use Rattle.sre_turns.specs.Machine.{Again, Region, Owed, Further, Move, Keep}
-use Rattle.sre_turns.specs.Machine.{Word, Opcode, IsAt}
+use Rattle.sre_turns.specs.Machine.{IsAt}
 use Rattle.sre_turns.specs.declared.Next.TheVariants as next
 use Rattle.sre_turns.proofs.semantics.Moving.{at_instruction, turn_goes, turn_enters}
 use Rattle.sre_turns.proofs.semantics.OneTurn.{loop_opened, loop_move}

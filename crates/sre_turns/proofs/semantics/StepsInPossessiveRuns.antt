@@ -4,10 +4,9 @@ use Rattle.sre_turns.proofs.Terms.{◌≡◌, ℕ, ◌+◌, ◌-◌, ◌<◌, �
 use Rattle.sre_turns.proofs.Terms.{nat_tests, SreOpcode, Test, Way, unlimited, longest_run, StandsConfined, Limit}
 use Rattle.sre_turns.proofs.Terms.{Stage, share, Going, HereIn, Coming, steps, Instruction, spot_at, Go, BoardValue}
 use Rattle.sre_turns.proofs.Terms.{Run, StringCursor, Moves, GoesWith, Later, spot, Advances, RunOperands}
-use Rattle.sre_turns.proofs.Terms.{OperandsOfRun, AllPass}
+use Rattle.sre_turns.proofs.Terms.{OperandsOfRun, AllPass, passes, Opcode, skip}
 use Rattle.sre_chars.specs.declared.constants.SreOpcode.TheVariants as opcode
 use Rattle.sre_turns.proofs.bound.Steps.{some_steps}
-use Rattle.sre_turns.specs.Machine.{passes, Opcode, skip}
 use Rattle.sre_turns.specs.declared.Next.TheVariants as next
 use Rattle.sre_turns.proofs.memoization.Confining.{goes_confined}
 use Rattle.sre_turns.proofs.bound.Faring.{fares_earlier}

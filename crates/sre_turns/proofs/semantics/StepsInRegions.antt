@@ -6,14 +6,11 @@ use Rattle.sre_turns.proofs.Terms.{ClosesAt, point_behind, Limit, earlier, witho
 use Rattle.sre_turns.proofs.Terms.{Coming, price, price_of, Instruction, spot_at, Stop, Go, Run, StringCursor, Moves}
 use Rattle.sre_turns.proofs.Terms.{Comes, stops, goes, Waits, kept, Arrives, Placed, Ends, Later, spot, HasRun}
 use Rattle.sre_turns.proofs.Terms.{without_outcome, without_loop, Advances, ToGroupAtomically, ToLook, look_role}
-use Rattle.sre_turns.proofs.Terms.{word_of, word_within}
+use Rattle.sre_turns.proofs.Terms.{word_of, word_within, BoardValue, Point, Region, AtomicGroup, Ahead, NotAhead}
+use Rattle.sre_turns.proofs.Terms.{Further, Spot, closing_move, Counted, Marks, Way, Cuts, after_outcome}
 use Rattle.sre_chars.specs.declared.constants.SreOpcode.TheVariants as opcode
-use Rattle.sre_turns.specs.Board.{Cuts, BoardValue}
 use Rattle.sre_turns.proofs.memoization.Confining.{region_confined}
 use Rattle.sre_turns.proofs.bound.FaringInRegions.{cut_fares, region_on, region_off, loop_left}
-use Rattle.sre_turns.specs.Machine.{Point, Region, AtomicGroup, Ahead, NotAhead, Further, Spot}
-use Rattle.sre_turns.specs.Machine.{closing_move, Counted, Marks, Way}
-use Rattle.sre_turns.specs.Machine.{after_outcome}
 use Rattle.sre_turns.specs.declared.Next.TheVariants as next
 use Rattle.sre_turns.proofs.semantics.Moving.{in_role, at_instruction, turn_stops, turn_goes, turn_enters, cut_waits}
 use Rattle.sre_turns.proofs.semantics.Moving.{sooner, standing}

@@ -6,13 +6,10 @@ use Rattle.sre_turns.proofs.Terms.{Word, Opcode, test_opcode, run_opcode, RunOpe
 use Rattle.sre_turns.proofs.Terms.{Instruction, spot_at, Stop, BoardValue, Run, StringCursor, Moves, Runs, turns, Goes}
 use Rattle.sre_turns.proofs.Terms.{GoesBoth, spot, HasRun, Skips, SkipsBoth, Exhausted, Refuses, Demands, Advances}
 use Rattle.sre_turns.proofs.Terms.{Chooses, TestStands, HasTest, ToRun, run_role, opcode_within, past_end, read_passes}
-use Rattle.sre_turns.proofs.Terms.{goes_on, run_passes, run_at_most, run_inside, run_none}
+use Rattle.sre_turns.proofs.Terms.{goes_on, run_passes, run_at_most, run_inside, run_none, Point, Shorter, Longer}
+use Rattle.sre_turns.proofs.Terms.{Split, Limit, Marks, DemandsAny, Excludes, other_taken}
 use Rattle.sre_chars.specs.declared.constants.SreOpcode.TheVariants as opcode
-use Rattle.sre_turns.specs.Machine.{Point, Shorter, Longer, Split, Limit}
-use Rattle.sre_turns.specs.Machine.{Marks}
-use Rattle.sre_turns.specs.Machine.{DemandsAny, Excludes}
 use Rattle.sre_turns.specs.declared.Next.TheVariants as next
-use Rattle.sre_model.proofs.Passing.{other_taken}
 use Rattle.sre_turns.proofs.semantics.Moving.{in_role, turn_stops, turn_splits, both_last, run_nothing}
 use Rattle.sre_turns.proofs.semantics.AfterSteps.{both_run, run_second}
 use Rattle.sre_turns.proofs.semantics.AtRuns.{greedy_stops, greedy_splits, lazy_none, lazy_splits, longer_none}

@@ -4,14 +4,11 @@ use Rattle.sre_turns.proofs.Terms.{[], ◌∷◌, Some, refl, sym, ap, ◌∙◌
 use Rattle.sre_turns.proofs.Terms.{passes, char_at, Greedy, Test, Literal, Plain, holds, begins_test, HasTest}
 use Rattle.sre_turns.proofs.Terms.{TestStands, Way, unlimited, Limit, Fares, Going, price, toll, Frame, Instruction}
 use Rattle.sre_turns.proofs.Terms.{spot_at, Go, BoardValue, Run, StringCursor, Moves, Runs, Goes, HasRun, Exhausted}
-use Rattle.sre_turns.proofs.Terms.{Refuses, Continues, Demands, with_loop, spot, next_frame}
+use Rattle.sre_turns.proofs.Terms.{Refuses, Continues, Demands, with_loop, spot, next_frame, Subject, repeats, Point}
+use Rattle.sre_turns.proofs.Terms.{Alternatives, Spot, Split, Marks, Word, Opcode, Yields, YieldsTo, MayRepeat}
+use Rattle.sre_turns.proofs.Terms.{EndsBody, Strides, ReadsAscii, TellsTest, TellsAlternatives, TellsBodies}
 use Rattle.sre_chars.specs.declared.constants.SreOpcode.TheVariants as opcode
-use Rattle.sre_model.specs.Subject.{Subject}
-use Rattle.sre_turns.specs.Lying.{repeats}
-use Rattle.sre_turns.specs.Machine.{Point, Alternatives, Spot, Split}
-use Rattle.sre_turns.specs.Machine.{Marks, Word, Opcode, IsAt}
-use Rattle.sre_turns.specs.Strides.{Yields, YieldsTo, MayRepeat, EndsBody, Strides, ReadsAscii, TellsTest}
-use Rattle.sre_turns.specs.Strides.{TellsAlternatives, TellsBodies}
+use Rattle.sre_turns.specs.Machine.{IsAt}
 use Rattle.sre_turns.proofs.memoization.Confining.{confined_leads}
 use Rattle.sre_turns.proofs.semantics.Moving.{Barren, continues_then, continues_exhausted, standing}
 use Rattle.sre_turns.proofs.bound.HereMoves.{here_moves}

@@ -13,14 +13,8 @@ use Rattle.sre_turns.proofs.Terms.{run_none, test_same, same_word, same_opcode, 
 use Rattle.sre_turns.proofs.Terms.{Region, Alternatives, Shorter, Longer, Again, Point, least_from, Spot, Move, End}
 use Rattle.sre_turns.proofs.Terms.{Split, Enter, closing_move, RunOperands, run_turn, first_frame, UntilMove, AgainMove}
 use Rattle.sre_turns.proofs.Terms.{look, Asks, asks, reference_turn, condition_place, InRole, MovesAt, goes_behind}
-use Rattle.sre_model.specs.Subject.{Subject}
-use Rattle.sre_model.specs.Roles.{TestKind}
-use Rattle.sre_model.specs.Roles.{ToNothing}
-use Rattle.sre_model.proofs.Unique.{same_reference_fold}
-use Rattle.sre_model.proofs.Words.{same_at}
-use Rattle.sre_turns.specs.declared.Frame.{Frame}
-use Rattle.sre_turns.specs.declared.Point.TheVariants.{Instruction}
-use Rattle.sre_turns.specs.Moves.{spot_at, Stop, Go}
+use Rattle.sre_turns.proofs.Terms.{Subject, Frame, Instruction, spot_at, Stop, Go, TestKind, ToNothing}
+use Rattle.sre_turns.proofs.Terms.{same_reference_fold, same_at}
 
 -- from an instruction of a role and a position one goes on at others, under the loops in progress: the control flow
 pub data GoesOn (ws : List ℕ) (s : Subject) (i p : ℕ) : Role → Point → ℕ → Type 0 where

@@ -1,6 +1,5 @@
 use Rattle.sre_board.proofs.Terms.{◌≡◌, ℕ, ◌+◌, ◌-◌, ◌++◌, ◌∷◌, [], List, length, replicate, slice_set, Option, None}
-use Rattle.sre_board.proofs.Terms.{rules, ap, sym, ◌∙◌, arith, lengthened}
-use Rattle.std.proofs.lemmas.List.{set-append_right}
+use Rattle.sre_board.proofs.Terms.{rules, ap, sym, ◌∙◌, arith, lengthened, set-append_right}
 use Rattle.sre_board.proofs.marks.set_entry.Goals as goal
 
 -- the entry behind a list is set where it is appended
