@@ -128,50 +128,39 @@ module _ (ws : List ℕ) (e : ℕ) {A : Type 0} (point : A → Point) (loops : A
   record Parted (P Q : A → Type 0) (xs : List A) : Type 1 where
     left : List A
     right : List A
-    left_are : AllByRecursion P left
-    right_are : AllByRecursion Q right
-    left_keeps : (R : A → Type 0) → AllByRecursion R xs → AllByRecursion R left
-    right_keeps : (R : A → Type 0) → AllByRecursion R xs → AllByRecursion R right
-    left_distinct : Distinct left
-    right_distinct : Distinct right
+    are : AllByRecursion P left × AllByRecursion Q right
+    keeps : (R : A → Type 0) → AllByRecursion R xs → AllByRecursion R left × AllByRecursion R right
+    distinct : Distinct left × Distinct right
     sum : sum_by weight xs ≡ sum_by weight left + sum_by weight right
 
   parted : (P Q : A → Type 0) (xs : List A) → AllByRecursion (λ (x : A). P x ⊎ Q x) xs → Distinct xs → Parted P Q xs
   parted P Q [] all d = record {
     left = [];
     right = [];
-    left_are = tt;
-    right_are = tt;
-    left_keeps = λ R h. h;
-    right_keeps = λ R h. h;
-    left_distinct = tt;
-    right_distinct = tt;
+    are = (tt, tt);
+    keeps = λ R h. (h, h);
+    distinct = (tt, tt);
     sum = refl;
   }
   parted P Q (x ∷ xs) all d =
       let p : Parted P Q xs = parted P Q xs all.1 d.1 in
       let more = sum_by-cons weight x xs in
+      let unlike = p.keeps (λ (y : A). Differs x y) d.0 in
       elim all.0 [
         | inl h ↦ record {
           left = x ∷ p.left;
           right = p.right;
-          left_are = (h, p.left_are);
-          right_are = p.right_are;
-          left_keeps = λ R a. (a.0, p.left_keeps R a.1);
-          right_keeps = λ R a. p.right_keeps R a.1;
-          left_distinct = (p.left_keeps (λ (y : A). Differs x y) d.0, p.left_distinct);
-          right_distinct = p.right_distinct;
+          are = ((h, p.are.0), p.are.1);
+          keeps = λ R a. let k = p.keeps R a.1 in ((a.0, k.0), k.1);
+          distinct = ((unlike.0, p.distinct.0), p.distinct.1);
           sum = omega (arith, more, sum_by-cons weight x p.left, p.sum);
         }
         | inr h ↦ record {
           left = p.left;
           right = x ∷ p.right;
-          left_are = p.left_are;
-          right_are = (h, p.right_are);
-          left_keeps = λ R a. p.left_keeps R a.1;
-          right_keeps = λ R a. (a.0, p.right_keeps R a.1);
-          left_distinct = p.left_distinct;
-          right_distinct = (p.right_keeps (λ (y : A). Differs x y) d.0, p.right_distinct);
+          are = (p.are.0, (h, p.are.1));
+          keeps = λ R a. let k = p.keeps R a.1 in (k.0, (a.0, k.1));
+          distinct = (p.distinct.0, (unlike.1, p.distinct.1));
           sum = omega (arith, more, sum_by-cons weight x p.right, p.sum);
         }
       ]
@@ -181,13 +170,9 @@ module _ (ws : List ℕ) (e : ℕ) {A : Type 0} (point : A → Point) (loops : A
   beside {P} {Q} {m} {n} c k = record {
     few = λ xs all d.
         let p = parted (λ (x : A). P (point x) (loops x)) (λ (x : A). Q (point x) (loops x)) xs all d in
-        omega (
-          arith,
-          p.sum,
-          c.few p.left p.left_are p.left_distinct,
-          k.few p.right p.right_are p.right_distinct,
-          add-mul m n lines,
-        );
+        let left = c.few p.left p.are.0 p.distinct.0 in
+        let right = k.few p.right p.are.1 p.distinct.1 in
+        omega (arith, p.sum, left, right, add-mul m n lines);
   }
 
   -- what a failure pays for at an instruction
@@ -210,34 +195,28 @@ module _ (ws : List ℕ) (e : ℕ) {A : Type 0} (point : A → Point) (loops : A
       wider (omega arith) (λ pt ks y. y)
       (beside (free (λ pt ks y. free_at (Instruction i) y (bit_is i f js h ∙ none))) others)
 
+  -- an alternative costs no more than its tree says, before others that cost no more than so much
+  alternative_most : (b : Bool) (q j : ℕ) (t : Tree) → Reads ws (q + 1) (skip ws q - 2) t → JumpsTo ws (skip ws q - 2) j
+      → (n k : ℕ) → n ≤ k → cond b 1 (steps ws (q + 1) + 2 + n) ≤ steps_of t (1 + steps ws j) + 2 + k
+  alternative_most true q j t r jump n k l = omega arith
+  alternative_most false q j t r jump n k l =
+      let own = tree_steps ws (q + 1) (skip ws q - 2) t r in
+      omega (arith, l, own, ap (λ b. steps_of t b) (jump_steps ws (skip ws q - 2) j jump))
+
   -- each alternative costs no more than the tree says
   branch_most : (n q j : ℕ) (ts : Trees) → ReadsBranch ws q j ts → branch_in ws n q ≤ branch_steps ts (steps ws j)
   unfolding branch_in
   branch_most zero q j (Only t) r = omega arith
   branch_most zero q j (Or t ts) r = omega arith
   branch_most (suc n) q j (Only t) r =
-      let own = tree_steps ws (q + 1) (skip ws q - 2) t r.0
-      ∙ ap (λ b. steps_of t b) (jump_steps ws (skip ws q - 2) j r.1) in
-      go (nat_eq (word ws q) 0) own (last_one n)
+      omega (arith, alternative_most (nat_eq (word ws q) 0) q j t r.0 r.1 _ 1 (last_one n))
     where
       last_one : (n : ℕ) → branch_in ws n (q + word ws q) ≤ 1
       last_one zero = omega arith
       last_one (suc n) = rw (word_of ws (skip ws q) 0 r.2) (omega arith)
-
-      go : (b : Bool) → steps ws (q + 1) ≡ steps_of t (1 + steps ws j) → branch_in ws n (q + word ws q) ≤ 1
-          → cond b 1 (steps ws (q + 1) + 2 + branch_in ws n (q + word ws q)) ≤ branch_steps (Only t) (steps ws j)
-      go true own h = omega arith
-      go false own h = omega (arith, own, h)
   branch_most (suc n) q j (Or t ts) r =
-      let own = tree_steps ws (q + 1) (skip ws q - 2) t r.0
-      ∙ ap (λ b. steps_of t b) (jump_steps ws (skip ws q - 2) j r.1) in
-      go (nat_eq (word ws q) 0) own (branch_most n (skip ws q) j ts r.2)
-    where
-      go : (b : Bool) → steps ws (q + 1) ≡ steps_of t (1 + steps ws j)
-          → branch_in ws n (q + word ws q) ≤ branch_steps ts (steps ws j)
-          → cond b 1 (steps ws (q + 1) + 2 + branch_in ws n (q + word ws q)) ≤ branch_steps (Or t ts) (steps ws j)
-      go true own h = omega arith
-      go false own h = omega (arith, own, h)
+      let later = branch_most n (skip ws q) j ts r.2 in
+      omega (arith, alternative_most (nat_eq (word ws q) 0) q j t r.0 r.1 _ (branch_steps ts (steps ws j)) later)
 
   -- the ends of a repeat, and its scan
   ends_few : (i j low high b : ℕ) → j ≡ skip ws (i + 1) → word ws (i + 2) ≡ low → word ws (i + 3) ≡ high

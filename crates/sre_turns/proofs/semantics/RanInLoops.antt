@@ -65,15 +65,16 @@ in_order-ran ws s Lazy x body end os₁ os₂ n₁ n₂ h d e =
     let same : suc (suc (n₂ + n₁)) ≡ suc (suc (n₁ + n₂)) = omega arith in
     subst (λ n. Runs ws s x (os₂ ++ os₁) n) same (turns (Split end body) h (splits e d))
 
+-- a loop in progress
+abbrev frame : ℕ → ℕ → Option ℕ → Frame
+frame i n last = record { repeat = i; count = n; last = last }
+
 module _ (ws : List ℕ) (s : Subject) (i u low high : ℕ) (o : Order) (W : Body) (counted : Costs → Costs)
     (b : Bounded s W) (highest : high ≤ unlimited) (counts : low ≤ high) (wl : Word ws (i + 2) low)
     (wh : Word ws (i + 3) high) (r : Ran ws s (Instruction (i + 4)) u W counted)
     (wu : Opcode ws u (until_opcode o)) where
-  abbrev frame : ℕ → Option ℕ → Frame
-  frame n last = record { repeat = i; count = n; last = last }
-
   abbrev in_loop : ℕ → Option ℕ → List Frame → ℕ → Marks → Spot
-  in_loop n last fs p m = spot_at (Instruction u) (frame n last ∷ fs) p m
+  in_loop n last fs p m = spot_at (Instruction u) (frame i n last ∷ fs) p m
 
   abbrev tried : ℕ → ℕ → ℕ → Marks → List Way
   tried fuel c p m = flat_map (λ (w : Way). more s o high W fuel (c + 1) (Some p) w.stop w.marks) (within s p (W p m))
@@ -86,7 +87,7 @@ module _ (ws : List ℕ) (s : Subject) (i u low high : ℕ) (o : Order) (W : Bod
 
   -- a turn at the loop's end
   until_turn : (n : ℕ) (last : Option ℕ) (fs : List Frame) (p : ℕ) (m : Marks) (mv : Move)
-      → mv ≡ until_move o low high u (frame n last) fs (in_loop n last fs p m) → Moves ws s (in_loop n last fs p m) mv
+      → mv ≡ until_move o low high u (frame i n last) fs (in_loop n last fs p m) → Moves ws s (in_loop n last fs p m) mv
   until_turn n last fs p m mv e =
       at_instruction (until_opcode o) (ToLoop o) (until_role o) wu (loop_move ws refl wl wh e)
 
@@ -99,7 +100,7 @@ module _ (ws : List ℕ) (s : Subject) (i u low high : ℕ) (o : Order) (W : Bod
 
   more_step : (fuel n c p : ℕ) (last : Option ℕ) (m : Marks) (fs : List Frame) (K : Body) (C : Costs)
       → n ≡ min c unlimited → low ≤ c → p ≤ s.end → Follows ws s p (Instruction (u + 1)) fs K C
-      → (may_repeat high c last p ≡ true → Follows ws s p (Instruction u) (frame (min (n + 1) unlimited) (Some p) ∷ fs)
+      → (may_repeat high c last p ≡ true → Follows ws s p (Instruction u) (frame i (min (n + 1) unlimited) (Some p) ∷ fs)
       (λ q k. followed K (more s o high W fuel (c + 1) (Some p) q k))
       (λ q k. more_cost high counted C fuel (c + 1) (Some p) q k))
       → (x : Bool) → may_repeat high c last p ≡ x
@@ -113,13 +114,13 @@ module _ (ws : List ℕ) (s : Subject) (i u low high : ℕ) (o : Order) (W : Bod
       let eq : followed K (ordered o (tried fuel c p m) (here p m)) ≡ ordered o (followed K' (W p m)) (K p m) =
       ordered_all K o (tried fuel c p m) (here p m)
       ∙ ordered_same o _ _ _ _ (tried_is K fuel c p m e) (append-nil (K p m)) in
-      let body : Spot = spot_at (Instruction (i + 4)) (frame (min (n + 1) unlimited) (Some p) ∷ fs) p m in
+      let body : Spot = spot_at (Instruction (i + 4)) (frame i (min (n + 1) unlimited) (Some p) ∷ fs) p m in
       let end : Spot = spot_at (Instruction (u + 1)) fs p m in
       let move : Moves ws s (in_loop n last fs p m) (in_order o body end) =
       until_turn n last fs p m (in_order o body end) (rw (beyond, allowed) refl) in
       rw eq
       (in_order-ran ws s o (in_loop n last fs p m) body end _ _ _ _ move
-      (r (frame (min (n + 1) unlimited) (Some p) ∷ fs) K' C' p m e (ih x)) (f p m (omega arith) e))
+      (r (frame i (min (n + 1) unlimited) (Some p) ∷ fs) K' C' p m e (ih x)) (f p m (omega arith) e))
   more_step fuel n c p last m fs K C en l e f ih false x =
       let eq : followed K (ordered o [] (here p m)) ≡ K p m = ordered_all K o [] (here p m) ∙ ordered_none o (K p m) in
       rw eq
@@ -159,10 +160,10 @@ module _ (ws : List ℕ) (s : Subject) (i u low high : ℕ) (o : Order) (W : Bod
       rw (within-all s p (W p m) (b p m e)) (flat_map-flat_map (λ (w : Way). K w.stop w.marks)
       (λ (w : Way). least s W (λ q k. rest q k) left w.stop w.marks) (W p m)) in
       let below : nat_lt n low ≡ true = grind (arith, nat_tests) in
-      let body : Spot = spot_at (Instruction (i + 4)) (frame (min (n + 1) unlimited) None ∷ fs) p m in
+      let body : Spot = spot_at (Instruction (i + 4)) (frame i (min (n + 1) unlimited) None ∷ fs) p m in
       rw eq
       (turns (Go body) (until_turn n None fs p m (Go body) (rw below refl))
-      (goes (r (frame (min (n + 1) unlimited) None ∷ fs) K' C' p m e (λ q k l' g'. least-ran left
+      (goes (r (frame i (min (n + 1) unlimited) None ∷ fs) K' C' p m e (λ q k l' g'. least-ran left
       (min (n + 1) unlimited) q k fs K C (omega arith) g' (λ q' k' l'' g''. f q' k' (omega arith) g'')))))
 
   pub loop-ran : Opcode ws i opcode.REPEAT → u ≡ skip ws (i + 1)
@@ -178,19 +179,16 @@ module _ (ws : List ℕ) (s : Subject) (i u low high : ℕ) (W : Body) (counted 
     (highest : high ≤ unlimited) (counts : low ≤ high) (wl : Word ws (i + 2) low) (wh : Word ws (i + 3) high)
     (r : Ran ws s (Instruction (i + 4)) u W counted) (wu : Opcode ws u opcode.SUCCESS)
     (leads : u ≡ skip ws (i + 1)) (lies : MarklessRegions ws → IsConfined ws (Instruction (i + 4)) []) where
-  abbrev held_frame : ℕ → Option ℕ → Frame
-  held_frame n last = record { repeat = i; count = n; last = last }
-
   abbrev at_loop : ℕ → Option ℕ → List Frame → ℕ → Marks → Spot
-  at_loop n last fs p m = spot_at Again (held_frame n last ∷ fs) p m
+  at_loop n last fs p m = spot_at Again (frame i n last ∷ fs) p m
 
   -- a turn at the loop
   loop_turn : (n : ℕ) (last : Option ℕ) (fs : List Frame) (p : ℕ) (m : Marks) (mv : Move)
-      → mv ≡ again_move low high u (held_frame n last) fs (at_loop n last fs p m)
+      → mv ≡ again_move low high u (frame i n last) fs (at_loop n last fs p m)
       → Moves ws s (at_loop n last fs p m) mv
   loop_turn n last fs p m mv e =
       let x : Spot = at_loop n last fs p m in
-      loop_move ws refl wl wh (e ∙ ap (λ v. again_move low high v (held_frame n last) fs x) leads)
+      loop_move ws refl wl wh (e ∙ ap (λ v. again_move low high v (frame i n last) fs x) leads)
 
   loop_ends : (n : ℕ) (last : Option ℕ) (fs : List Frame) (p : ℕ) (m : Marks) (os : List Way) (k : ℕ) → low ≤ n
       → may_repeat high n last p ≡ false → Runs ws s (spot_at (Instruction (u + 1)) fs p m) os k
@@ -223,7 +221,7 @@ module _ (ws : List ℕ) (s : Subject) (i u low high : ℕ) (W : Body) (counted 
   further_step : (fuel n c p : ℕ) (last : Option ℕ) (m : Marks) (fs : List Frame) (K : Body) (C : Costs)
       → n ≡ min c unlimited → low ≤ c → p ≤ s.end → Follows ws s p (Instruction (u + 1)) fs K C
       → (may_repeat high c last p ≡ true → (w : Way) → Between s p w
-      → Runs ws s (spot_at Again (held_frame (min (n + 1) unlimited) (Some p) ∷ fs) w.stop w.marks)
+      → Runs ws s (spot_at Again (frame i (min (n + 1) unlimited) (Some p) ∷ fs) w.stop w.marks)
       (followed K (possessive_more s high W fuel (c + 1) (Some p) w.stop w.marks))
       (possessive_cost high counted W C fuel (c + 1) (Some p) w.stop w.marks))
       → (x : Bool) → may_repeat high c last p ≡ x
@@ -235,7 +233,7 @@ module _ (ws : List ℕ) (s : Subject) (i u low high : ℕ) (W : Body) (counted 
   further_step fuel n c p last m fs K C en l e f ih true x =
       let K' : Body = λ q k. possessive_more s high W fuel (c + 1) (Some p) q k in
       let C' : Costs = λ q k. possessive_cost high counted W C fuel (c + 1) (Some p) q k in
-      let g : Frame = held_frame (min (n + 1) unlimited) (Some p) in
+      let g : Frame = frame i (min (n + 1) unlimited) (Some p) in
       let beyond : nat_lt n low ≡ false = grind (arith, nat_tests) in
       let allowed : may_repeat high n last p ≡ true = may_repeat-held high n c p last highest en ∙ x in
       let entered : Spot = spot_at Again (g ∷ fs) p m in
@@ -282,7 +280,7 @@ module _ (ws : List ℕ) (s : Subject) (i u low high : ℕ) (W : Body) (counted 
   owed-ran (suc left) n p m fs K C en e f =
       let K' : Body = λ q k. least s (first_of_body s W) (λ a d. later_ways a d) left q k in
       let C' : Costs = λ q k. owed_cost counted W (λ a d. later_cost C a d) left q k in
-      let g : Frame = held_frame (min (n + 1) unlimited) None in
+      let g : Frame = frame i (min (n + 1) unlimited) None in
       let below : nat_lt n low ≡ true = grind (arith, nat_tests) in
       let entered : Spot = spot_at Again (g ∷ fs) p m in
       let body : Spot = spot_at (Instruction (i + 4)) [] p m in

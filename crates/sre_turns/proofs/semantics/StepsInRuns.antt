@@ -10,11 +10,25 @@ use Rattle.sre_turns.proofs.Terms.{goes_on, run_passes, run_at_most, run_inside,
 use Rattle.sre_turns.proofs.Terms.{Split, Limit, Marks, DemandsAny, Excludes, other_taken}
 use Rattle.sre_chars.specs.declared.constants.SreOpcode.TheVariants as opcode
 use Rattle.sre_turns.specs.declared.Next.TheVariants as next
-use Rattle.sre_turns.proofs.semantics.Moving.{in_role, turn_stops, turn_splits, both_last, run_nothing}
+use Rattle.sre_turns.proofs.semantics.Moving.{in_role, turn_stops, turn_splits, both_last, run_nothing, skips_then}
 use Rattle.sre_turns.proofs.semantics.AfterSteps.{both_run, run_second}
 use Rattle.sre_turns.proofs.semantics.AtRuns.{greedy_stops, greedy_splits, lazy_none, lazy_splits, longer_none}
 use Rattle.sre_turns.proofs.semantics.AtRuns.{longer_splits}
 use Rattle.sre_turns.proofs.semantics.StepsInBranches.{positive}
+
+-- a step that leads to two points at a cursor, wherever it is made
+module _ (r : Run) (pt first second : Point) (c after : StringCursor) (there : r.stands after after.position)
+    (moves : (fs : List Frame) (m : Marks) → Moves r.words r.subject (spot_at pt fs c.position m)
+    (Split (spot_at first fs after.position m) (spot_at second fs after.position m))) where
+  goes_both : (b : BoardValue) (all : List Way) (limit : Limit) → Goes r all limit pt c b
+      → GoesBoth r all limit (spot first after b) (spot second after b) after b.choices
+  goes_both b =
+      turn_splits r pt c b (spot first after b) (spot second after b) after (moves b.frames b.marks) there refl refl
+
+  both_skip : HasRun r pt c → SkipsBoth r pt c first second after
+  both_skip x =
+      let s = both_run r pt first second c after moves there x in
+      record { runs = s.0; others = s.1; skips = goes_both }
 
 -- shorter counts
 pub shorter_stop : (r : Run) (t k p : ℕ) (fs : List Frame) (m : Marks) → k ≡ 0
@@ -41,34 +55,15 @@ shorter_none r t k c b e = turn_stops r (Shorter t k) c b (shorter_stop r t k c.
 pub shorter_past : (r : Run) (t k : ℕ) (c : StringCursor) → 0 < k → HasRun r (Shorter t k) c → 1 ≤ c.position
 shorter_past r t k c l x = omega (arith, shorter_within r x.runs)
 
-shorter_both : (r : Run) (t k j : ℕ) (c c' : StringCursor) (b : BoardValue) → k ≡ suc j
-    → c.position ≡ c'.position + 1 → r.stands c' c'.position → (all : List Way) (limit : Limit)
-    → Goes r all limit (Shorter t k) c b
-    → GoesBoth r all limit (spot (Instruction t) c' b) (spot (Shorter t j) c' b) c' b.choices
-shorter_both r t k j c c' b e place there all limit g =
-    turn_splits r (Shorter t k) c b (spot (Instruction t) c' b) (spot (Shorter t j) c' b) c'
-    (shorter_moves r t k j c.position c'.position b.frames b.marks e place (shorter_within r g.runs))
-    there refl refl all limit g
-
-shorter_run : (r : Run) (t k j : ℕ) (c c' : StringCursor) → k ≡ suc j → c.position ≡ c'.position + 1
-    → r.stands c' c'.position → HasRun r (Shorter t k) c → HasRun r (Instruction t) c' × HasRun r (Shorter t j) c'
-shorter_run r t k j c c' e place there x =
-    both_run r (Shorter t k) (Instruction t) (Shorter t j) c c'
-    (λ fs m. shorter_moves r t k j c.position c'.position fs m e place (shorter_within r x.runs)) there x
-
 -- the tail one character back, and the counts that are shorter still
 pub shorter_skips : (r : Run) (pt : Point) (start : StringCursor) (t k : ℕ) (c c' : StringCursor) → (k ≡ 0 → ⊥)
     → c.position ≡ c'.position + 1 → r.stands c' c'.position → HasRun r (Shorter t k) c
     → Skips r pt start (Shorter t k) c → SkipsBoth r pt start (Instruction t) (Shorter t (k - 1)) c'
 shorter_skips r pt start t k c c' more place there x skips =
     let less : k ≡ suc (k - 1) = omega (arith, positive k more) in
-    let s = shorter_run r t k (k - 1) c c' less place there x in
-    record {
-      runs = s.0;
-      others = s.1;
-      skips = λ b all limit g.
-          shorter_both r t k (k - 1) c c' b less place there all limit (skips b all limit g);
-    }
+    skips_then r pt (Shorter t k) (Instruction t) (Shorter t (k - 1)) start c c' skips
+    (both_skip r (Shorter t k) (Instruction t) (Shorter t (k - 1)) c c' there
+    (λ fs m. shorter_moves r t k (k - 1) c.position c'.position fs m less place (shorter_within r x.runs)) x)
 
 pub shorter_last : (r : Run) (i t k : ℕ) (c : StringCursor) (b : BoardValue) → k ≡ 0
     → Chooses r (Instruction i) (Shorter t k) c b (next.At i c) b
@@ -145,9 +140,7 @@ module _ (r : Run) (i tail low high count : ℕ) (c after : StringCursor) (w : O
   pub run_both : (b : BoardValue) (all : List Way) (limit : Limit) → Goes r all limit (Instruction i) c b
       → GoesBoth r all limit (spot (Instruction tail) after b) (spot (Shorter tail (count - low)) after b) after
       b.choices
-  run_both b all limit g =
-      turn_splits r (Instruction i) c b (spot (Instruction tail) after b) (spot (Shorter tail (count - low)) after b)
-      after (run_moves b.frames b.marks) there refl refl all limit g
+  run_both = goes_both r (Instruction i) (Instruction tail) (Shorter tail (count - low)) c after there run_moves
 
   pub run_runs : HasRun r (Instruction i) c
       → HasRun r (Instruction tail) after × HasRun r (Shorter tail (count - low)) after
@@ -224,9 +217,7 @@ module _ (r : Run) (i tail low high : ℕ) (c : StringCursor) (w : Opcode r.word
 
     pub lazy_both : (b : BoardValue) (all : List Way) (limit : Limit) → Goes r all limit (Instruction i) c b
         → GoesBoth r all limit (spot (Instruction tail) after b) (spot (Longer i low) after b) after b.choices
-    lazy_both b all limit g =
-        turn_splits r (Instruction i) c b (spot (Instruction tail) after b) (spot (Longer i low) after b) after
-        (lazy_moves b.frames b.marks) there refl refl all limit g
+    lazy_both = goes_both r (Instruction i) (Instruction tail) (Longer i low) c after there lazy_moves
 
     pub lazy_runs : HasRun r (Instruction i) c → HasRun r (Instruction tail) after × HasRun r (Longer i low) after
     lazy_runs = both_run r (Instruction i) (Instruction tail) (Longer i low) c after lazy_moves there
@@ -270,17 +261,9 @@ module _ (r : Run) (i tail low high n : ℕ) (c : StringCursor) (o : OperandsOfR
     longer_moves fs m =
         longer_splits (stands_of r.words i tail low high o) o.leads past (rw (more, taken) refl) moved_on
 
-    longer_both : (b : BoardValue) (all : List Way) (limit : Limit) → Goes r all limit (Longer i n) c b
-        → GoesBoth r all limit (spot (Instruction tail) after b) (spot (Longer i (n + 1)) after b) after b.choices
-    longer_both b all limit g =
-        turn_splits r (Longer i n) c b (spot (Instruction tail) after b) (spot (Longer i (n + 1)) after b) after
-        (longer_moves b.frames b.marks) there refl refl all limit g
-
     pub longer_skips : HasRun r (Longer i n) c
         → SkipsBoth r (Longer i n) c (Instruction tail) (Longer i (n + 1)) after
-    longer_skips x =
-        let s = both_run r (Longer i n) (Instruction tail) (Longer i (n + 1)) c after longer_moves there x in
-        record { runs = s.0; others = s.1; skips = longer_both }
+    longer_skips = both_skip r (Longer i n) (Instruction tail) (Longer i (n + 1)) c after there longer_moves
 
 -- what was read tells whether the test passes
 pub longer_passes : (r : Run) (i ch : ℕ) (takes : Bool) (c : StringCursor) (t : HasTest r.words (i + 4))
