@@ -86,8 +86,8 @@ pub use Rattle.sre_turns.specs.Moves.{End, Enter, Move, Split, Spot, TestMove, c
 pub use Rattle.sre_turns.specs.MovesAtReferences.{Asks, HasReference, MayAsk, asks, condition_place, reference_turn}
 pub use Rattle.sre_turns.specs.MovesInLoops.{AgainMove, LoopMove, UntilMove, again_move, at_body, behind, enter_body}
 pub use Rattle.sre_turns.specs.MovesInLoops.{first_frame, in_order, next_frame, until_move}
-pub use Rattle.sre_turns.specs.MovesInRegions.{look}
-pub use Rattle.sre_turns.specs.MovesInRuns.{RunOperands, onward_turn, run_turn}
+pub use Rattle.sre_turns.specs.Turning.{look}
+pub use Rattle.sre_turns.specs.Turning.{RunOperands, onward_turn, run_turn}
 pub use Rattle.sre_turns.specs.Nested.{AllBegunBy, BegunBy, ClosesAt, IsAt, LeadsTo, Lies, LiesIn, LiesInBranch}
 pub use Rattle.sre_turns.specs.Nested.{LiesInItem, Passed, by_slots, is_again, most_slots, place_of, place_under}
 pub use Rattle.sre_turns.specs.Nested.{repeats, slots}

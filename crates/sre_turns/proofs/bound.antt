@@ -2,10 +2,8 @@
 pub mod SettledMoves
 pub mod Faring
 pub mod NestedMoves
-pub mod NestedStarts
 pub mod NestedPlaces
 pub mod NestedSlots
-pub mod NestedPoints
 pub mod HereMoves
 pub mod FaringInRegions
 pub mod Steps

@@ -1,6 +1,5 @@
 -- Why what failed may be skipped: equivalent configurations fail alike, and bodies of atomic scopes end alike.
 pub mod Asked
-pub mod AlikeLoops
 pub mod AlikeTurns
 pub mod SameComes
 pub mod Hopeless

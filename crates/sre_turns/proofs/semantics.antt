@@ -1,23 +1,17 @@
 -- What steps come to: the moves of each opcode, the outcomes of a run, and that the bytecode of a tree has its paths.
 pub mod OneTurn
-pub mod LoopTurns
 pub mod Turned
 pub mod Moving
 pub mod FirstOutcomes
-pub mod Placed
 pub mod StepsAtItems
 pub mod StepsInBranches
 pub mod AfterSteps
-pub mod AtRuns
 pub mod StepsInRuns
 pub mod StepsInLoops
 pub mod StepsInRegions
 pub mod StepsAtReferences
 pub mod StepsInPossessiveLoops
-pub mod Outcomes
 pub mod RanAtItems
-pub mod RanInRuns
-pub mod RanInLoops
 pub mod Ran
 pub mod GoingBack
 pub mod Start

@@ -1,10 +1,8 @@
 pub mod Board
 pub mod Moves
 pub mod Attempts
-pub mod MovesInRuns
 pub mod OperandsOfRuns
 pub mod MovesInLoops
-pub mod MovesInRegions
 pub mod MovesAtReferences
 pub mod Asked
 pub mod Lying

@@ -3,18 +3,98 @@
 use Rattle.sre_turns.specs.Terms.{ℕ, suc, ◌+◌, ◌≡◌, List, [], ◌∷◌, ◌++◌, SreOpcode, Role, ToFail, ToEnd, ToTest}
 use Rattle.sre_turns.specs.Terms.{ToCheckPosition, ToMark, ToBranch, ToJump, ToRun, ToRepeat, ToLoop}
 use Rattle.sre_turns.specs.Terms.{ToRepeatPossessively, ToGroupAtomically, ToLook, ToRefer, ToCheckGroup, ToNothing}
-use Rattle.sre_turns.specs.Terms.{role, Subject, Way, here, Opcode}
+use Rattle.sre_turns.specs.Terms.{role, Subject, Way, here, Opcode, ◌-◌, ◌<◌, length, cond, nat_lt, Word, skip, ◌≤◌}
+use Rattle.sre_turns.specs.Terms.{◌&&◌, nat_eq, Test, GreedyRun, LazyRun, PossessiveRun, passes, unlimited, TestStands}
+use Rattle.sre_turns.specs.Terms.{◌||◌, RunKind, run_length, longest_run}
+use Rattle.sre_model.specs.Tree.{Sign, Positive, Negative}
 use Rattle.sre_turns.specs.declared.Region.{Region}
 use Rattle.sre_turns.specs.declared.Point.TheVariants.{Instruction, Alternatives, Shorter, Longer, Inside, Again, Tried}
 use Rattle.sre_turns.specs.declared.Point.TheVariants.{TriedAgain}
 use Rattle.sre_turns.specs.declared.Point.{Point}
 use Rattle.sre_turns.specs.Bodies.{Confined, MarklessRegions}
 use Rattle.sre_turns.specs.Moves.{Spot, Move, Stop, End, Go, Split, Enter, closing_move, to_point, TestMove, AtMove}
-use Rattle.sre_turns.specs.Moves.{MarkMove, JumpMove, AlternativesMove}
-use Rattle.sre_turns.specs.MovesInRuns.{RunMove, ShorterMove, LongerMove}
+use Rattle.sre_turns.specs.Moves.{MarkMove, JumpMove, AlternativesMove, into_region, to_place}
 use Rattle.sre_turns.specs.MovesInLoops.{first_frame, RepeatMove, UntilMove, AgainMove}
-use Rattle.sre_turns.specs.MovesInRegions.{AtomicMove, LookMove}
 use Rattle.sre_turns.specs.MovesAtReferences.{ReferenceMove, ConditionMove}
+use Rattle.sre_turns.specs.declared.Region.TheVariants.{AtomicGroup, Ahead, NotAhead}
+
+-- What the machine does in one step at a single-character repeat.
+
+-- the operands of a run at i: skip least greatest test SUCCESS
+pub record RunOperands (ws : List ℕ) (i low high end : ℕ) (test : Test) : Type 0 where
+  pub lowest : Word ws (i + 2) low
+  pub highest : Word ws (i + 3) high
+  pub stands : TestStands ws (i + 4) end test
+
+-- what comes of a possessive run at i without a greatest count, whose tail is at t: what comes of the same run one
+-- character later, as long as more than the least count passes
+abbrev pub onward_turn : Subject → ℕ → ℕ → ℕ → Test → Spot → Move
+onward_turn s i t low test x =
+    cond (nat_lt (run_length s test low x.position) low) Stop
+    (cond (passes s test (x.position + low)) (Go (to_place x (Instruction i) (x.position + 1)))
+    (Go (to_place x (Instruction t) (x.position + low))))
+
+-- what comes of a run at i whose tail is at t: the longest run, and then the shorter ones; the least count,
+-- and then the longer ones; or the longest run alone
+abbrev pub run_turn : RunKind → Subject → ℕ → ℕ → ℕ → ℕ → Test → Spot → Move
+run_turn GreedyRun s i t low high test x =
+    let k = longest_run s test high x.position in
+    cond (nat_lt k low) Stop
+    (Split (to_place x (Instruction t) (x.position + k)) (to_place x (Shorter t (k - low)) (x.position + k)))
+run_turn LazyRun s i t low high test x =
+    cond (nat_lt (run_length s test low x.position) low) Stop
+    (Split (to_place x (Instruction t) (x.position + low)) (to_place x (Longer i low) (x.position + low)))
+run_turn PossessiveRun s i t low high test x =
+    let k = longest_run s test high x.position in
+    cond (nat_eq high unlimited) (onward_turn s i t low test x)
+    (cond (nat_lt k low) Stop (Go (to_place x (Instruction t) (x.position + k))))
+
+-- REPEAT_ONE, MIN_REPEAT_ONE or POSSESSIVE_REPEAT_ONE
+pub record RunMove (ws : List ℕ) (s : Subject) (kind : RunKind) (i : ℕ) (x : Spot) (mv : Move) : Type 0 where
+  pub low : ℕ
+  pub high : ℕ
+  pub end : ℕ
+  pub test : Test
+  pub operands : RunOperands ws i low high end test
+  pub is : mv ≡ run_turn kind s i (skip ws (i + 1)) low high test x
+
+-- the shorter counts of a run, so many of them
+pub record ShorterMove (t k : ℕ) (x : Spot) (mv : Move) : Type 0 where
+  pub past : k ≤ x.position
+  pub is : mv ≡ cond (nat_eq k 0) Stop
+      (Split (to_place x (Instruction t) (x.position - 1)) (to_place x (Shorter t (k - 1)) (x.position - 1)))
+
+-- the longer counts of the run at i, behind n characters of it: one test more
+pub record LongerMove (ws : List ℕ) (s : Subject) (i n : ℕ) (x : Spot) (mv : Move) : Type 0 where
+  pub low : ℕ
+  pub high : ℕ
+  pub end : ℕ
+  pub test : Test
+  pub operands : RunOperands ws i low high end test
+  pub past : n ≤ x.position
+  pub is : mv ≡ cond ((nat_eq high unlimited || nat_lt n high) && passes s test x.position)
+      (Split (to_place x (Instruction (skip ws (i + 1))) (x.position + 1))
+      (to_place x (Longer i (n + 1)) (x.position + 1))) Stop
+
+-- What the machine does in one step at an atomic scope: ATOMIC_GROUP skip body SUCCESS, and the lookarounds.
+
+-- ATOMIC_GROUP
+pub record AtomicMove (ws : List ℕ) (i : ℕ) (x : Spot) (mv : Move) : Type 0 where
+  pub there : i + 1 < length ws
+  pub is : mv ≡ Enter (AtomicGroup (skip ws (i + 1))) x (into_region x (i + 2) x.position)
+
+-- a look, by where one goes on behind it
+abbrev pub look : Sign → ℕ → Region
+look Positive t = Ahead t
+look Negative t = NotAhead t
+
+-- ASSERT, ASSERT_NOT: where fewer characters stand before, it is as if its body had no outcome
+pub record LookMove (ws : List ℕ) (sign : Sign) (i : ℕ) (x : Spot) (mv : Move) : Type 0 where
+  pub back : ℕ
+  pub there : Word ws (i + 2) back
+  pub is : mv ≡
+      let g = look sign (skip ws (i + 1)) in
+      cond (nat_lt x.position back) (closing_move g x []) (Enter g x (into_region x (i + 3) (x.position - back)))
 
 -- what a turn does at an instruction whose opcode has this role
 abbrev pub InRole : List ℕ → Subject → Role → ℕ → Spot → Move → Type 0

@@ -18,7 +18,7 @@ use Rattle.sre_turns.proofs.semantics.Turned.{possessive_loop, Enters, atomic_gr
 use Rattle.sre_turns.proofs.semantics.Turned.{went, forked, marked, grouped, begun, entered, looped, repeated}
 use Rattle.sre_turns.proofs.semantics.Turned.{point_turned}
 use Rattle.sre_turns.proofs.bound.Steps.{some_steps, role_there, steps_told, test_ends}
-use Rattle.sre_turns.proofs.semantics.LoopTurns.{until_holds, again_holds}
+use Rattle.sre_turns.proofs.semantics.OneTurn.{until_holds, again_holds}
 
 -- whether an instruction may enter an atomic scope
 abbrev pub enters : Role → Bool

@@ -10,11 +10,10 @@ use Rattle.sre_turns.proofs.Terms.{Comes, stops, ends, goes, splits, enters, rep
 use Rattle.sre_turns.proofs.Terms.{Alike, LiesInBody, Confined, MarklessRegions, AllMarked, MarksStay, Subject, Run}
 use Rattle.sre_turns.proofs.Terms.{Frame, Instruction, Stop, Go, by_marks, MarklessBody}
 use Rattle.sre_chars.specs.declared.constants.SreOpcode.TheVariants as opcode
-use Rattle.sre_turns.proofs.bound.NestedMoves.{body_moves}
+use Rattle.sre_turns.proofs.bound.NestedMoves.{body_moves, HoldsInGood, tree_holds}
 use Rattle.sre_turns.proofs.semantics.Turned.{Turned, stopped, ended, went, forked, marked, grouped, begun, entered}
 use Rattle.sre_turns.proofs.semantics.Turned.{looped, repeated, point_turned}
-use Rattle.sre_turns.proofs.bound.NestedPoints.{HoldsInGood, tree_holds}
-use Rattle.sre_turns.proofs.semantics.LoopTurns.{until_holds, again_holds}
+use Rattle.sre_turns.proofs.semantics.OneTurn.{until_holds, again_holds}
 
 -- whether an opcode of this role sets a mark
 abbrev sets : Role → Bool

@@ -11,11 +11,11 @@ use Rattle.sre_turns.proofs.Terms.{IsBodyIn, Subject, Frame, Instruction, spot_a
 use Rattle.sre_turns.proofs.Terms.{by_forked_regions, paired, tree_paired, ForksAt}
 use Rattle.sre_chars.specs.declared.constants.SreOpcode.TheVariants as opcode
 use Rattle.sre_model.specs.Tree.{Run}
-use Rattle.sre_turns.proofs.bound.NestedPoints.{HoldsInGood, tree_holds}
+use Rattle.sre_turns.proofs.bound.NestedMoves.{HoldsInGood, tree_holds}
 use Rattle.sre_turns.proofs.bound.PriceMoves.{enters}
 use Rattle.sre_turns.proofs.semantics.Turned.{Enters, atomic_group, lookaround, Turned, stopped, ended, went, forked}
 use Rattle.sre_turns.proofs.semantics.Turned.{marked, grouped, begun, entered, looped, repeated, point_turned}
-use Rattle.sre_turns.proofs.semantics.LoopTurns.{until_holds, again_holds}
+use Rattle.sre_turns.proofs.semantics.OneTurn.{until_holds, again_holds}
 
 item_straight : (a : Item) → of_item by_forks a ≡ false
     → (forking (item_role a) ≡ false) × (of_parts by_forks a ≡ false)

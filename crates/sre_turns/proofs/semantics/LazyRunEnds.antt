@@ -5,7 +5,7 @@ use Rattle.sre_turns.proofs.Terms.{subst, arith, Test, Way, unlimited, run_lengt
 use Rattle.sre_turns.proofs.Terms.{word_of, Frame, Instruction, spot_at, Stop, Run, Subject, Moves, Runs, turns, stops}
 use Rattle.sre_turns.proofs.Terms.{RunOperands, AllPass, Longer, Spot, Split, Marks, passes, Word, Opcode, skip}
 use Rattle.sre_chars.specs.declared.constants.SreOpcode.TheVariants as opcode
-use Rattle.sre_turns.proofs.semantics.AtRuns.{lazy_none, lazy_splits, longer_none, longer_splits}
+use Rattle.sre_turns.proofs.semantics.StepsInRuns.{lazy_none, lazy_splits, longer_none, longer_splits}
 use Rattle.sre_turns.proofs.semantics.AfterSteps.{stopped, parted, split}
 
 -- the least count is there where so many characters pass

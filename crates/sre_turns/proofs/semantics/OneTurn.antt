@@ -1,6 +1,8 @@
 -- A step is determined: no configuration has two moves, so its outcomes come of its one step.
 use Rattle.sre_turns.proofs.Terms.{◌≡◌, ℕ, ◌+◌, List, ◌∷◌, refl, sym, ◌∙◌, subst, Marks, group, Way, Word, same_word}
-use Rattle.sre_turns.proofs.Terms.{Point, Spot, Move, LoopMove, Moves, Runs, turns, Comes, Subject, Frame}
+use Rattle.sre_turns.proofs.Terms.{Point, Spot, Move, LoopMove, Moves, Runs, turns, Comes, Subject, Frame, Bool, true}
+use Rattle.sre_turns.proofs.Terms.{false, cond, nat_lt, Some, Order, Greedy, Lazy, may_repeat, first, skip, Owed}
+use Rattle.sre_turns.proofs.Terms.{Further, Split, at_body, behind, in_order, enter_body, UntilMove, AgainMove, Go}
 use Rattle.sre_turns.proofs.semantics.Turned.{Turned, stopped, ended, went, forked, marked, grouped, begun, entered}
 use Rattle.sre_turns.proofs.semantics.Turned.{looped, repeated, point_turned}
 
@@ -66,3 +68,34 @@ pub comes : {ws : List ℕ} {s : Subject} {x : Spot} {os : List Way} {n : ℕ} (
     → Runs ws s x os n → Comes ws s x mv os n
 comes {ws} {s} {x} {os} {n} mv h (turns mv' h' d) =
     subst (λ z. Comes ws s x z os n) (moves_same ws s x mv' mv h' h) d
+
+-- What holds of each turn that a loop in progress may make holds of its turn: of a body, of the loop's end, and of both
+-- in either order.
+
+module _ (Q : Move → Type 0) where
+  by_test : (b : Bool) {v w : Move} → Q v → Q w → Q (cond b v w)
+  by_test true h k = h
+  by_test false h k = k
+
+  either_order : (o : Order) {y z : Spot} → Q (Split y z) → Q (Split z y) → Q (in_order o y z)
+  either_order Greedy h k = h
+  either_order Lazy h k = k
+
+  -- at what ends a body
+  pub until_holds : {ws : List ℕ} (o : Order) (u : ℕ) {x : Spot} {v : Move} (h : UntilMove ws o u x v)
+      → Q (Go (at_body h.frame h.frame.last h.outer x))
+      → Q (Split (at_body h.frame (Some x.position) h.outer x) (behind u h.outer x))
+      → Q (Split (behind u h.outer x) (at_body h.frame (Some x.position) h.outer x))
+      → Q (Go (behind u h.outer x)) → Q v
+  until_holds o u {x} h owed first last end =
+      rw h.is (by_test (nat_lt h.frame.count h.low) owed
+      (by_test (may_repeat h.high h.frame.count h.frame.last x.position) (either_order o first last) end))
+
+  -- at a possessive loop
+  pub again_holds : {ws : List ℕ} {x : Spot} {v : Move} (h : AgainMove ws x v)
+      → Q (enter_body Owed h.frame h.frame.last h.outer x)
+      → Q (enter_body (Further (skip ws (h.frame.repeat + 1) + 1)) h.frame (Some x.position) h.outer x)
+      → Q (Go (behind (skip ws (h.frame.repeat + 1)) h.outer x)) → Q v
+  again_holds {x = x} h owed more end =
+      rw h.is (by_test (nat_lt h.frame.count h.low) owed
+      (by_test (may_repeat h.high h.frame.count h.frame.last x.position) more end))

@@ -8,7 +8,7 @@ use Rattle.sre_turns.proofs.Terms.{stops, ends, goes, splits, enters, least_from
 use Rattle.sre_turns.proofs.Terms.{each-weaken, Subject, Frame, Instruction, spot_at, Stop, Go, BegunBy}
 use Rattle.sre_turns.proofs.semantics.Turned.{Turned, stopped, ended, went, forked, marked, grouped, begun, entered}
 use Rattle.sre_turns.proofs.semantics.Turned.{looped, repeated, point_turned}
-use Rattle.sre_turns.proofs.semantics.LoopTurns.{until_holds, again_holds}
+use Rattle.sre_turns.proofs.semantics.OneTurn.{until_holds, again_holds}
 
 -- each of some ways ends no earlier than at a position
 abbrev pub EndFrom : ℕ → List Way → Type 0

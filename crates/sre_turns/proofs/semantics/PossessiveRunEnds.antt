@@ -7,7 +7,7 @@ use Rattle.sre_turns.proofs.Terms.{run_length, longest_run, run_passes, run_stop
 use Rattle.sre_turns.proofs.Terms.{Instruction, spot_at, Stop, Go, Subject, Moves, Runs, turns, goes, RunOperands}
 use Rattle.sre_turns.proofs.Terms.{AllPass, Spot, Move, Marks, passes, Opcode, skip, onward_turn}
 use Rattle.sre_chars.specs.declared.constants.SreOpcode.TheVariants as opcode
-use Rattle.sre_turns.proofs.semantics.AtRuns.{at_run, bounded_stops, bounded_goes}
+use Rattle.sre_turns.proofs.semantics.StepsInRuns.{at_run, bounded_stops, bounded_goes}
 use Rattle.sre_turns.proofs.semantics.AfterSteps.{went, stopped}
 use Rattle.sre_turns.proofs.semantics.LazyRunEnds.{least_passed}
 use Rattle.sre_turns.proofs.semantics.RunEnds.{passed}

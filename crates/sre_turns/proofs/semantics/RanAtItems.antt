@@ -12,10 +12,53 @@ use Rattle.sre_turns.proofs.Terms.{ToGroupAtomically, ToLook, test_kind, test_ro
 use Rattle.sre_turns.proofs.Terms.{word_past, Costs, item_cost, ending, atomic_cost, leb-true, and_parts, MayAsk, Asks}
 use Rattle.sre_turns.proofs.Terms.{asks, reference_turn, condition_place, IsConfined, MarklessRegions, look, Subject}
 use Rattle.sre_turns.proofs.Terms.{Alternatives, AtomicGroup, Spot, Move, Enter, closing_move, reference_ways}
-use Rattle.sre_turns.proofs.Terms.{look_ways, reference_cost, condition_cost, look_cost, looked_cost}
+use Rattle.sre_turns.proofs.Terms.{look_ways, reference_cost, condition_cost, look_cost, looked_cost, flat_map, ends}
+use Rattle.sre_turns.proofs.Terms.{ToEnd, zero, GreedyRun, LazyRun, PossessiveRun, unlimited, run_length, longest_run}
+use Rattle.sre_turns.proofs.Terms.{RunOperands, longest_run-fits, goes_on, Shorter, Longer, falling, rising, run_ways}
+use Rattle.sre_turns.proofs.Terms.{longest_goes_on, longest_stops, least_there, least_short, shorter_cost, run_cost}
+use Rattle.sre_turns.proofs.Terms.{longer_cost, lazy_run_cost, longest_run_cost}
 use Rattle.sre_chars.specs.declared.constants.SreOpcode.TheVariants as opcode
+use Rattle.sre_turns.specs.Machine.{Point, Spot, End, Marks, Opcode}
 use Rattle.sre_turns.proofs.semantics.Moving.{at_instruction}
-use Rattle.sre_turns.proofs.semantics.Outcomes.{followed, Ran, moved, alone, Follows, region}
+use Rattle.sre_turns.proofs.semantics.StepsInRuns.{greedy_stops, greedy_splits, lazy_none, lazy_splits, longer_none}
+use Rattle.sre_turns.proofs.semantics.StepsInRuns.{longer_splits}
+use Rattle.sre_turns.proofs.semantics.PossessiveRunEnds.{longest_runs, longest_none}
+
+-- The outcomes at a point, where what follows is known.
+
+-- what follows each of some ways
+abbrev pub followed : Body → List Way → List Way
+followed K os = flat_map (λ (w : Way). K w.stop w.marks) os
+
+-- from each position from p on the outcomes are K and the turns C
+abbrev pub Follows : List ℕ → Subject → ℕ → Point → List Frame → Body → Costs → Type 0
+Follows ws s p pt fs K C = (q : ℕ) (m : Marks) → p ≤ q → q ≤ s.end → Runs ws s (spot_at pt fs q m) (K q m) (C q m)
+
+-- from a point the outcomes are the ways W and what follows each of them at j
+abbrev pub Ran : List ℕ → Subject → Point → ℕ → Body → (Costs → Costs) → Type 0
+Ran ws s pt j W counted =
+    (fs : List Frame) (K : Body) (C : Costs) (p : ℕ) (m : Marks) → p ≤ s.end → Follows ws s p (Instruction j) fs K C
+    → Runs ws s (spot_at pt fs p m) (followed K (W p m)) (counted C p m)
+
+pub moved : {ws : List ℕ} {s : Subject} {fs : List Frame} {p n i j : ℕ} {m : Marks} {os : List Way} → j ≡ i
+    → Runs ws s (spot_at (Instruction j) fs p m) os n → Runs ws s (spot_at (Instruction i) fs p m) os n
+moved {ws} {s} {fs} {p} {n} {i} {j} {m} {os} e h = subst (λ x. Runs ws s (spot_at (Instruction x) fs p m) os n) e h
+
+-- one way alone
+pub alone : {ws : List ℕ} {s : Subject} {x : Spot} {n : ℕ} {os : List Way} → Runs ws s x os n → Runs ws s x (os ++ []) n
+alone h = rw append-nil h
+
+singles : (os : List Way) → followed here os ≡ os
+singles [] = refl
+singles (w ∷ os) = ap (λ l. w ∷ l) (singles os)
+
+-- a region, whose last word is SUCCESS
+pub region : (ws : List ℕ) (s : Subject) (i k : ℕ) (W : Body) (counted : Costs → Costs)
+    → Ran ws s (Instruction i) k W counted → Opcode ws k opcode.SUCCESS → (fs : List Frame) (p : ℕ) (m : Marks)
+    → p ≤ s.end → Runs ws s (spot_at (Instruction i) fs p m) (W p m) (counted ending p m)
+region ws s i k W counted r w fs p m e =
+    subst (λ x. Runs ws s (spot_at (Instruction i) fs p m) x (counted ending p m)) (singles (W p m))
+    (r fs here ending p m e (λ q l _ _. turns End (at_instruction opcode.SUCCESS ToEnd refl w refl) ends))
 
 -- a step that goes on where a test holds, and else comes to nothing
 tested : {ws : List ℕ} {s : Subject} {x : Spot} {j q : ℕ} {fs : List Frame} {m : Marks} (K : Body) (C : Costs)
@@ -237,3 +280,127 @@ module _ (ws : List ℕ) (s : Subject) (i j k : ℕ) (W : Body) (counted : Costs
             turns (Enter (look sign j) x (spot_at (Instruction k) [] (p - back) m)) (early_or_entered false y)
             (enters lies (region ws s k (j - 1) W counted r ends [] (p - back) m (omega arith))
             (look-closed ws s x j K C sign (W (p - back) m) e f))
+
+-- The bytecode of a single-character repeat has its match paths.
+
+shorter-ran : (ws : List ℕ) (s : Subject) (j low n : ℕ) (fs : List Frame) (K : Body) (C : Costs) (p : ℕ) (m : Marks)
+    → p + (low + n) ≤ s.end → Follows ws s p (Instruction j) fs K C
+    → Runs ws s (spot_at (Shorter j n) fs (p + (low + n)) m)
+    (followed K (map (λ c. record { stop = p + c; marks = m }) (falling low n))) (shorter_cost C low n p m)
+shorter-ran ws s j low zero fs K C p m e f = turns Stop (record { past = omega arith; is = refl }) stops
+shorter-ran ws s j low (suc n) fs K C p m e f =
+    let before : p + (low + suc n) - 1 ≡ p + (low + n) = omega arith in
+    let less : suc n - 1 ≡ n = omega arith in
+    let more : nat_eq (suc n) 0 ≡ false = grind (arith, nat_tests) in
+    turns _ (record { past = omega arith; is = rw (more, before, less) refl })
+    (splits (f (p + (low + n)) m (omega arith) (omega arith)) (shorter-ran ws s j low n fs K C p m (omega arith) f))
+
+pub run-ran : (ws : List ℕ) (s : Subject) (i j low high : ℕ) (t : Test)
+    → Opcode ws i opcode.REPEAT_ONE → j ≡ skip ws (i + 1) → Word ws (i + 2) low → Word ws (i + 3) high
+    → Opcode ws (i + 4) (test_opcode t) → TestOperands ws (i + 4) (j - 1) t
+    → Ran ws s (Instruction i) j (λ p m. run_ways s GreedyRun low high t p m)
+    (λ C p m. run_cost low (longest_run s t high p) C p m)
+run-ran ws s i j low high t w tail wl wh wt h fs K C p m e f = go (nat_lt (longest_run s t high p) low) refl
+  where
+    k : ℕ
+    k = longest_run s t high p
+
+    o : RunOperands ws i low high (j - 1) t
+    o = record { lowest = wl; highest = wh; stands = record { code = wt; operands = h } }
+
+    fits : p + longest_run s t high p ≤ s.end
+    fits = longest_run-fits s t high p e
+
+    go : (y : Bool) → nat_lt k low ≡ y
+        → Runs ws s (spot_at (Instruction i) fs p m)
+        (followed K (map (λ n. record { stop = p + n; marks = m }) (falling low (k + 1 - low))))
+        (cond y 1 (suc (suc (C (p + k) m + shorter_cost C low (k - low) p m))))
+    go true y =
+        let l : k < low = grind (arith, nat_tests) in let z : k + 1 - low ≡ 0 = omega arith in
+        rw z (turns Stop (greedy_stops o w refl l) stops)
+    go false y =
+        let l : low ≤ k = grind (arith, nat_tests) in
+        let d : k + 1 - low ≡ suc (k - low) = omega arith in
+        let b : low + (k - low) ≡ k = omega arith in
+        let others : Runs ws s (spot_at (Shorter j (k - low)) fs (p + k) m)
+        (followed K (map (λ c. record { stop = p + c; marks = m }) (falling low (k - low))))
+        (shorter_cost C low (k - low) p m) =
+        rw b at (shorter-ran ws s j low (k - low) fs K C p m (omega (arith, fits)) f) in
+        rw (d, b)
+        (turns _ (greedy_splits o w tail refl l refl)
+        (splits (f (p + k) m (omega arith) fits) others))
+
+-- the longer counts of a lazy run, behind c characters of it
+longer-ran : (ws : List ℕ) (s : Subject) (i j low high : ℕ) (t : Test) (n c : ℕ) (fs : List Frame) (K : Body)
+    (C : Costs) (p : ℕ) (m : Marks)
+    → j ≡ skip ws (i + 1) → RunOperands ws i low high (j - 1) t → p ≤ s.end → c + n ≡ longest_run s t high p
+    → Follows ws s p (Instruction j) fs K C
+    → Runs ws s (spot_at (Longer i c) fs (p + c) m)
+    (followed K (map (λ d. record { stop = p + d; marks = m }) (rising (c + 1) n))) (longer_cost C c n p m)
+longer-ran ws s i j low high t zero c fs K C p m tail o e k f =
+    let all : longest_run s t high p ≡ c = omega (arith, k) in
+    let last : goes_on s t high c (p + c) ≡ false = rw all at (longest_stops s t high p e) in
+    turns Stop (longer_none o (omega arith) last) stops
+longer-ran ws s i j low high t (suc n) c fs K C p m tail o e k f =
+    let more : goes_on s t high c (p + c) ≡ true = longest_goes_on s t high p e c (omega (arith, k)) in
+    let fits : p + longest_run s t high p ≤ s.end = longest_run-fits s t high p e in
+    turns _ (longer_splits o tail (omega arith) more (omega arith))
+    (splits (f (p + (c + 1)) m (omega arith) (omega (arith, k, fits)))
+    (longer-ran ws s i j low high t n (c + 1) fs K C p m tail o e (omega (arith, k)) f))
+
+pub lazy-run-ran : (ws : List ℕ) (s : Subject) (i j low high : ℕ) (t : Test) → Opcode ws i opcode.MIN_REPEAT_ONE
+    → j ≡ skip ws (i + 1) → Word ws (i + 2) low → Word ws (i + 3) high → low ≤ high → Opcode ws (i + 4) (test_opcode t)
+    → TestOperands ws (i + 4) (j - 1) t
+    → Ran ws s (Instruction i) j (λ p m. run_ways s LazyRun low high t p m)
+    (λ C p m. lazy_run_cost low (longest_run s t high p) C p m)
+lazy-run-ran ws s i j low high t w tail wl wh le wt h fs K C p m e f = go (nat_lt (longest_run s t high p) low) refl
+  where
+    k : ℕ
+    k = longest_run s t high p
+
+    o : RunOperands ws i low high (j - 1) t
+    o = record { lowest = wl; highest = wh; stands = record { code = wt; operands = h } }
+
+    go : (y : Bool) → nat_lt k low ≡ y
+        → Runs ws s (spot_at (Instruction i) fs p m)
+        (followed K (map (λ n. record { stop = p + n; marks = m }) (rising low (k + 1 - low))))
+        (cond y 1 (suc (suc (C (p + low) m + longer_cost C low (k - low) p m))))
+    go true y =
+        let l : k < low = grind (arith, nat_tests) in
+        let z : k + 1 - low ≡ 0 = omega arith in
+        let short : run_length s t low p ≡ k = least_short s t high p e low le l in
+        let few : run_length s t low p < low = omega (arith, short, l) in
+        rw z (turns Stop (lazy_none o w few) stops)
+    go false y =
+        let l : low ≤ k = grind (arith, nat_tests) in
+        let d : k + 1 - low ≡ suc (k - low) = omega arith in
+        let fits : p + k ≤ s.end = longest_run-fits s t high p e in
+        let there : run_length s t low p ≡ low = least_there s t high p e low l in
+        rw d
+        (turns _ (lazy_splits o w tail there refl)
+        (splits (f (p + low) m (omega arith) (omega (arith, fits)))
+        (longer-ran ws s i j low high t (k - low) low fs K C p m tail o e (omega (arith, l)) f)))
+
+-- of a possessive run, in one turn with a greatest count, and else turn by turn
+pub longest-run-ran : (ws : List ℕ) (s : Subject) (i j low high : ℕ) (t : Test)
+    → Opcode ws i opcode.POSSESSIVE_REPEAT_ONE → j ≡ skip ws (i + 1) → RunOperands ws i low high (j - 1) t
+    → Ran ws s (Instruction i) j (λ p m. run_ways s PossessiveRun low high t p m)
+    (λ C p m. longest_run_cost low high (longest_run s t high p) C p m)
+longest-run-ran ws s i j low high t w tail o fs K C p m e f = go (nat_lt k low) refl
+  where
+    k : ℕ
+    k = longest_run s t high p
+
+    go : (y : Bool) → nat_lt k low ≡ y
+        → Runs ws s (spot_at (Instruction i) fs p m)
+        (followed K (map (λ n. record { stop = p + n; marks = m }) (cond (nat_le low k) (k ∷ []) [])))
+        (cond y 1 (cond (nat_eq high unlimited) (k - low) 0 + suc (C (p + k) m)))
+    go true y =
+        let few : nat_le low k ≡ false = grind (arith, nat_tests) in
+        let short : k < low = grind (arith, nat_tests) in
+        rw few (turns Stop (longest_none ws s i low high (j - 1) t fs m w o p short) stops)
+    go false y =
+        let enough : nat_le low k ≡ true = grind (arith, nat_tests) in
+        rw enough
+        (alone (longest_runs ws s i low high (j - 1) t fs m w o p (K (p + k) m) (C (p + k) m) (grind (arith, nat_tests))
+        (moved tail (f (p + k) m (omega arith) (longest_run-fits s t high p e)))))

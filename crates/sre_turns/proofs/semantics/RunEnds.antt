@@ -7,9 +7,9 @@ use Rattle.sre_turns.proofs.Terms.{word_of, Frame, Instruction, spot_at, Stop, R
 use Rattle.sre_turns.proofs.Terms.{RunOperands, AllPass, append-nil, Shorter, Spot, Split, Marks, passes, Word, Opcode}
 use Rattle.sre_turns.proofs.Terms.{skip, append_assoc}
 use Rattle.sre_chars.specs.declared.constants.SreOpcode.TheVariants as opcode
-use Rattle.sre_turns.proofs.semantics.AtRuns.{greedy_stops, greedy_splits}
+use Rattle.sre_turns.proofs.semantics.StepsInRuns.{greedy_stops, greedy_splits, shorter_stop, shorter_moves}
+use Rattle.sre_turns.proofs.semantics.StepsInRuns.{shorter_within}
 use Rattle.sre_turns.proofs.semantics.AfterSteps.{Parted, stopped, parted, split}
-use Rattle.sre_turns.proofs.semantics.StepsInRuns.{shorter_stop, shorter_moves, shorter_within}
 
 -- what comes apart does so behind what comes first
 joined : (all us vs before last : List Way) → all ≡ us ++ vs → vs ≡ before ++ last → all ≡ (us ++ before) ++ last

@@ -10,8 +10,8 @@ use Rattle.sre_turns.proofs.Terms.{BoardValue, bare, Limit, SaysAccepted, outcom
 use Rattle.sre_chars.specs.declared.constants.SreOpcode.TheVariants as opcode
 use Rattle.sre_turns.proofs.bound.FaringInRegions.{end_refused}
 use Rattle.sre_turns.specs.declared.Next.TheVariants as next
-use Rattle.sre_turns.proofs.semantics.Outcomes.{region}
-use Rattle.sre_turns.proofs.semantics.Placed.{none_placed}
+use Rattle.sre_turns.proofs.semantics.RanAtItems.{region}
+use Rattle.sre_turns.proofs.semantics.StepsAtItems.{none_placed}
 use Rattle.sre_turns.proofs.semantics.Ran.{ran, PartOf}
 use Rattle.sre_turns.proofs.semantics.FirstOutcomes.{fruit_waits}
 

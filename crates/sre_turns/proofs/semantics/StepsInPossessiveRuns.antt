@@ -14,8 +14,7 @@ use Rattle.sre_turns.proofs.bound.HereMoves.{here_moves}
 use Rattle.sre_turns.proofs.semantics.Moving.{turn_goes, turn_stops, standing}
 use Rattle.sre_turns.proofs.semantics.PossessiveRunEnds.{longest_stretch, onward_goes, ComesTo, one_turn, stretch_comes}
 use Rattle.sre_turns.proofs.semantics.PossessiveRunEnds.{longest_none}
-use Rattle.sre_turns.proofs.semantics.AtRuns.{bounded_goes}
-use Rattle.sre_turns.proofs.semantics.StepsInRuns.{CountsRun, stands_of}
+use Rattle.sre_turns.proofs.semantics.StepsInRuns.{bounded_goes, CountsRun, stands_of}
 use Rattle.sre_turns.proofs.semantics.AfterSteps.{stopped}
 
 -- where all steps go on, the machine may go there at once, if it has enough for an instruction there
