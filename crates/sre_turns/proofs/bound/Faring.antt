@@ -2,8 +2,8 @@
 use Rattle.sre_turns.proofs.Terms.{◌≡◌, ℕ, ◌+◌, ◌≤◌, List, [], ◌∷◌, drop, true, refl, sym, ap, ◌∙◌, subst, arith}
 use Rattle.sre_turns.proofs.Terms.{SreOpcode, Marks, Way, begins_test, some_test, Choice, Else, Keep, Trying}
 use Rattle.sre_turns.proofs.Terms.{Alternatives, Shorter, Longer, Point, Spot, Move, End, Split, Enter, price, price_of}
-use Rattle.sre_turns.proofs.Terms.{toll, toll_by, split_toll, Covers, Counted, Attempt, Limit, earlier, raised, pool}
-use Rattle.sre_turns.proofs.Terms.{CodeAt, tried_spots, Fares, FaresAt, FaresBack, FaresEnd, HereIn, Reopens, Settling}
+use Rattle.sre_turns.proofs.Terms.{toll, toll_by, Covers, Counted, Attempt, Limit, earlier, raised, pool, CodeAt}
+use Rattle.sre_turns.proofs.Terms.{tried_spots, Fares, FaresAt, FaresBack, FaresEnd, HereIn, Reopens, Settling}
 use Rattle.sre_turns.proofs.Terms.{end_share, FaresBoth, Wider, Stage, share, Coming, is_inside, InBody, StringCursor}
 use Rattle.sre_turns.proofs.Terms.{Run, Frame, Instruction, spot_at, Stop, Go, repeats, MovesAt, Moves, Runs, turns}
 use Rattle.sre_chars.specs.declared.constants.SreOpcode.TheVariants as opcode
@@ -215,22 +215,10 @@ test_pool r i p o ks e =
     ap (λ f. toll_by r.words r.subject.end i ks f) kind.1 in
     omega (arith, none)
 
--- of a configuration at which the machine has come, with the credits of its point
-pub with_tolls : (r : Run) (pl : Counted r) (limit : Limit) (x : Spot) (cs : List Choice) (o : SreOpcode)
-    → FaresAt r pl limit (price_of r.words r.subject.end x) x cs
-    → FaresAt r pl (raised (toll r.words r.subject.end o x.point (repeats x.frames)) limit)
-    (pool r.words r.subject.end o x.point (repeats x.frames) x.position) x cs
-with_tolls r pl limit x cs o f = record {
-  here = f.here;
-  fares = record { settled = f.fares.settled; trying = f.fares.trying; left = omega (arith, f.fares.left) };
-}
-
--- or with that of a repeat that is split
-pub with_toll : (r : Run) (pl : Counted r) (limit : Limit) (x : Spot) (cs : List Choice)
-    → FaresAt r pl limit (price_of r.words r.subject.end x) x cs
-    → FaresAt r pl (raised (split_toll r.words x.point) limit)
-    (price_of r.words r.subject.end x + split_toll r.words x.point) x cs
-with_toll r pl limit x cs f = record {
+-- of a configuration at which the machine has come, with credits: those of its point, or those of a repeat that is split
+pub with_credits : (r : Run) (pl : Counted r) (limit : Limit) (n credits : ℕ) (x : Spot) (cs : List Choice)
+    → FaresAt r pl limit n x cs → FaresAt r pl (raised credits limit) (n + credits) x cs
+with_credits r pl limit n credits x cs f = record {
   here = f.here;
   fares = record { settled = f.fares.settled; trying = f.fares.trying; left = omega (arith, f.fares.left) };
 }

@@ -15,21 +15,16 @@ use Rattle.sre_turns.proofs.bound.Steps.{role_there}
 module _ (ws : List ℕ) (e i : ℕ) (ks : List ℕ) where
   -- a repeat with a greatest count
   ends_counted : (word ws (i + 3) ≡ unlimited → ⊥)
-      → ends_beside ws e i ≤ other_ends e (word ws (i + 2)) (word ws (i + 3))
-  ends_counted counted = grind (arith, nat_tests)
+      → (1 + ends_beside ws e i) * end_price ws i
+      ≤ (1 + other_ends e (word ws (i + 2)) (word ws (i + 3))) * end_price ws i
+  ends_counted counted =
+      let few : ends_beside ws e i ≤ other_ends e (word ws (i + 2)) (word ws (i + 3)) = grind (arith, nat_tests) in
+      mul-le-mul_right (end_price ws i) (omega (arith, few))
 
   by_bit : (f : Role) → ((kind : RunKind) → f ≡ ToRun kind → word ws (i + 3) ≡ unlimited → ⊥)
       → toll_by ws e i ks f + scan_by ws e i f ≤ bit_by ws e i ks f
-  by_bit (ToRun GreedyRun) h =
-      let ends : (1 + ends_beside ws e i) * end_price ws i
-      ≤ (1 + other_ends e (word ws (i + 2)) (word ws (i + 3))) * end_price ws i =
-      mul-le-mul_right (end_price ws i) (omega (arith, ends_counted (h GreedyRun refl))) in
-      omega (arith, ends)
-  by_bit (ToRun LazyRun) h =
-      let ends : (1 + ends_beside ws e i) * end_price ws i
-      ≤ (1 + other_ends e (word ws (i + 2)) (word ws (i + 3))) * end_price ws i =
-      mul-le-mul_right (end_price ws i) (omega (arith, ends_counted (h LazyRun refl))) in
-      omega (arith, ends)
+  by_bit (ToRun GreedyRun) h = omega (arith, ends_counted (h GreedyRun refl))
+  by_bit (ToRun LazyRun) h = omega (arith, ends_counted (h LazyRun refl))
   by_bit f h = omega arith
 
   -- an instruction at which the machine is, and is no repeat without a greatest count

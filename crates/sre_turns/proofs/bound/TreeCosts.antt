@@ -287,17 +287,18 @@ module _ (ws : List ℕ) (e : ℕ) {A : Type 0} (point : A → Point) (loops : A
       (inl (refl, refl)))
 
   -- as at the end of a body of an atomic scope, and of an alternative
-  body_ended : (In : Point → List ℕ → Type 0) (j c : ℕ) → Opcode ws j opcode.SUCCESS → Before In j [] c
-      → (Rest : Point → List ℕ → Type 0) (n : ℕ) → Costs Rest n
+  body_ended : (In : Point → List ℕ → Type 0) (j c : ℕ) → Opcode ws j opcode.SUCCESS
+      → (steps ws j ≡ 2 → Before In j [] c) → (Rest : Point → List ℕ → Type 0) (n : ℕ) → Costs Rest n
       → Costs (λ pt ks. In pt ks ⊎ Rest pt ks) (c + n)
   body_ended In j c w tree Rest n rest =
-      ended In j [] c ToEnd (role_here ws j opcode.SUCCESS ToEnd w refl) refl tree Rest n rest
+      ended In j [] c ToEnd (role_here ws j opcode.SUCCESS ToEnd w refl) refl (tree (body_end ws j w)) Rest n rest
 
-  jump_ended : (In : Point → List ℕ → Type 0) (k j : ℕ) (js : List ℕ) (c : ℕ) → JumpsTo ws k j → Before In k js c
-      → (Rest : Point → List ℕ → Type 0) (n : ℕ) → Costs Rest n
+  jump_ended : (In : Point → List ℕ → Type 0) (k j b : ℕ) (js : List ℕ) (c : ℕ) → JumpsTo ws k j → steps ws j ≡ b
+      → (steps ws k ≡ 1 + b → Before In k js c) → (Rest : Point → List ℕ → Type 0) (n : ℕ) → Costs Rest n
       → Costs (λ pt ks. In pt ks ⊎ Rest pt ks) (c + n)
-  jump_ended In k j js c jump tree Rest n rest =
-      ended In k js c ToJump (role_here ws k opcode.JUMP ToJump jump.0 refl) refl tree Rest n rest
+  jump_ended In k j b js c jump behind tree Rest n rest =
+      ended In k js c ToJump (role_here ws k opcode.JUMP ToJump jump.0 refl) refl
+      (tree (jump_steps ws k j jump ∙ ap (λ n. 1 + n) behind)) Rest n rest
 
   mutual
     -- of the points of a tree, before b steps under loops of s states, where there are those of what follows
@@ -363,16 +364,13 @@ module _ (ws : List ℕ) (e : ℕ) {A : Type 0} (point : A → Point) (loops : A
         (beside (one Again (i ∷ js) (loop_slots low high * s * v)
         (subst (λ k. k * bit_toll ws e Again (i ∷ js) ≤ loop_slots low high * s * v) states
         (mul-le-mul (omega arith) few)))
-        (body_ended _ u _ r.1.4
-        (tree_costs (i + 4) u body r.1.3 [] 1 2 refl (body_end ws u r.1.4)) Rest n rest)))
+        (body_ended _ u _ r.1.4 (tree_costs (i + 4) u body r.1.3 [] 1 2 refl) Rest n rest)))
     item_costs i j (Atomic body) r js s b same behind Rest n rest at =
         with_free i _ js (item_here ws i j (Atomic body) r) refl
-        (body_ended _ (j - 1) _ r.1.2
-        (tree_costs (i + 2) (j - 1) body r.1.1 [] 1 2 refl (body_end ws (j - 1) r.1.2)) Rest n rest)
+        (body_ended _ (j - 1) _ r.1.2 (tree_costs (i + 2) (j - 1) body r.1.1 [] 1 2 refl) Rest n rest)
     item_costs i j (Look sign back body) r js s b same behind Rest n rest at =
         with_free i _ js (item_here ws i j (Look sign back body) r) refl
-        (body_ended _ (j - 1) _ r.1.3
-        (tree_costs (i + 3) (j - 1) body r.1.2 [] 1 2 refl (body_end ws (j - 1) r.1.3)) Rest n rest)
+        (body_ended _ (j - 1) _ r.1.3 (tree_costs (i + 3) (j - 1) body r.1.2 [] 1 2 refl) Rest n rest)
     item_costs i j (Exists g there) r js s b same behind Rest n rest at =
         with_free i _ js (item_here ws i j (Exists g there) r) refl
         (tree_costs (i + 3) j there r.1.2 js s b same behind Rest n rest at)
@@ -380,9 +378,7 @@ module _ (ws : List ℕ) (e : ℕ) {A : Type 0} (point : A → Point) (loops : A
         let k : ℕ = i + 1 + word ws (i + 2) in
         wider (omega arith) (λ pt ks y. regrouped y)
         (with_free i _ js (item_here ws i j (ExistsElse g there absent) r) refl
-        (jump_ended _ (k - 2) j js _ r.1.2
-        (tree_costs (i + 3) (k - 2) there r.1.1 js s (1 + b) same
-        (jump_steps ws (k - 2) j r.1.2 ∙ ap (λ n. 1 + n) behind))
+        (jump_ended _ (k - 2) j b js _ r.1.2 behind (tree_costs (i + 3) (k - 2) there r.1.1 js s (1 + b) same)
         (λ pt ks. LiesIn ws k j absent r.1.3 js pt ks ⊎ Rest pt ks) _
         (tree_costs k j absent r.1.3 js s b same behind Rest n rest at)))
     item_costs i j x r js s b same behind Rest n rest at = plain i j x r js refl Rest n rest
@@ -399,9 +395,8 @@ module _ (ws : List ℕ) (e : ℕ) {A : Type 0} (point : A → Point) (loops : A
           | inr z ↦ inr (inr z)
         ])
         (beside (alternatives_free q (skip ws q) js)
-        (jump_ended _ (skip ws q - 2) j js _ r.1
-        (tree_costs (q + 1) (skip ws q - 2) t r.0 js s (1 + b) same
-        (jump_steps ws (skip ws q - 2) j r.1 ∙ ap (λ n. 1 + n) behind)) Rest n rest))
+        (jump_ended _ (skip ws q - 2) j b js _ r.1 behind
+        (tree_costs (q + 1) (skip ws q - 2) t r.0 js s (1 + b) same) Rest n rest))
     branch_costs q j (Or t ts) r js s b same behind Rest n rest =
         wider (omega arith)
         (λ pt ks y. elim y [
@@ -411,9 +406,8 @@ module _ (ws : List ℕ) (e : ℕ) {A : Type 0} (point : A → Point) (loops : A
           | inr z ↦ inr (inr (inr z))
         ])
         (beside (alternatives_free q q js)
-        (jump_ended _ (skip ws q - 2) j js _ r.1
-        (tree_costs (q + 1) (skip ws q - 2) t r.0 js s (1 + b) same
-        (jump_steps ws (skip ws q - 2) j r.1 ∙ ap (λ n. 1 + n) behind))
+        (jump_ended _ (skip ws q - 2) j b js _ r.1 behind
+        (tree_costs (q + 1) (skip ws q - 2) t r.0 js s (1 + b) same)
         (λ pt ks. LiesInBranch ws (skip ws q) j ts r.2 js pt ks ⊎ Rest pt ks) _
         (branch_costs (skip ws q) j ts r.2 js s b same behind Rest n rest)))
 
@@ -422,6 +416,5 @@ module _ (ws : List ℕ) (e : ℕ) {A : Type 0} (point : A → Point) (loops : A
       → Costs (λ pt ks. LiesIn ws 0 (length ws - 1) t w.0 [] pt ks) (cost_of e 1 t 2)
   whole_costs t w =
       wider (omega arith) (λ pt ks y. inl y)
-      (body_ended _ (length ws - 1) _ w.1
-      (tree_costs 0 (length ws - 1) t w.0 [] 1 2 refl (body_end ws (length ws - 1) w.1)) (λ pt ks. ⊥) 0
+      (body_ended _ (length ws - 1) _ w.1 (tree_costs 0 (length ws - 1) t w.0 [] 1 2 refl) (λ pt ks. ⊥) 0
       (free (λ pt ks y. absurd y)))

@@ -30,17 +30,15 @@ frame_later ws p q f g l h =
 
 pub loops_later : (ws : List ℕ) (p q : ℕ) (fs gs : List Frame) → p ≤ q → LoopsAlike ws p fs gs → LoopsAlike ws q fs gs
 loops_later ws p q [] [] l h = tt
-loops_later ws p q [] (g ∷ gs) l h = absurd h
-loops_later ws p q (f ∷ fs) [] l h = absurd h
 loops_later ws p q (f ∷ fs) (g ∷ gs) l h = (frame_later ws p q f g l h.0, loops_later ws p q fs gs l h.1)
+loops_later ws p q fs gs l h = absurd h
 
 -- without the innermost one
 pub loops_left : (ws : List ℕ) (p : ℕ) (fs gs : List Frame) → LoopsAlike ws p fs gs
     → LoopsAlike ws p (drop 1 fs) (drop 1 gs)
 loops_left ws p [] [] h = tt
-loops_left ws p [] (g ∷ gs) h = absurd h
-loops_left ws p (f ∷ fs) [] h = absurd h
 loops_left ws p (f ∷ fs) (g ∷ gs) h = h.1
+loops_left ws p fs gs h = absurd h
 
 -- loops are alike to themselves
 pub frame-alike : (ws : List ℕ) (p : ℕ) (f : Frame) → FramesAlike ws p f f

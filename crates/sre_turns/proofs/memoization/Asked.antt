@@ -110,15 +110,13 @@ module _ (matters : ℕ → Type 0) where
   pub outcomes_appended : (xs ys us vs : List Way) → OutcomesAlike matters xs ys → OutcomesAlike matters us vs
       → OutcomesAlike matters (xs ++ us) (ys ++ vs)
   outcomes_appended [] [] us vs h k = k
-  outcomes_appended [] (y ∷ ys) us vs h k = absurd h
-  outcomes_appended (x ∷ xs) [] us vs h k = absurd h
   outcomes_appended (x ∷ xs) (y ∷ ys) us vs h k = (h.0, h.1, outcomes_appended xs ys us vs h.2 k)
+  outcomes_appended xs ys us vs h k = absurd h
 
   pub stops_of : (xs ys : List Way) → OutcomesAlike matters xs ys → SameStops xs ys
   stops_of [] [] h = tt
-  stops_of [] (y ∷ ys) h = absurd h
-  stops_of (x ∷ xs) [] h = absurd h
   stops_of (x ∷ xs) (y ∷ ys) h = (h.0, stops_of xs ys h.2)
+  stops_of xs ys h = absurd h
 
 module _ (ws : List ℕ) where
   -- the marks of a group that is asked for
@@ -131,17 +129,10 @@ module _ (ws : List ℕ) where
   -- a mark of a group that is asked for lies where those of all such groups do
   asked_between : (k least most : ℕ) → ((g : ℕ) → Asks ws g → least ≤ g) → ((g : ℕ) → Asks ws g → 2 * g + 1 < most)
       → AskedMark ws k → (2 * least ≤ k) × (k < most)
-  asked_between k least most from to x = go x.of
-    where
-      go : (k ≡ 2 * x.group) ⊎ (k ≡ 2 * x.group + 1) → (2 * least ≤ k) × (k < most)
-      go (inl e) =
-          let far : least ≤ x.group = from x.group x.asked in
-          let few : 2 * x.group + 1 < most = to x.group x.asked in
-          (omega (arith, far, e), omega (arith, few, e))
-      go (inr e) =
-          let far : least ≤ x.group = from x.group x.asked in
-          let few : 2 * x.group + 1 < most = to x.group x.asked in
-          (omega (arith, far, e), omega (arith, few, e))
+  asked_between k least most from to x =
+      let far : least ≤ x.group = from x.group x.asked in
+      let few : 2 * x.group + 1 < most = to x.group x.asked in
+      (omega (arith, far, x.of), omega (arith, few, x.of))
 
   -- where the words have no reference all marks are alike
   pub apart_alike : (HasReference ws → ⊥) → (m n : Marks) → MarksAlike ws m n
@@ -153,11 +144,7 @@ module _ (ws : List ℕ) where
   few_unmarked m least from l = λ k x. sym (past_end m.raw k (behind k x))
     where
       behind : (k : ℕ) → AskedMark ws k → length m.raw ≤ k
-      behind k x = go x.of
-        where
-          go : (k ≡ 2 * x.group) ⊎ (k ≡ 2 * x.group + 1) → length m.raw ≤ k
-          go (inl e) = let far : least ≤ x.group = from x.group x.asked in omega (arith, far, l, e)
-          go (inr e) = let far : least ≤ x.group = from x.group x.asked in omega (arith, far, l, e)
+      behind k x = omega (arith, from x.group x.asked, l, x.of)
 
   -- marks that are the same from the first group that is asked for up to the last
   pub from_alike : (m n : Marks) (least most : ℕ) → ((g : ℕ) → Asks ws g → least ≤ g)

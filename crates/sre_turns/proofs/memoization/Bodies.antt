@@ -131,9 +131,8 @@ module _ (ws : List ℕ) (s : Subject) (b : MarklessBody ws) where
 -- alike loops stand at the same places
 same_places : (ws : List ℕ) (p : ℕ) (fs gs : List Frame) → LoopsAlike ws p fs gs → repeats fs ≡ repeats gs
 same_places ws p [] [] h = refl
-same_places ws p [] (g ∷ gs) h = absurd h
-same_places ws p (f ∷ fs) [] h = absurd h
 same_places ws p (f ∷ fs) (g ∷ gs) h = rw (h.0.repeat, same_places ws p fs gs h.1) refl
+same_places ws p fs gs h = absurd h
 
 -- a configuration that is alike to one in a body lies there, too
 alike_confined : (ws : List ℕ) (b : MarklessBody ws) (x y : Spot) → Alike ws x y

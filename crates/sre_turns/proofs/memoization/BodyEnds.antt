@@ -2,8 +2,8 @@
 -- has each equivalent configuration, and there the machine may go to the end at once.
 -- The memo of body ends rests on this.
 use Rattle.sre_turns.proofs.Terms.{◌≡◌, ℕ, ◌≤◌, true, List, [], ◌∷◌, drop, refl, subst, arith, ◌+◌, ◌++◌, sym, ap, ◌∙◌}
-use Rattle.sre_turns.proofs.Terms.{inl, inr, ◌⊎◌, AllByRecursion, each-append, each-both, each-weaken, Way, first, here}
-use Rattle.sre_turns.proofs.Terms.{HereIn, EndsIn, Limit, Instruction, spot_at, Stop, Go, BoardValue, Run, StringCursor}
+use Rattle.sre_turns.proofs.Terms.{AllByRecursion, each-append, each-both, each-weaken, Way, first, here, HereIn}
+use Rattle.sre_turns.proofs.Terms.{EndsIn, Limit, Instruction, spot_at, Stop, Go, BoardValue, Run, StringCursor}
 use Rattle.sre_turns.proofs.Terms.{Subject, Runs, turns, Comes, stops, ends, goes, splits, enters, Waits, otherwise}
 use Rattle.sre_turns.proofs.Terms.{tried, Arrives, Ends, Later, spot, point_behind, goes_behind, InBody, SameFruit}
 use Rattle.sre_turns.proofs.Terms.{is_inside, MarksAlike, Confined, MarklessRegions, AllMarked, MarksStay, AllConfined}
@@ -147,23 +147,16 @@ tried_end r none m all limit c b alike inside e =
     (tried_come r all limit c b inside e) (tried_confined r.words b.choices inside (e.confined none).each))
 
 -- of two steps at least, if anything comes of it
-two_turns : {ws : List ℕ} {s : Subject} {x : Spot} {os : List Way} {n : ℕ} → Runs ws s x os n → (os ≡ []) ⊎ (2 ≤ n)
-two_turns {ws} {s} (turns mv h d) = go d
-  where
-    go : {x : Spot} {mv : Move} {os : List Way} {n : ℕ} → Comes ws s x mv os n → (os ≡ []) ⊎ (2 ≤ n)
-    go stops = inl refl
-    go ends = inr (omega arith)
-    go (goes e) = inr (omega (arith, some_turns e))
-    go (splits e f) = inr (omega arith)
-    go (enters {n₁ = n₁} {n₂ = n₂} lies e f) = inr (omega (arith, some_turns e))
-
 ended_turns : {ws : List ℕ} {s : Subject} {x : Spot} {os : List Way} {n : ℕ} (q : ℕ) (m : Marks)
     → first os ≡ here q m → Runs ws s x os n → 2 ≤ n
-ended_turns {os = os} {n = n} q m h d = go (two_turns d)
+ended_turns {ws} {s} q m begins (turns mv h d) = go begins d
   where
-    go : (os ≡ []) ⊎ (2 ≤ n) → 2 ≤ n
-    go (inl e) = let none : [] ≡ here q m = rw e at h in absurd (cc)
-    go (inr l) = l
+    go : {x : Spot} {mv : Move} {os : List Way} {n : ℕ} → first os ≡ here q m → Comes ws s x mv os n → 2 ≤ n
+    go e stops = absurd (cc)
+    go e ends = omega arith
+    go e (goes d) = omega (arith, some_turns d)
+    go e (splits d f) = omega arith
+    go e (enters {n₁ = n₁} {n₂ = n₂} lies d f) = omega (arith, some_turns d)
 
 -- what is inside an atomic scope that is known to end at a cursor is left for that end at once
 pub end_taken : (r : Run) (pt : Point) (c c' : StringCursor) (b : BoardValue) (m : Marks) → is_inside b.choices ≡ true

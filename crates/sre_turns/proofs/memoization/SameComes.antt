@@ -126,16 +126,14 @@ module _ (ws : List ℕ) (a : PlacesAsk) (told : AskedByPlace (λ k. ⊥) ws a) 
   -- of loops that are alike the same marks are asked for
   loops_ask : (p k : ℕ) (fs gs : List Frame) → LoopsAlike ws p fs gs → LoopsAsk a fs k ≡ LoopsAsk a gs k
   loops_ask p k [] [] h = refl
-  loops_ask p k [] (g ∷ gs) h = absurd h
-  loops_ask p k (f ∷ fs) [] h = absurd h
   loops_ask p k (f ∷ fs) (g ∷ gs) h = rw (h.0.repeat, loops_ask p k fs gs h.1) refl
+  loops_ask p k fs gs h = absurd h
 
   point_asks : (pt : Point) (p k : ℕ) (fs gs : List Frame) → LoopsAlike ws p fs gs
       → PointAsks ws a pt fs k ≡ PointAsks ws a pt gs k
   point_asks Again p k [] [] h = refl
-  point_asks Again p k [] (g ∷ gs) h = absurd h
-  point_asks Again p k (f ∷ fs) [] h = absurd h
   point_asks Again p k (f ∷ fs) (g ∷ gs) h = rw h.0.repeat refl
+  point_asks Again p k fs gs h = absurd h
   point_asks pt p k fs gs h = refl
 
   -- none matters

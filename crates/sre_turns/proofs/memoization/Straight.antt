@@ -13,8 +13,8 @@ use Rattle.sre_chars.specs.declared.constants.SreOpcode.TheVariants as opcode
 use Rattle.sre_model.specs.Tree.{Run}
 use Rattle.sre_turns.proofs.bound.NestedMoves.{HoldsInGood, tree_holds}
 use Rattle.sre_turns.proofs.bound.PriceMoves.{enters}
-use Rattle.sre_turns.proofs.semantics.Turned.{Enters, atomic_group, lookaround, Turned, stopped, ended, went, forked}
-use Rattle.sre_turns.proofs.semantics.Turned.{marked, grouped, begun, entered, looped, repeated, point_turned}
+use Rattle.sre_turns.proofs.semantics.Turned.{Enters, atomic_group, lookaround, Turned, grouped, entered, looped}
+use Rattle.sre_turns.proofs.semantics.Turned.{repeated, point_turned}
 use Rattle.sre_turns.proofs.semantics.OneTurn.{until_holds, again_holds}
 
 item_straight : (a : Item) → of_item by_forks a ≡ false
@@ -232,14 +232,8 @@ module _ (ws : List ℕ) (P : Tree → Type 0) (Q : ℕ → Tree → Type 0) (s 
 
   turn_entered : {gs : List Frame} {n : Marks} {pt : Point} {v w : Move} → Turned ws s p fs gs m n pt v w
       → Entry ws P Q pt (repeats fs) → v ≡ Enter g y z → Entered ws P Q p g z
-  turn_entered stopped entry e = absurd (cc)
-  turn_entered (ended o at is) entry e = absurd (cc)
-  turn_entered (went x) entry e = absurd (cc)
-  turn_entered (forked f a b on) entry e = absurd (cc)
-  turn_entered (marked o at is there) entry e = absurd (cc)
   turn_entered (grouped {g = number} o at is asked there v w each) entry e =
       turn_entered (each (group m number)) entry e
-  turn_entered (begun o at b same) entry e = absurd (cc)
   turn_entered (entered {back = back} {j = j} {q = q} {g = h} o at b l far on) entry e =
       entered_as h q back j _ (entry o at back j h b) far e
   turn_entered (looped {u = u} o order at is h k) entry e =
@@ -249,6 +243,7 @@ module _ (ws : List ℕ) (P : Tree → Type 0) (Q : ℕ → Tree → Type 0) (s 
       again_holds (λ v. v ≡ Enter g y z → Entered ws P Q p g z) h
       (entered_as Owed p 0 (h.frame.repeat + 4) _ b (omega arith))
       (entered_as (Further _) p 0 (h.frame.repeat + 4) _ b (omega arith)) (λ a. absurd (cc a)) e
+  turn_entered t entry e = absurd (cc)
 
 -- so wherever one is entered
 pub point_entered : (ws : List ℕ) (P : Tree → Type 0) (Q : ℕ → Tree → Type 0) (s : Subject) (pt : Point)

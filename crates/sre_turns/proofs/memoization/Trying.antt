@@ -1,14 +1,15 @@
 -- An instruction or a possessive loop that is tried: a marker waits below all its outcomes, and where that marker is
 -- reached again, it has failed, and always will.
 use Rattle.sre_turns.proofs.Terms.{◌≡◌, ℕ, ◌≤◌, Bool, List, [], ◌∷◌, drop, ap, refl, sym, subst, arith, Limit, Stage}
-use Rattle.sre_turns.proofs.Terms.{Going, Splitting, spare, FaresBack, Frame, BoardValue, Run, StringCursor, Runs}
-use Rattle.sre_turns.proofs.Terms.{Waits, tried, GoesWith, Goes, Arrives, Tries, Backs, Later, spot, ChoicesConfined}
-use Rattle.sre_turns.proofs.Terms.{is_inside, Alike, LoopsAlike, least_from, Hopeless, AcceptsByStop, MarksServe, Point}
-use Rattle.sre_turns.proofs.Terms.{Spot, Trying, Counted, Marks, Way, Fruitless, attempt, with_tried, without_tried}
+use Rattle.sre_turns.proofs.Terms.{Going, Splitting, spare, FaresBack, BoardValue, Run, StringCursor, Runs, Waits}
+use Rattle.sre_turns.proofs.Terms.{tried, GoesWith, Goes, Arrives, Tries, Backs, Later, spot, ChoicesConfined}
+use Rattle.sre_turns.proofs.Terms.{is_inside, Alike, least_from, Hopeless, AcceptsByStop, MarksServe, Point, Spot}
+use Rattle.sre_turns.proofs.Terms.{Trying, Counted, Marks, Way, Fruitless, attempt, with_tried, without_tried}
 use Rattle.sre_turns.specs.declared.Next.TheVariants as next
 use Rattle.sre_turns.proofs.semantics.FirstOutcomes.{first_none}
 use Rattle.sre_turns.proofs.memoization.Hopeless.{hopeless_again, fruitless_waits, fruitless_none}
 use Rattle.sre_turns.proofs.semantics.Moving.{standing, back_from}
+use Rattle.sre_turns.proofs.memoization.AlikeTurns.{loops-alike}
 
 -- what is tried has its mark wait
 tried_with : (stage : Stage) → spare stage ≡ 0 → (r : Run) (pt : Point) (c : StringCursor) (b b' : BoardValue)
@@ -109,16 +110,11 @@ tried_hopeless r told pt c b b' m serves e all limit g =
     (tried_came r pt c b b' e all limit g)
 
 -- a configuration is alike to itself
-loops_itself : (ws : List ℕ) (p : ℕ) (fs : List Frame) → LoopsAlike ws p fs fs
-loops_itself ws p [] = tt
-loops_itself ws p (f ∷ fs) =
-    (record { repeat = refl; count = λ low high l h. refl; last = λ q at. refl }, loops_itself ws p fs)
-
 pub alike_itself : (ws : List ℕ) (x : Spot) → Alike ws x x
 alike_itself ws x = record {
   point = refl;
   position = refl;
-  loops = loops_itself ws (least_from x.point x.position) x.frames;
+  loops = loops-alike ws (least_from x.point x.position) x.frames;
 }
 
 -- what is hopeless and come to is left at once

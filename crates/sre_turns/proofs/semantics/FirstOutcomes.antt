@@ -20,9 +20,8 @@ first_none (x ∷ xs) ys h e = let none : x ∷ [] ≡ [] = rw e at h in absurd 
 
 pub first_append : (xs ys zs : List Way) → first xs ≡ first ys → first (xs ++ zs) ≡ first (ys ++ zs)
 first_append [] [] zs h = refl
-first_append [] (y ∷ ys) zs h = absurd (cc)
-first_append (x ∷ xs) [] zs h = absurd (cc)
 first_append (x ∷ xs) (y ∷ ys) zs h = h
+first_append xs ys zs h = absurd (cc)
 
 -- and so it is of those that count
 fruit_append : (r : Run) (inside : Bool) (xs ys zs : List Way) → SameFruit r inside xs ys

@@ -13,8 +13,7 @@ use Rattle.sre_turns.proofs.Terms.{BoardValue, Frame, Instruction, spot_at, Stop
 use Rattle.sre_turns.proofs.memoization.Confining.{turn_confined, goes_confined, splits_confined, first_confined}
 use Rattle.sre_turns.proofs.memoization.Confining.{first_left, second_left}
 use Rattle.sre_turns.proofs.bound.Faring.{FreeOfToll, turn_leaves, fares_less, first_waits, first_alone, second_alone}
-use Rattle.sre_turns.proofs.bound.Faring.{second_goes, run_code, with_tolls, with_toll, run_place, place_left}
-use Rattle.sre_turns.proofs.bound.Faring.{share_more}
+use Rattle.sre_turns.proofs.bound.Faring.{second_goes, run_code, with_credits, run_place, place_left, share_more}
 use Rattle.sre_turns.specs.Machine.{IsAt}
 use Rattle.sre_turns.specs.declared.Next.TheVariants as next
 use Rattle.sre_turns.proofs.semantics.OneTurn.{comes}
@@ -152,14 +151,14 @@ arrived_at {r} {all} {limit} {pt} {c} {b} o w =
     let ks : List ℕ = repeats b.frames in
     under_way Going (raised (toll r.words r.subject.end o pt ks) limit) (omega arith) refl (λ pl o' w' f.
     subst (λ k. FaresAt r pl (raised k limit) (pool r.words r.subject.end o' pt ks c.position) x b.choices)
-    (same_tolls r.words r.subject.end pt ks o' o w' w) (with_tolls r pl limit x b.choices o' f))
+    (same_tolls r.words r.subject.end pt ks o' o w' w) (with_credits r pl limit _ _ x b.choices f))
 
 -- or for those of a repeat that is split
 pub arrived_once : {r : Run} {all : List Way} {limit : Limit} {pt : Point} {c : StringCursor} {b : BoardValue}
     → Arrives r all limit pt c b → Tries r all (raised (split_toll r.words pt) limit) pt c b
 arrived_once {r} {all} {limit} {pt} {c} {b} =
     under_way Splitting (raised (split_toll r.words pt) limit) (omega arith) refl
-    (λ pl o w. with_toll r pl limit (spot pt c b) b.choices)
+    (λ pl o w. with_credits r pl limit _ _ (spot pt c b) b.choices)
 
 -- each run takes a step
 pub some_turns : {ws : List ℕ} {s : Subject} {x : Spot} {os : List Way} {n : ℕ} → Runs ws s x os n → 1 ≤ n

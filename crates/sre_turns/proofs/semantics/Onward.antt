@@ -1,8 +1,8 @@
 -- How far a step reaches: no further back than its configuration, not out of the range, and not before the last bodies
 -- of its loops began. So its outcomes end no earlier than at the least position to which its point comes back: after an
 -- atomic group and a body of a possessive loop no position is earlier than before it. Equivalence rests on that.
-use Rattle.sre_turns.proofs.Terms.{◌≡◌, ℕ, ◌≤◌, true, List, [], ◌∷◌, ◌++◌, drop, Option, Some, None, refl, subst, arith}
-use Rattle.sre_turns.proofs.Terms.{⊤, AllByRecursion, Marks, group, Way, first, Ahead, NotAhead, Further, Region, Point}
+use Rattle.sre_turns.proofs.Terms.{◌≡◌, ℕ, ◌≤◌, true, List, [], ◌∷◌, drop, Option, Some, None, refl, subst, arith, ⊤}
+use Rattle.sre_turns.proofs.Terms.{AllByRecursion, Marks, group, Way, first, Ahead, NotAhead, Further, Region, Point}
 use Rattle.sre_turns.proofs.Terms.{Spot, Move, End, Split, Enter, closing_move, next_frame, MovesAt, Runs, turns, Comes}
 use Rattle.sre_turns.proofs.Terms.{stops, ends, goes, splits, enters, least_from, goes_behind, AllBegunBy, each-append}
 use Rattle.sre_turns.proofs.Terms.{each-weaken, Subject, Frame, Instruction, spot_at, Stop, Go, BegunBy}
@@ -109,23 +109,16 @@ outer_begun p (f ∷ fs) h = h.1
 
 -- what comes of an atomic scope goes on from where it was entered, or from where its body ends
 module _ (s : Subject) (y : Spot) where
-  there : Reaches s y.position y.position y.frames y.position y.position y.frames
-  there = on s y.position y.position y.frames y.position y.position (omega arith) (λ l. l)
-
-  at_end : (w : Way) → y.position ≤ w.stop → (y.position ≤ s.end → w.stop ≤ s.end)
-      → Reaches s y.position y.position y.frames w.stop w.stop y.frames
-  at_end w l k = on s y.position y.position y.frames w.stop w.stop l k
-
   closing_reaches : (g : Region) (now : List Way) → (goes_behind g ≡ true → EndFrom y.position now)
       → (y.position ≤ s.end → EndWithin s.end now)
       → Reaching s y.position y.position y.frames (closing_move g y now)
-  closing_reaches (Ahead t) (w ∷ os) e k = there
-  closing_reaches (NotAhead t) [] e k = there
+  closing_reaches (Ahead t) (w ∷ os) e k = here s y.position y.frames
+  closing_reaches (NotAhead t) [] e k = here s y.position y.frames
   closing_reaches (NotAhead t) (w ∷ os) e k = tt
   closing_reaches (Further t) [] e k =
       record { onward = omega arith; inside = λ l. l; begun = outer_begun y.position y.frames }
   closing_reaches g [] e k = tt
-  closing_reaches g (w ∷ os) e k = at_end w (e refl).0 (λ l. (k l).0)
+  closing_reaches g (w ∷ os) e k = on s y.position y.position y.frames w.stop w.stop (e refl).0 (λ l. (k l).0)
 
 pub least_position : (pt : Point) (p : ℕ) → least_from pt p ≤ p
 least_position (Instruction i) p = omega arith
@@ -135,13 +128,6 @@ least_position pt p = omega arith
 module _ (ws : List ℕ) (s : Subject) where
   abbrev EndThere : ℕ → ℕ → List Way → Type 0
   EndThere o p os = EndFrom p os × (o ≤ s.end → EndWithin s.end os)
-
-  both_there : (o p : ℕ) (os others : List Way) → EndThere o p os → EndThere o p others
-      → EndThere o p (os ++ others)
-  both_there o p os others h k = (
-    each-append (λ (w : Way). p ≤ w.stop) os others h.0 k.0,
-    λ l. each-append (λ (w : Way). w.stop ≤ s.end) os others (h.1 l) (k.1 l),
-  )
 
   mutual
     outcomes_end : {x : Spot} {os : List Way} {n : ℕ} (p : ℕ) → p ≤ least_from x.point x.position
@@ -160,8 +146,10 @@ module _ (ws : List ℕ) (s : Subject) where
         (e.0, λ w. e.1 (h.inside w))
     comes_end o p q fs l k inside h (splits {os₁ = os₁} {os₂ = os₂} d e) =
         let first = outcomes_end p (omega (arith, l, h.0.onward)) d in
-        let second = outcomes_end p (omega (arith, l, h.1.onward)) e in
-        both_there o p os₁ os₂ (first.0, λ w. first.1 (h.0.inside w)) (second.0, λ w. second.1 (h.1.inside w))
+        let second = outcomes_end p (omega (arith, l, h.1.onward)) e in (
+          each-append (λ (w : Way). p ≤ w.stop) os₁ os₂ first.0 second.0,
+          λ w. each-append (λ (v : Way). v.stop ≤ s.end) os₁ os₂ (first.1 (h.0.inside w)) (second.1 (h.1.inside w)),
+        )
     comes_end o p q fs l k inside h (enters {y = y} {g = g} {now = now} lies d e) =
         let closed : Reaching s y.position y.position y.frames (closing_move g y now) =
         closing_reaches s y g now (λ w. (outcomes_end y.position (h.3 w) d).0)

@@ -146,13 +146,18 @@ mark_operand r i c w x =
     let h = (in_role opcode.MARK ToMark refl w x.runs).1 in
     word_within r.words (i + 1) h.number h.there
 
+mark_moves : (r : Run) (i p v : ℕ) (fs : List Frame) (m : Marks) → Opcode r.words i opcode.MARK
+    → Word r.words (i + 1) v → Moves r.words r.subject (spot_at (Instruction i) fs p m)
+    (Go (spot_at (Instruction (i + 2)) fs p (set_mark m v p)))
+mark_moves r i p v fs m w wv =
+    at_instruction opcode.MARK ToMark refl w (record { number = v; there = wv; is = refl })
+
 pub mark_step : (r : Run) (i v p : ℕ) (c : StringCursor) (b b' : BoardValue) → Opcode r.words i opcode.MARK
     → Word r.words (i + 1) v → p ≡ c.position → c.position ≤ length r.subject.text
     → b' ≡ record b { marks = set_mark b.marks v p } → Advances r (Instruction i) c b (next.At (i + 2) c) b'
 mark_step r i v p c b b' w wv same_place inside eb all limit g =
     rw (eb, same_place)
-    (turn_goes r (Instruction i) c b (Instruction (i + 2)) c _
-    (at_instruction opcode.MARK ToMark refl w (record { number = v; there = wv; is = refl }))
+    (turn_goes r (Instruction i) c b (Instruction (i + 2)) c _ (mark_moves r i c.position v b.frames b.marks w wv)
     g.stands (set_placed r.subject b.marks v c.position g.placed inside) refl all limit g)
 
 -- JUMP
@@ -238,12 +243,6 @@ module _ (r : Run) (i ch : ℕ) (o : SreOpcode) (takes : Bool) (c : StringCursor
 pub literal_demands : (r : Run) (i v : ℕ) → Opcode r.words i opcode.LITERAL → Word r.words (i + 1) v → Demands r i v
 literal_demands r i v w wv p n =
     refuses_test r i (i + 2) p (Literal Plain v) opcode.LITERAL w refl (literal_there r.words i v w wv) n
-
-mark_moves : (r : Run) (i p v : ℕ) (fs : List Frame) (m : Marks) → Opcode r.words i opcode.MARK
-    → Word r.words (i + 1) v → Moves r.words r.subject (spot_at (Instruction i) fs p m)
-    (Go (spot_at (Instruction (i + 2)) fs p (set_mark m v p)))
-mark_moves r i p v fs m w wv =
-    at_instruction opcode.MARK ToMark refl w (record { number = v; there = wv; is = refl })
 
 pub mark_refuses : (r : Run) (i p : ℕ) → Opcode r.words i opcode.MARK → Refuses r (i + 2) p → Refuses r i p
 mark_refuses r i p w none fs m os n d =

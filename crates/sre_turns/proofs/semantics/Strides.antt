@@ -6,7 +6,7 @@ use Rattle.sre_turns.proofs.Terms.{TestStands, Way, unlimited, Limit, Fares, Goi
 use Rattle.sre_turns.proofs.Terms.{spot_at, Go, BoardValue, Run, StringCursor, Moves, Runs, Goes, HasRun, Exhausted}
 use Rattle.sre_turns.proofs.Terms.{Refuses, Continues, Demands, with_loop, spot, next_frame, Subject, repeats, Point}
 use Rattle.sre_turns.proofs.Terms.{Alternatives, Spot, Split, Marks, Word, Opcode, Yields, YieldsTo, MayRepeat}
-use Rattle.sre_turns.proofs.Terms.{EndsBody, Strides, ReadsAscii, TellsTest, TellsAlternatives, TellsBodies}
+use Rattle.sre_turns.proofs.Terms.{EndsBody, Strides, TellsTest, TellsAlternatives, TellsBodies}
 use Rattle.sre_chars.specs.declared.constants.SreOpcode.TheVariants as opcode
 use Rattle.sre_turns.specs.Machine.{IsAt}
 use Rattle.sre_turns.proofs.memoization.Confining.{confined_leads}
@@ -212,22 +212,21 @@ tells_test r i end behind o set w f there says ends jump = record {
   misses = λ c ch after read n.
       test_misses r i ch o (set ch) c w f there read.read.inside read.read.character (says ch read.ascii) n;
   passes = λ c ch after read y.
-      on c after read.read.stands jump
+      on c after read.read.stands
       (test_continues r i ch o (set ch) c w f there read.read.inside read.read.character (says ch read.ascii) end after
       y ends read.read.position read.read.stands);
 }
   where
     on : (c after : StringCursor) → r.stands after after.position
-        → ((behind ≡ end) ⊎ ((v : ℕ) × (Opcode r.words end opcode.JUMP × (Word r.words (end + 1) v
-        × (behind ≡ end + 1 + v)))))
         → Continues r (Instruction i) c (Instruction end) after
         → Continues r (Instruction i) c (Instruction behind) after
-    on c after stands (inl same) x =
-        subst (λ q. Continues r (Instruction i) c (Instruction q) after) (sym same) x
-    on c after stands (inr (v, (jumps, (wv, leads)))) x =
-        subst (λ q. Continues r (Instruction i) c (Instruction q) after) (sym leads)
-        (continues_then r (Instruction i) (Instruction end) c after x (Instruction (end + 1 + v)) after
-        (jump_continues r end v after jumps wv stands))
+    on c after stands x = elim jump [
+      | (inl same) ↦ subst (λ q. Continues r (Instruction i) c (Instruction q) after) (sym same) x
+      | (inr (v, (jumps, (wv, leads)))) ↦
+          subst (λ q. Continues r (Instruction i) c (Instruction q) after) (sym leads)
+          (continues_then r (Instruction i) (Instruction end) c after x (Instruction (end + 1 + v)) after
+          (jump_continues r end v after jumps wv stands))
+    ]
 
 -- before all alternatives
 pub tells_first : (r : Run) (start u : ℕ) (none only : ℕ → Bool) → ((ch : ℕ) → only ch ≡ false)
@@ -256,21 +255,17 @@ module _ (r : Run) (start q u v : ℕ) (none only : ℕ → Bool) (w : Word r.wo
         continues_then r (Alternatives start) (Alternatives q) c c (told.passed c ch after read old.0)
         (Alternatives (q + v)) c
         (alternatives_pass r q v c w more read.stands (test.misses c ch after read old.1));
-    alone = λ c ch after read y exhausted. which c ch after read exhausted (either ch y);
-  }
-    where
-      which : (c : StringCursor) (ch : ℕ) (after : StringCursor) → ReadsAscii r c ch after
-          → Exhausted r (Alternatives (q + v)) c.position
-          → ((only ch ≡ true) × (set ch ≡ false)) ⊎ ((none ch ≡ true) × ((set ch ≡ true) × (behind ≡ u)))
-          → YieldsTo r (Alternatives start) c (Instruction u) after
-      which c ch after read exhausted (inl old) =
+    alone = λ c ch after read y exhausted. elim (either ch y) [
+      | (inl old) ↦
           told.alone c ch after read old.0
           (continues_exhausted r (Alternatives q) (Alternatives (q + v)) c c
           (alternatives_pass r q v c w more read.stands (test.misses c ch after read old.1)) exhausted)
-      which c ch after read exhausted (inr new) =
+      | (inr new) ↦
           only_yields r start q v (Instruction u) c after (told.passed c ch after read new.0) w more exhausted
           (subst (λ i. Continues r (Instruction (q + 1)) c (Instruction i) after) new.1.1
           (test.passes c ch after read new.1.0))
+    ];
+  }
 
 -- behind all of them
 pub tells_last : (r : Run) (start q u v : ℕ) (none only : ℕ → Bool) → Word r.words q v → v ≡ 0
