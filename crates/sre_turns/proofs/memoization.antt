@@ -7,6 +7,5 @@ pub mod Trying
 pub mod OpenMarks
 pub mod WaitingTwice
 pub mod Bodies
-pub mod Confining
 pub mod BodyEnds
 pub mod Straight

@@ -1,6 +1,5 @@
 -- What steps come to: the moves of each opcode, the outcomes of a run, and that the bytecode of a tree has its paths.
 pub mod OneTurn
-pub mod Turned
 pub mod Moving
 pub mod FirstOutcomes
 pub mod StepsAtItems
@@ -19,7 +18,6 @@ pub mod Onward
 pub mod Parts
 pub mod RunEnds
 pub mod LazyRunEnds
-pub mod PossessiveRunEnds
 pub mod StepsInPossessiveRuns
 pub mod NextRuns
 pub mod LaterRuns

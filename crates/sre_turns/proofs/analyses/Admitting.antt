@@ -11,12 +11,11 @@ use Rattle.sre_turns.proofs.Terms.{AgainMove, in_order, InRole, Moves, Runs, tur
 use Rattle.sre_turns.proofs.Terms.{until_role, run_none, word_of, same_opcode, Subject, Frame, Instruction, spot_at}
 use Rattle.sre_turns.proofs.Terms.{Stop, Go}
 use Rattle.sre_turns.specs.Admitting.{NextOutside, AdmitsOnly, TestsOnly, HasAll, RepeatsOnly, RunsOnly, LeadsOnly}
-use Rattle.sre_turns.proofs.semantics.Turned.{GoesOn, behind_test, behind_reference, behind_run, run_on, group_there}
-use Rattle.sre_turns.proofs.semantics.Turned.{group_missing, Forks, greedy_run, lazy_run, Begins, plain_loop}
-use Rattle.sre_turns.proofs.semantics.Turned.{possessive_loop, Enters, atomic_group, lookaround, Turned, stopped, ended}
-use Rattle.sre_turns.proofs.semantics.Turned.{went, forked, marked, grouped, begun, entered, looped, none_owed}
-use Rattle.sre_turns.proofs.semantics.Turned.{point_turned}
-use Rattle.sre_turns.proofs.semantics.OneTurn.{loop_opened}
+use Rattle.sre_turns.proofs.semantics.OneTurn.{GoesOn, behind_test, behind_reference, behind_run, run_on, group_there}
+use Rattle.sre_turns.proofs.semantics.OneTurn.{group_missing, Forks, greedy_run, lazy_run, Begins, plain_loop}
+use Rattle.sre_turns.proofs.semantics.OneTurn.{possessive_loop, Enters, atomic_group, lookaround, Turned, stopped}
+use Rattle.sre_turns.proofs.semantics.OneTurn.{ended, went, forked, marked, grouped, begun, entered, looped, none_owed}
+use Rattle.sre_turns.proofs.semantics.OneTurn.{point_turned, loop_opened}
 
 -- a step after which nothing comes
 module _ (ws : List ℕ) (s : Subject) where

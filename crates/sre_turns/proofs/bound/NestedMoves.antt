@@ -15,13 +15,13 @@ use Rattle.sre_model.specs.Tree.{Run}
 pub use Rattle.sre_turns.proofs.semantics.Parts.{begins}
 use Rattle.sre_turns.proofs.semantics.Parts.{branch_begins, Own, Ends, Law, lies_law, alternative, no_more, shorter}
 use Rattle.sre_turns.proofs.semantics.Parts.{longer, possessive, with_item, jump, until, success}
-use Rattle.sre_turns.proofs.semantics.Turned.{GoesOn, behind_test, behind_check, behind_reference, behind_jump}
-use Rattle.sre_turns.proofs.semantics.Turned.{behind_look, behind_run, run_on, alternatives, group_there, group_missing}
-use Rattle.sre_turns.proofs.semantics.Turned.{Forks, greedy_run, lazy_run, next_alternative, next_shorter, next_longer}
-use Rattle.sre_turns.proofs.semantics.Turned.{Begins, plain_loop, possessive_loop, Enters, atomic_group, lookaround}
-use Rattle.sre_turns.proofs.semantics.Turned.{Turned, stopped, ended, went, forked, marked, grouped, begun, entered}
-use Rattle.sre_turns.proofs.semantics.Turned.{looped, repeated, point_turned}
-use Rattle.sre_turns.proofs.semantics.OneTurn.{until_holds, again_holds}
+use Rattle.sre_turns.proofs.semantics.OneTurn.{GoesOn, behind_test, behind_check, behind_reference, behind_jump}
+use Rattle.sre_turns.proofs.semantics.OneTurn.{behind_look, behind_run, run_on, alternatives, group_there}
+use Rattle.sre_turns.proofs.semantics.OneTurn.{group_missing, Forks, greedy_run, lazy_run, next_alternative}
+use Rattle.sre_turns.proofs.semantics.OneTurn.{next_shorter, next_longer, Begins, plain_loop, possessive_loop, Enters}
+use Rattle.sre_turns.proofs.semantics.OneTurn.{atomic_group, lookaround, Turned, stopped, ended, went, forked, marked}
+use Rattle.sre_turns.proofs.semantics.OneTurn.{grouped, begun, entered, looped, repeated, point_turned, until_holds}
+use Rattle.sre_turns.proofs.semantics.OneTurn.{again_holds}
 
 module _ (ws : List ℕ) (s : Subject) (p : ℕ) where
   -- where a step at an instruction of a role leads, under loops: to which points, under which loops

@@ -12,13 +12,12 @@ use Rattle.sre_turns.proofs.Terms.{ends_beside, price, loop_toll, toll_by, toll,
 use Rattle.sre_turns.proofs.Terms.{point_behind, test_kind, test_role, role_here, ⊤, Subject, Frame, Instruction}
 use Rattle.sre_turns.proofs.Terms.{repeats, spot_at, most_from, branch_price, more_ends, again_toll, aside}
 use Rattle.sre_turns.specs.Prices.{branch_in}
-use Rattle.sre_turns.proofs.semantics.Turned.{GoesOn, behind_test, run_on, Forks, greedy_run, lazy_run}
-use Rattle.sre_turns.proofs.semantics.Turned.{next_alternative, next_shorter, next_longer, Begins, plain_loop}
-use Rattle.sre_turns.proofs.semantics.Turned.{possessive_loop, Enters, atomic_group, lookaround, Turned, stopped, ended}
-use Rattle.sre_turns.proofs.semantics.Turned.{went, forked, marked, grouped, begun, entered, looped, repeated}
-use Rattle.sre_turns.proofs.semantics.Turned.{point_turned}
+use Rattle.sre_turns.proofs.semantics.OneTurn.{GoesOn, behind_test, run_on, Forks, greedy_run, lazy_run}
+use Rattle.sre_turns.proofs.semantics.OneTurn.{next_alternative, next_shorter, next_longer, Begins, plain_loop}
+use Rattle.sre_turns.proofs.semantics.OneTurn.{possessive_loop, Enters, atomic_group, lookaround, Turned, stopped}
+use Rattle.sre_turns.proofs.semantics.OneTurn.{ended, went, forked, marked, grouped, begun, entered, looped, repeated}
+use Rattle.sre_turns.proofs.semantics.OneTurn.{point_turned, until_holds, again_holds}
 use Rattle.sre_turns.proofs.bound.Steps.{some_steps, role_there, steps_told, test_ends}
-use Rattle.sre_turns.proofs.semantics.OneTurn.{until_holds, again_holds}
 
 -- whether an instruction may enter an atomic scope
 abbrev pub enters : Role → Bool

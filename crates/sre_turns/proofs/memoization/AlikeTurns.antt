@@ -14,11 +14,11 @@ use Rattle.sre_turns.proofs.Terms.{not, ◌&&◌, ◌||◌, min, nat_eq, None, �
 use Rattle.sre_turns.specs.AskedPlaces.{Lies}
 use Rattle.sre_turns.proofs.memoization.Asked.{agree_less, agree_set, group_agrees}
 use Rattle.sre_turns.proofs.semantics.Onward.{EndFrom}
-use Rattle.sre_turns.proofs.semantics.Turned.{GoesOn, behind_test, behind_reference, behind_look, run_on, group_there}
-use Rattle.sre_turns.proofs.semantics.Turned.{group_missing, Forks, greedy_run, lazy_run, next_alternative}
-use Rattle.sre_turns.proofs.semantics.Turned.{next_shorter, next_longer, Begins, plain_loop, possessive_loop, Enters}
-use Rattle.sre_turns.proofs.semantics.Turned.{atomic_group, lookaround, Turned, stopped, ended, went, forked, marked}
-use Rattle.sre_turns.proofs.semantics.Turned.{grouped, begun, entered, looped, repeated, point_turned}
+use Rattle.sre_turns.proofs.semantics.OneTurn.{GoesOn, behind_test, behind_reference, behind_look, run_on, group_there}
+use Rattle.sre_turns.proofs.semantics.OneTurn.{group_missing, Forks, greedy_run, lazy_run, next_alternative}
+use Rattle.sre_turns.proofs.semantics.OneTurn.{next_shorter, next_longer, Begins, plain_loop, possessive_loop, Enters}
+use Rattle.sre_turns.proofs.semantics.OneTurn.{atomic_group, lookaround, Turned, stopped, ended, went, forked, marked}
+use Rattle.sre_turns.proofs.semantics.OneTurn.{grouped, begun, entered, looped, repeated, point_turned}
 
 -- Equivalent loops: how long they stay so, and that they decide the same on a further body. So the memo of failures
 -- stores of a loop its count, as far as it makes a difference, and one bit of its last body.

@@ -13,9 +13,8 @@ use Rattle.sre_chars.specs.declared.constants.SreOpcode.TheVariants as opcode
 use Rattle.sre_model.specs.Tree.{Run}
 use Rattle.sre_turns.proofs.bound.NestedMoves.{HoldsInGood, tree_holds}
 use Rattle.sre_turns.proofs.bound.PriceMoves.{enters}
-use Rattle.sre_turns.proofs.semantics.Turned.{Enters, atomic_group, lookaround, Turned, grouped, entered, looped}
-use Rattle.sre_turns.proofs.semantics.Turned.{repeated, point_turned}
-use Rattle.sre_turns.proofs.semantics.OneTurn.{until_holds, again_holds}
+use Rattle.sre_turns.proofs.semantics.OneTurn.{Enters, atomic_group, lookaround, Turned, grouped, entered, looped}
+use Rattle.sre_turns.proofs.semantics.OneTurn.{repeated, point_turned, until_holds, again_holds}
 
 item_straight : (a : Item) → of_item by_forks a ≡ false
     → (forking (item_role a) ≡ false) × (of_parts by_forks a ≡ false)

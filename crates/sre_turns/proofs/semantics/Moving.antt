@@ -10,8 +10,8 @@ use Rattle.sre_turns.proofs.Terms.{Goes, Arrives, Tries, GoesBoth, Later, spot, 
 use Rattle.sre_turns.proofs.Terms.{SkipsBoth, Exhausted, Continues, Advances, Chooses, Role, ToTest, role, begins_test}
 use Rattle.sre_turns.proofs.Terms.{same_opcode, opcode_within, some_test, MarklessRegions, StringCursor, Subject}
 use Rattle.sre_turns.proofs.Terms.{BoardValue, Frame, Instruction, spot_at, Stop, Go, repeats, Run, TestMove}
-use Rattle.sre_turns.proofs.memoization.Confining.{turn_confined, goes_confined, splits_confined, first_confined}
-use Rattle.sre_turns.proofs.memoization.Confining.{first_left, second_left}
+use Rattle.sre_turns.proofs.memoization.Bodies.{turn_confined, goes_confined, splits_confined, first_confined}
+use Rattle.sre_turns.proofs.memoization.Bodies.{first_left, second_left}
 use Rattle.sre_turns.proofs.bound.Faring.{FreeOfToll, turn_leaves, fares_less, first_waits, first_alone, second_alone}
 use Rattle.sre_turns.proofs.bound.Faring.{second_goes, run_code, with_credits, run_place, place_left, share_more}
 use Rattle.sre_turns.specs.Machine.{IsAt}

@@ -12,7 +12,7 @@ use Rattle.sre_turns.proofs.Terms.{Choice, Counted, passes, Word, Opcode, skip, 
 use Rattle.sre_chars.specs.declared.constants.SreOpcode.TheVariants as opcode
 use Rattle.sre_turns.proofs.bound.PriceMoves.{split_is}
 use Rattle.sre_turns.specs.declared.Next.TheVariants as next
-use Rattle.sre_turns.proofs.memoization.Confining.{splits_confined, first_left}
+use Rattle.sre_turns.proofs.memoization.Bodies.{splits_confined, first_left}
 use Rattle.sre_turns.proofs.bound.Faring.{fares_less, fares_earlier, run_code}
 use Rattle.sre_turns.proofs.bound.HereMoves.{here_moves, here_reached, here_first}
 pub use Rattle.sre_turns.proofs.semantics.Moving.{both_wait_there}
@@ -22,8 +22,7 @@ use Rattle.sre_turns.proofs.semantics.Onward.{Reaches, all_later}
 use Rattle.sre_turns.proofs.semantics.StepsInRuns.{shorter_stop}
 use Rattle.sre_turns.proofs.semantics.RunEnds.{longest_reaches, run_moves, run_next, run_only_moves, run_short_moves}
 use Rattle.sre_turns.proofs.semantics.LazyRunEnds.{lazy_next, lazy_moves, lazy_stops, longer_stops}
-use Rattle.sre_turns.proofs.semantics.PossessiveRunEnds.{onward_stops}
-use Rattle.sre_turns.proofs.semantics.StepsInPossessiveRuns.{over_stretch, goes_onward}
+use Rattle.sre_turns.proofs.semantics.StepsInPossessiveRuns.{onward_stops, over_stretch, goes_onward}
 
 -- an instruction further on in the text is within reach
 further_on : (s : Subject) (p q : ℕ) (fs : List Frame) → p ≤ q → q ≤ s.end → Reaches s p p fs q q fs

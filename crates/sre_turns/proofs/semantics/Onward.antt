@@ -6,9 +6,8 @@ use Rattle.sre_turns.proofs.Terms.{AllByRecursion, Marks, group, Way, first, Ahe
 use Rattle.sre_turns.proofs.Terms.{Spot, Move, End, Split, Enter, closing_move, next_frame, MovesAt, Runs, turns, Comes}
 use Rattle.sre_turns.proofs.Terms.{stops, ends, goes, splits, enters, least_from, goes_behind, AllBegunBy, each-append}
 use Rattle.sre_turns.proofs.Terms.{each-weaken, Subject, Frame, Instruction, spot_at, Stop, Go, BegunBy}
-use Rattle.sre_turns.proofs.semantics.Turned.{Turned, stopped, ended, went, forked, marked, grouped, begun, entered}
-use Rattle.sre_turns.proofs.semantics.Turned.{looped, repeated, point_turned}
-use Rattle.sre_turns.proofs.semantics.OneTurn.{until_holds, again_holds}
+use Rattle.sre_turns.proofs.semantics.OneTurn.{Turned, stopped, ended, went, forked, marked, grouped, begun, entered}
+use Rattle.sre_turns.proofs.semantics.OneTurn.{looped, repeated, point_turned, until_holds, again_holds}
 
 -- each of some ways ends no earlier than at a position
 abbrev pub EndFrom : ℕ → List Way → Type 0

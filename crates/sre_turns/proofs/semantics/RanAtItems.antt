@@ -22,7 +22,7 @@ use Rattle.sre_turns.specs.Machine.{Point, Spot, End, Marks, Opcode}
 use Rattle.sre_turns.proofs.semantics.Moving.{at_instruction}
 use Rattle.sre_turns.proofs.semantics.StepsInRuns.{greedy_stops, greedy_splits, lazy_none, lazy_splits, longer_none}
 use Rattle.sre_turns.proofs.semantics.StepsInRuns.{longer_splits}
-use Rattle.sre_turns.proofs.semantics.PossessiveRunEnds.{longest_runs, longest_none}
+use Rattle.sre_turns.proofs.semantics.StepsInPossessiveRuns.{longest_runs, longest_none}
 
 -- The outcomes at a point, where what follows is known.
 

@@ -13,7 +13,7 @@ use Rattle.sre_turns.specs.declared.Next.TheVariants as next
 use Rattle.sre_turns.proofs.bound.Faring.{next_less, test_pool}
 use Rattle.sre_turns.proofs.semantics.Moving.{in_role, in_test, at_instruction, at_test, run_nothing, turn_stops}
 use Rattle.sre_turns.proofs.semantics.Moving.{turn_ends, turn_goes}
-use Rattle.sre_turns.proofs.memoization.Confining.{turn_confines}
+use Rattle.sre_turns.proofs.memoization.Bodies.{turn_confines}
 use Rattle.sre_turns.proofs.semantics.AfterSteps.{run_on, nothing_after, has_run}
 
 -- Captured positions lie in the text.

@@ -8,7 +8,7 @@ use Rattle.sre_chars.specs.declared.constants.SreOpcode.TheVariants as opcode
 use Rattle.sre_turns.specs.declared.Next.TheVariants as next
 use Rattle.sre_turns.proofs.bound.Faring.{second_less, alternatives_free}
 use Rattle.sre_turns.proofs.semantics.AfterSteps.{run_on, both_run, run_second, has_run}
-use Rattle.sre_turns.proofs.memoization.Confining.{confined_leads}
+use Rattle.sre_turns.proofs.memoization.Bodies.{confined_leads}
 use Rattle.sre_turns.proofs.semantics.Moving.{at_instruction, turn_stops, turn_goes, turn_splits, run_nothing, arrived}
 
 pub positive : (n : ℕ) → (n ≡ 0 → ⊥) → 0 < n

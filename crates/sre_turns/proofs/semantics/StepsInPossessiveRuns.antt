@@ -4,18 +4,194 @@ use Rattle.sre_turns.proofs.Terms.{◌≡◌, ℕ, ◌+◌, ◌-◌, ◌<◌, �
 use Rattle.sre_turns.proofs.Terms.{nat_tests, SreOpcode, Test, Way, unlimited, longest_run, StandsConfined, Limit}
 use Rattle.sre_turns.proofs.Terms.{Stage, share, Going, HereIn, Coming, steps, Instruction, spot_at, Go, BoardValue}
 use Rattle.sre_turns.proofs.Terms.{Run, StringCursor, Moves, GoesWith, Later, spot, Advances, RunOperands}
-use Rattle.sre_turns.proofs.Terms.{OperandsOfRun, AllPass, passes, Opcode, skip}
+use Rattle.sre_turns.proofs.Terms.{OperandsOfRun, AllPass, passes, Opcode, skip, zero, suc, nat_lt, cond, PossessiveRun}
+use Rattle.sre_turns.proofs.Terms.{run_length, run_passes, run_stopped, run_has, past_end, Frame, Stop, Subject, Runs}
+use Rattle.sre_turns.proofs.Terms.{turns, goes, Spot, Move, Marks, onward_turn}
 use Rattle.sre_chars.specs.declared.constants.SreOpcode.TheVariants as opcode
-use Rattle.sre_turns.proofs.bound.Steps.{some_steps}
 use Rattle.sre_turns.specs.declared.Next.TheVariants as next
-use Rattle.sre_turns.proofs.memoization.Confining.{goes_confined}
+use Rattle.sre_turns.proofs.bound.Steps.{some_steps}
+use Rattle.sre_turns.proofs.memoization.Bodies.{goes_confined}
 use Rattle.sre_turns.proofs.bound.Faring.{fares_earlier}
 use Rattle.sre_turns.proofs.bound.HereMoves.{here_moves}
 use Rattle.sre_turns.proofs.semantics.Moving.{turn_goes, turn_stops, standing}
-use Rattle.sre_turns.proofs.semantics.PossessiveRunEnds.{longest_stretch, onward_goes, ComesTo, one_turn, stretch_comes}
-use Rattle.sre_turns.proofs.semantics.PossessiveRunEnds.{longest_none}
-use Rattle.sre_turns.proofs.semantics.StepsInRuns.{bounded_goes, CountsRun, stands_of}
-use Rattle.sre_turns.proofs.semantics.AfterSteps.{stopped}
+use Rattle.sre_turns.proofs.semantics.StepsInRuns.{bounded_goes, CountsRun, stands_of, at_run, bounded_stops}
+use Rattle.sre_turns.proofs.semantics.AfterSteps.{stopped, went}
+use Rattle.sre_turns.proofs.semantics.LazyRunEnds.{least_passed}
+use Rattle.sre_turns.proofs.semantics.RunEnds.{passed}
+
+-- The outcomes of a possessive repeat without a greatest count: where more than its least count passes, those of the
+-- repeat from the next character on, and else those of its tail. So they are those of its tail after all characters
+-- that pass.
+
+-- behind the longest run the next character does not pass, or the window ends
+pub longest_ended : (s : Subject) (t : Test) (p : ℕ) → passes s t (p + longest_run s t unlimited p) ≡ false
+longest_ended s t p = go (nat_lt (longest_run s t unlimited p) (s.end - p)) refl
+  where
+    go : (b : Bool) → nat_lt (longest_run s t unlimited p) (s.end - p) ≡ b
+        → passes s t (p + longest_run s t unlimited p) ≡ false
+    go true y =
+        let less : longest_run s t unlimited p < s.end - p = grind (arith, nat_tests) in
+        run_stopped s t (s.end - p) p less
+    go false y =
+        let full : s.end - p ≤ longest_run s t unlimited p = grind (arith, nat_tests) in
+        past_end s t (p + longest_run s t unlimited p) (omega (arith, full))
+
+-- a run that is shorter than the least count lacks it
+pub longest_lacks : (s : Subject) (t : Test) (low p : ℕ) → longest_run s t unlimited p < low
+    → run_length s t low p < low
+longest_lacks s t low p l =
+    let same : run_length s t low p ≡ longest_run s t unlimited p =
+    run_has s t low p (longest_run s t unlimited p) (omega (arith, l))
+    (λ c less. run_passes s t (s.end - p) p c less) (λ less. longest_ended s t p) in
+    omega (arith, same, l)
+
+-- what each step that goes to another configuration keeps is so of y where it is so of x, and what comes of x comes of
+-- y, in fewer steps
+pub record ComesTo (ws : List ℕ) (s : Subject) (x y : Spot) : Type 1 where
+  pub keeps : (P : Spot → Type 0) → ((x y : Spot) → Moves ws s x (Go y) → P x → P y) → P x → P y
+  pub runs : (os : List Way) (n : ℕ) → Runs ws s x os n → (k : ℕ) × (k + 1 ≤ n) × Runs ws s y os k
+
+-- so it is behind one such step, and behind two
+pub one_turn : {ws : List ℕ} {s : Subject} {x y : Spot} → Moves ws s x (Go y) → ComesTo ws s x y
+one_turn {x = x} {y = y} mv = record {
+  keeps = λ P keeps. keeps x y mv;
+  runs = λ os n d. let c = went mv d in (c.0, omega (arith, c.1), c.2);
+}
+
+and_on : {ws : List ℕ} {s : Subject} {x y z : Spot} → ComesTo ws s x y → ComesTo ws s y z → ComesTo ws s x z
+and_on a b = record {
+  keeps = λ P keeps h. b.keeps P keeps (a.keeps P keeps h);
+  runs = λ os n d. let c = a.runs os n d in let e = b.runs os c.0 c.2 in (e.0, omega (arith, c.1, e.1), e.2);
+}
+
+-- a possessive run without a greatest count
+module _ (ws : List ℕ) (s : Subject) (i low end : ℕ) (t : Test) (fs : List Frame) (m : Marks)
+    (w : Opcode ws i opcode.POSSESSIVE_REPEAT_ONE) (o : RunOperands ws i low unlimited end t) where
+  -- the run from a position on
+  abbrev starts_at : ℕ → Spot
+  starts_at p = spot_at (Instruction i) fs p m
+
+  -- its tail, behind it
+  abbrev ends_at : ℕ → Spot
+  ends_at q = spot_at (Instruction (skip ws (i + 1))) fs q m
+
+  moves : (p : ℕ) (mv : Move) → mv ≡ onward_turn s i (skip ws (i + 1)) low t (starts_at p) → Moves ws s (starts_at p) mv
+  moves p mv e = at_run PossessiveRun w o e
+
+  -- where fewer characters pass than the least count it comes to nothing
+  pub onward_stops : (p : ℕ) → run_length s t low p < low → Moves ws s (starts_at p) Stop
+  onward_stops p l =
+      let short : nat_lt (run_length s t low p) low ≡ true = grind (arith, nat_tests) in
+      moves p Stop (rw short refl)
+
+  enough : nat_lt low low ≡ false
+  enough = grind (arith, nat_tests)
+
+  -- where more pass it goes on to the run from the next character on
+  pub onward_goes : (p : ℕ) → AllPass s t p (p + low + 1) → Moves ws s (starts_at p) (Go (starts_at (p + 1)))
+  onward_goes p all_pass =
+      let full = least_passed s t low p (λ c from to. all_pass c from (omega (arith, to))) in
+      let more : passes s t (p + low) ≡ true = all_pass (p + low) (omega arith) (omega arith) in
+      moves p (Go (starts_at (p + 1))) (rw (full, enough, more) refl)
+
+  -- where no more pass it goes on to its tail
+  pub onward_ends : (p : ℕ) → AllPass s t p (p + low) → passes s t (p + low) ≡ false
+      → Moves ws s (starts_at p) (Go (ends_at (p + low)))
+  onward_ends p all_pass stopped =
+      let full = least_passed s t low p all_pass in
+      moves p (Go (ends_at (p + low))) (rw (full, enough, stopped) refl)
+
+  -- the stretch of a run, with so many characters more than the least count
+  abbrev Stretch : ℕ → ℕ → Type 0
+  Stretch more p = AllPass s t p (p + low + more) × (passes s t (p + low + more) ≡ false)
+
+  at_last : (p : ℕ) → Stretch 0 p → Moves ws s (starts_at p) (Go (ends_at (p + low + 0)))
+  at_last p h =
+      let same : p + low ≡ p + low + 0 = omega arith in
+      subst (λ q. Moves ws s (starts_at p) (Go (ends_at q))) same
+      (onward_ends p (λ c from to. h.0 c from (omega (arith, to)))
+      (subst (λ q. passes s t q ≡ false) (sym same) h.1))
+
+  at_first : (more p : ℕ) → Stretch (suc more) p → Moves ws s (starts_at p) (Go (starts_at (p + 1)))
+  at_first more p h = onward_goes p (λ c from to. h.0 c from (omega (arith, to)))
+
+  nearer : (more p : ℕ) → p + 1 + low + more ≡ p + low + suc more
+  nearer more p = omega arith
+
+  behind_first : (more p : ℕ) → Stretch (suc more) p → Stretch more (p + 1)
+  behind_first more p h = (
+    λ c from to. h.0 c (omega (arith, from)) (omega (arith, to)),
+    subst (λ q. passes s t q ≡ false) (sym (nearer more p)) h.1,
+  )
+
+  -- it comes to its tail
+  pub stretch_comes : (more p : ℕ) → Stretch more p → ComesTo ws s (starts_at p) (ends_at (p + low + more))
+  stretch_comes zero p h = one_turn (at_last p h)
+  stretch_comes (suc more) p h =
+      subst (λ q. ComesTo ws s (starts_at p) (ends_at q)) (nearer more p)
+      (and_on (one_turn (at_first more p h)) (stretch_comes more (p + 1) (behind_first more p h)))
+
+  -- and what comes of its tail comes of it, by a turn more for each of these characters and one for the tail
+  pub stretch_runs : (more p : ℕ) (os : List Way) (n : ℕ) → Stretch more p
+      → Runs ws s (ends_at (p + low + more)) os n → Runs ws s (starts_at p) os (more + suc n)
+  stretch_runs zero p os n h x =
+      subst (λ k. Runs ws s (starts_at p) os k) (omega arith)
+      (turns (Go (ends_at (p + low + 0))) (at_last p h) (goes x))
+  stretch_runs (suc more) p os n h x =
+      subst (λ k. Runs ws s (starts_at p) os k) (omega arith)
+      (turns (Go (starts_at (p + 1))) (at_first more p h)
+      (goes (stretch_runs more (p + 1) os n (behind_first more p h)
+      (subst (λ q. Runs ws s (ends_at q) os n) (sym (nearer more p)) x))))
+
+-- how far the longest run goes beyond its least count
+pub longest_stretch : (s : Subject) (t : Test) (low p : ℕ) → low ≤ longest_run s t unlimited p
+    → AllPass s t p (p + low + (longest_run s t unlimited p - low))
+    × (passes s t (p + low + (longest_run s t unlimited p - low)) ≡ false)
+longest_stretch s t low p l =
+    let same : p + longest_run s t unlimited p ≡ p + low + (longest_run s t unlimited p - low) = omega (arith, l) in (
+      λ c from to. passed s t (s.end - p) p (p + longest_run s t unlimited p) (omega arith) c from
+          (omega (arith, to, l)),
+      subst (λ q. passes s t q ≡ false) same (longest_ended s t p),
+    )
+
+-- a possessive run, with a greatest count or without
+module _ (ws : List ℕ) (s : Subject) (i low high end : ℕ) (t : Test) (fs : List Frame) (m : Marks)
+    (w : Opcode ws i opcode.POSSESSIVE_REPEAT_ONE) (o : RunOperands ws i low high end t) (p : ℕ) where
+  -- that is too short comes to nothing
+  pub longest_none : longest_run s t high p < low → Moves ws s (spot_at (Instruction i) fs p m) Stop
+  longest_none l = go (nat_eq high unlimited) refl
+    where
+      go : (y : Bool) → nat_eq high unlimited ≡ y → Moves ws s (spot_at (Instruction i) fs p m) Stop
+      go true y =
+          let same : high ≡ unlimited = grind (arith, nat_tests) in
+          onward_stops ws s i low end t fs m w (subst (λ n. RunOperands ws i low n end t) same o) p
+          (longest_lacks s t low p (subst (λ n. longest_run s t n p < low) same l))
+      go false y = bounded_stops o w y refl l
+
+  -- else what comes of its tail behind it comes of it
+  abbrev Behind : ℕ → List Way → ℕ → Type 0
+  Behind high os n = Runs ws s (spot_at (Instruction (skip ws (i + 1))) fs (p + longest_run s t high p) m) os n
+
+  pub longest_runs : (os : List Way) (n : ℕ) → low ≤ longest_run s t high p → Behind high os n
+      → Runs ws s (spot_at (Instruction i) fs p m) os
+      (cond (nat_eq high unlimited) (longest_run s t high p - low) 0 + suc n)
+  longest_runs os n l d = go (nat_eq high unlimited) refl
+    where
+      go : (y : Bool) → nat_eq high unlimited ≡ y
+          → Runs ws s (spot_at (Instruction i) fs p m) os (cond y (longest_run s t high p - low) 0 + suc n)
+      go true y =
+          let same : high ≡ unlimited = grind (arith, nat_tests) in
+          let k : ℕ = longest_run s t unlimited p in
+          let long : low ≤ k = subst (λ h. low ≤ longest_run s t h p) same l in
+          let there : p + k ≡ p + low + (k - low) = omega (arith, long) in
+          rw same
+          (stretch_runs ws s i low end t fs m w (subst (λ h. RunOperands ws i low h end t) same o) (k - low) p os n
+          (longest_stretch s t low p long)
+          (subst (λ q. Runs ws s (spot_at (Instruction (skip ws (i + 1))) fs q m) os n) there
+          (subst (λ h. Behind h os n) same d)))
+      go false y =
+          subst (λ k. Runs ws s (spot_at (Instruction i) fs p m) os k) (omega arith)
+          (turns _ (bounded_goes o w refl y refl l refl) (goes d))
 
 -- where all steps go on, the machine may go there at once, if it has enough for an instruction there
 pub comes_at_once : (stage : Stage) (r : Run) (i j : ℕ) (c d : StringCursor) (b : BoardValue) (o : SreOpcode)

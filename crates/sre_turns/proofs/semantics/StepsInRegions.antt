@@ -9,7 +9,7 @@ use Rattle.sre_turns.proofs.Terms.{without_outcome, without_loop, Advances, ToGr
 use Rattle.sre_turns.proofs.Terms.{word_of, word_within, BoardValue, Point, Region, AtomicGroup, Ahead, NotAhead}
 use Rattle.sre_turns.proofs.Terms.{Further, Spot, closing_move, Counted, Marks, Way, Cuts, after_outcome}
 use Rattle.sre_chars.specs.declared.constants.SreOpcode.TheVariants as opcode
-use Rattle.sre_turns.proofs.memoization.Confining.{region_confined}
+use Rattle.sre_turns.proofs.memoization.Bodies.{region_confined}
 use Rattle.sre_turns.proofs.bound.FaringInRegions.{cut_fares, region_on, region_off, loop_left}
 use Rattle.sre_turns.specs.declared.Next.TheVariants as next
 use Rattle.sre_turns.proofs.semantics.Moving.{in_role, at_instruction, turn_stops, turn_goes, turn_enters, cut_waits}

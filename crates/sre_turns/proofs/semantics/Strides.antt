@@ -9,7 +9,7 @@ use Rattle.sre_turns.proofs.Terms.{Alternatives, Spot, Split, Marks, Word, Opcod
 use Rattle.sre_turns.proofs.Terms.{EndsBody, Strides, TellsTest, TellsAlternatives, TellsBodies}
 use Rattle.sre_chars.specs.declared.constants.SreOpcode.TheVariants as opcode
 use Rattle.sre_turns.specs.Machine.{IsAt}
-use Rattle.sre_turns.proofs.memoization.Confining.{confined_leads}
+use Rattle.sre_turns.proofs.memoization.Bodies.{confined_leads}
 use Rattle.sre_turns.proofs.semantics.Moving.{Barren, continues_then, continues_exhausted, standing}
 use Rattle.sre_turns.proofs.bound.HereMoves.{here_moves}
 use Rattle.sre_turns.proofs.semantics.StepsAtItems.{test_misses, test_continues, jump_continues}
