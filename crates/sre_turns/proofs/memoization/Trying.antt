@@ -11,66 +11,37 @@ use Rattle.sre_turns.proofs.memoization.Hopeless.{hopeless_again, fruitless_wait
 use Rattle.sre_turns.proofs.semantics.Moving.{standing, back_from}
 use Rattle.sre_turns.proofs.memoization.AlikeTurns.{loops-alike}
 
--- what is tried has its mark wait
-tried_with : (stage : Stage) → spare stage ≡ 0 → (r : Run) (pt : Point) (c : StringCursor) (b b' : BoardValue)
-    → b' ≡ record b { choices = Trying pt b.frames c b.marks ∷ b.choices }
-    → (all : List Way) (limit : Limit) → GoesWith stage r all limit pt c b
-    → GoesWith stage r all (with_tried (attempt b.choices (spot pt c b)) limit) pt c b'
-tried_with stage none r pt c b b' e all limit g =
-    subst (λ x. GoesWith stage r all (with_tried (attempt b.choices (spot pt c b)) limit) pt c x) (sym e)
-    (standing stage (tried g.stands g.placed g.runs (omega (arith, none)) refl g.waits) refl refl g.runs (omega arith)
-    g.within g.stands g.placed
-    (λ pl o w.
-    let f = g.fares pl o w in
-    record {
-      here = f.here;
-      fares = record {
-        settled = (f.here, f.fares.settled);
-        trying = ap (λ xs. attempt b.choices (spot pt c b) ∷ xs) f.fares.trying;
-        left = omega (arith, f.fares.left);
-      };
-    })
-    (λ none.
-    let f = g.confined none in record { here = f.here; others = record { each = (f.here, f.others.each) } }))
+module _ (r : Run) (pt : Point) (c : StringCursor) (b b' : BoardValue)
+    (e : b' ≡ record b { choices = Trying pt b.frames c b.marks ∷ b.choices }) (all : List Way) (limit : Limit) where
+  -- what is tried has its mark wait
+  tried_with : (stage : Stage) → spare stage ≡ 0 → GoesWith stage r all limit pt c b
+      → GoesWith stage r all (with_tried (attempt b.choices (spot pt c b)) limit) pt c b'
+  tried_with stage none g =
+      subst (λ x. GoesWith stage r all (with_tried (attempt b.choices (spot pt c b)) limit) pt c x) (sym e)
+      (standing stage (tried g.stands g.placed g.runs (omega (arith, none)) refl g.waits) refl refl g.runs (omega arith)
+      g.within g.stands g.placed
+      (λ pl o w.
+      let f = g.fares pl o w in
+      record {
+        here = f.here;
+        fares = record {
+          settled = (f.here, f.fares.settled);
+          trying = ap (λ xs. attempt b.choices (spot pt c b) ∷ xs) f.fares.trying;
+          left = omega (arith, f.fares.left);
+        };
+      })
+      (λ none.
+      let f = g.confined none in record { here = f.here; others = record { each = (f.here, f.others.each) } }))
 
--- so it is where its step is under way
-pub trying_goes : (r : Run) (pt : Point) (c : StringCursor) (b b' : BoardValue)
-    → b' ≡ record b { choices = Trying pt b.frames c b.marks ∷ b.choices }
-    → (all : List Way) (limit : Limit) → Goes r all limit pt c b
-    → Goes r all (with_tried (attempt b.choices (spot pt c b)) limit) pt c b'
-trying_goes r pt c b b' e all limit g = tried_with Going refl r pt c b b' e all limit g
+  -- so it is where its step is under way
+  pub trying_goes : Goes r all limit pt c b
+      → Goes r all (with_tried (attempt b.choices (spot pt c b)) limit) pt c b'
+  trying_goes = tried_with Going refl
 
--- and where the credits for one split were granted
-pub trying_tries : (r : Run) (pt : Point) (c : StringCursor) (b b' : BoardValue)
-    → b' ≡ record b { choices = Trying pt b.frames c b.marks ∷ b.choices }
-    → (all : List Way) (limit : Limit) → Tries r all limit pt c b
-    → Tries r all (with_tried (attempt b.choices (spot pt c b)) limit) pt c b'
-trying_tries r pt c b b' e all limit g = tried_with Splitting refl r pt c b b' e all limit g
-
--- the mark is reached: what waited below it still waits
-pub tried_waits : (r : Run) (pt : Point) (c : StringCursor) (b b' : BoardValue)
-    → b.choices ≡ Trying pt b'.frames c b'.marks ∷ b'.choices → (all : List Way) (limit : Limit) → Backs r all limit b
-    → Backs r all (without_tried limit) b'
-tried_waits r pt c b b' e all limit g = go (subst (λ x. Waits r x 0 [] all g.later) e g.waits) g.within
-  where
-    left : (pl : Counted r) → FaresBack r pl (without_tried limit) b'.choices
-    left pl =
-        let f = subst (λ x. FaresBack r pl limit x) e (g.fares pl) in
-        record {
-          settled = f.settled.1;
-          trying = ap (λ xs. drop 1 xs) f.trying;
-          left = f.left;
-        }
-
-    go : {k : ℕ} → Waits r (Trying pt b'.frames c b'.marks ∷ b'.choices) 0 [] all k → k ≤ limit.turns
-        → Backs r all (without_tried limit) b'
-    go (tried {k = k} there placed d most same wt) l = record {
-      later = k;
-      waits = wt;
-      within = l;
-      fares = left;
-      confined = λ none. record { each = (subst (λ x. ChoicesConfined r.words x) e (g.confined none)).each.1 };
-    }
+  -- and where the credits for one split were granted
+  pub trying_tries : Tries r all limit pt c b
+      → Tries r all (with_tried (attempt b.choices (spot pt c b)) limit) pt c b'
+  trying_tries = tried_with Splitting refl
 
 -- what comes of a configuration, which is nothing
 pub record CameToNothing (r : Run) (inside : Bool) (x : Spot) : Type 0 where
@@ -84,21 +55,48 @@ pub came_hopeless : (r : Run) → AcceptsByStop r → (inside : Bool) (m : Marks
 came_hopeless r told inside m x serves d =
     hopeless_again r told inside m x serves d.outcomes d.turns d.runs d.fruitless
 
--- what was tried came to nothing
-pub tried_came : (r : Run) (pt : Point) (c : StringCursor) (b b' : BoardValue)
-    → b.choices ≡ Trying pt b'.frames c b'.marks ∷ b'.choices → (all : List Way) (limit : Limit) → Backs r all limit b
-    → CameToNothing r (is_inside b'.choices) (spot pt c b')
-tried_came r pt c b b' e all limit g = go (subst (λ x. Waits r x 0 [] all g.later) e g.waits)
-  where
-    go : {k : ℕ} → Waits r (Trying pt b'.frames c b'.marks ∷ b'.choices) 0 [] all k
-        → CameToNothing r (is_inside b'.choices) (spot pt c b')
-    go (tried {n = n} {os = os} there placed d most same wt) =
-        record {
-          outcomes = os;
-          turns = n;
-          runs = d;
-          fruitless = first_none _ _ same (fruitless_none r (is_inside b'.choices));
-        }
+module _ (r : Run) (pt : Point) (c : StringCursor) (b b' : BoardValue)
+    (e : b.choices ≡ Trying pt b'.frames c b'.marks ∷ b'.choices) (all : List Way) (limit : Limit)
+    (g : Backs r all limit b) where
+  marked : Waits r (Trying pt b'.frames c b'.marks ∷ b'.choices) 0 [] all g.later
+  marked = subst (λ x. Waits r x 0 [] all g.later) e g.waits
+
+  -- the mark is reached: what waited below it still waits
+  pub tried_waits : Backs r all (without_tried limit) b'
+  tried_waits = go marked g.within
+    where
+      left : (pl : Counted r) → FaresBack r pl (without_tried limit) b'.choices
+      left pl =
+          let f = subst (λ x. FaresBack r pl limit x) e (g.fares pl) in
+          record {
+            settled = f.settled.1;
+            trying = ap (λ xs. drop 1 xs) f.trying;
+            left = f.left;
+          }
+
+      go : {k : ℕ} → Waits r (Trying pt b'.frames c b'.marks ∷ b'.choices) 0 [] all k → k ≤ limit.turns
+          → Backs r all (without_tried limit) b'
+      go (tried {k = k} there placed d most same wt) l = record {
+        later = k;
+        waits = wt;
+        within = l;
+        fares = left;
+        confined = λ none. record { each = (subst (λ x. ChoicesConfined r.words x) e (g.confined none)).each.1 };
+      }
+
+  -- what was tried came to nothing
+  pub tried_came : CameToNothing r (is_inside b'.choices) (spot pt c b')
+  tried_came = go marked
+    where
+      go : {k : ℕ} → Waits r (Trying pt b'.frames c b'.marks ∷ b'.choices) 0 [] all k
+          → CameToNothing r (is_inside b'.choices) (spot pt c b')
+      go (tried {n = n} {os = os} there placed d most same wt) =
+          record {
+            outcomes = os;
+            turns = n;
+            runs = d;
+            fruitless = first_none _ _ same (fruitless_none r (is_inside b'.choices));
+          }
 
 -- so it is hopeless where marks serve that serve it
 pub tried_hopeless : (r : Run) → AcceptsByStop r → (pt : Point) (c : StringCursor) (b b' : BoardValue) (m : Marks)

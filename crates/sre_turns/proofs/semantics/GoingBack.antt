@@ -38,30 +38,23 @@ back_goes r b b' pt c e all limit g = go (subst (λ x. Waits r x 0 [] all g.late
     )
 
 -- the same for a point that is known
-pub back_arrives : (r : Run) (b b' : BoardValue) (pt pt' : Point) (c : StringCursor)
-    → b.choices ≡ choice pt b'.frames c b'.marks ∷ b'.choices → pt ≡ pt'
-    → choice pt' b'.frames c b'.marks ≡ Else pt' b'.frames c b'.marks → (all : List Way) (limit : Limit)
-    → Backs r all limit b → (1 ≤ limit.turns) × Arrives r all (earlier limit) pt' c b'
-back_arrives r b b' pt pt' c e same is all limit g =
-    let found : b.choices ≡ choice pt' b'.frames c b'.marks ∷ b'.choices = e ∙ rw same refl in
-    back_goes r b b' pt' c (found ∙ ap (λ x. x ∷ b'.choices) is) all limit g
+module _ (r : Run) (b b' : BoardValue) (pt pt' : Point) (c : StringCursor)
+    (e : b.choices ≡ choice pt b'.frames c b'.marks ∷ b'.choices) (same : pt ≡ pt')
+    (is : choice pt' b'.frames c b'.marks ≡ Else pt' b'.frames c b'.marks) where
+  pub back_arrives : (all : List Way) (limit : Limit) → Backs r all limit b
+      → (1 ≤ limit.turns) × Arrives r all (earlier limit) pt' c b'
+  back_arrives =
+      let found : b.choices ≡ choice pt' b'.frames c b'.marks ∷ b'.choices = e ∙ rw same refl in
+      back_goes r b b' pt' c (found ∙ ap (λ x. x ∷ b'.choices) is)
 
--- the same where the turn goes on
-pub back_at : (r : Run) (b b' : BoardValue) (pt pt' : Point) (c : StringCursor)
-    → b.choices ≡ choice pt b'.frames c b'.marks ∷ b'.choices → pt ≡ pt'
-    → choice pt' b'.frames c b'.marks ≡ Else pt' b'.frames c b'.marks → FreeOfToll pt'
-    → (all : List Way) (limit : Limit)
-    → Backs r all limit b → (1 ≤ limit.turns) × Goes r all (earlier limit) pt' c b'
-back_at r b b' pt pt' c e same is free all limit g =
-    let s = back_arrives r b b' pt pt' c e same is all limit g in (s.0, arrived free s.1)
+  -- the same where the turn goes on
+  pub back_at : FreeOfToll pt' → (all : List Way) (limit : Limit) → Backs r all limit b
+      → (1 ≤ limit.turns) × Goes r all (earlier limit) pt' c b'
+  back_at free all limit g = let s = back_arrives all limit g in (s.0, arrived free s.1)
 
--- so the machine is at that point, wherever it was
-pub back_run : (r : Run) (b b' : BoardValue) (pt pt' : Point) (c : StringCursor)
-    → b.choices ≡ choice pt b'.frames c b'.marks ∷ b'.choices → pt ≡ pt'
-    → choice pt' b'.frames c b'.marks ≡ Else pt' b'.frames c b'.marks → IsBack r b → HasRun r pt' c
-back_run r b b' pt pt' c e same is x =
-    let g = (back_arrives r b b' pt pt' c e same is x.all x.limit x.backs).1 in
-    has_run r pt' c g.stands g.runs
+  -- so the machine is at that point, wherever it was
+  pub back_run : IsBack r b → HasRun r pt' c
+  back_run x = let g = (back_arrives x.all x.limit x.backs).1 in has_run r pt' c g.stands g.runs
 
 -- a region whose body has no outcome
 pub back_region : (r : Run) (b b' b'' : BoardValue) (pt : Point) (g : Region) (c : StringCursor) (n : Next)

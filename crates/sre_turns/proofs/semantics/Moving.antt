@@ -114,51 +114,48 @@ both_standing {os = os} {us = us} {u = u} {n = n} {k = k} {later = later} waits 
       confined = confined;
     }
 
--- what is reached is under way, where no more has to be spared, with what it may still take
-under_way : {r : Run} {all : List Way} {limit : Limit} {pt : Point} {c : StringCursor} {b : BoardValue} (stage : Stage)
-    (more_ : Limit) → spare stage ≤ 1 → more_.turns ≡ limit.turns
-    → ((pl : Counted r) (o : SreOpcode) → CodeAt r.words pt o
-    → FaresAt r pl limit (share Coming r.words r.subject.end o (spot pt c b)) (spot pt c b) b.choices
-    → FaresAt r pl more_ (share stage r.words r.subject.end o (spot pt c b)) (spot pt c b) b.choices)
-    → Arrives r all limit pt c b → GoesWith stage r all more_ pt c b
-under_way stage more_ l same fares g =
-    standing stage g.waits refl refl g.runs (omega (arith, l)) (omega (arith, same, g.within)) g.stands g.placed
-    (λ pl o w. fares pl o w (g.fares pl o w)) g.confined
-
--- it is executed, for nothing
-pub arrived : {r : Run} {all : List Way} {limit : Limit} {pt : Point} {c : StringCursor} {b : BoardValue}
-    → FreeOfToll pt → Arrives r all limit pt c b → Goes r all limit pt c b
-arrived {r} {all} {limit} {pt} {c} {b} free =
-    under_way Going limit (omega arith) refl (λ pl o w f. record {
-      here = f.here;
-      fares =
-          fares_less r pl limit b.choices (pool r.words r.subject.end o pt (repeats b.frames) c.position) _
-          (omega (arith, free.same r.words r.subject.end c.position o (repeats b.frames))) f.fares;
-    })
-
 -- a point has the credits of its opcode, whichever of them is read
 same_tolls : (ws : List ℕ) (e : ℕ) (pt : Point) (ks : List ℕ) (o p : SreOpcode) → CodeAt ws pt o → CodeAt ws pt p
     → toll ws e o pt ks ≡ toll ws e p pt ks
 same_tolls ws e (Instruction i) ks o p w v = ap (λ q. toll_by ws e i ks (role q)) (same_opcode ws i o p w v)
 same_tolls ws e pt ks o p w v = refl
 
--- a point is executed, for its credits
-pub arrived_at : {r : Run} {all : List Way} {limit : Limit} {pt : Point} {c : StringCursor} {b : BoardValue}
-    (o : SreOpcode) → CodeAt r.words pt o → Arrives r all limit pt c b
-    → Goes r all (raised (toll r.words r.subject.end o pt (repeats b.frames)) limit) pt c b
-arrived_at {r} {all} {limit} {pt} {c} {b} o w =
-    let x : Spot = spot pt c b in
-    let ks : List ℕ = repeats b.frames in
-    under_way Going (raised (toll r.words r.subject.end o pt ks) limit) (omega arith) refl (λ pl o' w' f.
-    subst (λ k. FaresAt r pl (raised k limit) (pool r.words r.subject.end o' pt ks c.position) x b.choices)
-    (same_tolls r.words r.subject.end pt ks o' o w' w) (with_credits r pl limit _ _ x b.choices f))
+module _ {r : Run} {all : List Way} {limit : Limit} {pt : Point} {c : StringCursor} {b : BoardValue} where
+  -- what is reached is under way, where no more has to be spared, with what it may still take
+  under_way : (stage : Stage) (more_ : Limit) → spare stage ≤ 1 → more_.turns ≡ limit.turns
+      → ((pl : Counted r) (o : SreOpcode) → CodeAt r.words pt o
+      → FaresAt r pl limit (share Coming r.words r.subject.end o (spot pt c b)) (spot pt c b) b.choices
+      → FaresAt r pl more_ (share stage r.words r.subject.end o (spot pt c b)) (spot pt c b) b.choices)
+      → Arrives r all limit pt c b → GoesWith stage r all more_ pt c b
+  under_way stage more_ l same fares g =
+      standing stage g.waits refl refl g.runs (omega (arith, l)) (omega (arith, same, g.within)) g.stands g.placed
+      (λ pl o w. fares pl o w (g.fares pl o w)) g.confined
 
--- or for those of a repeat that is split
-pub arrived_once : {r : Run} {all : List Way} {limit : Limit} {pt : Point} {c : StringCursor} {b : BoardValue}
-    → Arrives r all limit pt c b → Tries r all (raised (split_toll r.words pt) limit) pt c b
-arrived_once {r} {all} {limit} {pt} {c} {b} =
-    under_way Splitting (raised (split_toll r.words pt) limit) (omega arith) refl
-    (λ pl o w. with_credits r pl limit _ _ (spot pt c b) b.choices)
+  -- it is executed, for nothing
+  pub arrived : FreeOfToll pt → Arrives r all limit pt c b → Goes r all limit pt c b
+  arrived free =
+      under_way Going limit (omega arith) refl (λ pl o w f. record {
+        here = f.here;
+        fares =
+            fares_less r pl limit b.choices (pool r.words r.subject.end o pt (repeats b.frames) c.position) _
+            (omega (arith, free.same r.words r.subject.end c.position o (repeats b.frames))) f.fares;
+      })
+
+  -- a point is executed, for its credits
+  pub arrived_at : (o : SreOpcode) → CodeAt r.words pt o → Arrives r all limit pt c b
+      → Goes r all (raised (toll r.words r.subject.end o pt (repeats b.frames)) limit) pt c b
+  arrived_at o w =
+      let x : Spot = spot pt c b in
+      let ks : List ℕ = repeats b.frames in
+      under_way Going (raised (toll r.words r.subject.end o pt ks) limit) (omega arith) refl (λ pl o' w' f.
+      subst (λ k. FaresAt r pl (raised k limit) (pool r.words r.subject.end o' pt ks c.position) x b.choices)
+      (same_tolls r.words r.subject.end pt ks o' o w' w) (with_credits r pl limit _ _ x b.choices f))
+
+  -- or for those of a repeat that is split
+  pub arrived_once : Arrives r all limit pt c b → Tries r all (raised (split_toll r.words pt) limit) pt c b
+  arrived_once =
+      under_way Splitting (raised (split_toll r.words pt) limit) (omega arith) refl
+      (λ pl o w. with_credits r pl limit _ _ (spot pt c b) b.choices)
 
 -- each run takes a step
 pub some_turns : {ws : List ℕ} {s : Subject} {x : Spot} {os : List Way} {n : ℕ} → Runs ws s x os n → 1 ≤ n

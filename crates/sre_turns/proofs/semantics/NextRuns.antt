@@ -7,8 +7,8 @@ use Rattle.sre_turns.proofs.Terms.{SreOpcode, Way, unlimited, run_length, longes
 use Rattle.sre_turns.proofs.Terms.{FaresAt, FaresBoth, Splitting, Coming, Frame, Instruction, spot_at, Stop, BoardValue}
 use Rattle.sre_turns.proofs.Terms.{Run, StringCursor, Subject, Moves, Tries, GoesBoth, Later, spot, RunOperands}
 use Rattle.sre_turns.proofs.Terms.{price_of, end_price, split_toll, steps, RunKind, GreedyRun, LazyRun, PossessiveRun}
-use Rattle.sre_turns.proofs.Terms.{Test, ToRun, role, word_of, AllPass, append-nil, Shorter, Longer, Spot, Split}
-use Rattle.sre_turns.proofs.Terms.{Choice, Counted, passes, Word, Opcode, skip, Marks}
+use Rattle.sre_turns.proofs.Terms.{Test, ToRun, role, word_of, AllPass, append-nil, Shorter, Spot, Split, Choice}
+use Rattle.sre_turns.proofs.Terms.{Counted, passes, Word, Opcode, skip, Marks}
 use Rattle.sre_chars.specs.declared.constants.SreOpcode.TheVariants as opcode
 use Rattle.sre_turns.proofs.bound.PriceMoves.{split_is}
 use Rattle.sre_turns.specs.declared.Next.TheVariants as next
@@ -36,14 +36,16 @@ split_end r i v o kind wv w is =
 
 -- two configurations come of one that is tried, and the second can make no step but the last: the machine goes on at
 -- the first
-tries_first : (r : Run) (i j : ℕ) (z : Spot) (c d : StringCursor) (b : BoardValue)
-    → Moves r.words r.subject (spot (Instruction i) c b) (Split (spot (Instruction j) d b) z)
-    → Moves r.words r.subject z Stop → steps r.words j + 2 ≡ split_toll r.words (Instruction i)
-    → r.stands d d.position → (all : List Way) (limit : Limit)
-    → Tries r all limit (Instruction i) c b → Later r all limit (next.At j d) b
-tries_first r i j z c d b mv none tail stands all limit g =
+tries_first : (r : Run) (i v p : ℕ) (z : Spot) (c d : StringCursor) (b : BoardValue) (o : SreOpcode) (kind : RunKind)
+    → Opcode r.words i o → role o ≡ ToRun kind → Word r.words (i + 1) v → d.position ≡ p
+    → Moves r.words r.subject (spot (Instruction i) c b) (Split (spot_at (Instruction (i + 1 + v)) b.frames p b.marks) z)
+    → Moves r.words r.subject z Stop → r.stands d d.position → (all : List Way) (limit : Limit)
+    → Tries r all limit (Instruction i) c b → Later r all limit (next.At (i + 1 + v) d) b
+tries_first r i v p z c d b o kind w is wv e moves none stands all limit g =
     let x : Spot = spot (Instruction i) c b in
-    let y : Spot = spot (Instruction j) d b in
+    let y : Spot = spot (Instruction (i + 1 + v)) d b in
+    let mv : Moves r.words r.subject x (Split y z) = rw e moves in
+    let tail = split_end r i v o kind wv w is in
     let p = parted mv g.runs in
     let same : g.now ≡ p.now = p.both ∙ ap (λ us. p.now ++ us) (run_nothing none p.others) ∙ append-nil p.now in (
       omega (arith, p.sum, g.within),
@@ -148,12 +150,9 @@ module _ (r : Run) (i low v : ℕ) (w : Opcode r.words i opcode.REPEAT_ONE) (the
       → (all : List Way) (limit : Limit) → Tries r all limit (Instruction i) c b
       → Later r all limit (next.At (i + 1 + v) d) b
   greedy_only d all_pass stopped e stands all limit g =
-      let z : Spot = spot_at (Shorter (i + 1 + v) (low - low)) b.frames (c.position + low) b.marks in
-      let mv = run_only_moves r i low v b.frames b.marks w there wv wl wh c.position all_pass stopped in
-      tries_first r i (i + 1 + v) z c d b
-      (subst (λ q. Moves r.words r.subject (run_at c.position) (Split (tail_at q) z)) (sym e) mv)
-      (shorter_stop r (i + 1 + v) (low - low) (c.position + low) b.frames b.marks (omega arith))
-      (split_end r i v opcode.REPEAT_ONE GreedyRun wv w refl) stands all limit g
+      tries_first r i v (c.position + low) _ c d b opcode.REPEAT_ONE GreedyRun w refl wv e
+      (run_only_moves r i low v b.frames b.marks w there wv wl wh c.position all_pass stopped)
+      (shorter_stop r (i + 1 + v) (low - low) (c.position + low) b.frames b.marks (omega arith)) stands all limit g
 
   -- where less passes it has none
   pub greedy_short : run_length r.subject there.test low c.position < low
@@ -198,12 +197,9 @@ module _ (r : Run) (i low v : ℕ) (w : Opcode r.words i opcode.MIN_REPEAT_ONE) 
       → (all : List Way) (limit : Limit) → Tries r all limit (Instruction i) c b
       → Later r all limit (next.At (i + 1 + v) d) b
   lazy_only d all_pass stopped e stands past all limit g =
-      let z : Spot = spot_at (Longer i low) b.frames (c.position + low) b.marks in
-      let mv = lazy_moves r i low v b.frames b.marks w there wv wl wh c.position all_pass in
-      tries_first r i (i + 1 + v) z c d b
-      (subst (λ q. Moves r.words r.subject (lazy_at c.position) (Split (tail_of q) z)) (sym e) mv)
-      (longer_stops r i low v b.frames b.marks w there wv wl wh low (c.position + low) past stopped)
-      (split_end r i v opcode.MIN_REPEAT_ONE LazyRun wv w refl) stands all limit g
+      tries_first r i v (c.position + low) _ c d b opcode.MIN_REPEAT_ONE LazyRun w refl wv e
+      (lazy_moves r i low v b.frames b.marks w there wv wl wh c.position all_pass)
+      (longer_stops r i low v b.frames b.marks w there wv wl wh low (c.position + low) past stopped) stands all limit g
 
   -- where less passes it has none
   pub lazy_short : run_length r.subject there.test low c.position < low

@@ -18,6 +18,7 @@ use Rattle.sre_turns.proofs.Terms.{atomic_cost, Again, Owed, Further, Spot, Move
 use Rattle.sre_turns.proofs.Terms.{ordered, more, least, loop_ways, possessive_more, possessive_ways, within-all}
 use Rattle.sre_turns.proofs.Terms.{Between, stays, least_cost, more_cost, owed_cost, further_cost, possessive_cost}
 use Rattle.sre_turns.proofs.Terms.{first_of_body, or_here, first-bounded, first_of_body-all}
+use Rattle.sre_turns.proofs.Terms.{RunKind, Test, Operands, RunOperands}
 use Rattle.sre_chars.specs.declared.constants.SreOpcode.TheVariants as opcode
 use Rattle.sre_model.specs.Tree.{Run}
 use Rattle.sre_model.specs.Cost.{branch_cost}
@@ -358,6 +359,11 @@ body_part : (ws : List ℕ) (t : Tree)
     → (MarklessRegions ws → (sets_mark t || marks_in_regions t) ≡ false) → PartOf ws t
 body_part ws t has none = (has, λ e. (or_parts (sets_mark t) (marks_in_regions t) (none e)).1)
 
+-- what is read of a repeat of one test is there
+run_operands : {ws : List ℕ} {i j low high : ℕ} {t : Test} (kind : RunKind) → Operands ws i j (Run kind low high t)
+    → RunOperands ws i low high (j - 1) t
+run_operands kind b = record { lowest = b.1; highest = b.2; stands = record { code = b.4; operands = b.5 } }
+
 mutual
   pub ran : (ws : List ℕ) (s : Subject) (i j : ℕ) (t : Tree) → AreWords ws → PartOf ws t
       → Reads ws i j t
@@ -389,7 +395,7 @@ mutual
       turns (Go (spot_at (Alternatives (i + 1)) fs p m)) (at_instruction opcode.BRANCH ToBranch refl h.0 refl)
       (goes (branch-ran ws s (i + 1) j ts v has h.1 fs K C p m e f))
   item-ran ws s i j (Run GreedyRun low high t) v has h fs K C p m e f =
-      run-ran ws s i j low high t h.0 h.1.0 h.1.1 h.1.2 h.1.4 h.1.5 fs K C p m e f
+      run-ran ws s i j low high t h.0 h.1.0 (run_operands GreedyRun h.1) fs K C p m e f
   item-ran ws s i j (Loop o low high body) v has h fs K C p m e f =
       loop-ran ws s i (skip ws (i + 1)) low high o (λ q k. ways s body q k) (λ D q k. cost s body D q k)
       (ways-bounded s body) (v.fits (i + 3) high h.1.1) h.1.2 h.1.0 h.1.1
@@ -402,11 +408,9 @@ mutual
       h.1.4 refl (body_lies ws (i + 4) (skip ws (i + 1)) body h.1.3 h.1.4 has.1) h.0 fs K C p m e
       (λ q' k' l' g'. moved h.1.5 (f q' k' l' g'))
   item-ran ws s i j (Run LazyRun low high t) v has h fs K C p m e f =
-      lazy-run-ran ws s i j low high t h.0 h.1.0 h.1.1 h.1.2 h.1.3 h.1.4 h.1.5 fs K C p m e f
+      lazy-run-ran ws s i j low high t h.0 h.1.0 (run_operands LazyRun h.1) h.1.3 fs K C p m e f
   item-ran ws s i j (Run PossessiveRun low high t) v has h fs K C p m e f =
-      let b = h.1 in
-      longest-run-ran ws s i j low high t h.0 b.0
-      (record { lowest = b.1; highest = b.2; stands = record { code = b.4; operands = b.5 } }) fs K C p m e f
+      longest-run-ran ws s i j low high t h.0 h.1.0 (run_operands PossessiveRun h.1) fs K C p m e f
   item-ran ws s i j (Atomic body) v has h fs K C p m e f =
       let b = h.1 in
       let there : i + 1 < length ws =

@@ -296,17 +296,13 @@ shorter-ran ws s j low (suc n) fs K C p m e f =
     (splits (f (p + (low + n)) m (omega arith) (omega arith)) (shorter-ran ws s j low n fs K C p m (omega arith) f))
 
 pub run-ran : (ws : List ℕ) (s : Subject) (i j low high : ℕ) (t : Test)
-    → Opcode ws i opcode.REPEAT_ONE → j ≡ skip ws (i + 1) → Word ws (i + 2) low → Word ws (i + 3) high
-    → Opcode ws (i + 4) (test_opcode t) → TestOperands ws (i + 4) (j - 1) t
+    → Opcode ws i opcode.REPEAT_ONE → j ≡ skip ws (i + 1) → RunOperands ws i low high (j - 1) t
     → Ran ws s (Instruction i) j (λ p m. run_ways s GreedyRun low high t p m)
     (λ C p m. run_cost low (longest_run s t high p) C p m)
-run-ran ws s i j low high t w tail wl wh wt h fs K C p m e f = go (nat_lt (longest_run s t high p) low) refl
+run-ran ws s i j low high t w tail o fs K C p m e f = go (nat_lt (longest_run s t high p) low) refl
   where
     k : ℕ
     k = longest_run s t high p
-
-    o : RunOperands ws i low high (j - 1) t
-    o = record { lowest = wl; highest = wh; stands = record { code = wt; operands = h } }
 
     fits : p + longest_run s t high p ≤ s.end
     fits = longest_run-fits s t high p e
@@ -349,17 +345,13 @@ longer-ran ws s i j low high t (suc n) c fs K C p m tail o e k f =
     (longer-ran ws s i j low high t n (c + 1) fs K C p m tail o e (omega (arith, k)) f))
 
 pub lazy-run-ran : (ws : List ℕ) (s : Subject) (i j low high : ℕ) (t : Test) → Opcode ws i opcode.MIN_REPEAT_ONE
-    → j ≡ skip ws (i + 1) → Word ws (i + 2) low → Word ws (i + 3) high → low ≤ high → Opcode ws (i + 4) (test_opcode t)
-    → TestOperands ws (i + 4) (j - 1) t
+    → j ≡ skip ws (i + 1) → RunOperands ws i low high (j - 1) t → low ≤ high
     → Ran ws s (Instruction i) j (λ p m. run_ways s LazyRun low high t p m)
     (λ C p m. lazy_run_cost low (longest_run s t high p) C p m)
-lazy-run-ran ws s i j low high t w tail wl wh le wt h fs K C p m e f = go (nat_lt (longest_run s t high p) low) refl
+lazy-run-ran ws s i j low high t w tail o le fs K C p m e f = go (nat_lt (longest_run s t high p) low) refl
   where
     k : ℕ
     k = longest_run s t high p
-
-    o : RunOperands ws i low high (j - 1) t
-    o = record { lowest = wl; highest = wh; stands = record { code = wt; operands = h } }
 
     go : (y : Bool) → nat_lt k low ≡ y
         → Runs ws s (spot_at (Instruction i) fs p m)

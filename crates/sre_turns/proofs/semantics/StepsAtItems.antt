@@ -124,20 +124,18 @@ at_known r i v c w x wv l =
     let a = at_there r i c w x in
     omega (arith, at_low a.0, same_word r.words (i + 1) v (at_number a.0) wv a.1)
 
-pub at_step : (r : Run) (i : ℕ) (a : SreAtCode) (c : StringCursor) (b : BoardValue) → Opcode r.words i opcode.AT
-    → Word r.words (i + 1) (at_number a) → holds_at r.subject a c.position ≡ true
-    → Advances r (Instruction i) c b (next.At (i + 2) c) b
-at_step r i a c b w wa y all limit g =
-    turn_goes r (Instruction i) c b (Instruction (i + 2)) c b
-    (at_instruction opcode.AT ToCheckPosition refl w (record { code = a; there = wa; is = rw y refl }))
-    g.stands g.placed refl all limit g
+module _ (r : Run) (i : ℕ) (a : SreAtCode) (c : StringCursor) (b : BoardValue) (w : Opcode r.words i opcode.AT)
+    (wa : Word r.words (i + 1) (at_number a)) where
+  pub at_step : holds_at r.subject a c.position ≡ true → Advances r (Instruction i) c b (next.At (i + 2) c) b
+  at_step y all limit g =
+      turn_goes r (Instruction i) c b (Instruction (i + 2)) c b
+      (at_instruction opcode.AT ToCheckPosition refl w (record { code = a; there = wa; is = rw y refl }))
+      g.stands g.placed refl all limit g
 
-pub at_refused : (r : Run) (i : ℕ) (a : SreAtCode) (c : StringCursor) (b : BoardValue) → Opcode r.words i opcode.AT
-    → Word r.words (i + 1) (at_number a) → holds_at r.subject a c.position ≡ false
-    → Advances r (Instruction i) c b next.Back b
-at_refused r i a c b w wa n =
-    turn_stops r (Instruction i) c b
-    (at_instruction opcode.AT ToCheckPosition refl w (record { code = a; there = wa; is = rw n refl }))
+  pub at_refused : holds_at r.subject a c.position ≡ false → Advances r (Instruction i) c b next.Back b
+  at_refused n =
+      turn_stops r (Instruction i) c b
+      (at_instruction opcode.AT ToCheckPosition refl w (record { code = a; there = wa; is = rw n refl }))
 
 -- MARK
 pub mark_operand : (r : Run) (i : ℕ) (c : StringCursor) → Opcode r.words i opcode.MARK → HasRun r (Instruction i) c
