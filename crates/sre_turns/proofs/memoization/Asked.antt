@@ -48,7 +48,7 @@ long_enough n raw =
     length-append raw (absent more) ∙ ap (λ k. length raw + k) (length-replicate more None) in
     omega (arith, all)
 
-longer : (n : ℕ) (raw : List (Option ℕ)) (k : ℕ) → entry (lengthened n raw) k ≡ entry raw k
+pub longer : (n : ℕ) (raw : List (Option ℕ)) (k : ℕ) → entry (lengthened n raw) k ≡ entry raw k
 longer n raw k = longer_entry raw (n + 1 - length raw) k
 
 -- a group by its two marks

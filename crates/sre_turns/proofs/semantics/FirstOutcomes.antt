@@ -45,13 +45,12 @@ firsts_begin xs ys h =
 pub closes_same : (g : Region) (x : Spot) (xs ys : List Way) → first xs ≡ first ys
     → closing_move g x xs ≡ closing_move g x ys
 closes_same g x [] [] h = refl
-closes_same g x [] (w ∷ ys) h = absurd (cc)
-closes_same g x (v ∷ xs) [] h = absurd (cc)
 closes_same g x (v ∷ xs) (w ∷ ys) h = go g (cc)
   where
     go : (g : Region) → v ≡ w → closing_move g x (v ∷ xs) ≡ closing_move g x (w ∷ ys)
     go (NotAhead t) e = refl
     go g e = rw e refl
+closes_same g x xs ys h = absurd (cc)
 
 -- of outcomes with the same stops none passes where none does of the others
 pub none_passes : (test : Way → Bool) → ByStop test → (xs ys : List Way) → SameStops xs ys → filter test xs ≡ []

@@ -6,7 +6,7 @@ use Rattle.sre_turns.proofs.Terms.{behind_items, no_marks, Way, first, ways, Opc
 use Rattle.sre_turns.proofs.Terms.{Choice, Else, Keep, Trying, from_region, SameFruit, is_inside, MayAsk, price}
 use Rattle.sre_turns.proofs.Terms.{Counted, SettledIn, Instruction, spot_at, Run, StringCursor, Waits, outermost}
 use Rattle.sre_turns.proofs.Terms.{otherwise, tried, Arrives, Ends, Stands, Later, Next, cost, ending, items_same}
-use Rattle.sre_turns.proofs.Terms.{BoardValue, bare, Limit, SaysAccepted, outcomes}
+use Rattle.sre_turns.proofs.Terms.{BoardValue, bare, Limit, SaysAccepted, outcomes, Item}
 use Rattle.sre_chars.specs.declared.constants.SreOpcode.TheVariants as opcode
 use Rattle.sre_turns.proofs.bound.FaringInRegions.{end_refused}
 use Rattle.sre_turns.specs.declared.Next.TheVariants as next
@@ -15,41 +15,42 @@ use Rattle.sre_turns.proofs.semantics.StepsAtItems.{none_placed}
 use Rattle.sre_turns.proofs.semantics.Ran.{ran, PartOf}
 use Rattle.sre_turns.proofs.semantics.FirstOutcomes.{fruit_waits}
 
--- a reference behind some items is one of the whole
-behind_refers : (n : ℕ) (t : Tree) → refers (behind_items n t) ≡ true → refers t ≡ true
-behind_refers zero t e = e
-behind_refers (suc n) Empty e = e
-behind_refers (suc n) (Then x rest) e = or_right (of_item by_references x) (refers rest) (behind_refers n rest e)
+-- what holds of a tree holds of what is behind some of its items, if it holds of what is behind one
+behind_law : (P : Tree → Type 0) → ((x : Item) (rest : Tree) → P (Then x rest) → P rest) → (n : ℕ) (t : Tree) → P t
+    → P (behind_items n t)
+behind_law P one zero t h = h
+behind_law P one (suc n) Empty h = h
+behind_law P one (suc n) (Then x rest) h = behind_law P one n rest (one x rest h)
 
--- and it asks for no group before those of the whole
-behind_asked : (n : ℕ) (t : Tree) → asked_from t ≤ asked_from (behind_items n t)
-behind_asked zero t = omega arith
-behind_asked (suc n) Empty = omega arith
-behind_asked (suc n) (Then x rest) = let l = behind_asked n rest in omega (arith, l)
+-- a reference behind some items is one of the whole, and it asks for no group before those of the whole, nor for one
+-- behind them
+abbrev AsksNoMore : Tree → Tree → Type 0
+AsksNoMore t u = (refers u ≡ true → refers t ≡ true) × (asked_from t ≤ asked_from u) × (asked_to u ≤ asked_to t)
 
--- nor for one behind them
-behind_asked_to : (n : ℕ) (t : Tree) → asked_to (behind_items n t) ≤ asked_to t
-behind_asked_to zero t = omega arith
-behind_asked_to (suc n) Empty = omega arith
-behind_asked_to (suc n) (Then x rest) = let l = behind_asked_to n rest in omega (arith, l)
+behind_asked : (n : ℕ) (t : Tree) → AsksNoMore t (behind_items n t)
+behind_asked n t =
+    behind_law (AsksNoMore t)
+    (λ x rest h. (
+      λ e. h.0 (or_right (of_item by_references x) (refers rest) e),
+      omega (arith, h.1),
+      omega (arith, h.2),
+    )) n t ((λ e. e), omega arith, omega arith)
 
 -- so the words do
 behind_asks : (ws : List ℕ) (n : ℕ) (t : Tree) → WholeItems ws t → (g : ℕ) → refers (behind_items n t) ≡ true
     → asked_from (behind_items n t) ≤ g → g ≤ asked_to (behind_items n t) → MayAsk ws g
-behind_asks ws n t w g e l k = (
-  λ u w'. subst (λ x. refers x ≡ true) (items_same ws t u w w') (behind_refers n t e),
-  λ u w'.
-      let from : asked_from t ≤ g = omega (arith, l, behind_asked n t) in
-      let to : g ≤ asked_to t = omega (arith, k, behind_asked_to n t) in
-      subst (λ x. (asked_from x ≤ g) × (g ≤ asked_to x)) (items_same ws t u w w') (from, to),
-)
+behind_asks ws n t w g e l k =
+    let asked = behind_asked n t in (
+      λ u w'. subst (λ x. refers x ≡ true) (items_same ws t u w w') (asked.0 e),
+      λ u w'. subst (λ x. (asked_from x ≤ g) × (g ≤ asked_to x)) (items_same ws t u w w')
+          (omega (arith, l, asked.1), omega (arith, k, asked.2)),
+    )
 
 -- an atomic scope behind some items is one of the whole
 behind_markless : (n : ℕ) (t : Tree) → marks_in_regions t ≡ false → marks_in_regions (behind_items n t) ≡ false
-behind_markless zero t e = e
-behind_markless (suc n) Empty e = e
-behind_markless (suc n) (Then x rest) e =
-    behind_markless n rest (or_parts (of_item by_marked_regions x) (marks_in_regions rest) e).1
+behind_markless =
+    behind_law (λ t. marks_in_regions t ≡ false)
+    (λ x rest e. (or_parts (of_item by_marked_regions x) (marks_in_regions rest) e).1)
 
 pub behind_has : (ws : List ℕ) (n : ℕ) (t : Tree) → WholeItems ws t → PartOf ws (behind_items n t)
 behind_has ws n t w = (λ g e l k. behind_asks ws n t w g e l k, λ markless. behind_markless n t (markless.none t w))

@@ -5,11 +5,11 @@ use Rattle.sre_turns.proofs.Terms.{passes, char_at, holds_at, Frame, Instruction
 use Rattle.sre_turns.proofs.Terms.{StringCursor, Moves, HasRun, Refuses, Demands, Continues, Advances, TestStands}
 use Rattle.sre_turns.proofs.Terms.{HasTest, ToFail, ToEnd, ToCheckPosition, ToMark, ToJump, begins_test, same_word}
 use Rattle.sre_turns.proofs.Terms.{word_of, word_within, past_end, read_passes, Subject, repeats, Word, Opcode, ◌≢◌}
-use Rattle.sre_turns.proofs.Terms.{at_low, stands_at_own, is_literal, zero, suc, ◌⊎◌, inl, inr, ⊎_elim, [], ◌∷◌, ◌++◌}
-use Rattle.sre_turns.proofs.Terms.{replicate, slice_set, slice_index_or, Option, Some, None, mark_at, no_marks}
-use Rattle.sre_turns.proofs.Terms.{lengthened, Placed}
+use Rattle.sre_turns.proofs.Terms.{sym, at_low, stands_at_own, is_literal, zero, suc, ◌⊎◌, inl, inr, ⊎_elim, [], ◌∷◌}
+use Rattle.sre_turns.proofs.Terms.{slice_set, slice_index_or, Option, Some, None, mark_at, no_marks, lengthened, Placed}
 use Rattle.sre_chars.specs.declared.constants.SreOpcode.TheVariants as opcode
 use Rattle.sre_turns.specs.declared.Next.TheVariants as next
+use Rattle.sre_turns.proofs.memoization.Asked.{longer}
 use Rattle.sre_turns.proofs.bound.Faring.{next_less, test_pool}
 use Rattle.sre_turns.proofs.semantics.Moving.{in_role, in_test, at_instruction, at_test, run_nothing, turn_stops}
 use Rattle.sre_turns.proofs.semantics.Moving.{turn_ends, turn_goes}
@@ -20,21 +20,6 @@ use Rattle.sre_turns.proofs.semantics.AfterSteps.{run_on, nothing_after, has_run
 
 some_same : {a b : ℕ} → Some a ≡ Some b → a ≡ b
 some_same e = cc
-
--- an absent entry stays one
-abbrev absent : Option ℕ
-absent = None
-
-absent_entry : (k n p : ℕ) → slice_index_or (replicate n absent) k absent ≡ Some p → ⊥
-absent_entry k zero p e = absurd (cc)
-absent_entry zero (suc n) p e = absurd (cc)
-absent_entry (suc k) (suc n) p e = absent_entry k n p e
-
-longer_entry : (raw : List (Option ℕ)) (k n p : ℕ) → slice_index_or (raw ++ replicate n None) k None ≡ Some p
-    → slice_index_or raw k None ≡ Some p
-longer_entry [] k n p e = absurd (absent_entry k n p e)
-longer_entry (x ∷ raw) zero n p e = e
-longer_entry (x ∷ raw) (suc k) n p e = longer_entry raw k n p e
 
 -- an entry of a list of which one was set is that one, or was there before
 set_entry : (raw : List (Option ℕ)) (n k v p : ℕ) → slice_index_or (slice_set raw n (Some v)) k None ≡ Some p
@@ -53,7 +38,7 @@ set_placed s m n p h l = record { at = at }
   where
     at : (k q : ℕ) → mark_at (set_mark m n p) k ≡ Some q → q ≤ length s.text
     at k q e = ⊎_elim (λ (same : p ≡ q). omega (arith, same, l))
-        (λ (old : slice_index_or (lengthened n m.raw) k None ≡ Some q). h.at k q (longer_entry m.raw k _ q old))
+        (λ (old : slice_index_or (lengthened n m.raw) k None ≡ Some q). h.at k q (sym (longer n m.raw k) ∙ old))
         (set_entry (lengthened n m.raw) n k p q e)
 
 -- FAILURE

@@ -99,33 +99,6 @@ until_operands r o u c b f w x e =
     let loop = until_there r o u c b f w x e in
     word_within r.words (f.repeat + 3) loop.1 loop.2.highest
 
-until_at : (r : Run) (o : Order) (u low high : ℕ) (c : StringCursor) (b : BoardValue) (f : Frame) (mv : Move)
-    → InLoop r o u low high b f → mv ≡ until_move o low high u f (drop 1 b.frames) (spot (Instruction u) c b)
-    → Moves r.words r.subject (spot (Instruction u) c b) mv
-until_at r o u low high c b f mv h e =
-    at_instruction (until_opcode o) (ToLoop o) (until_role o) h.code
-    (loop_move r.words h.inside h.lowest h.highest e)
-
--- below the least count a further body is tried
-pub until_below : (r : Run) (o : Order) (u low high : ℕ) (c : StringCursor) (b b' : BoardValue) (f : Frame)
-    → InLoop r o u low high b f → f.count < low → b' ≡ record b { frames = next_frame f f.last ∷ drop 1 b.frames }
-    → Advances r (Instruction u) c b (next.At (f.repeat + 4) c) b'
-until_below r o u low high c b b' f h l eb all limit g =
-    let below : nat_lt f.count low ≡ true = grind (arith, nat_tests) in
-    rw eb
-    (turn_goes r (Instruction u) c b (Instruction (f.repeat + 4)) c _
-    (until_at r o u low high c b f _ h (rw below refl)) g.stands g.placed refl all limit g)
-
--- the loop ends where no further one may be tried
-pub until_done : (r : Run) (o : Order) (u low high : ℕ) (c : StringCursor) (b b' : BoardValue) (f : Frame)
-    → InLoop r o u low high b f → low ≤ f.count → may_repeat high f.count f.last c.position ≡ false
-    → b' ≡ record b { frames = drop 1 b.frames } → Advances r (Instruction u) c b (next.At (u + 1) c) b'
-until_done r o u low high c b b' f h l no_ eb all limit g =
-    let beyond : nat_lt f.count low ≡ false = grind (arith, nat_tests) in
-    rw eb
-    (turn_goes r (Instruction u) c b (Instruction (u + 1)) c _
-    (until_at r o u low high c b f _ h (rw (beyond, no_) refl)) g.stands g.placed refl all limit g)
-
 -- else there are two configurations, in order
 abbrev pub body_spot : ℕ → StringCursor → BoardValue → Frame → Spot
 body_spot u c b f = at_body f (Some c.position) (drop 1 b.frames) (spot (Instruction u) c b)
@@ -133,12 +106,40 @@ body_spot u c b f = at_body f (Some c.position) (drop 1 b.frames) (spot (Instruc
 abbrev pub end_spot : ℕ → StringCursor → BoardValue → Spot
 end_spot u c b = behind u (drop 1 b.frames) (spot (Instruction u) c b)
 
-pub until_splits : (r : Run) (o : Order) (u low high : ℕ) (c : StringCursor) (b : BoardValue) (f : Frame)
-    → InLoop r o u low high b f → low ≤ f.count → may_repeat high f.count f.last c.position ≡ true
-    → Moves r.words r.subject (spot (Instruction u) c b) (in_order o (body_spot u c b f) (end_spot u c b))
-until_splits r o u low high c b f h l y =
-    let beyond : nat_lt f.count low ≡ false = grind (arith, nat_tests) in
-    until_at r o u low high c b f (in_order o (body_spot u c b f) (end_spot u c b)) h (rw (beyond, y) refl)
+module _ (r : Run) (o : Order) (u low high : ℕ) (c : StringCursor) (b : BoardValue) where
+  until_at : (f : Frame) (mv : Move) → InLoop r o u low high b f
+      → mv ≡ until_move o low high u f (drop 1 b.frames) (spot (Instruction u) c b)
+      → Moves r.words r.subject (spot (Instruction u) c b) mv
+  until_at f mv h e =
+      at_instruction (until_opcode o) (ToLoop o) (until_role o) h.code
+      (loop_move r.words h.inside h.lowest h.highest e)
+
+  -- below the least count a further body is tried
+  pub until_below : (b' : BoardValue) (f : Frame) → InLoop r o u low high b f → f.count < low
+      → b' ≡ record b { frames = next_frame f f.last ∷ drop 1 b.frames }
+      → Advances r (Instruction u) c b (next.At (f.repeat + 4) c) b'
+  until_below b' f h l eb all limit g =
+      let below : nat_lt f.count low ≡ true = grind (arith, nat_tests) in
+      rw eb
+      (turn_goes r (Instruction u) c b (Instruction (f.repeat + 4)) c _ (until_at f _ h (rw below refl)) g.stands
+      g.placed refl all limit g)
+
+  -- the loop ends where no further one may be tried
+  pub until_done : (b' : BoardValue) (f : Frame) → InLoop r o u low high b f → low ≤ f.count
+      → may_repeat high f.count f.last c.position ≡ false → b' ≡ record b { frames = drop 1 b.frames }
+      → Advances r (Instruction u) c b (next.At (u + 1) c) b'
+  until_done b' f h l no_ eb all limit g =
+      let beyond : nat_lt f.count low ≡ false = grind (arith, nat_tests) in
+      rw eb
+      (turn_goes r (Instruction u) c b (Instruction (u + 1)) c _ (until_at f _ h (rw (beyond, no_) refl)) g.stands
+      g.placed refl all limit g)
+
+  pub until_splits : (f : Frame) → InLoop r o u low high b f → low ≤ f.count
+      → may_repeat high f.count f.last c.position ≡ true
+      → Moves r.words r.subject (spot (Instruction u) c b) (in_order o (body_spot u c b f) (end_spot u c b))
+  until_splits f h l y =
+      let beyond : nat_lt f.count low ≡ false = grind (arith, nat_tests) in
+      until_at f (in_order o (body_spot u c b f) (end_spot u c b)) h (rw (beyond, y) refl)
 
 -- both can be reached
 pub until_runs : (r : Run) (o : Order) (u low high : ℕ) (c : StringCursor) (b : BoardValue) (f : Frame)

@@ -45,23 +45,6 @@ again_place r c b (turns mv h d) =
       omega (arith, high),
     )
 
-again_at : (r : Run) (v low high : ℕ) (c : StringCursor) (b : BoardValue) (f : Frame) (mv : Move)
-    → InPossessiveLoop r v low high b f
-    → mv ≡ again_move low high (f.repeat + 1 + v) f (drop 1 b.frames) (spot Again c b)
-    → Moves r.words r.subject (spot Again c b) mv
-again_at r v low high c b f mv h e =
-    loop_move r.words h.inside h.lowest h.highest (rw (word_of r.words (f.repeat + 1) v h.leads) e)
-
--- the loop ends where no further body may be tried
-pub again_done : (r : Run) (v low high : ℕ) (c : StringCursor) (b b' : BoardValue) (f : Frame)
-    → InPossessiveLoop r v low high b f → low ≤ f.count → may_repeat high f.count f.last c.position ≡ false
-    → b' ≡ record b { frames = drop 1 b.frames } → Advances r Again c b (next.At (f.repeat + 1 + v + 1) c) b'
-again_done r v low high c b b' f h l no_ eb all limit g =
-    let beyond : nat_lt f.count low ≡ false = grind (arith, nat_tests) in
-    rw eb
-    (turn_goes r Again c b (Instruction (f.repeat + 1 + v + 1)) c _
-    (again_at r v low high c b f _ h (rw (beyond, no_) refl)) g.stands g.placed refl all limit g)
-
 -- a body is entered, counted on the board, and the loops are put aside
 abbrev begun : Region → Frame → Option ℕ → StringCursor → BoardValue → BoardValue
 begun k f last c b = record b {
@@ -69,34 +52,47 @@ begun k f last c b = record b {
   choices = Keep k (next_frame f last ∷ drop 1 b.frames) c b.marks ∷ b.choices;
 }
 
-again_enters : (r : Run) (k : Region) (last : Option ℕ) (c : StringCursor) (b b' : BoardValue) (f : Frame)
-    → Moves r.words r.subject (spot Again c b) (enter_body k f last (drop 1 b.frames) (spot Again c b))
-    → b' ≡ begun k f last c b → Advances r Again c b (next.At (f.repeat + 4) c) b'
-again_enters r k last c b b' f h eb all limit g =
-    rw eb
-    (turn_enters r Again (next_frame f last ∷ drop 1 b.frames) (f.repeat + 4) k c c b _ h g.stands refl refl all limit
-    g)
+module _ (r : Run) (v low high : ℕ) (c : StringCursor) (b : BoardValue) where
+  again_at : (f : Frame) (mv : Move) → InPossessiveLoop r v low high b f
+      → mv ≡ again_move low high (f.repeat + 1 + v) f (drop 1 b.frames) (spot Again c b)
+      → Moves r.words r.subject (spot Again c b) mv
+  again_at f mv h e =
+      loop_move r.words h.inside h.lowest h.highest (rw (word_of r.words (f.repeat + 1) v h.leads) e)
 
--- below the least count one is owed
-pub again_owed : (r : Run) (v low high : ℕ) (c : StringCursor) (b b' : BoardValue) (f : Frame)
-    → InPossessiveLoop r v low high b f → f.count < low → b' ≡ begun Owed f f.last c b
-    → Advances r Again c b (next.At (f.repeat + 4) c) b'
-again_owed r v low high c b b' f h l eb =
-    let below : nat_lt f.count low ≡ true = grind (arith, nat_tests) in
-    again_enters r Owed f.last c b b' f
-    (again_at r v low high c b f (enter_body Owed f f.last (drop 1 b.frames) (spot Again c b)) h (rw below refl)) eb
+  -- the loop ends where no further body may be tried
+  pub again_done : (b' : BoardValue) (f : Frame) → InPossessiveLoop r v low high b f → low ≤ f.count
+      → may_repeat high f.count f.last c.position ≡ false → b' ≡ record b { frames = drop 1 b.frames }
+      → Advances r Again c b (next.At (f.repeat + 1 + v + 1) c) b'
+  again_done b' f h l no_ eb all limit g =
+      let beyond : nat_lt f.count low ≡ false = grind (arith, nat_tests) in
+      rw eb
+      (turn_goes r Again c b (Instruction (f.repeat + 1 + v + 1)) c _ (again_at f _ h (rw (beyond, no_) refl))
+      g.stands g.placed refl all limit g)
 
--- from it on a further one is tried
-pub again_further : (r : Run) (v low high : ℕ) (c : StringCursor) (b b' : BoardValue) (f : Frame)
-    → InPossessiveLoop r v low high b f → low ≤ f.count → may_repeat high f.count f.last c.position ≡ true
-    → b' ≡ begun (Further (f.repeat + 1 + v + 1)) f (Some c.position) c b
-    → Advances r Again c b (next.At (f.repeat + 4) c) b'
-again_further r v low high c b b' f h l y eb =
-    let k : Region = Further (f.repeat + 1 + v + 1) in
-    let beyond : nat_lt f.count low ≡ false = grind (arith, nat_tests) in
-    again_enters r k (Some c.position) c b b' f
-    (again_at r v low high c b f (enter_body k f (Some c.position) (drop 1 b.frames) (spot Again c b))
-    h (rw (beyond, y) refl)) eb
+  again_enters : (k : Region) (last : Option ℕ) (b' : BoardValue) (f : Frame) → InPossessiveLoop r v low high b f
+      → enter_body k f last (drop 1 b.frames) (spot Again c b)
+      ≡ again_move low high (f.repeat + 1 + v) f (drop 1 b.frames) (spot Again c b)
+      → b' ≡ begun k f last c b → Advances r Again c b (next.At (f.repeat + 4) c) b'
+  again_enters k last b' f h is eb all limit g =
+      rw eb
+      (turn_enters r Again (next_frame f last ∷ drop 1 b.frames) (f.repeat + 4) k c c b _ (again_at f _ h is) g.stands
+      refl refl all limit g)
+
+  -- below the least count one is owed
+  pub again_owed : (b' : BoardValue) (f : Frame) → InPossessiveLoop r v low high b f → f.count < low
+      → b' ≡ begun Owed f f.last c b → Advances r Again c b (next.At (f.repeat + 4) c) b'
+  again_owed b' f h l =
+      let below : nat_lt f.count low ≡ true = grind (arith, nat_tests) in
+      again_enters Owed f.last b' f h (rw below refl)
+
+  -- from it on a further one is tried
+  pub again_further : (b' : BoardValue) (f : Frame) → InPossessiveLoop r v low high b f → low ≤ f.count
+      → may_repeat high f.count f.last c.position ≡ true
+      → b' ≡ begun (Further (f.repeat + 1 + v + 1)) f (Some c.position) c b
+      → Advances r Again c b (next.At (f.repeat + 4) c) b'
+  again_further b' f h l y =
+      let beyond : nat_lt f.count low ≡ false = grind (arith, nat_tests) in
+      again_enters (Further (f.repeat + 1 + v + 1)) (Some c.position) b' f h (rw (beyond, y) refl)
 
 -- the board, as it is changed
 pub begun_board : (b left counted saved : BoardValue) (k : Region) (f g : Frame) (last : Option ℕ) (c : StringCursor)
