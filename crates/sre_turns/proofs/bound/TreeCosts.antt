@@ -238,14 +238,6 @@ module _ (ws : List ℕ) (e : ℕ) {A : Type 0} (point : A → Point) (loops : A
       → loop_slots low high * s ≡ slots ws (i ∷ js)
   more_states i low high s js same least greatest = rw (same, sym least, sym greatest) refl
 
-  -- of an item that has no points behind its own
-  plain : (i j : ℕ) (x : Item) (r : ReadsItem ws i j x) (js : List ℕ) → bit_by ws e i js (item_role x) ≡ 0
-      → (Rest : Point → List ℕ → Type 0) (n : ℕ) → Costs Rest n
-      → Costs (λ pt ks. IsAt (Instruction i) js pt ks ⊎ (⊥ ⊎ Rest pt ks)) (0 + n)
-  plain i j x r js none Rest n rest =
-      with_free i (item_role x) js (item_here ws i j x r) none
-      (wider (omega arith) (λ pt ks y. elim y [ inl z ↦ absurd z | inr z ↦ z ]) rest)
-
   -- of an item's own instruction beside others
   own : {P : Point → List ℕ → Type 0} {m : ℕ} (i j : ℕ) (x : Item) (r : ReadsItem ws i j x) (js : List ℕ) (s v : ℕ)
       → s ≡ slots ws js → bit_by ws e i js (item_role x) ≤ v → Costs P m
@@ -381,7 +373,10 @@ module _ (ws : List ℕ) (e : ℕ) {A : Type 0} (point : A → Point) (loops : A
         (jump_ended _ (k - 2) j b js _ r.1.2 behind (tree_costs (i + 3) (k - 2) there r.1.1 js s (1 + b) same)
         (λ pt ks. LiesIn ws k j absent r.1.3 js pt ks ⊎ Rest pt ks) _
         (tree_costs k j absent r.1.3 js s b same behind Rest n rest at)))
-    item_costs i j x r js s b same behind Rest n rest at = plain i j x r js refl Rest n rest
+    -- an item that has no points behind its own
+    item_costs i j x r js s b same behind Rest n rest at =
+        with_free i (item_role x) js (item_here ws i j x r) refl
+        (wider (omega arith) (λ pt ks y. elim y [ inl z ↦ absurd z | inr z ↦ z ]) rest)
 
     branch_costs : (q j : ℕ) (ts : Trees) (r : ReadsBranch ws q j ts) (js : List ℕ) (s b : ℕ) → s ≡ slots ws js
         → steps ws j ≡ b → (Rest : Point → List ℕ → Type 0) (n : ℕ) → Costs Rest n

@@ -260,12 +260,8 @@ module _ (base : ℕ → Type 0) (ws : List ℕ) (a : PlacesAsk) (u low high p :
         ← below-alike ws p low high f g h wl wh,
         ← repeat-alike ws p low high f g h wl wh p (omega arith),
       )
-      (cond-alike base ws a (nat_lt f.count low) (Go (at_body f f.last fs in_one)) (Go (at_body g g.last gs in_other)) _
-      _ (body-alike f.last g.last h.last)
-      (cond-alike base ws a (may_repeat high f.count f.last p)
-      (in_order o (at_body f (Some p) fs in_one) (behind u fs in_one))
-      (in_order o (at_body g (Some p) gs in_other) (behind u gs in_other)) (Go (behind u fs in_one))
-      (Go (behind u gs in_other)) (order-alike o) end-alike))
+      (cond-alike base ws a (nat_lt f.count low) _ _ _ _ (body-alike f.last g.last h.last)
+      (cond-alike base ws a (may_repeat high f.count f.last p) _ _ _ _ (order-alike o) end-alike))
 
   -- of a possessive loop
   enter-alike : (k : Region) (b c : Option ℕ) → least_from pt p ≡ p → Last b c
@@ -285,11 +281,8 @@ module _ (base : ℕ → Type 0) (ws : List ℕ) (a : PlacesAsk) (u low high p :
         ← below-alike ws p low high f g h wl wh,
         ← repeat-alike ws p low high f g h wl wh p (omega arith),
       )
-      (cond-alike base ws a (nat_lt f.count low) (enter_body Owed f f.last fs in_one)
-      (enter_body Owed g g.last gs in_other) _ _ (enter-alike Owed f.last g.last here h.last (loop f.last))
-      (cond-alike base ws a (may_repeat high f.count f.last p)
-      (enter_body (Further (u + 1)) f (Some p) fs in_one) (enter_body (Further (u + 1)) g (Some p) gs in_other)
-      (Go (behind u fs in_one)) (Go (behind u gs in_other))
+      (cond-alike base ws a (nat_lt f.count low) _ _ _ _ (enter-alike Owed f.last g.last here h.last (loop f.last))
+      (cond-alike base ws a (may_repeat high f.count f.last p) _ _ _ _
       (enter-alike (Further (u + 1)) (Some p) (Some p) here (λ q at. refl) last_body) end-alike))
     where
       last_body : (v : ℕ) → RegionAsks ws a (Further (u + 1)) (next_frame f (Some p) ∷ fs) v

@@ -134,13 +134,6 @@ module _ (r : Run) (i low v : ℕ) (fs : List Frame) (m : Marks) (w : Opcode r.w
     pub own_runs : Runs r.words r.subject (ends_at (p + low)) own own_turns
     pub sum : again_turns + own_turns + 2 ≡ n
 
-  -- what comes of its longest end, and then of the shorter ones, comes of it
-  run_comes : (p count end : ℕ) (us vs : List Way) (n k : ℕ) → longest_run r.subject there.test unlimited p ≡ count
-      → low ≤ count → end ≡ p + count → Runs r.words r.subject (ends_at end) us n
-      → Runs r.words r.subject (shorter_at (count - low) end) vs k
-      → Runs r.words r.subject (starts_at p) (us ++ vs) (suc (suc (n + k)))
-  run_comes p count end us vs n k is l e x y = split (greedy_splits operands w leads is l e) x y refl (omega arith)
-
   -- it is so where more than the least count passes
   pub run_next : (p : ℕ) (os : List Way) (n : ℕ) → AllPass r.subject there.test p (p + low + 1)
       → Runs r.words r.subject (starts_at p) os n → Next p os n
@@ -150,16 +143,17 @@ module _ (r : Run) (i low v : ℕ) (fs : List Frame) (m : Marks) (w : Opcode r.w
       let c = parted (run_moves p count refl (omega (arith, reaches))) x in
       let rest = last_apart r (i + 1 + v) (count - 1 - low) (count - low) (p + count) (p + low) fs m c.next c.further
       (omega (arith, reaches)) (omega (arith, reaches)) c.others in
+      let later : Moves r.words r.subject (starts_at (p + 1))
+      (Split (ends_at (p + count)) (shorter_at (count - 1 - low) (p + count))) =
+      greedy_splits operands w leads (longest_later r there.test p count refl (omega (arith, reaches)))
+      (omega (arith, reaches)) (omega (arith, reaches)) in
       record {
         again = c.now ++ rest.now;
         own = rest.next;
         both = joined os c.now c.next rest.now rest.next c.both rest.both;
         again_turns = suc (suc (c.turns + rest.turns));
         own_turns = rest.further;
-        again_runs =
-            run_comes (p + 1) (count - 1) (p + count) c.now rest.now c.turns rest.turns
-            (longest_later r there.test p count refl (omega (arith, reaches))) (omega (arith, reaches))
-            (omega (arith, reaches)) c.runs rest.runs;
+        again_runs = split later c.runs rest.runs refl (omega arith);
         own_runs = rest.others;
         sum = omega (arith, c.sum, rest.sum);
       }

@@ -6,7 +6,7 @@ use Rattle.sre_turns.proofs.Terms.{Stage, share, Going, HereIn, Coming, steps, I
 use Rattle.sre_turns.proofs.Terms.{Run, StringCursor, Moves, GoesWith, Later, spot, Advances, RunOperands}
 use Rattle.sre_turns.proofs.Terms.{OperandsOfRun, AllPass, passes, Opcode, skip, zero, suc, nat_lt, cond, PossessiveRun}
 use Rattle.sre_turns.proofs.Terms.{run_length, run_passes, run_stopped, run_has, past_end, Frame, Stop, Subject, Runs}
-use Rattle.sre_turns.proofs.Terms.{turns, goes, Spot, Move, Marks, onward_turn}
+use Rattle.sre_turns.proofs.Terms.{turns, goes, Spot, Marks}
 use Rattle.sre_chars.specs.declared.constants.SreOpcode.TheVariants as opcode
 use Rattle.sre_turns.specs.declared.Next.TheVariants as next
 use Rattle.sre_turns.proofs.bound.Steps.{some_steps}
@@ -75,14 +75,11 @@ module _ (ws : List ℕ) (s : Subject) (i low end : ℕ) (t : Test) (fs : List F
   abbrev ends_at : ℕ → Spot
   ends_at q = spot_at (Instruction (skip ws (i + 1))) fs q m
 
-  moves : (p : ℕ) (mv : Move) → mv ≡ onward_turn s i (skip ws (i + 1)) low t (starts_at p) → Moves ws s (starts_at p) mv
-  moves p mv e = at_run PossessiveRun w o e
-
   -- where fewer characters pass than the least count it comes to nothing
   pub onward_stops : (p : ℕ) → run_length s t low p < low → Moves ws s (starts_at p) Stop
   onward_stops p l =
       let short : nat_lt (run_length s t low p) low ≡ true = grind (arith, nat_tests) in
-      moves p Stop (rw short refl)
+      at_run PossessiveRun w o (rw short refl)
 
   enough : nat_lt low low ≡ false
   enough = grind (arith, nat_tests)
@@ -92,14 +89,14 @@ module _ (ws : List ℕ) (s : Subject) (i low end : ℕ) (t : Test) (fs : List F
   onward_goes p all_pass =
       let full = least_passed s t low p (λ c from to. all_pass c from (omega (arith, to))) in
       let more : passes s t (p + low) ≡ true = all_pass (p + low) (omega arith) (omega arith) in
-      moves p (Go (starts_at (p + 1))) (rw (full, enough, more) refl)
+      at_run PossessiveRun w o (rw (full, enough, more) refl)
 
   -- where no more pass it goes on to its tail
   pub onward_ends : (p : ℕ) → AllPass s t p (p + low) → passes s t (p + low) ≡ false
       → Moves ws s (starts_at p) (Go (ends_at (p + low)))
   onward_ends p all_pass stopped =
       let full = least_passed s t low p all_pass in
-      moves p (Go (ends_at (p + low))) (rw (full, enough, stopped) refl)
+      at_run PossessiveRun w o (rw (full, enough, stopped) refl)
 
   -- the stretch of a run, with so many characters more than the least count
   abbrev Stretch : ℕ → ℕ → Type 0
