@@ -86,8 +86,7 @@ pub use Rattle.sre_turns.specs.Moves.{End, Enter, Move, Split, Spot, TestMove, c
 pub use Rattle.sre_turns.specs.MovesAtReferences.{Asks, HasReference, MayAsk, asks, condition_place, reference_turn}
 pub use Rattle.sre_turns.specs.MovesInLoops.{AgainMove, LoopMove, UntilMove, again_move, at_body, behind, enter_body}
 pub use Rattle.sre_turns.specs.MovesInLoops.{first_frame, in_order, next_frame, until_move}
-pub use Rattle.sre_turns.specs.Turning.{look}
-pub use Rattle.sre_turns.specs.Turning.{RunOperands, onward_turn, run_turn}
+pub use Rattle.sre_turns.specs.Turning.{look, RunOperands, run_turn}
 pub use Rattle.sre_turns.specs.Nested.{AllBegunBy, BegunBy, ClosesAt, IsAt, LeadsTo, Lies, LiesIn, LiesInBranch}
 pub use Rattle.sre_turns.specs.Nested.{LiesInItem, Passed, by_slots, is_again, most_slots, place_of, place_under}
 pub use Rattle.sre_turns.specs.Nested.{repeats, slots}
@@ -99,8 +98,8 @@ pub use Rattle.sre_turns.specs.Prices.{scan_toll, split_by, split_toll, steps, s
 pub use Rattle.sre_turns.specs.RunEnds.{AllPass, RunsOn}
 pub use Rattle.sre_turns.specs.Settled.{Counted, Settled, SettledIn}
 pub use Rattle.sre_turns.specs.Straight.{BodyOf, ForksAt, InBody, IsBodyIn, forking, goes_behind, point_behind}
-pub use Rattle.sre_turns.specs.Strides.{EndsBody, MayRepeat, ReadsAscii, Strides, TellsAlternatives, TellsBodies}
-pub use Rattle.sre_turns.specs.Strides.{TellsTest, Yields, YieldsTo}
+pub use Rattle.sre_turns.specs.Strides.{EndsBody, MayRepeat, Strides, TellsAlternatives, TellsBodies, TellsTest, Yields}
+pub use Rattle.sre_turns.specs.Strides.{YieldsTo}
 pub use Rattle.sre_turns.specs.Terms.{AllByRecursion, GreedyRun, HasTest, LazyRun, Marks, Opcode, Order, PossessiveRun}
 pub use Rattle.sre_turns.specs.Terms.{Reads, Role, SreOpcode, Test, TestStands, ToBranch, ToCheckGroup, ToCheckPosition}
 pub use Rattle.sre_turns.specs.Terms.{ToEnd, ToFail, ToGroupAtomically, ToJump, ToLook, ToLoop, ToMark, ToRefer}

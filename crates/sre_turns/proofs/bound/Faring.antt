@@ -215,7 +215,7 @@ test_pool r i p o ks e =
     ap (λ f. toll_by r.words r.subject.end i ks f) kind.1 in
     omega (arith, none)
 
--- of a configuration at which the machine has come, with credits: those of its point, or those of a repeat that is split
+-- of a configuration at which the machine has come, with credits: of its point, or of a repeat that is split
 pub with_credits : (r : Run) (pl : Counted r) (limit : Limit) (n credits : ℕ) (x : Spot) (cs : List Choice)
     → FaresAt r pl limit n x cs → FaresAt r pl (raised credits limit) (n + credits) x cs
 with_credits r pl limit n credits x cs f = record {

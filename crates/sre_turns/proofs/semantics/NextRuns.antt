@@ -38,7 +38,8 @@ split_end r i v o kind wv w is =
 -- the first
 tries_first : (r : Run) (i v p : ℕ) (z : Spot) (c d : StringCursor) (b : BoardValue) (o : SreOpcode) (kind : RunKind)
     → Opcode r.words i o → role o ≡ ToRun kind → Word r.words (i + 1) v → d.position ≡ p
-    → Moves r.words r.subject (spot (Instruction i) c b) (Split (spot_at (Instruction (i + 1 + v)) b.frames p b.marks) z)
+    → Moves r.words r.subject (spot (Instruction i) c b)
+    (Split (spot_at (Instruction (i + 1 + v)) b.frames p b.marks) z)
     → Moves r.words r.subject z Stop → r.stands d d.position → (all : List Way) (limit : Limit)
     → Tries r all limit (Instruction i) c b → Later r all limit (next.At (i + 1 + v) d) b
 tries_first r i v p z c d b o kind w is wv e moves none stands all limit g =

@@ -1,4 +1,6 @@
--- A step is determined: no configuration has two moves, so its outcomes come of its one step.
+-- What a step does, in one of ten forms: the only file of laws of steps with a row for each role. A form is of two
+-- steps at one point and position, under any loops and captures. That steps are determined, how far they reach, and
+-- that equivalent configurations make equivalent steps follow from it.
 use Rattle.sre_turns.proofs.Terms.{◌≡◌, ℕ, ◌+◌, List, ◌∷◌, refl, sym, ◌∙◌, subst, Marks, group, Way, Word, same_word}
 use Rattle.sre_turns.proofs.Terms.{Point, Spot, Move, LoopMove, Moves, Runs, turns, Comes, Subject, Frame, Bool, true}
 use Rattle.sre_turns.proofs.Terms.{false, cond, nat_lt, Some, Order, Greedy, Lazy, may_repeat, first, skip, Owed}
@@ -15,10 +17,6 @@ use Rattle.sre_turns.proofs.Terms.{Longer, Again, least_from, End, Enter, closin
 use Rattle.sre_turns.proofs.Terms.{first_frame, look, Asks, asks, reference_turn, condition_place, InRole, MovesAt}
 use Rattle.sre_turns.proofs.Terms.{goes_behind, Instruction, spot_at, Stop, TestKind, ToNothing, same_reference_fold}
 use Rattle.sre_turns.proofs.Terms.{same_at}
-
--- What a step does, in one of ten forms: the only file of laws of steps with a row for each role. A form is of two
--- steps at one point and position, under any loops and captures. That steps are determined, how far they reach, and
--- that equivalent configurations make equivalent steps follow from it.
 
 -- from an instruction of a role and a position one goes on at others, under the loops in progress: the control flow
 pub data GoesOn (ws : List ℕ) (s : Subject) (i p : ℕ) : Role → Point → ℕ → Type 0 where
@@ -350,6 +348,7 @@ module _ (ws : List ℕ) (s : Subject) (p : ℕ) (fs gs : List Frame) (m n : Mar
   point_turned Again v w h k = repeated h k
   point_turned pt v w h k = absurd h
 
+-- A step is determined: no configuration has two moves, so its outcomes come of its one step.
 module _ (ws : List ℕ) where
   -- a turn of a loop whose frame is known
   pub loop_opened : {turn : ℕ → ℕ → Frame → List Frame → Move} {x : Spot} {mv : Move} {f : Frame} {outer : List Frame}

@@ -116,7 +116,8 @@ module _ (ws : List ℕ) (s : Subject) (i u low high : ℕ) (o : Order) (W : Bod
 
   more_step : (fuel n c p : ℕ) (last : Option ℕ) (m : Marks) (fs : List Frame) (K : Body) (C : Costs)
       → n ≡ min c unlimited → low ≤ c → p ≤ s.end → Follows ws s p (Instruction (u + 1)) fs K C
-      → (may_repeat high c last p ≡ true → Follows ws s p (Instruction u) (frame i (min (n + 1) unlimited) (Some p) ∷ fs)
+      → (may_repeat high c last p ≡ true
+      → Follows ws s p (Instruction u) (frame i (min (n + 1) unlimited) (Some p) ∷ fs)
       (λ q k. followed K (more s o high W fuel (c + 1) (Some p) q k))
       (λ q k. more_cost high counted C fuel (c + 1) (Some p) q k))
       → (x : Bool) → may_repeat high c last p ≡ x
