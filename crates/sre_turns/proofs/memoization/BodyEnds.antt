@@ -107,12 +107,6 @@ tried_first r (Trying pt fs c l ∷ cs) q m xs inside h (tried {n = n} {os = os}
       tried_first r cs q m xs inside h wt,
     )
 
--- so where the body of the innermost atomic scope ends at a cursor, each comes first to that end
-pub tried_come : (r : Run) (all : List Way) (limit : Limit) (c : StringCursor) (b : BoardValue)
-    → is_inside b.choices ≡ true → Ends r all limit c b → EachOpen (CameToEnd r c.position b.marks) b.choices
-tried_come r all limit c b inside e =
-    tried_first r b.choices c.position b.marks (here c.position b.marks) inside refl e.waits
-
 -- and lies in that body, where no atomic scope of the words sets a capture slot
 tried_confined : (ws : List ℕ) (cs : List Choice) → is_inside cs ≡ true → AllConfined ws cs → EachOpen (Confined ws) cs
 tried_confined ws [] inside h = tt
@@ -144,7 +138,7 @@ tried_end r none m all limit c b alike inside e =
     (subst (λ l. MarksAlike r.words m l) (end_marks r c.position b.marks x stay h.0) alike) h.0)
     (open_spots b.choices)
     (each-both (CameToEnd r c.position b.marks) (Confined r.words) (open_spots b.choices)
-    (tried_come r all limit c b inside e) (tried_confined r.words b.choices inside (e.confined none).each))
+    (tried_first r b.choices c.position b.marks (here c.position b.marks) inside refl e.waits) (tried_confined r.words b.choices inside (e.confined none).each))
 
 -- of two steps at least, if anything comes of it
 ended_turns : {ws : List ℕ} {s : Subject} {x : Spot} {os : List Way} {n : ℕ} (q : ℕ) (m : Marks)

@@ -50,11 +50,6 @@ pub record CameToNothing (r : Run) (inside : Bool) (x : Spot) : Type 0 where
   pub runs : Runs r.words r.subject x outcomes turns
   pub fruitless : Fruitless r inside outcomes
 
-pub came_hopeless : (r : Run) → AcceptsByStop r → (inside : Bool) (m : Marks) (x : Spot)
-    → MarksServe r.words m x → CameToNothing r inside x → Hopeless r inside m x
-came_hopeless r told inside m x serves d =
-    hopeless_again r told inside m x serves d.outcomes d.turns d.runs d.fruitless
-
 module _ (r : Run) (pt : Point) (c : StringCursor) (b b' : BoardValue)
     (e : b.choices ≡ Trying pt b'.frames c b'.marks ∷ b'.choices) (all : List Way) (limit : Limit)
     (g : Backs r all limit b) where
@@ -104,8 +99,8 @@ pub tried_hopeless : (r : Run) → AcceptsByStop r → (pt : Point) (c : StringC
     → (all : List Way) (limit : Limit) → Backs r all limit b
     → Hopeless r (is_inside b'.choices) m (spot pt c b')
 tried_hopeless r told pt c b b' m serves e all limit g =
-    came_hopeless r told (is_inside b'.choices) m (spot pt c b') serves
-    (tried_came r pt c b b' e all limit g)
+    let d = tried_came r pt c b b' e all limit g in
+    hopeless_again r told (is_inside b'.choices) m (spot pt c b') serves d.outcomes d.turns d.runs d.fruitless
 
 -- a configuration is alike to itself
 pub alike_itself : (ws : List ℕ) (x : Spot) → Alike ws x x
