@@ -71,9 +71,6 @@ module _ (r : Run) (pl : Counted r) (start : ℕ) where
     far : Reaching r.subject x.position (least_from x.point x.position) x.frames (Enter g y z)
     far = reaching r x (Enter g y z) h
 
-    y_inside : y.position ≤ r.subject.end
-    y_inside = far.0.inside inside
-
     -- at its body
     in_body : (b : BodyOf r.words (IsBodyIn pl.tree)) → z.point ≡ Instruction b.start
         → start + backs b.tree ≤ z.position + backs pl.tree → InBody r pl start g y.position z
@@ -83,7 +80,7 @@ module _ (r : Run) (pl : Counted r) (start : ℕ) where
           (subst (λ pt. LiesInBody r.words b pt []) (sym first) (begins r.words b.start b.end b.tree b.reads []));
       lies = (leads r x 0 (last r) pl.tree pl.whole.0 pl.whole.1 lies (Enter g y z) h).0;
       passed = subst (λ fs. Passed (record z { frames = fs })) (sym far.2) tt;
-      inside = far.1 y_inside;
+      inside = far.1 (far.0.inside inside);
       from = subst (λ pt. start + backs b.tree ≤ least_from pt z.position + backs pl.tree) (sym first) from;
       behind = far.3;
     }

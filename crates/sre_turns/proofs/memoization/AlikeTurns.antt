@@ -49,15 +49,11 @@ loops-alike ws p [] = tt
 loops-alike ws p (f ∷ fs) = (frame-alike ws p f, loops-alike ws p fs)
 
 -- a further body leaves them alike
-held-alike : (a b cap : ℕ) → min a cap ≡ min b cap
-    → min (min (a + 1) unlimited) cap ≡ min (min (b + 1) unlimited) cap
-held-alike a b cap h = omega (arith, h)
-
 pub next-alike : (ws : List ℕ) (p : ℕ) (f g : Frame) (a b : Option ℕ) → FramesAlike ws p f g
     → ((q : ℕ) → p ≤ q → is_last a q ≡ is_last b q) → FramesAlike ws p (next_frame f a) (next_frame g b)
 next-alike ws p f g a b h last = record {
   repeat = h.repeat;
-  count = λ low high wl wh. held-alike f.count g.count (counted_to low high) (h.count low high wl wh);
+  count = λ low high wl wh. omega (arith, h.count low high wl wh);
   last = last;
 }
 

@@ -18,14 +18,11 @@ use Rattle.sre_turns.proofs.semantics.AfterSteps.{run_on, nothing_after, has_run
 
 -- Captured positions lie in the text.
 
-some_same : {a b : ℕ} → Some a ≡ Some b → a ≡ b
-some_same e = cc
-
 -- an entry of a list of which one was set is that one, or was there before
 set_entry : (raw : List (Option ℕ)) (n k v p : ℕ) → slice_index_or (slice_set raw n (Some v)) k None ≡ Some p
     → (v ≡ p) ⊎ (slice_index_or raw k None ≡ Some p)
 set_entry [] n k v p e = inr e
-set_entry (x ∷ raw) zero zero v p e = inl (some_same e)
+set_entry (x ∷ raw) zero zero v p e = inl (cc)
 set_entry (x ∷ raw) zero (suc k) v p e = inr e
 set_entry (x ∷ raw) (suc n) zero v p e = inr e
 set_entry (x ∷ raw) (suc n) (suc k) v p e = set_entry raw n k v p e

@@ -168,10 +168,6 @@ module _ (r : Run) (c : StringCursor) (b' : BoardValue) where
   abbrev Going : Limit → Region → Type 0
   Going limit g = (pl : Counted r) → FaresBack r pl limit (Keep g b'.frames c b'.marks ∷ b'.choices)
 
-  back_off : (limit : Limit) (g : Region) → Going limit g → (pl : Counted r)
-      → FaresBack r pl (earlier limit) b'.choices
-  back_off limit g left pl = region_off r pl limit g b'.frames c b'.marks b'.choices (left pl)
-
   pub region_back : (g : Region)
       → (MarklessRegions r.words → AllConfined r.words (Keep g b'.frames c b'.marks ∷ b'.choices))
       → (all : List Way) (limit : Limit) (k : ℕ) → Going limit g
@@ -186,4 +182,5 @@ module _ (r : Run) (c : StringCursor) (b' : BoardValue) where
       (λ pl. loop_left r pl limit t b'.frames c b'.marks b'.choices (left pl) b'.marks)
       (λ none. ((lies none).0.1, (lies none).1)) at placed f wt l
   region_back g lies all limit k left (kept at _ f wt) l =
-      stop r b' limit (back_off limit g left) (λ none. (lies none).1) f wt l
+      stop r b' limit (λ pl. region_off r pl limit g b'.frames c b'.marks b'.choices (left pl))
+      (λ none. (lies none).1) f wt l

@@ -252,11 +252,8 @@ module _ (r : Run) (i tail low high count : ℕ) (c after : StringCursor) (w : O
 pub run_refuses : (r : Run) (i tail low high p : ℕ) → Opcode r.words i opcode.REPEAT_ONE
     → OperandsOfRun r.words i tail low high → ((q : ℕ) → p ≤ q → Refuses r tail q) → Refuses r i p
 run_refuses r i tail low high p w o none fs m os n d =
-    by (longest_run r.subject o.test.test high p) refl (short_or_enough (longest_run r.subject o.test.test high p) low)
+    by (longest_run r.subject o.test.test high p) refl (grind arith)
   where
-    short_or_enough : (a b : ℕ) → (a < b) ⊎ (b ≤ a)
-    short_or_enough a b = grind arith
-
     by : (count : ℕ) → longest_run r.subject o.test.test high p ≡ count → (count < low) ⊎ (low ≤ count) → os ≡ []
     by count longest (inl l) = run_nothing (greedy_stops (stands_of r.words i tail low high o) w longest l) d
     by count longest (inr l) =
