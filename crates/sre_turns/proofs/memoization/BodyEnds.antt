@@ -138,7 +138,8 @@ tried_end r none m all limit c b alike inside e =
     (subst (λ l. MarksAlike r.words m l) (end_marks r c.position b.marks x stay h.0) alike) h.0)
     (open_spots b.choices)
     (each-both (CameToEnd r c.position b.marks) (Confined r.words) (open_spots b.choices)
-    (tried_first r b.choices c.position b.marks (here c.position b.marks) inside refl e.waits) (tried_confined r.words b.choices inside (e.confined none).each))
+    (tried_first r b.choices c.position b.marks (here c.position b.marks) inside refl e.waits)
+    (tried_confined r.words b.choices inside (e.confined none).each))
 
 -- of two steps at least, if anything comes of it
 ended_turns : {ws : List ℕ} {s : Subject} {x : Spot} {os : List Way} {n : ℕ} (q : ℕ) (m : Marks)
