@@ -3,8 +3,9 @@ use Rattle.sre_board.proofs.Terms.{◌≡◌, ℕ, ◌+◌, ◌-◌, ◌<◌, �
 use Rattle.sre_board.proofs.Terms.{Bool, true, inr, Option, Some, slice_index_or, refl, sym, ap, ◌∙◌, subst, arith}
 use Rattle.sre_board.proofs.Terms.{length-append, length-take-le, get_or-append, get_or-append_seam, Marks, no_marks}
 use Rattle.sre_board.proofs.Terms.{set_mark, Trail, states, SetsMark, choice, BoardValue, StringCursor, Frame}
-use Rattle.sre_board.proofs.Terms.{choice_of, board_of, Fits, regions_of, regions_in, Saved, option_to_list}
-use Rattle.sre_board.proofs.Terms.{get_or-take, reverse-append, SameUpTo, Else, Dropped, Instruction}
+use Rattle.sre_board.proofs.Terms.{choice_of, board_of, Fits, regions_of, regions_in, Saved, get_or-take}
+use Rattle.sre_board.proofs.Terms.{reverse-append, SameUpTo, Else, Dropped, Instruction}
+use Rattle.std.specs.Option.{option_to_list}
 
 abbrev pub Table : Type 0
 Table = List (List Frame)

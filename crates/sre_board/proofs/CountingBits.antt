@@ -1,8 +1,9 @@
 -- How many bits are set: one more where a clear bit is set, and none more where zero words follow.
 use Rattle.sre_board.proofs.Terms.{◌≡◌, ℕ, zero, suc, ◌+◌, ◌*◌, ◌^◌, ◌%◌, ◌<◌, ◌≤◌, List, ◌++◌, length, replicate}
 use Rattle.sre_board.proofs.Terms.{get_or, slice_set, refl, ap, ◌∙◌, arith, w64, ◌≢◌, inl, inr, bit_or, bit_at, sum_by}
-use Rattle.sre_board.proofs.Terms.{cases_eq, bit_at_set_same, bit_at_set_other, bit_at-zero, sum_by-append, sum_by-set}
-use Rattle.sre_board.proofs.Terms.{sum_by-replicate}
+use Rattle.sre_board.proofs.Terms.{cases_eq, bit_at_set_same, bit_at_set_other, bit_at-zero}
+use Rattle.std.proofs.lemmas.List.Sums.{sum_by-append, sum_by-set}
+use Rattle.std.proofs.lemmas.List.Folds.{sum_by-replicate}
 use Rattle.sre_board.specs.Failures.{ones_below}
 
 same_below : (n v w : ℕ) → ((i : ℕ) → i < n → bit_at v i ≡ bit_at w i) → ones_below n v ≡ ones_below n w

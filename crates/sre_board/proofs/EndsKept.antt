@@ -4,8 +4,8 @@
 use Rattle.sre_board.proofs.Terms.{◌≡◌, ℕ, inl, inr, Bool, true, List, [], ◌∷◌, ◌++◌, Option, Some, None, sym, ap, ◌∙◌}
 use Rattle.sre_board.proofs.Terms.{subst, arith, AllByRecursion, StringCursor, no_marks, Run, Alike, Choice, Spot, Kept}
 use Rattle.sre_board.proofs.Terms.{Entry, Laid, BitsStay, HasBit, EndsTable, end_at, HoldsEnd, HoldsNoEnd}
-use Rattle.sre_board.proofs.Terms.{HoldsOpenMore, HasEnd, TellsEnd, NumberOf, EndsRight, IfNone, EndsAt, EachOpen}
-use Rattle.sre_board.proofs.Terms.{EndRight}
+use Rattle.sre_board.proofs.Terms.{HoldsOpenMore, HasEnd, TellsEnd, NumberOf, EndsRight, IfNone, EachOpen, EndRight}
+use Rattle.sre_turns.specs.BodyEnds.{EndsAt}
 use Rattle.sre_board.proofs.OneEntry.{one_entry}
 use Rattle.sre_board.proofs.KeptSpots.{one_bit}
 use Rattle.sre_board.proofs.Remembering.{alike_onward}

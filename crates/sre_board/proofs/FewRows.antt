@@ -1,8 +1,10 @@
 -- Rows of addresses below a bound are fewer than the bound where one of these addresses has none.
 use Rattle.sre_board.proofs.Terms.{◌≡◌, ℕ, suc, ◌<◌, inl, inr, true, false, List, [], ◌∷◌, length, map, Some, slice_get}
-use Rattle.sre_board.proofs.Terms.{refl, sym, arith, AllByRecursion, eqb_tells, Row, Kept, Laid, HasNoRow, list_any}
-use Rattle.sre_board.proofs.Terms.{eqb, length-map, IsDistinct-cons, length-le_from_distinct_below}
-use Rattle.std.specs.List.{IsDistinct}
+use Rattle.sre_board.proofs.Terms.{refl, sym, arith, AllByRecursion, eqb_tells, Row, Kept, Laid, HasNoRow, length-map}
+use Rattle.std.specs.List.{list_any, IsDistinct}
+use Rattle.std.proofs.Math.Dec.{eqb}
+use Rattle.std.proofs.lemmas.Map.Keys.{IsDistinct-cons}
+use Rattle.std.proofs.lemmas.Map.Steps.{length-le_from_distinct_below}
 
 abbrev places : List Row → List ℕ
 places rs = map (λ (r : Row). r.place) rs

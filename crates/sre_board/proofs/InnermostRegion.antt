@@ -3,7 +3,8 @@ use Rattle.sre_board.proofs.Terms.{◌≡◌, ℕ, ◌+◌, ◌-◌, ◌<◌, �
 use Rattle.sre_board.proofs.Terms.{slice_index_or, refl, sym, ap, ◌∙◌, subst, arith, Bool, true, false, nat_tests}
 use Rattle.sre_board.proofs.Terms.{length-reverse, length-take-le, Marks, no_marks, Trail, states, Choice, BoardValue}
 use Rattle.sre_board.proofs.Terms.{Region, Inside, Point, choice_of, board_of, Fits, regions_of, regions_in}
-use Rattle.sre_board.proofs.Terms.{down_to_region, Saved, not, nat_eq, is_inside, from_region, Cuts}
+use Rattle.sre_board.proofs.Terms.{down_to_region, Saved, not, nat_eq, from_region, Cuts}
+use Rattle.sre_turns.specs.Fruit.{is_inside}
 use Rattle.sre_board.proofs.Choosing.{Table, agree_cut, fits-more, same_choices}
 
 -- from the innermost region on, as the board has it and as its value has it

@@ -4,8 +4,8 @@ use Rattle.sre_board.proofs.Terms.{slice_get, slice_index, slice_set, get_or, sy
 use Rattle.sre_board.proofs.Terms.{bit_at, cases_eq, get_or-set_same, get_or-set_other, get_or_read, same_from_place}
 use Rattle.sre_board.proofs.Terms.{bit_at_set_same, bit_at_set_other, same_Some, LoopsAlike, Alike, least_from, Spot}
 use Rattle.sre_board.proofs.Terms.{repeats, place_of, is_again, placed_from, Kept, kept_of, Entry, HoldsOneMore}
-use Rattle.sre_board.proofs.Terms.{BitsStay, BitsKept, Sets, HasSlot, Laid, ones_below, Row, cases_order, same_point}
-use Rattle.sre_board.proofs.Terms.{HoldsStill}
+use Rattle.sre_board.proofs.Terms.{BitsStay, BitsKept, Sets, HasSlot, Laid, ones_below, Row, same_point, HoldsStill}
+use Rattle.std.proofs.lemmas.Bool.{cases_order}
 use Rattle.sre_board.proofs.AlikeBySlot.{one_if, same_pair, loops_alike}
 use Rattle.sre_board.proofs.CountingBits.{one_set, sum_set}
 use Rattle.sre_board.proofs.OneEntry.{entry_at}

@@ -1,7 +1,8 @@
 -- The code words of each loop around a configuration exist.
 use Rattle.sre_board.proofs.Terms.{ℕ, ◌+◌, ◌-◌, List, [], length, slice_get_within, Point, Spot, repeats, Lies}
-use Rattle.sre_board.proofs.Terms.{WordsThere, Tree, Item, Reads, Operands, WholeItems, Own, Ends, Law, lies_law}
-use Rattle.sre_board.proofs.Terms.{possessive, until, success}
+use Rattle.sre_board.proofs.Terms.{WordsThere, Reads, Operands, WholeItems}
+use Rattle.sre_model.specs.Tree.{Tree, Item}
+use Rattle.sre_turns.proofs.semantics.Parts.{Own, Ends, Law, lies_law, possessive, until, success}
 
 module _ (ws : List ℕ) where
   own_words : {i j : ℕ} {js : List ℕ} {x : Item} {r : Operands ws i j x} {pt : Point} {ks : List ℕ}

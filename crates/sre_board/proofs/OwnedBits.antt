@@ -5,8 +5,11 @@ use Rattle.sre_board.proofs.Terms.{◌≡◌, ℕ, ◌+◌, ◌-◌, ◌*◌, �
 use Rattle.sre_board.proofs.Terms.{length, Some, slice_get, refl, sym, ap, ◌∙◌, arith, AllByRecursion, sum_by}
 use Rattle.sre_board.proofs.Terms.{same_from_place, same_Some, has_forked_region, Run, Frame, Attempt, Point}
 use Rattle.sre_board.proofs.Terms.{place_under, Lies, repeats, slots, Counted, BitOf, IsOwned, RowLies, toll_at, charge}
-use Rattle.sre_board.proofs.Terms.{IsIn, Apart, Kept, HasSlot, RowsStay, Laid, radix, digit, Row, sum_by-cons, sides}
-use Rattle.sre_board.proofs.Terms.{LiesIn, cost_of, Distinct, whole_costs, positions_of}
+use Rattle.sre_board.proofs.Terms.{IsIn, Apart, Kept, HasSlot, RowsStay, Laid, radix, digit, Row, LiesIn, positions_of}
+use Rattle.std.proofs.lemmas.List.Sums.{sum_by-cons}
+use Rattle.sre_model.specs.Remembered.{sides}
+use Rattle.sre_model.specs.TreePrices.{cost_of}
+use Rattle.sre_turns.proofs.bound.TreeCosts.{Distinct, whole_costs}
 use Rattle.sre_board.proofs.AlikeBySlot.{digit_below}
 use Rattle.sre_board.proofs.RowsThere.{placed_below, within_lines}
 

@@ -3,8 +3,8 @@
 use Rattle.sre_board.proofs.Terms.{◌≡◌, ◌≢◌, ℕ, zero, suc, ◌+◌, ◌-◌, ◌/◌, ◌%◌, ◌<◌, ◌≤◌, inl, inr, List, [], length}
 use Rattle.sre_board.proofs.Terms.{Option, Some, None, slice_index_or, slice_set, refl, sym, ap, ◌∙◌, subst, arith}
 use Rattle.sre_board.proofs.Terms.{eqb_tells, leb_tells, get_or_past, get_or-set_same, get_or-set_other, StringCursor}
-use Rattle.sre_board.proofs.Terms.{EndsTable, end_in, page_at, IsPaged, SameEnds, PutsEnd, HoldsNoEnd, table_of}
-use Rattle.sre_board.specs.Ends.{end_at}
+use Rattle.sre_board.proofs.Terms.{EndsTable, page_at, HoldsNoEnd, table_of}
+use Rattle.sre_board.specs.Ends.{end_in, IsPaged, SameEnds, PutsEnd, end_at}
 
 abbrev Places : Type 0
 Places = List (Option StringCursor)

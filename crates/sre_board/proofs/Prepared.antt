@@ -5,8 +5,8 @@ use Rattle.sre_board.proofs.Terms.{length, Some, slice_get, refl, sym, ap, â—Œâˆ
 use Rattle.sre_board.proofs.Terms.{slice_get_within, mul-le-mul_left, mul-le-mul_right, Run, Attempt, Spot, repeats}
 use Rattle.sre_board.proofs.Terms.{slots, place_of, is_again, Counted, placed_from, Account, RowLies, EndsTable, Kept}
 use Rattle.sre_board.proofs.Terms.{HasRow, HasNoRow, NewRow, Capacity, BitsStay, BitsKept, Laid, Roomy, HasBit}
-use Rattle.sre_board.proofs.Terms.{most_words, Row, most_slots, SettledIn, same_station, same_number, slots_within}
-use Rattle.sre_board.proofs.Terms.{Room, HasSlots}
+use Rattle.sre_board.proofs.Terms.{most_words, Row, most_slots, SettledIn, same_station, same_number, Room, HasSlots}
+use Rattle.sre_turns.proofs.bound.NestedSlots.{slots_within}
 use Rattle.sre_board.proofs.AccountLaws.{account_grows, lies_still}
 use Rattle.sre_board.proofs.FewRows.{fewer_rows}
 use Rattle.sre_board.proofs.LoopsRead.{lies_words}

@@ -1,7 +1,8 @@
 -- What is memoized of the configurations that failed.
 use Rattle.sre_board.proofs.Terms.{◌≡◌, ℕ, ◌+◌, inl, inr, Bool, List, [], ◌∷◌, sym, ap, ◌∙◌, subst, Word, Marks, Run}
 use Rattle.sre_board.proofs.Terms.{FramesAlike, LoopsAlike, Alike, least_from, Spot, Frame, Point, Kept, HoldsNoMore}
-use Rattle.sre_board.proofs.Terms.{HoldsOneMore, Hopeless, HoldsNone, Remembers}
+use Rattle.sre_board.proofs.Terms.{HoldsOneMore, HoldsNone, Remembers}
+use Rattle.sre_turns.specs.Hopeless.{Hopeless}
 
 frames_onward : (ws : List ℕ) (p : ℕ) (f g h : Frame) → FramesAlike ws p f g → FramesAlike ws p g h
     → FramesAlike ws p f h

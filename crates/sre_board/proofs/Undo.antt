@@ -2,7 +2,8 @@
 use Rattle.sre_board.proofs.Terms.{◌≡◌, ℕ, zero, suc, ◌+◌, ◌-◌, ◌<◌, List, [], ◌∷◌, ◌++◌, length, Option, Some, None}
 use Rattle.sre_board.proofs.Terms.{slice_set, slice_index_or, refl, sym, ap, ◌∙◌, arith, get_or-append, set-get_or}
 use Rattle.sre_board.proofs.Terms.{set-set, append-nil, Marks, no_marks, lengthened, set_mark, mark_at, Trail, states}
-use Rattle.sre_board.proofs.Terms.{SetsMark, undo, undone, past_of, trail_of, Change}
+use Rattle.sre_board.proofs.Terms.{SetsMark, undo, undone, past_of, trail_of}
+use Rattle.sre_board.specs.declared.marks.Change.{Change}
 
 -- an entry that was there gets back what it had
 pub back_inside : (n : ℕ) (raw : List (Option ℕ)) (value former : Option ℕ) → n < length raw

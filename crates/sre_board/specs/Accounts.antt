@@ -2,16 +2,11 @@
 -- atomic scope or not. The bit of an instruction that is tried is not set yet. It is set where the instruction fails.
 -- Where the body of an atomic scope ends, what is tried inside has not failed: an end is memoized for the number of its
 -- bit. None is taken in twice.
-use Rattle.std.specs.Prelude.{⊤, ℕ, ◌+◌, ◌-◌, ◌*◌, ◌^◌, ◌<◌, ◌≤◌, ◌≡◌, List, [], ◌∷◌, ◌++◌, length, Some}
-use Rattle.std.specs.Prelude.{slice_get, slice_index}
-use Rattle.std.specs.Int.{bit_at}
-use Rattle.std.specs.List.{AllByRecursion}
-use Rattle.sre_chars.specs.declared.string.StringCursor.{StringCursor}
+use Rattle.sre_board.specs.Terms.{⊤, ℕ, ◌+◌, ◌-◌, ◌*◌, ◌^◌, ◌<◌, ◌≤◌, ◌≡◌, List, [], ◌∷◌, ◌++◌, length, Some, slice_get}
+use Rattle.sre_board.specs.Terms.{slice_index, bit_at, AllByRecursion, StringCursor, Run, Spot, Lies, repeats, slots}
+use Rattle.sre_board.specs.Terms.{most_slots, place_of, is_again}
 use Rattle.sre_model.specs.Remembered.{sides}
-use Rattle.sre_model.specs.Runs.{Run}
 use Rattle.sre_turns.specs.Attempts.{Attempt}
-use Rattle.sre_turns.specs.Moves.{Spot}
-use Rattle.sre_turns.specs.Nested.{Lies, repeats, slots, most_slots, place_of, is_again}
 use Rattle.sre_turns.specs.Prices.{bit_toll}
 use Rattle.sre_model.specs.TreePrices.{cost_of}
 use Rattle.sre_turns.specs.Settled.{Counted}

@@ -1,14 +1,9 @@
 -- The alternatives that a backtrack stack saves, which share one trail and one table of chains.
 -- Definitions for private contracts: the value of a backtrack stack is `BoardValue` of sre_turns.
-use Rattle.std.specs.Prelude.{ℕ, ◌+◌, ◌<◌, ◌≤◌, cond, nat_eq, List, [], ◌∷◌, map, reverse, slice_index_or}
-use Rattle.std.specs.Prelude.{◌≡◌, Bool, true, false, Some, slice_get}
-use Rattle.sre_chars.specs.declared.string.StringCursor.{StringCursor}
-use Rattle.sre_model.specs.Marks.{Marks, no_marks}
+use Rattle.sre_board.specs.Terms.{ℕ, ◌+◌, ◌<◌, ◌≤◌, cond, nat_eq, List, [], ◌∷◌, map, reverse, slice_index_or, ◌≡◌}
+use Rattle.sre_board.specs.Terms.{Bool, true, false, Some, slice_get, StringCursor, Marks, no_marks, Choice, choice}
+use Rattle.sre_board.specs.Terms.{BoardValue, Frame, Inside, Tried, TriedAgain, Point}
 use Rattle.sre_board.specs.Trail.{Trail, states}
-use Rattle.sre_turns.specs.Board.{Choice, choice, BoardValue}
-use Rattle.sre_turns.specs.declared.Frame.{Frame}
-use Rattle.sre_turns.specs.declared.Point.TheVariants.{Inside, Tried, TriedAgain}
-use Rattle.sre_turns.specs.declared.Point.{Point}
 use Rattle.sre_board.specs.declared.saved.Saved.{Saved}
 
 -- a choice, whose marks are found on the trail and whose loops in the table

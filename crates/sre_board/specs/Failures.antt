@@ -1,18 +1,11 @@
 -- The configurations that failed, as bits: one row of bits for each address, one bit for each configuration that makes
 -- a difference there.
-use Rattle.std.specs.Prelude.{ℕ, zero, suc, ◌+◌, ◌-◌, ◌*◌, ◌/◌, ◌%◌, ◌^◌, ◌<◌, ◌≤◌, ◌≡◌, ◌⊎◌, ⊤, Bool, cond, min}
-use Rattle.std.specs.Prelude.{List, [], ◌∷◌, Option, Some, None, slice_get, slice_index, length}
-use Rattle.std.specs.Int.{bit_at}
-use Rattle.std.specs.List.{sum_by}
+use Rattle.sre_board.specs.Terms.{ℕ, zero, suc, ◌+◌, ◌-◌, ◌*◌, ◌/◌, ◌%◌, ◌^◌, ◌<◌, ◌≤◌, ◌≡◌, ◌⊎◌, ⊤, Bool, cond, min}
+use Rattle.sre_board.specs.Terms.{List, [], ◌∷◌, Option, Some, None, slice_get, slice_index, length, bit_at, sum_by}
+use Rattle.sre_board.specs.Terms.{Marks, Run, Spot, repeats, slots, place_under, place_of, is_again, Frame, Point}
 use Rattle.sre_model.specs.Grammar.{word}
-use Rattle.sre_model.specs.Marks.{Marks}
-use Rattle.sre_model.specs.Runs.{Run}
 use Rattle.sre_turns.specs.Alike.{Alike, counted_to, is_last}
 use Rattle.sre_turns.specs.Hopeless.{Hopeless}
-use Rattle.sre_turns.specs.Moves.{Spot}
-use Rattle.sre_turns.specs.Nested.{repeats, slots, place_under, place_of, is_again}
-use Rattle.sre_turns.specs.declared.Frame.{Frame}
-use Rattle.sre_turns.specs.declared.Point.{Point}
 use Rattle.sre_board.specs.declared.failures.Row.{Row}
 use Rattle.sre_board.specs.declared.failures.Known.{Known}
 use Rattle.sre_board.specs.declared.failures.Known.TheVariants.{Failed, Open, NoBit}

@@ -5,3 +5,4 @@ pub mod Failures
 pub mod Apart
 pub mod Accounts
 pub mod Ends
+pub mod Terms

@@ -1,12 +1,9 @@
 //! What a choice stores, and what the choices of a stack need.
 
-ghost use Rattle.std.specs.Prelude.{◌≡◌, ℕ, ◌<◌, ◌≤◌, List, [], ◌∷◌, reverse, MatchOption, true, false};
-ghost use Rattle.sre_model.specs.Marks as values;
-ghost use Rattle.sre_turns.specs.declared.Frame.{Frame};
-ghost use Rattle.sre_chars.specs.declared.string.StringCursor.{StringCursor};
-ghost use Rattle.sre_turns.specs.Board.{choice, Trying, MayBeTried};
-ghost use Rattle.sre_turns.specs.declared.Point.TheVariants.{Instruction, Inside};
+ghost use Rattle.sre_board.specs.Terms.{◌≡◌, ℕ, ◌<◌, ◌≤◌, List, [], ◌∷◌, reverse, MatchOption, true, false, Frame};
+ghost use Rattle.sre_board.specs.Terms.{StringCursor, choice, Trying, MayBeTried, Instruction, Inside};
 ghost use Rattle.sre_board.specs.Choices.{Fits, regions_of, is_tried, down_to_region};
+ghost use Rattle.sre_model.specs.Marks as values;
 
 use sre_chars::string::StringCursor;
 use sre_turns::{Frame, Point, Region};

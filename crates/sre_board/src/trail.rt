@@ -3,8 +3,7 @@
 //! The present captures are stored once, and each change says what its slot held before. So a choice stores its
 //! captures as a length of the trail.
 
-ghost use Rattle.std.specs.Prelude.{◌≡◌, ◌+◌, ◌<◌, ◌≤◌, [], length, take, IfOk};
-ghost use Rattle.sre_model.specs.Marks.{no_marks, set_mark};
+ghost use Rattle.sre_board.specs.Terms.{◌≡◌, ◌+◌, ◌<◌, ◌≤◌, [], length, take, IfOk, no_marks, set_mark};
 ghost use Rattle.sre_board.specs.Trail.{states, SetsMark};
 
 use crate::marks::{Change, Marks};

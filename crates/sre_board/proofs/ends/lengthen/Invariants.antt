@@ -1,4 +1,4 @@
-use Rattle.std.proofs.Common.{◌≡◌, ◌-◌, ◌≤◌, ℕ, length, slice_index_or}
+use Rattle.sre_board.proofs.Terms.{◌≡◌, ◌-◌, ◌≤◌, ℕ, length, slice_index_or}
 use Rattle.sre_board.proofs.ends.lengthen.Given as goal
 
 abbrev pub invariant-more : goal.invariant-more

@@ -1,4 +1,4 @@
-use Rattle.std.proofs.Common.{◌≡◌, ℕ, ◌+◌, ◌-◌, ◌*◌, ap, arith}
+use Rattle.sre_board.proofs.Terms.{◌≡◌, ℕ, ◌+◌, ◌-◌, ◌*◌, ap, arith}
 use Rattle.sre_board.proofs.failures.room.Goals as goal
 
 pub returns-then-length-min-clause-enough : goal.returns-then-length-min-clause-enough

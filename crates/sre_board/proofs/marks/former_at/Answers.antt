@@ -1,4 +1,4 @@
-use Rattle.std.proofs.Common.{arith}
+use Rattle.sre_board.proofs.Terms.{arith}
 use Rattle.sre_board.proofs.Undo.{back_inside}
 use Rattle.sre_board.proofs.marks.former_at.Goals as goal
 

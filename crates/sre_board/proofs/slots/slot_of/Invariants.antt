@@ -1,4 +1,4 @@
-use Rattle.std.proofs.Common.{ℕ, ◌<◌, ◌↔◌, [], length, slice_index_or, ◌^◌}
+use Rattle.sre_board.proofs.Terms.{ℕ, ◌<◌, ◌↔◌, [], length, slice_index_or, ◌^◌}
 use Rattle.sre_board.proofs.NoSlot.{Slotted}
 use Rattle.sre_board.proofs.slots.slot_of.Given as goal
 

@@ -1,4 +1,4 @@
-use Rattle.std.proofs.Common.{arith}
+use Rattle.sre_board.proofs.Terms.{arith}
 use Rattle.sre_board.proofs.InnermostRegion.{few_regions}
 use Rattle.sre_board.proofs.board.Board.add_grown.Goals as goal
 

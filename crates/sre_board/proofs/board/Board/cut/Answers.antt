@@ -1,4 +1,4 @@
-use Rattle.std.proofs.Common.{refl, sym, ◌∙◌}
+use Rattle.sre_board.proofs.Terms.{refl, sym, ◌∙◌}
 use Rattle.sre_board.proofs.InnermostRegion.{no_region, never_none, cut_fits, cut_invariant, cut_held}
 use Rattle.sre_board.proofs.board.Board.cut.Goals as goal
 

@@ -1,4 +1,5 @@
-use Rattle.sre_board.proofs.Terms.{◌∙◌, refl, arith, common_steps}
+use Rattle.sre_board.proofs.Terms.{◌∙◌, refl, arith}
+use Rattle.std.proofs.lemmas.Grind.{common_steps}
 use Rattle.sre_board.proofs.Choosing.{last_off, dropped_fits, dropped_held}
 use Rattle.sre_board.proofs.board.Board.drop_same.Goals as goal
 

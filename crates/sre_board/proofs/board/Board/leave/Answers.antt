@@ -1,4 +1,4 @@
-use Rattle.std.proofs.Common.{◌<◌, ◌≤◌, ◌+◌, ◌-◌, arith}
+use Rattle.sre_board.proofs.Terms.{◌<◌, ◌≤◌, ◌+◌, ◌-◌, arith}
 use Rattle.sre_board.proofs.Choosing.{forget_held}
 use Rattle.sre_board.proofs.board.Board.leave.Goals as goal
 

@@ -1,4 +1,4 @@
-use Rattle.std.proofs.Common.{arith}
+use Rattle.sre_board.proofs.Terms.{arith}
 use Rattle.sre_board.proofs.Choosing.{enter_held, fits-more, pushed_in}
 use Rattle.sre_board.proofs.board.Board.push_loop.Goals as goal
 

@@ -1,4 +1,4 @@
-use Rattle.std.proofs.Common.{refl, arith}
+use Rattle.sre_board.proofs.Terms.{refl, arith}
 use Rattle.sre_board.proofs.ChainLaws.{first_empty, count_law}
 use Rattle.sre_board.proofs.chains.Chains.empty.Goals as goal
 

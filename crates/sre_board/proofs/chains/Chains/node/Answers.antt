@@ -1,4 +1,4 @@
-use Rattle.std.proofs.Common.{arith}
+use Rattle.sre_board.proofs.Terms.{arith}
 use Rattle.sre_board.proofs.ChainLaws.{in_table, node_law}
 use Rattle.sre_board.proofs.chains.Chains.node.Goals as goal
 

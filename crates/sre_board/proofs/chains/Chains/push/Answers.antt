@@ -1,4 +1,4 @@
-use Rattle.std.proofs.Common.{arith, refl}
+use Rattle.sre_board.proofs.Terms.{arith, refl}
 use Rattle.sre_board.proofs.ChainLaws.{push_law, based_push, count_law}
 use Rattle.sre_board.proofs.chains.Chains.push.Goals as goal
 

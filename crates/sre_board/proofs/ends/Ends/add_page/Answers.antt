@@ -1,4 +1,4 @@
-use Rattle.std.proofs.Common.{◌+◌, refl, arith}
+use Rattle.sre_board.proofs.Terms.{◌+◌, refl, arith}
 use Rattle.sre_board.proofs.Pages.{same_ends, added_same}
 use Rattle.sre_board.proofs.ends.Ends.add_page.Goals as goal
 

@@ -1,4 +1,4 @@
-use Rattle.sre_board.specs.Ends.{table_of}
+use Rattle.sre_board.proofs.Terms.{table_of}
 use Rattle.sre_board.proofs.Pages.{no_pages}
 use Rattle.sre_board.proofs.ends.Ends.new.Goals as goal
 

@@ -1,4 +1,4 @@
-use Rattle.std.proofs.Common.{refl}
+use Rattle.sre_board.proofs.Terms.{refl}
 use Rattle.sre_board.proofs.Pages.{same_ends, same_then}
 use Rattle.sre_board.proofs.ends.Ends.page.Goals as goal
 

@@ -1,4 +1,5 @@
-use Rattle.sre_board.proofs.Terms.{◌∙◌, ap, sym, arith, [], Some, slice_index_or, spot_at, Marks, Kept, beq_same}
+use Rattle.sre_board.proofs.Terms.{◌∙◌, ap, sym, arith, [], Some, slice_index_or, spot_at, Marks, Kept}
+use Rattle.sre_model.proofs.CountingRuns.{beq_same}
 use Rattle.sre_board.proofs.OneEntry.{no_index, bit_here}
 use Rattle.sre_board.proofs.failures.Failures.bit_under.Goals as goal
 

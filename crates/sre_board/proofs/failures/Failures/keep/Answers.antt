@@ -1,4 +1,4 @@
-use Rattle.std.proofs.Common.{◌/◌, ◌%◌, arith, rules}
+use Rattle.sre_board.proofs.Terms.{◌/◌, ◌%◌, arith, rules}
 use Rattle.sre_board.proofs.KeptSpots.{written}
 use Rattle.sre_board.proofs.failures.Failures.keep.Goals as goal
 

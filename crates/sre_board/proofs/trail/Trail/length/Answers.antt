@@ -1,4 +1,4 @@
-use Rattle.std.proofs.Common.{arith}
+use Rattle.sre_board.proofs.Terms.{arith}
 use Rattle.sre_board.proofs.Undo.{length-of}
 use Rattle.sre_board.proofs.trail.Trail.length.Goals as goal
 
