@@ -2,9 +2,10 @@
 -- atomic scope or not. The bit of an instruction that is tried is not set yet. It is set where the instruction fails.
 -- Where the body of an atomic scope ends, what is tried inside has not failed: an end is memoized for the number of its
 -- bit. None is taken in twice.
-use Rattle.sre_board.specs.Terms.{⊤, ℕ, ◌+◌, ◌-◌, ◌*◌, ◌^◌, ◌<◌, ◌≤◌, ◌≡◌, List, [], ◌∷◌, ◌++◌, length, Some, slice_get}
-use Rattle.sre_board.specs.Terms.{slice_index, bit_at, AllByRecursion, StringCursor, Run, Spot, Lies, repeats, slots}
-use Rattle.sre_board.specs.Terms.{most_slots, place_of, is_again}
+use Rattle.std.specs.Prelude.{⊤, ℕ, ◌+◌, ◌-◌, ◌*◌, ◌^◌, ◌<◌, ◌≤◌, ◌≡◌, List, [], ◌∷◌, ◌++◌, length, Some, slice_get}
+use Rattle.std.specs.Prelude.{slice_index}
+use Rattle.sre_board.specs.Terms.{bit_at, AllByRecursion, StringCursor, Run, Spot, Lies, repeats, slots, most_slots}
+use Rattle.sre_board.specs.Terms.{place_of, is_again}
 use Rattle.sre_model.specs.Remembered.{sides}
 use Rattle.sre_turns.specs.Attempts.{Attempt}
 use Rattle.sre_turns.specs.Prices.{bit_toll}

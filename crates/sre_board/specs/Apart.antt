@@ -1,5 +1,5 @@
 -- Numbers that are distinct: no two of a list are the same.
-use Rattle.sre_board.specs.Terms.{◌≡◌, ◌⊎◌, ⊤, ℕ, List, [], ◌∷◌}
+use Rattle.std.specs.Prelude.{◌≡◌, ◌⊎◌, ⊤, ℕ, List, [], ◌∷◌}
 
 -- a number is one of a list
 abbrev pub IsIn : ℕ → List ℕ → Type 0

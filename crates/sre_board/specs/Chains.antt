@@ -1,6 +1,7 @@
 -- Loops in progress, as chains that share their ends.
 -- Definitions for private contracts: the value of a backtrack stack is `BoardValue` of sre_turns.
-use Rattle.sre_board.specs.Terms.{ℕ, ◌≤◌, ◌≡◌, List, [], ◌∷◌, ◌++◌, Some, None, cond, slice_index_or, slice_get, Frame}
+use Rattle.std.specs.Prelude.{ℕ, ◌≤◌, ◌≡◌, List, [], ◌∷◌, ◌++◌, Some, None, cond, slice_index_or, slice_get}
+use Rattle.sre_board.specs.Terms.{Frame}
 use Rattle.sre_board.specs.declared.chains.Node.{Node}
 
 -- the frame of a node

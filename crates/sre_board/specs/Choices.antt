@@ -1,8 +1,9 @@
 -- The alternatives that a backtrack stack saves, which share one trail and one table of chains.
 -- Definitions for private contracts: the value of a backtrack stack is `BoardValue` of sre_turns.
-use Rattle.sre_board.specs.Terms.{ℕ, ◌+◌, ◌<◌, ◌≤◌, cond, nat_eq, List, [], ◌∷◌, map, reverse, slice_index_or, ◌≡◌}
-use Rattle.sre_board.specs.Terms.{Bool, true, false, Some, slice_get, StringCursor, Marks, no_marks, Choice, choice}
-use Rattle.sre_board.specs.Terms.{BoardValue, Frame, Inside, Tried, TriedAgain, Point}
+use Rattle.std.specs.Prelude.{ℕ, ◌+◌, ◌<◌, ◌≤◌, cond, nat_eq, List, [], ◌∷◌, map, reverse, slice_index_or, ◌≡◌, Bool}
+use Rattle.std.specs.Prelude.{true, false, Some, slice_get}
+use Rattle.sre_board.specs.Terms.{StringCursor, Marks, no_marks, Choice, choice, BoardValue, Frame, Inside, Tried}
+use Rattle.sre_board.specs.Terms.{TriedAgain, Point}
 use Rattle.sre_board.specs.Trail.{Trail, states}
 use Rattle.sre_board.specs.declared.saved.Saved.{Saved}
 

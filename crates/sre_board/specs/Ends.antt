@@ -1,8 +1,9 @@
 -- Where the bodies of atomic scopes end, memoized by the numbers of configurations inside: each is the number of a bit.
 -- Definitions for the machine's contracts: it memoizes such ends beside failures. What sre_engine makes public does not
 -- rest on it.
-use Rattle.sre_board.specs.Terms.{zero, suc, ◌/◌, ◌%◌, ◌≢◌, ◌≤◌, None, ◌++◌, ◌∷◌, ℕ, ◌+◌, ◌*◌, ◌<◌, ◌≡◌, ◌⊎◌, Bool}
-use Rattle.sre_board.specs.Terms.{true, List, Option, Some, slice_index_or, StringCursor, no_marks, Run, Choice, Spot}
+use Rattle.std.specs.Prelude.{zero, suc, ◌/◌, ◌%◌, ◌≢◌, ◌≤◌, None, ◌++◌, ◌∷◌, ℕ, ◌+◌, ◌*◌, ◌<◌, ◌≡◌, ◌⊎◌, Bool, true}
+use Rattle.std.specs.Prelude.{List, Option, Some, slice_index_or}
+use Rattle.sre_board.specs.Terms.{StringCursor, no_marks, Run, Choice, Spot}
 use Rattle.sre_turns.specs.BodyEnds.{EndsAt}
 use Rattle.sre_turns.specs.OpenMarks.{open_spots}
 use Rattle.sre_board.specs.Failures.{Kept, Entry}

@@ -1,8 +1,9 @@
 -- The configurations that failed, as bits: one row of bits for each address, one bit for each configuration that makes
 -- a difference there.
-use Rattle.sre_board.specs.Terms.{ℕ, zero, suc, ◌+◌, ◌-◌, ◌*◌, ◌/◌, ◌%◌, ◌^◌, ◌<◌, ◌≤◌, ◌≡◌, ◌⊎◌, ⊤, Bool, cond, min}
-use Rattle.sre_board.specs.Terms.{List, [], ◌∷◌, Option, Some, None, slice_get, slice_index, length, bit_at, sum_by}
-use Rattle.sre_board.specs.Terms.{Marks, Run, Spot, repeats, slots, place_under, place_of, is_again, Frame, Point}
+use Rattle.std.specs.Prelude.{ℕ, zero, suc, ◌+◌, ◌-◌, ◌*◌, ◌/◌, ◌%◌, ◌^◌, ◌<◌, ◌≤◌, ◌≡◌, ◌⊎◌, ⊤, Bool, cond, min, List}
+use Rattle.std.specs.Prelude.{[], ◌∷◌, Option, Some, None, slice_get, slice_index, length}
+use Rattle.sre_board.specs.Terms.{bit_at, sum_by, Marks, Run, Spot, repeats, slots, place_under, place_of, is_again}
+use Rattle.sre_board.specs.Terms.{Frame, Point}
 use Rattle.sre_model.specs.Grammar.{word}
 use Rattle.sre_turns.specs.Alike.{Alike, counted_to, is_last}
 use Rattle.sre_turns.specs.Hopeless.{Hopeless}

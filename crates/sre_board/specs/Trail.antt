@@ -1,6 +1,6 @@
 -- The trail: the capture slots now, and what they were before each change that can be undone.
 -- Definitions for private contracts: the value of a backtrack stack is `BoardValue` of sre_turns.
-use Rattle.sre_board.specs.Terms.{ℕ, ◌≡◌, ◌≤◌, List, [], ◌∷◌, ◌++◌, Option, Some, None, take, slice_set, slice_index_or}
+use Rattle.std.specs.Prelude.{ℕ, ◌≡◌, ◌≤◌, List, [], ◌∷◌, ◌++◌, Option, Some, None, take, slice_set, slice_index_or}
 use Rattle.sre_board.specs.Terms.{Marks, no_marks, set_mark, index_of}
 use Rattle.sre_board.specs.declared.marks.Former.{Former}
 use Rattle.sre_board.specs.declared.marks.Change.{Change}

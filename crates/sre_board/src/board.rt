@@ -3,9 +3,9 @@
 //! Its value has frames, captures and choices as if each choice held its own copy. In memory all choices share one
 //! trail and one table of chains. A chain is dropped as soon as no choice can return to it.
 
-ghost use Rattle.sre_board.specs.Terms.{◌≡◌, ◌<◌, ◌≤◌, [], ◌∷◌, length, IfOk, MatchOption, true, false, slice_index_or};
-ghost use Rattle.sre_board.specs.Terms.{IfSome, OnErr, ◌+◌, ◌^◌, no_marks, set_mark, group, Trying, choice, MayBeTried};
-ghost use Rattle.std.specs.Prelude.{drop};
+ghost use Rattle.std.specs.Prelude.{drop, ◌≡◌, ◌<◌, ◌≤◌, [], ◌∷◌, length, IfOk, MatchOption, true, false};
+ghost use Rattle.std.specs.Prelude.{slice_index_or, IfSome, OnErr, ◌+◌, ◌^◌};
+ghost use Rattle.sre_board.specs.Terms.{no_marks, set_mark, group, Trying, choice, MayBeTried};
 ghost use Rattle.sre_growth.specs.Refusal.{Refused};
 ghost use Rattle.sre_turns.specs.Board.{Keep, from_region, Cuts, Dropped, bare};
 ghost use Rattle.sre_turns.specs.Fruit.{is_inside};

@@ -2,8 +2,7 @@
 //!
 //! A chain has a number, so a choice stores its loops as one number.
 
-ghost use Rattle.sre_board.specs.Terms.{true, false, ◌≡◌, ◌+◌, ◌<◌, ◌≤◌, ◌++◌, ◌∷◌, [], length, take, IfOk};
-ghost use Rattle.sre_board.specs.Terms.{slice_index_or};
+ghost use Rattle.std.specs.Prelude.{true, false, ◌≡◌, ◌+◌, ◌<◌, ◌≤◌, ◌++◌, ◌∷◌, [], length, take, IfOk, slice_index_or};
 ghost use Rattle.sre_board.specs.Chains.{frame_of};
 
 use sre_growth::Refusal;

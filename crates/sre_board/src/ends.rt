@@ -3,7 +3,7 @@
 //! The numbers are in pages of 64, one for each word of bits. A page is added when its first end is stored, and has an
 //! entry for each of its numbers. Nothing moves, and no single end is dropped. So a lookup takes two reads.
 
-ghost use Rattle.sre_board.specs.Terms.{◌≡◌, ◌+◌, ◌/◌, ◌^◌, ◌<◌, ◌≤◌, [], ℕ, length, slice_index_or, IfOk, IfErr};
+ghost use Rattle.std.specs.Prelude.{◌≡◌, ◌+◌, ◌/◌, ◌^◌, ◌<◌, ◌≤◌, [], ℕ, length, slice_index_or, IfOk, IfErr};
 ghost use Rattle.sre_board.specs.Terms.{Marks, spot_at};
 ghost use Rattle.sre_board.specs.Ends.{HoldsEnd, HoldsNoEnd, HoldsOneEndMore, HoldsOpenMore, HoldsSpotMore, KeepsEnds};
 ghost use Rattle.sre_board.specs.Ends.{KeepsOpenEnds, HoldsOpenEnds, KeepsSpotEnds, HasEnd, end_at, page_at, SameEnds};

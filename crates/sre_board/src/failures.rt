@@ -8,9 +8,10 @@
 //! many slots a row may be a part, and a configuration past its end has no bit. Nothing is assumed of the bytecode: if
 //! a word is missing, there is no bit either.
 
-ghost use Rattle.sre_board.specs.Terms.{◌≡◌, ◌≢◌, ℕ, ◌+◌, ◌-◌, ◌*◌, ◌^◌, ◌<◌, ◌≤◌, true, false, [], ◌∷◌, ◌++◌, length};
-ghost use Rattle.sre_board.specs.Terms.{if◌then◌else◌, is_ok, MatchOption, Some, IfOk, slice_get, slice_index_or, cond};
-ghost use Rattle.sre_board.specs.Terms.{◌/◌, ◌%◌, IfSome, replicate, Marks, spot_at, repeats, slots, place_under};
+ghost use Rattle.std.specs.Prelude.{◌≡◌, ◌≢◌, ℕ, ◌+◌, ◌-◌, ◌*◌, ◌^◌, ◌<◌, ◌≤◌, true, false, [], ◌∷◌, ◌++◌, length};
+ghost use Rattle.std.specs.Prelude.{if◌then◌else◌, is_ok, MatchOption, Some, IfOk, slice_get, slice_index_or, cond};
+ghost use Rattle.std.specs.Prelude.{◌/◌, ◌%◌, IfSome, replicate};
+ghost use Rattle.sre_board.specs.Terms.{Marks, spot_at, repeats, slots, place_under};
 ghost use Rattle.sre_turns.specs.Fruit.{is_inside};
 ghost use Rattle.sre_board.specs.Ends.{NumberOf};
 ghost use Rattle.sre_board.specs.Failures.{Entry, HoldsNone, HoldsNoMore, HoldsOneMore, HasBit, HasNoRow, HasSlots};

@@ -1,7 +1,8 @@
 //! [`Marks`]: the captures of a match.
 
-ghost use Rattle.sre_board.specs.Terms.{◌≡◌, ℕ, ◌+◌, ◌*◌, ◌^◌, ◌<◌, ◌≤◌, length, Option, None, Some, IfOk, true};
-ghost use Rattle.sre_board.specs.Terms.{slice_index_or, slice_set, no_marks, set_mark, mark_at, lengthened};
+ghost use Rattle.std.specs.Prelude.{◌≡◌, ℕ, ◌+◌, ◌*◌, ◌^◌, ◌<◌, ◌≤◌, length, Option, None, Some, IfOk, true};
+ghost use Rattle.std.specs.Prelude.{slice_index_or, slice_set};
+ghost use Rattle.sre_board.specs.Terms.{no_marks, set_mark, mark_at, lengthened};
 ghost use Rattle.sre_board.specs.Trail.{restored, undo};
 
 use sre_growth::Refusal;

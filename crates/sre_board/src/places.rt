@@ -2,8 +2,8 @@
 //! possessive loop, before a body or its end, has that of its first operand, where no instruction is. Also what a list
 //! says of the addresses at which the bodies of the loops in progress begin.
 
-ghost use Rattle.sre_board.specs.Terms.{◌≡◌, ℕ, ◌+◌, ◌<◌, [], length, MatchOption, Some, true, slice_get};
-ghost use Rattle.sre_board.specs.Terms.{slice_index_or, repeats, place_under, is_again, Again};
+ghost use Rattle.std.specs.Prelude.{◌≡◌, ℕ, ◌+◌, ◌<◌, [], length, MatchOption, Some, true, slice_get, slice_index_or};
+ghost use Rattle.sre_board.specs.Terms.{repeats, place_under, is_again, Again};
 ghost use Rattle.sre_turns.specs.AskedPlaces.{SaysOfBodies};
 ghost use Rattle.sre_board.specs.Failures.{AreRead};
 

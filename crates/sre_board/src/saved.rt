@@ -1,7 +1,7 @@
 //! What a choice stores, and what the choices of a stack need.
 
-ghost use Rattle.sre_board.specs.Terms.{◌≡◌, ℕ, ◌<◌, ◌≤◌, List, [], ◌∷◌, reverse, MatchOption, true, false, Frame};
-ghost use Rattle.sre_board.specs.Terms.{StringCursor, choice, Trying, MayBeTried, Instruction, Inside};
+ghost use Rattle.std.specs.Prelude.{◌≡◌, ℕ, ◌<◌, ◌≤◌, List, [], ◌∷◌, reverse, MatchOption, true, false};
+ghost use Rattle.sre_board.specs.Terms.{Frame, StringCursor, choice, Trying, MayBeTried, Instruction, Inside};
 ghost use Rattle.sre_board.specs.Choices.{Fits, regions_of, is_tried, down_to_region};
 ghost use Rattle.sre_model.specs.Marks as values;
 

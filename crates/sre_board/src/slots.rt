@@ -4,8 +4,9 @@
 //! A row belongs to a list of loop addresses, innermost first. It has as many slots as these loops have such states, or
 //! the list has no row.
 
-ghost use Rattle.sre_board.specs.Terms.{◌≡◌, ℕ, ◌+◌, ◌*◌, ◌^◌, ◌<◌, ◌≤◌, List, [], ◌++◌, length, MatchOption, IfOk};
-ghost use Rattle.sre_board.specs.Terms.{slice_index_or, repeats, slots};
+ghost use Rattle.std.specs.Prelude.{◌≡◌, ℕ, ◌+◌, ◌*◌, ◌^◌, ◌<◌, ◌≤◌, List, [], ◌++◌, length, MatchOption, IfOk};
+ghost use Rattle.std.specs.Prelude.{slice_index_or};
+ghost use Rattle.sre_board.specs.Terms.{repeats, slots};
 ghost use Rattle.sre_turns.specs.Alike.{is_last};
 ghost use Rattle.sre_board.specs.Failures.{HasSlot, HasShape, IsPassed, AreRead, WordsThere, counted_at, digit, radix};
 

@@ -3,7 +3,8 @@
 //! The present captures are stored once, and each change says what its slot held before. So a choice stores its
 //! captures as a length of the trail.
 
-ghost use Rattle.sre_board.specs.Terms.{◌≡◌, ◌+◌, ◌<◌, ◌≤◌, [], length, take, IfOk, no_marks, set_mark};
+ghost use Rattle.std.specs.Prelude.{◌≡◌, ◌+◌, ◌<◌, ◌≤◌, [], length, take, IfOk};
+ghost use Rattle.sre_board.specs.Terms.{no_marks, set_mark};
 ghost use Rattle.sre_board.specs.Trail.{states, SetsMark};
 
 use crate::marks::{Change, Marks};

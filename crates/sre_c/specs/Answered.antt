@@ -1,7 +1,8 @@
 -- What an export reports of a match.
 -- Public clauses rest on it.
-use Rattle.sre_c.specs.Terms.{ℕ, ◌≡◌, ◌<◌, ◌-◌, ◌^◌, List, length, slice_index, Bool, true, false, cond, Option, Some}
-use Rattle.sre_c.specs.Terms.{None, Ok, Global, Tree, Whole, IsCode, mark_at, Asked, Match, Refused}
+use Rattle.std.specs.Prelude.{ℕ, ◌≡◌, ◌<◌, ◌-◌, ◌^◌, List, length, slice_index, Bool, true, false, cond, Option, Some}
+use Rattle.std.specs.Prelude.{None, Ok}
+use Rattle.sre_c.specs.Terms.{Global, Tree, Whole, IsCode, mark_at, Asked, Match, Refused}
 use Rattle.sre_c.specs.declared.status.Status.{Status}
 use Rattle.sre_c.specs.declared.status.Status.TheVariants.{No, Yes, StepLimit, Memory, NoCode, NoRoom}
 use Rattle.sre_c.specs.declared.status.Status.TheVariants.{NotUtf8, FaultyTable}

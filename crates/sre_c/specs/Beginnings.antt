@@ -1,7 +1,8 @@
 -- What an export says of where a match may begin.
 -- Public clauses rest on it.
-use Rattle.sre_c.specs.Terms.{ℕ, ◌≡◌, ◌<◌, ◌||◌, nat_le, Bool, true, false, List, [], length, slice_index_or, Some}
-use Rattle.sre_c.specs.Terms.{None, Global, Table, Tree, Whole, IsCode, Marks, Refused}
+use Rattle.std.specs.Prelude.{ℕ, ◌≡◌, ◌<◌, ◌||◌, nat_le, Bool, true, false, List, [], length, slice_index_or, Some}
+use Rattle.std.specs.Prelude.{None}
+use Rattle.sre_c.specs.Terms.{Global, Table, Tree, Whole, IsCode, Marks, Refused}
 use Rattle.sre_model.specs.Characters.{holds}
 use Rattle.sre_model.specs.Tree.{Test}
 use Rattle.sre_model.specs.Subject.{Subject, after}

@@ -1,6 +1,7 @@
 -- What an export says of a step bound.
 -- Public clauses rest on it.
-use Rattle.sre_c.specs.Terms.{ℕ, ◌≡◌, length, Global, Tree, Whole, IsCode, behind_block, Refused}
+use Rattle.std.specs.Prelude.{ℕ, ◌≡◌, length}
+use Rattle.sre_c.specs.Terms.{Global, Tree, Whole, IsCode, behind_block, Refused}
 use Rattle.sre_code.specs.StepBounds.{IsStepBound, HasNoStepBound}
 use Rattle.sre_c.specs.declared.status.Status.{Status}
 use Rattle.sre_c.specs.declared.status.Status.TheVariants.{No, Yes, StepLimit, Memory, NoCode, NoRoom}

@@ -1,7 +1,7 @@
 -- What a check leaves.
 -- Public clauses rest on it.
-use Rattle.sre_c.specs.Terms.{◌≡◌, ◌≢◌, ◌≤◌, true, false, length, Some, None, Global, lists_fault, Tree, Whole, IsCode}
-use Rattle.sre_c.specs.Terms.{Refused, place_of}
+use Rattle.std.specs.Prelude.{◌≡◌, ◌≢◌, ◌≤◌, true, false, length, Some, None}
+use Rattle.sre_c.specs.Terms.{Global, lists_fault, Tree, Whole, IsCode, Refused, place_of}
 use Rattle.sre_chars.specs.declared.table.UniError.{UniError}
 use Rattle.sre_chars.specs.Errors.{uni_error_number}
 use Rattle.sre_code.specs.Refusals.{refusal_number}

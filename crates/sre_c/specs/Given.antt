@@ -1,8 +1,7 @@
 -- What a caller passes, in the terms of the specification.
 -- Public clauses rest on it.
-use Rattle.sre_c.specs.Terms.{ℕ, ◌≡◌, ◌<◌, ◌⊎◌, List, length, cond, Option, Table, Tree, Whole, behind_block, Asked}
-use Rattle.sre_c.specs.Terms.{Match, matched, found}
-use Rattle.std.specs.Prelude.{min}
+use Rattle.std.specs.Prelude.{min, ℕ, ◌≡◌, ◌<◌, ◌⊎◌, List, length, cond, Option}
+use Rattle.sre_c.specs.Terms.{Table, Tree, Whole, behind_block, Asked, Match, matched, found}
 use Rattle.std.specs.Str.{chars, IsUtf8}
 use Rattle.sre_chars.specs.declared.constants.EmptyRule.TheVariants.{Never, NonBoundary}
 use Rattle.sre_model.specs.Remembered.{IsRemembered, step_bound}

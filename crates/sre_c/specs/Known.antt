@@ -1,6 +1,7 @@
 -- What a check has reported of lists and bytecode.
 -- Public clauses rest on it.
-use Rattle.sre_c.specs.Terms.{ℕ, ◌≡◌, false, List, cond, Some, None, Table, lent_table, Tree, Whole}
+use Rattle.std.specs.Prelude.{ℕ, ◌≡◌, false, List, cond, Some, None}
+use Rattle.sre_c.specs.Terms.{Table, lent_table, Tree, Whole}
 use Rattle.sre_model.specs.References.{refers, asked_from}
 use Rattle.sre_model.specs.LooksBehind.{longest_lookbehind}
 use Rattle.sre_code.specs.Hinted.{Confirmed}

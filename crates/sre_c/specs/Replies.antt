@@ -1,9 +1,8 @@
 -- What the engine answers a request, and what a status says of that.
 -- Definitions for the contracts inside this crate; what it makes public does not rest on it.
-use Rattle.sre_c.specs.Terms.{ℕ, ◌≡◌, ◌<◌, List, Bool, true, false, cond, Option, Some, None, Result, Ok, IfOk, IfSome}
-use Rattle.sre_c.specs.Terms.{OnErr, Global, Tree, Whole, Asked, Match, matched, found, Refused, SreError, Shown}
-use Rattle.sre_c.specs.Terms.{match_shown}
-use Rattle.std.specs.Prelude.{Err}
+use Rattle.std.specs.Prelude.{Err, ℕ, ◌≡◌, ◌<◌, List, Bool, true, false, cond, Option, Some, None, Result, Ok, IfOk}
+use Rattle.std.specs.Prelude.{IfSome, OnErr}
+use Rattle.sre_c.specs.Terms.{Global, Tree, Whole, Asked, Match, matched, found, Refused, SreError, Shown, match_shown}
 use Rattle.sre_engine.specs.Answers.{answer_of}
 use Rattle.sre_c.specs.declared.status.Status.{Status}
 use Rattle.sre_c.specs.declared.status.Status.TheVariants.{No, Yes, StepLimit, Memory, NoCode, NoRoom}

@@ -1,9 +1,9 @@
 -- How far an iteration of a request is written.
 -- Definitions for the contracts inside this crate; what it makes public does not rest on it.
-use Rattle.sre_c.specs.Terms.{ℕ, ◌≡◌, ◌≤◌, ◌<◌, ◌+◌, ◌*◌, ◌⊎◌, List, [], ◌∷◌, length, take, Bool, false, Option, Some}
-use Rattle.sre_c.specs.Terms.{None, Result, Ok, OnErr, slice_index, Global, Tree, Whole, Marks, Asked, Match, found}
-use Rattle.sre_c.specs.Terms.{walk, asked_after, Refused, words_of, start_of, end_of, code_of, asked_of, KeepsToSteps}
-use Rattle.sre_c.specs.Terms.{SreError, Shown, match_with}
+use Rattle.std.specs.Prelude.{ℕ, ◌≡◌, ◌≤◌, ◌<◌, ◌+◌, ◌*◌, ◌⊎◌, List, [], ◌∷◌, length, take, Bool, false, Option, Some}
+use Rattle.std.specs.Prelude.{None, Result, Ok, OnErr, slice_index}
+use Rattle.sre_c.specs.Terms.{Global, Tree, Whole, Marks, Asked, Match, found, walk, asked_after, Refused, words_of}
+use Rattle.sre_c.specs.Terms.{start_of, end_of, code_of, asked_of, KeepsToSteps, SreError, Shown, match_with}
 use Rattle.sre_chars.specs.declared.string.StrDrive.{Ghosts}
 use Rattle.sre_engine.specs.Counts.{AreEnough, runs_of}
 use Rattle.sre_request.specs.declared.request.Request.{Request}

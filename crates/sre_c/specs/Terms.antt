@@ -1,8 +1,5 @@
 -- The words from elsewhere which contracts and definitions of this crate name.
 pub use Rattle.std.specs.Global.{Global}
-pub use Rattle.std.specs.Prelude.{Bool, IfNone, IfOk, IfSome, List, None, Ok, OnErr, Option, Result, Some, [], cond}
-pub use Rattle.std.specs.Prelude.{false, length, nat_le, slice_index, slice_index_or, take, true, ◌*◌, ◌+◌, ◌-◌, ◌<◌}
-pub use Rattle.std.specs.Prelude.{◌^◌, ◌||◌, ◌∷◌, ◌≡◌, ◌≢◌, ◌≤◌, ◌⊎◌, ℕ}
 pub use Rattle.sre_chars.specs.Lists.{lent_table, lists_fault}
 pub use Rattle.sre_chars.specs.Tables.{Table}
 pub use Rattle.sre_code.specs.Codes.{items_of, words_of}

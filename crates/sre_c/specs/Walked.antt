@@ -1,10 +1,8 @@
 -- What an export reports of an iteration.
 -- Public clauses rest on it.
-use Rattle.sre_c.specs.Terms.{ℕ, ◌≡◌, ◌<◌, ◌+◌, ◌-◌, ◌*◌, ◌^◌, ◌⊎◌, List, [], ◌∷◌, length, slice_index, take, Bool}
-use Rattle.sre_c.specs.Terms.{false, Option, Some, None, Ok, Global, Tree, Whole, IsCode, mark_at, Asked, Match, walk}
-use Rattle.sre_c.specs.Terms.{Refused}
-use Rattle.std.specs.Prelude.{◌==◌, if◌then◌else◌, ℤ, pos, negsuc}
-use Rattle.std.specs.Prelude.{◌++◌}
+use Rattle.std.specs.Prelude.{◌==◌, if◌then◌else◌, ℤ, pos, negsuc, ◌++◌, ℕ, ◌≡◌, ◌<◌, ◌+◌, ◌-◌, ◌*◌, ◌^◌, ◌⊎◌, List, []}
+use Rattle.std.specs.Prelude.{◌∷◌, length, slice_index, take, Bool, false, Option, Some, None, Ok}
+use Rattle.sre_c.specs.Terms.{Global, Tree, Whole, IsCode, mark_at, Asked, Match, walk, Refused}
 use Rattle.sre_c.specs.declared.status.Status.{Status}
 use Rattle.sre_c.specs.declared.status.Status.TheVariants.{No, Yes, StepLimit, Memory, NoCode, NoRoom}
 use Rattle.sre_c.specs.declared.status.Status.TheVariants.{NotUtf8, FaultyTable}

@@ -1,6 +1,7 @@
 //! Calls by a pattern, with what earlier ones have built.
 
-ghost use Rattle.sre_c.specs.Terms.{◌≡◌, ◌≤◌, ℕ, List, length, IfSome, None, Table, Suits};
+ghost use Rattle.std.specs.Prelude.{◌≡◌, ◌≤◌, ℕ, List, length, IfSome, None};
+ghost use Rattle.sre_c.specs.Terms.{Table, Suits};
 ghost use Rattle.sre_c.specs.Known.{table_in};
 ghost use Rattle.sre_c.specs.Answered.{Answers};
 ghost use Rattle.sre_c.specs.Walked.{Walks};

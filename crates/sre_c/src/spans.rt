@@ -1,7 +1,8 @@
 //! The iteration over spans, which writes them in rows, with captures if the rows have room for them.
 
-ghost use Rattle.sre_c.specs.Terms.{◌≡◌, ◌<◌, ◌≤◌, ◌+◌, ℕ, length, slice_index, true, false, IfOk, OnErr, Refused};
-ghost use Rattle.sre_c.specs.Terms.{Marks, items_of, SetsOf, string_of, start_of, code_of, stands_in, match_with};
+ghost use Rattle.std.specs.Prelude.{◌≡◌, ◌<◌, ◌≤◌, ◌+◌, ℕ, length, slice_index, true, false, IfOk, OnErr};
+ghost use Rattle.sre_c.specs.Terms.{Refused, Marks, items_of, SetsOf, string_of, start_of, code_of, stands_in};
+ghost use Rattle.sre_c.specs.Terms.{match_with};
 ghost use Rattle.sre_finder.specs.Finders.{EndStands};
 ghost use Rattle.sre_finder.specs.Spans.{FindsNone};
 ghost use Rattle.sre_c.specs.Walked.{entry_of, IsRow};

@@ -3,7 +3,8 @@
 //! The field `checked` says that a check accepted the struct, and carries that as a fact. A caller in C passes the
 //! struct back, and so guarantees that the fact still holds.
 
-ghost use Rattle.sre_c.specs.Terms.{◌≡◌, true, None, lent_table, lists_fault};
+ghost use Rattle.std.specs.Prelude.{◌≡◌, true, None};
+ghost use Rattle.sre_c.specs.Terms.{lent_table, lists_fault};
 
 use sre_engine::UniPair;
 

@@ -1,7 +1,7 @@
 //! The iteration over matches, which writes them in rows.
 
-ghost use Rattle.sre_c.specs.Terms.{◌≡◌, ◌<◌, ◌≤◌, ◌+◌, ◌*◌, ℕ, length, slice_index, IfNone, items_of, SetsOf};
-ghost use Rattle.sre_c.specs.Terms.{string_of, start_of, end_of, code_of, stands_in, match_shown};
+ghost use Rattle.std.specs.Prelude.{◌≡◌, ◌<◌, ◌≤◌, ◌+◌, ◌*◌, ℕ, length, slice_index, IfNone};
+ghost use Rattle.sre_c.specs.Terms.{items_of, SetsOf, string_of, start_of, end_of, code_of, stands_in, match_shown};
 ghost use Rattle.sre_engine.specs.Requests.{must_advance_of};
 ghost use Rattle.sre_c.specs.Known.{table_in};
 ghost use Rattle.sre_c.specs.Walked.{index_number, entry_of, begun_of, IsRow, Walks};

@@ -1,6 +1,7 @@
 -- Which characters a set of ASCII characters has.
 -- Definitions for the machine's contracts; what sre_engine makes public does not rest on it.
-use Rattle.sre_code.specs.Terms.{ℕ, ◌-◌, Bool, nat_eq, nat_lt, ◌&&◌, if◌then◌else◌, bit_at}
+use Rattle.std.specs.Prelude.{ℕ, ◌-◌, Bool, nat_eq, nat_lt, ◌&&◌, if◌then◌else◌}
+use Rattle.sre_code.specs.Terms.{bit_at}
 use Rattle.sre_code.specs.declared.ascii_set.AsciiSet.{AsciiSet}
 
 -- whether a set has c: the 64 characters from 0 on are the bits of one half, those from 64 on of the other

@@ -1,7 +1,7 @@
 -- Which ASCII characters the items of a set take.
 -- Definitions for the check's contracts; what sre_engine makes public does not rest on it.
-use Rattle.sre_code.specs.Terms.{ℕ, ◌≡◌, ◌<◌, Bool, true, ◌&&◌, ◌||◌, List, Option, Some, None, Table, SetItem}
-use Rattle.sre_code.specs.Terms.{is_member, SetStands, ItemSays, verdict}
+use Rattle.std.specs.Prelude.{ℕ, ◌≡◌, ◌<◌, Bool, true, ◌&&◌, ◌||◌, List, Option, Some, None}
+use Rattle.sre_code.specs.Terms.{Table, SetItem, is_member, SetStands, ItemSays, verdict}
 use Rattle.sre_code.specs.AsciiSet.{contains}
 use Rattle.sre_code.specs.declared.ascii_set.AsciiSet.{AsciiSet}
 

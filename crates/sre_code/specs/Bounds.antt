@@ -1,7 +1,7 @@
 -- The step bound as it is computed: by its parts, and where it takes more than 64 bits.
 -- Definitions for the check's contracts; what sre_engine makes public does not rest on it.
-use Rattle.sre_code.specs.Terms.{ℕ, ◌+◌, ◌*◌, ◌/◌, ◌^◌, ◌≡◌, ◌<◌, ◌≤◌, true, false, max, Option, Some, None, Tree}
-use Rattle.sre_code.specs.Terms.{refers, has_forked_region, marks_in_regions, most_slots, sides}
+use Rattle.std.specs.Prelude.{ℕ, ◌+◌, ◌*◌, ◌/◌, ◌^◌, ◌≡◌, ◌<◌, ◌≤◌, true, false, max, Option, Some, None}
+use Rattle.sre_code.specs.Terms.{Tree, refers, has_forked_region, marks_in_regions, most_slots, sides}
 use Rattle.sre_code.specs.Prices.{cost_at}
 use Rattle.sre_code.specs.StepBounds.{IsStepBound, HasNoStepBound}
 use Rattle.sre_code.specs.declared.code.bounds.Counted.{Counted}

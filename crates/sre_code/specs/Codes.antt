@@ -1,6 +1,7 @@
 -- What a code shows.
 -- Public clauses rest on it.
-use Rattle.sre_code.specs.Terms.{ℕ, List, Table, behind_block}
+use Rattle.std.specs.Prelude.{ℕ, List}
+use Rattle.sre_code.specs.Terms.{Table, behind_block}
 use Rattle.sre_code.specs.declared.code.Hints.{Hints}
 use Rattle.sre_code.specs.declared.code.Code.{Code}
 

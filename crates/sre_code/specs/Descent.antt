@@ -1,7 +1,8 @@
 -- The descent of the check into the bytecode, with a stack of open parts.
 -- Definitions for the check's contracts; what sre_engine makes public does not rest on it.
-use Rattle.sre_code.specs.Terms.{ℕ, ◌+◌, ◌-◌, ◌*◌, ◌≡◌, ◌≢◌, ◌<◌, ◌≤◌, List, length, Result, Ok, Err, Tree, Opcode}
-use Rattle.sre_code.specs.Terms.{Reads, capped, width, Refused, [], ◌∷◌, ◌++◌, reverse}
+use Rattle.std.specs.Prelude.{ℕ, ◌+◌, ◌-◌, ◌*◌, ◌≡◌, ◌≢◌, ◌<◌, ◌≤◌, List, length, Result, Ok, Err, [], ◌∷◌, ◌++◌}
+use Rattle.std.specs.Prelude.{reverse}
+use Rattle.sre_code.specs.Terms.{Tree, Opcode, Reads, capped, width, Refused}
 use Rattle.sre_chars.specs.declared.constants.SreOpcode.TheVariants as opcode
 use Rattle.sre_code.specs.Refusals.{place_of}
 use Rattle.sre_code.specs.Steps.{Finishes}

@@ -1,7 +1,8 @@
 -- What is computed of the first items of trees.
 -- Definitions for the check's contracts; what sre_engine makes public does not rest on it.
-use Rattle.sre_code.specs.Terms.{ℕ, ◌-◌, ◌≡◌, ◌≤◌, Bool, true, List, length, Option, Decides, SreOpcode, Tree, Trees}
-use Rattle.sre_code.specs.Terms.{SetItem, SetStands, HasSet, role, is_end, Opcode, Reads, ReadsBranch}
+use Rattle.std.specs.Prelude.{ℕ, ◌-◌, ◌≡◌, ◌≤◌, Bool, true, List, length, Option}
+use Rattle.sre_code.specs.Terms.{Decides, SreOpcode, Tree, Trees, SetItem, SetStands, HasSet, role, is_end, Opcode}
+use Rattle.sre_code.specs.Terms.{Reads, ReadsBranch}
 use Rattle.sre_code.specs.declared.ascii_set.AsciiSet.{AsciiSet}
 use Rattle.sre_code.specs.AsciiSets.{AreTold}
 

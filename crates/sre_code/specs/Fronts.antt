@@ -1,7 +1,7 @@
 -- The INFO block that a check passes over.
 -- Definitions for the check's contracts; what sre_engine makes public does not rest on it.
-use Rattle.sre_code.specs.Terms.{ℕ, ◌≡◌, ◌≢◌, ◌<◌, ◌≤◌, true, false, List, length, drop, Result, Ok, Err, Tree, Whole}
-use Rattle.sre_code.specs.Terms.{skip, has_block, behind_block, fits_block}
+use Rattle.std.specs.Prelude.{ℕ, ◌≡◌, ◌≢◌, ◌<◌, ◌≤◌, true, false, List, length, drop, Result, Ok, Err}
+use Rattle.sre_code.specs.Terms.{Tree, Whole, skip, has_block, behind_block, fits_block}
 use Rattle.sre_code.specs.Reading.{IsFault}
 use Rattle.sre_code.specs.declared.code.error.CodeError.{CodeError}
 

@@ -1,6 +1,7 @@
 -- What is known of a code.
 -- Public clauses rest on it.
-use Rattle.sre_code.specs.Terms.{◌≡◌, ◌↔◌, IsTrue, ℕ, List, Table, Tree, confirmed_width, is_literal, HasFirstSet}
+use Rattle.std.specs.Prelude.{◌≡◌, ◌↔◌, IsTrue, ℕ, List}
+use Rattle.sre_code.specs.Terms.{Table, Tree, confirmed_width, is_literal, HasFirstSet}
 use Rattle.sre_model.specs.Claims.{confirmed_prefix}
 use Rattle.sre_code.specs.declared.code.Hints.{Hints}
 

@@ -1,8 +1,9 @@
 -- Instructions: where the next one is, bodies included.
 -- Definitions for the check's contracts; what sre_engine makes public does not rest on it.
-use Rattle.sre_code.specs.Terms.{ℕ, ◌+◌, ◌≡◌, ◌<◌, ◌⊎◌, List, Option, Some, None, SreOpcode, Test, Opcode, Role, ToFail}
-use Rattle.sre_code.specs.Terms.{ToMark, ToBranch, ToRun, ToRepeat, ToRepeatPossessively, ToGroupAtomically, ToLook}
-use Rattle.sre_code.specs.Terms.{ToRefer, role, ToEnd, ToCheckPosition, ToJump, ToLoop}
+use Rattle.std.specs.Prelude.{ℕ, ◌+◌, ◌≡◌, ◌<◌, ◌⊎◌, List, Option, Some, None}
+use Rattle.sre_code.specs.Terms.{SreOpcode, Test, Opcode, Role, ToFail, ToMark, ToBranch, ToRun, ToRepeat}
+use Rattle.sre_code.specs.Terms.{ToRepeatPossessively, ToGroupAtomically, ToLook, ToRefer, role, ToEnd, ToCheckPosition}
+use Rattle.sre_code.specs.Terms.{ToJump, ToLoop}
 use Rattle.sre_code.specs.Reading.{ReadsTest}
 
 -- how many words an instruction has before its body or what is behind it: with a BRANCH and a JUMP goes the length word

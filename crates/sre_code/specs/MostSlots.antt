@@ -1,7 +1,7 @@
 -- How many counter states the loops of a code have, if it has no back-references or conditionals.
 -- Public clauses rest on it.
-use Rattle.sre_code.specs.Terms.{ℕ, ◌^◌, ◌≡◌, ◌<◌, ◌≤◌, true, false, Option, Some, None, Tree, refers}
-use Rattle.sre_code.specs.Terms.{has_forked_region, marks_in_regions, most_slots}
+use Rattle.std.specs.Prelude.{ℕ, ◌^◌, ◌≡◌, ◌<◌, ◌≤◌, true, false, Option, Some, None}
+use Rattle.sre_code.specs.Terms.{Tree, refers, has_forked_region, marks_in_regions, most_slots}
 
 -- the tree has no references, where a region forks none sets a mark, and its loops have so many slots at most, which
 -- are no more than may be told apart

@@ -1,6 +1,7 @@
 -- What an owned code shows.
 -- Public clauses rest on it.
-use Rattle.sre_code.specs.Terms.{ℕ, List, Table}
+use Rattle.std.specs.Prelude.{ℕ, List}
+use Rattle.sre_code.specs.Terms.{Table}
 use Rattle.sre_code.specs.declared.owned.OwnedCode.{OwnedCode}
 
 -- the words

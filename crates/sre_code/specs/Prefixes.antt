@@ -1,7 +1,7 @@
 -- What is left of the items after MARKs and after a prefix.
 -- Definitions for the check's contracts; what sre_engine makes public does not rest on it.
-use Rattle.sre_code.specs.Terms.{ℕ, ◌+◌, ◌-◌, ◌≡◌, ◌≤◌, true, List, length, Option, Some, None, SreOpcode, Tree, role}
-use Rattle.sre_code.specs.Terms.{is_end, Word, Opcode, Reads, behind_marks}
+use Rattle.std.specs.Prelude.{ℕ, ◌+◌, ◌-◌, ◌≡◌, ◌≤◌, true, List, length, Option, Some, None}
+use Rattle.sre_code.specs.Terms.{SreOpcode, Tree, role, is_end, Word, Opcode, Reads, behind_marks}
 use Rattle.sre_chars.specs.declared.constants.SreOpcode.TheVariants as opcode
 
 -- the items end where the last word is, with SUCCESS

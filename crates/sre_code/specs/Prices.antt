@@ -1,9 +1,10 @@
 -- Prices of items as they are computed: the steps and costs they come to, whatever follows and whatever loops are
 -- around them.
 -- Definitions for the check's contracts; what sre_engine makes public does not rest on it.
-use Rattle.sre_code.specs.Terms.{ℕ, ◌+◌, ◌-◌, ◌*◌, ◌^◌, ◌≡◌, ◌<◌, ◌≤◌, Bool, true, false, ◌&&◌, cond, max, List, Option}
-use Rattle.sre_code.specs.Terms.{Some, None, SreOpcode, Tree, Item, Loop, Trees, Order, Word, skip, Opcode, Operands}
-use Rattle.sre_code.specs.Terms.{Reads, ReadsBranch, Role, ToFail, ToRun, ToBranch, ToRepeat, ToRepeatPossessively}
+use Rattle.std.specs.Prelude.{ℕ, ◌+◌, ◌-◌, ◌*◌, ◌^◌, ◌≡◌, ◌<◌, ◌≤◌, Bool, true, false, ◌&&◌, cond, max, List, Option}
+use Rattle.std.specs.Prelude.{Some, None}
+use Rattle.sre_code.specs.Terms.{SreOpcode, Tree, Item, Loop, Trees, Order, Word, skip, Opcode, Operands, Reads}
+use Rattle.sre_code.specs.Terms.{ReadsBranch, Role, ToFail, ToRun, ToBranch, ToRepeat, ToRepeatPossessively}
 use Rattle.sre_code.specs.Terms.{ToGroupAtomically, ToLook, role, refers, nesting, scan_price, Branch, PossessiveLoop}
 use Rattle.sre_code.specs.Terms.{Atomic, PossessiveRun, by_references, of_item, by_nesting, steps_of, item_steps}
 use Rattle.sre_code.specs.Terms.{other_ends, cost_of, item_cost, most_steps}

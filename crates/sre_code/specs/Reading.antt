@@ -1,7 +1,8 @@
 -- Words, sets and tests: what the check's answers say of them.
 -- Definitions for the check's contracts; what sre_engine makes public does not rest on it.
-use Rattle.sre_code.specs.Terms.{ℕ, ◌≡◌, ◌≢◌, ◌<◌, ◌≤◌, List, length, Result, Ok, Err, SreOpcode, Fold, Test, SetItem}
-use Rattle.sre_code.specs.Terms.{Word, word, skip, Opcode, ReadsSet, test_opcode, TestOperands}
+use Rattle.std.specs.Prelude.{ℕ, ◌≡◌, ◌≢◌, ◌<◌, ◌≤◌, List, length, Result, Ok, Err}
+use Rattle.sre_code.specs.Terms.{SreOpcode, Fold, Test, SetItem, Word, word, skip, Opcode, ReadsSet, test_opcode}
+use Rattle.sre_code.specs.Terms.{TestOperands}
 use Rattle.sre_code.specs.Refusals.{place_of}
 use Rattle.sre_code.specs.declared.code.error.CodeError.{CodeError}
 use Rattle.sre_code.specs.declared.code.error.CodeError.TheVariants.{Memory}

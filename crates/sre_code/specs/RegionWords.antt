@@ -1,7 +1,7 @@
 -- Code words of atomic scopes, which are atomic groups, lookarounds and possessive loops: where a body ends.
 -- Definitions for the check's contracts; what sre_engine makes public does not rest on it.
-use Rattle.sre_code.specs.Terms.{ℕ, ◌+◌, ◌-◌, ◌≡◌, List, Option, Some, None, SreOpcode, Role, ToRepeatPossessively}
-use Rattle.sre_code.specs.Terms.{ToGroupAtomically, ToLook, role, Opcode, skip}
+use Rattle.std.specs.Prelude.{ℕ, ◌+◌, ◌-◌, ◌≡◌, List, Option, Some, None}
+use Rattle.sre_code.specs.Terms.{SreOpcode, Role, ToRepeatPossessively, ToGroupAtomically, ToLook, role, Opcode, skip}
 use Rattle.sre_chars.specs.declared.constants.SreOpcode.TheVariants as opcode
 
 -- where the SUCCESS stands that ends a region's body, by where its skip leads: there, or before it; None for others

@@ -1,8 +1,8 @@
 -- Counter states of items, as a scan computes them: each loop is passed with its body.
 -- Definitions for the check's contracts; what sre_engine makes public does not rest on it.
-use Rattle.sre_code.specs.Terms.{ℕ, ◌+◌, ◌*◌, ◌≡◌, ◌<◌, ◌≤◌, false, List, Option, Some, None, SreOpcode, Tree, Loop}
-use Rattle.sre_code.specs.Terms.{Order, Word, Opcode, Operands, Reads, Role, ToRepeat, ToRepeatPossessively, role}
-use Rattle.sre_code.specs.Terms.{refers, loop_slots, most_slots}
+use Rattle.std.specs.Prelude.{ℕ, ◌+◌, ◌*◌, ◌≡◌, ◌<◌, ◌≤◌, false, List, Option, Some, None}
+use Rattle.sre_code.specs.Terms.{SreOpcode, Tree, Loop, Order, Word, Opcode, Operands, Reads, Role, ToRepeat}
+use Rattle.sre_code.specs.Terms.{ToRepeatPossessively, role, refers, loop_slots, most_slots}
 use Rattle.sre_code.specs.Instructions.{Behind, NoneBehind}
 use Rattle.sre_code.specs.declared.code.slots.Kind.{Kind}
 use Rattle.sre_code.specs.declared.code.slots.Kind.TheVariants as kind

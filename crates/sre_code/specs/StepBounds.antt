@@ -1,6 +1,7 @@
 -- How many steps suffice for a code, in each range of a text of so many characters.
 -- Public clauses rest on it.
-use Rattle.sre_code.specs.Terms.{ℕ, ◌+◌, ◌^◌, ◌≡◌, ◌<◌, ◌≤◌, Tree, nesting, Asked, IsRemembered, step_bound}
+use Rattle.std.specs.Prelude.{ℕ, ◌+◌, ◌^◌, ◌≡◌, ◌<◌, ◌≤◌}
+use Rattle.sre_code.specs.Terms.{Tree, nesting, Asked, IsRemembered, step_bound}
 
 -- a range of a text of at most so many characters
 pub record IsWindow (characters : ℕ) (a : Asked) : Type 0 where

@@ -1,9 +1,9 @@
 -- Summaries of code words: what a scan notes of each instruction, and what it then says of the tree.
 -- Definitions for the check's contracts; what sre_engine makes public does not rest on it.
-use Rattle.sre_code.specs.Terms.{ℕ, ◌+◌, ◌-◌, ◌^◌, ◌≡◌, true, false, ◌||◌, nat_lt, min, max, Tree, Role, ToMark}
-use Rattle.sre_code.specs.Terms.{ToBranch, ToRun, ToRepeat, ToRepeatPossessively, ToGroupAtomically, ToLook, ToRefer}
-use Rattle.sre_code.specs.Terms.{refers, longest_lookbehind, marks_in_regions, has_forked_region, no_group, asked_from}
-use Rattle.sre_code.specs.Terms.{asked_to, backs}
+use Rattle.std.specs.Prelude.{ℕ, ◌+◌, ◌-◌, ◌^◌, ◌≡◌, true, false, ◌||◌, nat_lt, min, max}
+use Rattle.sre_code.specs.Terms.{Tree, Role, ToMark, ToBranch, ToRun, ToRepeat, ToRepeatPossessively, ToGroupAtomically}
+use Rattle.sre_code.specs.Terms.{ToLook, ToRefer, refers, longest_lookbehind, marks_in_regions, has_forked_region}
+use Rattle.sre_code.specs.Terms.{no_group, asked_from, asked_to, backs}
 use Rattle.sre_code.specs.declared.code.summary.Summary.{Summary}
 
 -- a branch, a run or a loop at i, which is in an atomic scope if one that has begun ends behind it

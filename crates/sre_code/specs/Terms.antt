@@ -2,10 +2,6 @@
 pub use Rattle.std.specs.Bool.{Decides}
 pub use Rattle.std.specs.Int.{bit_at}
 pub use Rattle.std.specs.List.{flat_map}
-pub use Rattle.std.specs.Prelude.{Bool, Err, IfErr, IfOk, IfSome, IsTrue, List, None, Ok, OnOk, Option, Result, Some}
-pub use Rattle.std.specs.Prelude.{[], cond, drop, false, if◌then◌else◌, length, max, min, nat_eq, nat_le, nat_lt, not}
-pub use Rattle.std.specs.Prelude.{reverse, slice_index, slice_range, true, ◌%◌, ◌&&◌, ◌*◌, ◌++◌, ◌+◌, ◌-◌, ◌/◌, ◌<◌}
-pub use Rattle.std.specs.Prelude.{◌^◌, ◌||◌, ◌↔◌, ◌∷◌, ◌≡◌, ◌≢◌, ◌≤◌, ◌⊎◌, ℕ}
 pub use Rattle.sre_chars.specs.Categories.{category}
 pub use Rattle.sre_chars.specs.Numbers.{category_number}
 pub use Rattle.sre_chars.specs.Tables.{Table, is_between}

@@ -2,8 +2,8 @@
 //!
 //! Most characters are ASCII. For these a test of one bit replaces a loop over the set's items.
 
-ghost use Rattle.sre_code.specs.Terms.{◌≡◌, ℕ, ◌+◌, ◌<◌, ◌≤◌, ◌&&◌, ◌||◌, List, length, slice_range, IfSome, Table};
-ghost use Rattle.sre_code.specs.Terms.{SetItem, Charset, item_holds, is_member, Opcode, SetStands, HasSet};
+ghost use Rattle.std.specs.Prelude.{◌≡◌, ℕ, ◌+◌, ◌<◌, ◌≤◌, ◌&&◌, ◌||◌, List, length, slice_range, IfSome};
+ghost use Rattle.sre_code.specs.Terms.{Table, SetItem, Charset, item_holds, is_member, Opcode, SetStands, HasSet};
 ghost use Rattle.sre_code.specs.AsciiSet.{contains};
 ghost use Rattle.sre_code.specs.AsciiSets.{HoldsFor};
 

@@ -3,8 +3,9 @@
 //! A membership test is a shift and a mask, instead of a loop over a set's items. The definition `contains` in `specs/`
 //! says which characters a set has, and each contract uses it. No set has a character past ASCII.
 
-ghost use Rattle.sre_code.specs.Terms.{◌≡◌, ◌<◌, ◌/◌, ◌%◌, ◌^◌, ◌&&◌, ◌||◌, ℕ, false, nat_eq, nat_lt, slice_index};
-ghost use Rattle.sre_code.specs.Terms.{if◌then◌else◌, bit_at, Table, is_between, category, category_number, not};
+ghost use Rattle.std.specs.Prelude.{◌≡◌, ◌<◌, ◌/◌, ◌%◌, ◌^◌, ◌&&◌, ◌||◌, ℕ, false, nat_eq, nat_lt, slice_index};
+ghost use Rattle.std.specs.Prelude.{if◌then◌else◌, not};
+ghost use Rattle.sre_code.specs.Terms.{bit_at, Table, is_between, category, category_number};
 ghost use Rattle.sre_code.specs.AsciiSet.{contains};
 
 use sre_chars::constants::SreCatCode;

@@ -7,7 +7,7 @@
 //! the least width of a match. A scan without a stack then computes [`Code::refers`], [`Code::asked_from`] and
 //! [`Code::longest_lookbehind`]. At last the claims of the INFO block are compared with the first items.
 
-ghost use Rattle.sre_code.specs.Terms.{◌≡◌, ◌≢◌, ◌≤◌, ◌-◌, ◌^◌, false, length, IfOk, IfErr, OnOk, IfSome, None, min};
+ghost use Rattle.std.specs.Prelude.{◌≡◌, ◌≢◌, ◌≤◌, ◌-◌, ◌^◌, false, length, IfOk, IfErr, OnOk, IfSome, None, min};
 ghost use Rattle.sre_code.specs.Terms.{Tree, Whole, marks_in_regions, IsCode, behind_block, Refused};
 ghost use Rattle.sre_model.specs.References as references;
 ghost use Rattle.sre_model.specs.LooksBehind as looks_behind;

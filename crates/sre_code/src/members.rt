@@ -3,10 +3,11 @@
 //! A set is items, then FAILURE. The first item that holds for a character decides, and each NEGATE before it inverts
 //! the result. For each kind of item a function returns whether it holds, and the address of the next one.
 
-ghost use Rattle.sre_code.specs.Terms.{◌≡◌, ℕ, ◌+◌, ◌*◌, ◌/◌, ◌%◌, ◌^◌, ◌<◌, ◌≤◌, ◌≢◌, List, length, nat_eq};
-ghost use Rattle.sre_code.specs.Terms.{slice_index, slice_range, category_number, category, Table, is_between, SetItem};
-ghost use Rattle.sre_code.specs.Terms.{Charset, item_holds, is_member, Opcode, word, BlocksBelow, SetStands, HasSet};
-ghost use Rattle.sre_code.specs.Terms.{ItemSays, flat_map, RangeUniIgnore, BigCharset, bytes_of};
+ghost use Rattle.std.specs.Prelude.{◌≡◌, ℕ, ◌+◌, ◌*◌, ◌/◌, ◌%◌, ◌^◌, ◌<◌, ◌≤◌, ◌≢◌, List, length, nat_eq, slice_index};
+ghost use Rattle.std.specs.Prelude.{slice_range};
+ghost use Rattle.sre_code.specs.Terms.{category_number, category, Table, is_between, SetItem, Charset, item_holds};
+ghost use Rattle.sre_code.specs.Terms.{is_member, Opcode, word, BlocksBelow, SetStands, HasSet, ItemSays, flat_map};
+ghost use Rattle.sre_code.specs.Terms.{RangeUniIgnore, BigCharset, bytes_of};
 
 use crate::ascii_set::AsciiSet;
 use crate::operands::{category_code, operand, word};

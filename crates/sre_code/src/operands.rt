@@ -1,6 +1,7 @@
 //! Operands of checked bytecode, which a proof knows to exist.
 
-ghost use Rattle.sre_code.specs.Terms.{◌≡◌, ◌+◌, ◌<◌, ◌^◌, length, category_number, Word, word, AreWords, HasCategory};
+ghost use Rattle.std.specs.Prelude.{◌≡◌, ◌+◌, ◌<◌, ◌^◌, length};
+ghost use Rattle.sre_code.specs.Terms.{category_number, Word, word, AreWords, HasCategory};
 
 use sre_chars::constants::SreCatCode;
 use std::convert::TryFrom;

@@ -1,6 +1,7 @@
 //! A code that owns its bytecode and tables, and lends a [`Code`].
 
-ghost use Rattle.sre_code.specs.Terms.{◌≡◌, ◌≢◌, ◌≤◌, false, length, IfOk, IfErr, OnOk, Tree, Whole, IsCode, Refused};
+ghost use Rattle.std.specs.Prelude.{◌≡◌, ◌≢◌, ◌≤◌, false, length, IfOk, IfErr, OnOk};
+ghost use Rattle.sre_code.specs.Terms.{Tree, Whole, IsCode, Refused};
 ghost use Rattle.sre_model.specs.References as references;
 ghost use Rattle.sre_model.specs.LooksBehind as looks_behind;
 ghost use Rattle.sre_code.specs.Hinted.{Confirmed};

@@ -1,9 +1,10 @@
 -- Where a match may begin.
 -- Of the public contracts: what callers know of a code's first characters rests on it.
-use Rattle.sre_engine.specs.Terms.{ℕ, ◌≡◌, ◌<◌, ◌||◌, nat_le, nat_lt, cond, Bool, true, false, List, [], Option, Some}
-use Rattle.sre_engine.specs.Terms.{None, IsSomeAnd, Table, SreAtCode, BEGINNING_LINE, contains, AsciiSet, holds, Whole}
-use Rattle.sre_engine.specs.Terms.{Marks, Subject, after, holds_at, Tree, Then, One, At, Mark, Test, Any, InCategory}
-use Rattle.sre_engine.specs.Terms.{Literal, NotLiteral, Plain, ways, BEGINNING, BEGINNING_STRING, Locale}
+use Rattle.std.specs.Prelude.{ℕ, ◌≡◌, ◌<◌, ◌||◌, nat_le, nat_lt, cond, Bool, true, false, List, [], Option, Some, None}
+use Rattle.std.specs.Prelude.{IsSomeAnd}
+use Rattle.sre_engine.specs.Terms.{Table, SreAtCode, BEGINNING_LINE, contains, AsciiSet, holds, Whole, Marks, Subject}
+use Rattle.sre_engine.specs.Terms.{after, holds_at, Tree, Then, One, At, Mark, Test, Any, InCategory, Literal}
+use Rattle.sre_engine.specs.Terms.{NotLiteral, Plain, ways, BEGINNING, BEGINNING_STRING, Locale}
 use Rattle.sre_model.specs.Tree.{Run}
 
 -- each match path of a code begins with a character of a set, or with one past ASCII

@@ -1,9 +1,10 @@
 -- The starts that a search tries, one after the other.
 -- Definitions for the search's contracts; what sre_engine makes public does not rest on it.
-use Rattle.sre_engine.specs.Terms.{ℕ, ◌+◌, ◌-◌, ◌*◌, ◌^◌, ◌≡◌, ◌<◌, ◌≤◌, true, false, List, Option, Some, None, length}
-use Rattle.sre_engine.specs.Terms.{IfSome, StringCursor, Tree, SetItem, Marks, Whole, WholeItems, Asked, Match}
-use Rattle.sre_engine.specs.Terms.{at_start, RunStands, is_anchored, behind_items, Run, Decides, outcomes, AreTold}
-use Rattle.sre_engine.specs.Terms.{words_of, hints_of, Code, ReadsBehind}
+use Rattle.std.specs.Prelude.{ℕ, ◌+◌, ◌-◌, ◌*◌, ◌^◌, ◌≡◌, ◌<◌, ◌≤◌, true, false, List, Option, Some, None, length}
+use Rattle.std.specs.Prelude.{IfSome}
+use Rattle.sre_engine.specs.Terms.{StringCursor, Tree, SetItem, Marks, Whole, WholeItems, Asked, Match, at_start}
+use Rattle.sre_engine.specs.Terms.{RunStands, is_anchored, behind_items, Run, Decides, outcomes, AreTold, words_of}
+use Rattle.sre_engine.specs.Terms.{hints_of, Code, ReadsBehind}
 use Rattle.sre_engine.specs.Counts.{width_fits, may_start}
 use Rattle.sre_engine.specs.Members.{IsFirstSet}
 use Rattle.sre_engine.specs.Prefixed.{IsPrefix}

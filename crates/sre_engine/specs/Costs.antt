@@ -1,9 +1,9 @@
 -- What a search that is limited costs at most, where no allocation fails.
 -- Definitions for the contracts inside this crate; what it makes public does not rest on it.
 use Rattle.std.specs.declared.alloc.Allocator.{Ghosts as Memory}
-use Rattle.sre_engine.specs.Terms.{ℕ, ◌+◌, ◌*◌, ◌≤◌, ◌≡◌, ◌⊎◌, Bool, true, Result, IfErr, Ghosts, Refused, Request}
-use Rattle.sre_engine.specs.Terms.{code_of, asked_of, run_of, most_steps, is_limited, left_of, Halted, Allowance, Halt}
-use Rattle.sre_engine.specs.Terms.{Remembering, rows_from, each_of, most_paid, window_of}
+use Rattle.std.specs.Prelude.{ℕ, ◌+◌, ◌*◌, ◌≤◌, ◌≡◌, ◌⊎◌, Bool, true, Result, IfErr}
+use Rattle.sre_engine.specs.Terms.{Ghosts, Refused, Request, code_of, asked_of, run_of, most_steps, is_limited, left_of}
+use Rattle.sre_engine.specs.Terms.{Halted, Allowance, Halt, Remembering, rows_from, each_of, most_paid, window_of}
 use Rattle.sre_engine.specs.Counts.{SpentUpTo}
 
 -- what so many runs count for at most, by the credits that are granted to them

@@ -1,8 +1,9 @@
 -- What an iterator over matches shows, and what its next item is.
 -- Of the specification: what sre_engine makes public rests on it.
-use Rattle.sre_engine.specs.Terms.{◌≡◌, ◌≤◌, ℕ, ◌+◌, Bool, true, false, cond, List, [], ◌∷◌, Option, Some, None, Result}
-use Rattle.sre_engine.specs.Terms.{Ok, Err, Ghosts, Tree, Whole, is_anchored, no_marks, Match, walk, most_matches}
-use Rattle.sre_engine.specs.Terms.{words_of, Request, end_of, code_of, asked_of, Refused}
+use Rattle.std.specs.Prelude.{◌≡◌, ◌≤◌, ℕ, ◌+◌, Bool, true, false, cond, List, [], ◌∷◌, Option, Some, None, Result, Ok}
+use Rattle.std.specs.Prelude.{Err}
+use Rattle.sre_engine.specs.Terms.{Ghosts, Tree, Whole, is_anchored, no_marks, Match, walk, most_matches, words_of}
+use Rattle.sre_engine.specs.Terms.{Request, end_of, code_of, asked_of, Refused}
 use Rattle.sre_engine.specs.declared.engine.state.SreError.{SreError}
 use Rattle.sre_engine.specs.declared.engine.search_iter.SearchIter.{SearchIter}
 use Rattle.sre_engine.specs.Answers.{Shown, match_shown, MayTakeMemory}

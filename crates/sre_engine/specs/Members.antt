@@ -1,8 +1,8 @@
 -- The FIRST set of a code, and where a match may begin by it.
 -- Public clauses rest on it.
 use Rattle.sre_chars.specs.declared.constants.SreOpcode.TheVariants as opcode
-use Rattle.sre_engine.specs.Terms.{ℕ, ◌-◌, ◌≡◌, ◌<◌, ◌≤◌, Bool, true, false, List, Option, Some, None, StringCursor}
-use Rattle.sre_engine.specs.Terms.{SetItem, is_member, after, Opcode, skip, Asked, subject_of, ReadsSet}
+use Rattle.std.specs.Prelude.{ℕ, ◌-◌, ◌≡◌, ◌<◌, ◌≤◌, Bool, true, false, List, Option, Some, None}
+use Rattle.sre_engine.specs.Terms.{StringCursor, SetItem, is_member, after, Opcode, skip, Asked, subject_of, ReadsSet}
 
 -- the words from word 5 up to the block's end are a set's
 abbrev pub IsFirstSet : List ℕ → List SetItem → Type 0

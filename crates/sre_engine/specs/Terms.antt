@@ -2,9 +2,6 @@
 -- Public contracts rest on it.
 pub use Rattle.std.proofs.Common.{ap}
 pub use Rattle.std.proofs.Props.{props}
-pub use Rattle.std.specs.Prelude.{Bool, Err, IfErr, IfOk, IfSome, IsSomeAnd, IsTrue, List, MatchOption, None, Ok, OnErr}
-pub use Rattle.std.specs.Prelude.{Option, Result, Some, [], cond, false, length, map, nat_eq, nat_le, nat_lt, not, true}
-pub use Rattle.std.specs.Prelude.{◌*◌, ◌++◌, ◌+◌, ◌-◌, ◌<◌, ◌^◌, ◌||◌, ◌↔◌, ◌∷◌, ◌≡◌, ◌≢◌, ◌≤◌, ◌⊎◌, ℕ}
 pub use Rattle.std.specs.Vec.{vec_len}
 pub use Rattle.sre_board.specs.Accounts.{most_paid}
 pub use Rattle.sre_chars.specs.Numbers.{at_number}

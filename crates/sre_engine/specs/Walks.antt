@@ -1,7 +1,8 @@
 -- A step of an iteration.
 -- Of the specification: what sre_engine makes public rests on it.
-use Rattle.sre_engine.specs.Terms.{◌≡◌, ◌≤◌, Bool, cond, List, [], ◌∷◌, Ghosts, Match, asked_after, Request, string_of}
-use Rattle.sre_engine.specs.Terms.{start_of, end_of, code_of, asked_of, stands_in}
+use Rattle.std.specs.Prelude.{◌≡◌, ◌≤◌, Bool, cond, List, [], ◌∷◌}
+use Rattle.sre_engine.specs.Terms.{Ghosts, Match, asked_after, Request, string_of, start_of, end_of, code_of, asked_of}
+use Rattle.sre_engine.specs.Terms.{stands_in}
 use Rattle.sre_engine.specs.Answers.{Shown, Spans, match_shown}
 
 -- the matches left are the one that the state then shows and those left after it, where there is one, and none else

@@ -1,7 +1,8 @@
 -- What a finder knows of its code.
 -- Definitions for the contracts of this crate.
-use Rattle.sre_finder.specs.Terms.{◌≡◌, ⊤, ℕ, List, Option, Some, None, Re, meaning, Hir, StringCursor, Tree}
-use Rattle.sre_finder.specs.Terms.{WholeItems, items_of, uni_of, Code, view_of, Encoding, CoversStart, NoneLeft}
+use Rattle.std.specs.Prelude.{◌≡◌, ⊤, ℕ, List, Option, Some, None}
+use Rattle.sre_finder.specs.Terms.{Re, meaning, Hir, StringCursor, Tree, WholeItems, items_of, uni_of, Code, view_of}
+use Rattle.sre_finder.specs.Terms.{Encoding, CoversStart, NoneLeft}
 use Rattle.sre_finder.specs.declared.prefilter.Prefilter.{Prefilter}
 
 -- a pattern covers each start of a code's tree

@@ -1,7 +1,7 @@
 -- What is kept of a finder suits a code.
 -- Definitions for the contracts of this crate.
-use Rattle.sre_finder.specs.Terms.{◌≡◌, ℕ, List, IfSome, Table, behind_block, words_of, uni_of, Code, Encoding, Bytes}
-use Rattle.sre_finder.specs.Terms.{Ascii, Utf8, SetsOf}
+use Rattle.std.specs.Prelude.{◌≡◌, ℕ, List, IfSome}
+use Rattle.sre_finder.specs.Terms.{Table, behind_block, words_of, uni_of, Code, Encoding, Bytes, Ascii, Utf8, SetsOf}
 use Rattle.sre_finder.specs.Finders.{CoveringAny}
 use Rattle.sre_finder.specs.Spans.{ExactlyAny}
 use Rattle.sre_finder.specs.declared.kept.Kept.{Kept}

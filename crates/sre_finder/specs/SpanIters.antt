@@ -1,8 +1,8 @@
 -- What an iteration over spans shows, and what its next item is.
 -- Definitions for the contracts of this crate.
-use Rattle.sre_finder.specs.Terms.{◌≡◌, ℕ, true, false, List, Option, Some, None, Ghosts, Tree, Whole, Marks, Match}
-use Rattle.sre_finder.specs.Terms.{found, walk, most_matches, words_of, Request, code_of, asked_of, Encoding, Refused}
-use Rattle.sre_finder.specs.Terms.{Shown, MayTakeMemory, ◌+◌, Bool, cond, [], ◌∷◌, Result, Ok, Err, Asked, SreError}
+use Rattle.std.specs.Prelude.{◌≡◌, ℕ, true, false, List, Option, Some, None, ◌+◌, Bool, cond, [], ◌∷◌, Result, Ok, Err}
+use Rattle.sre_finder.specs.Terms.{Ghosts, Tree, Whole, Marks, Match, found, walk, most_matches, words_of, Request}
+use Rattle.sre_finder.specs.Terms.{code_of, asked_of, Encoding, Refused, Shown, MayTakeMemory, Asked, SreError}
 use Rattle.sre_finder.specs.declared.span_iter.Span.{Span}
 use Rattle.sre_finder.specs.declared.span_iter.SpanIter.{SpanIter}
 use Rattle.sre_finder.specs.Spans.{match_with, GoesOnBehind}

@@ -1,9 +1,9 @@
 -- The spans of an iteration's matches, and what a finder of spans knows of its code.
 -- Definitions for the contracts of this crate.
-use Rattle.sre_finder.specs.Terms.{◌≡◌, ◌≤◌, ⊤, ℕ, nat_eq, Option, Some, None, Re, meaning, Hir, Ghosts, StringCursor}
-use Rattle.sre_finder.specs.Terms.{Tree, Whole, WholeItems, Marks, Match, found, words_of, items_of, uni_of, Code}
-use Rattle.sre_finder.specs.Terms.{Request, string_of, start_of, end_of, code_of, asked_of, stands_in, Shown}
-use Rattle.sre_finder.specs.Terms.{match_shown, view_of, Encoding, IsMinLen, ExactTree}
+use Rattle.std.specs.Prelude.{◌≡◌, ◌≤◌, ⊤, ℕ, nat_eq, Option, Some, None}
+use Rattle.sre_finder.specs.Terms.{Re, meaning, Hir, Ghosts, StringCursor, Tree, Whole, WholeItems, Marks, Match, found}
+use Rattle.sre_finder.specs.Terms.{words_of, items_of, uni_of, Code, Request, string_of, start_of, end_of, code_of}
+use Rattle.sre_finder.specs.Terms.{asked_of, stands_in, Shown, match_shown, view_of, Encoding, IsMinLen, ExactTree}
 use Rattle.sre_finder.specs.declared.span_finder.Known.{Known}
 use Rattle.sre_finder.specs.declared.span_finder.Known.TheVariants as known
 

@@ -1,6 +1,4 @@
 -- The words from elsewhere which contracts and definitions of this crate name.
-pub use Rattle.std.specs.Prelude.{Bool, Err, IfOk, IfSome, List, None, Ok, OnErr, Option, Result, Some, [], cond, false}
-pub use Rattle.std.specs.Prelude.{length, map, nat_eq, true, ◌&&◌, ◌+◌, ◌<◌, ◌∷◌, ◌≡◌, ◌≤◌, ℕ, ⊤}
 pub use Rattle.std.specs.Str.{chars}
 pub use Rattle.std.specs.Vec.{vec_len}
 pub use Rattle.regex_hir.specs.Matches.{IsMinLen}

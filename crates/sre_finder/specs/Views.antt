@@ -1,6 +1,7 @@
 -- How a text is seen as bytes up to a position.
 -- Definitions for the contracts of this crate.
-use Rattle.sre_finder.specs.Terms.{ℕ, ◌≡◌, ◌≤◌, List, length, view_of, Encoding, Subject}
+use Rattle.std.specs.Prelude.{ℕ, ◌≡◌, ◌≤◌, List, length}
+use Rattle.sre_finder.specs.Terms.{view_of, Encoding, Subject}
 
 -- the bytes up to a position of a text, where `place` tells at which byte a position stands
 pub record SeenAs (encoding : Encoding) (text : List ℕ) (place : ℕ → ℕ) (end : ℕ) (hay : List ℕ) : Type 0 where

@@ -1,9 +1,9 @@
 //! [`Finder`]: a code with its prefilter.
 
-ghost use Rattle.sre_finder.specs.Terms.{◌≡◌, ◌≤◌, IfOk, OnErr, None, Refused, Tree, Whole, no_marks, walk};
-ghost use Rattle.sre_finder.specs.Terms.{most_matches, words_of, start_of, code_of, asked_of, MayTakeMemory};
-ghost use Rattle.sre_finder.specs.Terms.{KeepsToSteps, runs_of, Answered, AnsweredWithin, map, vec_len, AreInOrder};
-ghost use Rattle.sre_finder.specs.Terms.{CountsOfWalk, RunsOnceAnchored, match_of};
+ghost use Rattle.std.specs.Prelude.{◌≡◌, ◌≤◌, IfOk, OnErr, None, map};
+ghost use Rattle.sre_finder.specs.Terms.{Refused, Tree, Whole, no_marks, walk, most_matches, words_of, start_of};
+ghost use Rattle.sre_finder.specs.Terms.{code_of, asked_of, MayTakeMemory, KeepsToSteps, runs_of, Answered};
+ghost use Rattle.sre_finder.specs.Terms.{AnsweredWithin, vec_len, AreInOrder, CountsOfWalk, RunsOnceAnchored, match_of};
 ghost use Rattle.sre_finder.specs.Finders.{EndStands};
 
 use crate::haystack::Haystack;

@@ -2,9 +2,9 @@
 //!
 //! It searches for a byte pattern that covers the code: first for a required literal, then by DFAs.
 
-ghost use Rattle.sre_finder.specs.Terms.{◌≡◌, ◌≤◌, length, IfSome, true, None, Tree, Whole, words_of, string_of};
-ghost use Rattle.sre_finder.specs.Terms.{end_of, code_of, asked_of, meaning, Tells, run_of, Standing, NoneUntil};
-ghost use Rattle.sre_finder.specs.Terms.{StartFrom};
+ghost use Rattle.std.specs.Prelude.{◌≡◌, ◌≤◌, length, IfSome, true, None};
+ghost use Rattle.sre_finder.specs.Terms.{Tree, Whole, words_of, string_of, end_of, code_of, asked_of, meaning, Tells};
+ghost use Rattle.sre_finder.specs.Terms.{run_of, Standing, NoneUntil, StartFrom};
 ghost use Rattle.sre_finder.specs.Finders.{EndStands, CoveringAny, Filters, SamePatterns, NoneLeftOfAny};
 
 use crate::haystack::Haystack;

@@ -1,9 +1,9 @@
 //! The search by a finder of spans, and the run of the machine that shows a span's match.
 
-ghost use Rattle.sre_finder.specs.Terms.{◌≡◌, ◌≤◌, ℕ, List, true, false, IfOk, IfSome, OnErr, None, Table, Refused};
-ghost use Rattle.sre_finder.specs.Terms.{Tree, Whole, no_marks, found, items_of, words_of, uni_of, SetsOf, string_of};
-ghost use Rattle.sre_finder.specs.Terms.{start_of, end_of, code_of, asked_of, stands_in, answer_of, KeepsToSteps};
-ghost use Rattle.sre_finder.specs.Terms.{runs_of, Answered, AnsweredWithin};
+ghost use Rattle.std.specs.Prelude.{◌≡◌, ◌≤◌, ℕ, List, true, false, IfOk, IfSome, OnErr, None};
+ghost use Rattle.sre_finder.specs.Terms.{Table, Refused, Tree, Whole, no_marks, found, items_of, words_of, uni_of};
+ghost use Rattle.sre_finder.specs.Terms.{SetsOf, string_of, start_of, end_of, code_of, asked_of, stands_in, answer_of};
+ghost use Rattle.sre_finder.specs.Terms.{KeepsToSteps, runs_of, Answered, AnsweredWithin};
 ghost use Rattle.sre_finder.specs.Finders.{EndStands};
 ghost use Rattle.sre_finder.specs.Kepts.{Suits};
 ghost use Rattle.sre_finder.specs.Spans.{StepsFrom, ShowsStep, FindsNone};

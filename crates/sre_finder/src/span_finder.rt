@@ -1,8 +1,9 @@
 //! The finder of spans: its DFAs find where the next match begins and ends, if they try match paths in the code's
 //! order.
 
-ghost use Rattle.sre_finder.specs.Terms.{◌≡◌, true, IfOk, IfSome, OnErr, None, Refused, items_of, words_of, uni_of};
-ghost use Rattle.sre_finder.specs.Terms.{string_of, start_of, code_of, stands_in, MayTakeMemory, SetsOf};
+ghost use Rattle.std.specs.Prelude.{◌≡◌, true, IfOk, IfSome, OnErr, None};
+ghost use Rattle.sre_finder.specs.Terms.{Refused, items_of, words_of, uni_of, string_of, start_of, code_of, stands_in};
+ghost use Rattle.sre_finder.specs.Terms.{MayTakeMemory, SetsOf};
 ghost use Rattle.sre_finder.specs.Finders.{EndStands};
 ghost use Rattle.sre_finder.specs.Kepts.{Suits};
 ghost use Rattle.sre_finder.specs.Spans.{ExactlyAny, Knows, Between, StepsFrom, ShowsStep, FindsNone};

@@ -1,9 +1,9 @@
 //! The iterator over the spans of all matches.
 
-ghost use Rattle.sre_finder.specs.Terms.{◌≡◌, ◌≤◌, ◌<◌, nat_eq, true, false, Some, IfOk, IfSome, OnErr, Refused, Tree};
-ghost use Rattle.sre_finder.specs.Terms.{Whole, no_marks, found, items_of, words_of, string_of, start_of, end_of};
-ghost use Rattle.sre_finder.specs.Terms.{code_of, asked_of, stands_in, answer_of, match_shown, SetsOf, ◌&&◌};
-ghost use Rattle.sre_finder.specs.Terms.{one_sets_of};
+ghost use Rattle.std.specs.Prelude.{◌≡◌, ◌≤◌, ◌<◌, nat_eq, true, false, Some, IfOk, IfSome, OnErr, ◌&&◌};
+ghost use Rattle.sre_finder.specs.Terms.{Refused, Tree, Whole, no_marks, found, items_of, words_of, string_of};
+ghost use Rattle.sre_finder.specs.Terms.{start_of, end_of, code_of, asked_of, stands_in, answer_of, match_shown};
+ghost use Rattle.sre_finder.specs.Terms.{SetsOf, one_sets_of};
 ghost use Rattle.sre_finder.specs.Finders.{EndStands};
 
 use crate::haystack::Haystack;

@@ -1,4 +1,5 @@
 -- The words and the laws from elsewhere, and the words of specs/, which proofs of this crate name.
+pub use Rattle.std.specs.Prelude.{All, Contains, IfErr, IfNone, IfSome, OnErr, OnOk, codes}
 pub use Rattle.std.proofs.Common.{Bool, Err, List, None, Ok, Option, Result, Some, [], add-one, ap, append_assoc, arith}
 pub use Rattle.std.proofs.Common.{false, get_or, inl, inr, length, length-append, map, refl, rules, string_bytes, subst}
 pub use Rattle.std.proofs.Common.{suc, sym, take, true, zero, ◌%◌, ◌*◌, ◌++◌, ◌+◌, ◌/◌, ◌<◌, ◌==◌, ◌^◌, ◌∙◌, ◌∷◌, ◌≡◌}
@@ -26,8 +27,8 @@ pub use Rattle.sre_lines.specs.Fields.{words_text}
 pub use Rattle.sre_lines.specs.Lines.{Answered, AreAnswered, IsAnswered, IsBegun, IsLineAt, IsNoCase, StopsAt, lines_of}
 pub use Rattle.sre_lines.specs.Output.{AppendsPart}
 pub use Rattle.sre_lines.specs.TableFiles.{numbers_of}
-pub use Rattle.sre_lines.specs.Terms.{All, Appends, Contains, IfErr, IfNone, IfSome, IsNumeral, OnErr, OnOk, Table}
-pub use Rattle.sre_lines.specs.Terms.{Tree, Whole, code_of, codes, decimal, digit_glyph, lists_fault, words_of}
+pub use Rattle.sre_lines.specs.Terms.{Appends, IsNumeral, Table}
+pub use Rattle.sre_lines.specs.Terms.{Tree, Whole, code_of, decimal, digit_glyph, lists_fault, words_of}
 pub use Rattle.sre_lines.specs.declared.cases.CaseFault.{CaseFault}
 pub use Rattle.sre_lines.specs.declared.cases.CaseFault.TheVariants.{NoMemory, NotACase, NotATable, OutputFailed}
 pub use Rattle.sre_lines.specs.declared.cases.Detail.{Detail}

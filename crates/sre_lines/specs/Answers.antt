@@ -1,6 +1,6 @@
 -- What answers and faults are written as.
-use Rattle.sre_lines.specs.Terms.{ℕ, ◌≤◌, Bool, true, false, Option, Some, None, List, [], ◌∷◌, ◌++◌, codes, decimal}
-use Rattle.sre_lines.specs.Terms.{flat_map, Refused, UniError, place_of, CodeError, Memory}
+use Rattle.std.specs.Prelude.{ℕ, ◌≤◌, Bool, true, false, Option, Some, None, List, [], ◌∷◌, ◌++◌, codes}
+use Rattle.sre_lines.specs.Terms.{decimal, flat_map, Refused, UniError, place_of, CodeError, Memory}
 use Rattle.sre_chars.specs.declared.table.UniError.TheVariants.{Memory as No-Memory, Unsorted, AsciiEntry, NotScalar}
 use Rattle.sre_code.specs.declared.code.error.CodeError.TheVariants.{Truncated, UnknownOpcode, UnknownAt}
 use Rattle.sre_code.specs.declared.code.error.CodeError.TheVariants.{UnknownCategory, BadSkip, BadCounts, BadItem}

@@ -1,8 +1,8 @@
 -- What a case requests, and how it is answered.
-use Rattle.sre_lines.specs.Terms.{ℕ, ◌≡◌, ◌≢◌, ◌≤◌, ◌⊎◌, ◌++◌, Bool, true, false, List, [], ◌∷◌, length, Option, Some}
-use Rattle.sre_lines.specs.Terms.{None, codes, decimal, signed_decimal, flat_map, Table, Tree, Whole, found, walk}
-use Rattle.sre_lines.specs.Terms.{place_of, CodeError, Memory}
-use Rattle.std.specs.Prelude.{min}
+use Rattle.std.specs.Prelude.{min, ℕ, ◌≡◌, ◌≢◌, ◌≤◌, ◌⊎◌, ◌++◌, Bool, true, false, List, [], ◌∷◌, length, Option, Some}
+use Rattle.std.specs.Prelude.{None, codes}
+use Rattle.sre_lines.specs.Terms.{decimal, signed_decimal, flat_map, Table, Tree, Whole, found, walk, place_of}
+use Rattle.sre_lines.specs.Terms.{CodeError, Memory}
 use Rattle.std.specs.Str.{chars}
 use Rattle.sre_engine.specs.Grammar.{IsCode}
 use Rattle.sre_engine.specs.Hinted.{Confirmed}

@@ -1,7 +1,7 @@
 -- Why a line is no case, and how that is reported.
-use Rattle.sre_lines.specs.Terms.{ℕ, ◌≡◌, ◌≢◌, ◌==◌, ◌%◌, ◌^◌, ◌<◌, ◌≤◌, ◌⊎◌, List, [], ◌∷◌, ◌++◌, map, codes, length}
-use Rattle.sre_lines.specs.Terms.{slice_index, All, Contains, false, decimal, digit_glyph, slice_split, IsUtf8}
-use Rattle.sre_lines.specs.Terms.{IsNumeral}
+use Rattle.std.specs.Prelude.{ℕ, ◌≡◌, ◌≢◌, ◌==◌, ◌%◌, ◌^◌, ◌<◌, ◌≤◌, ◌⊎◌, List, [], ◌∷◌, ◌++◌, map, codes, length}
+use Rattle.std.specs.Prelude.{slice_index, All, Contains, false}
+use Rattle.sre_lines.specs.Terms.{decimal, digit_glyph, slice_split, IsUtf8, IsNumeral}
 use Rattle.std.specs.Str.Parse.{digits_value}
 use Rattle.sre_lines.specs.declared.cause.Cause.{Cause}
 use Rattle.sre_lines.specs.declared.cause.Cause.TheVariants.{UnknownCommand, FieldMissing, FieldTooMany, Words, Text}

@@ -1,5 +1,5 @@
 -- The lines of a file of cases, and what is written for them.
-use Rattle.sre_lines.specs.Terms.{ℕ, ◌≡◌, ◌≢◌, ◌==◌, ◌+◌, ◌⊎◌, Option, List, [], ◌∷◌, ◌++◌, length, slice_index}
+use Rattle.std.specs.Prelude.{ℕ, ◌≡◌, ◌≢◌, ◌==◌, ◌+◌, ◌⊎◌, Option, List, [], ◌∷◌, ◌++◌, length, slice_index}
 use Rattle.sre_lines.specs.Terms.{slice_split, Appends, Table}
 use Rattle.sre_lines.specs.declared.line.Case.{Case}
 use Rattle.sre_lines.specs.declared.cases.Detail.{Detail}

@@ -1,8 +1,7 @@
 -- What the program is given, and how it ends.
-use Rattle.sre_lines.specs.Terms.{ℕ, ◌≡◌, ◌≢◌, ◌⊎◌, ◌++◌, ◌∷◌, [], List, Option, None, Some, Ok, Err, string_bytes}
-use Rattle.sre_lines.specs.Terms.{codes, into_iter_items, Appends, Table, ascii_table, lists_fault, UniError, Refused}
-use Rattle.std.specs.Prelude.{Result}
-use Rattle.std.specs.Prelude.{String, Vec}
+use Rattle.std.specs.Prelude.{Result, String, Vec, ℕ, ◌≡◌, ◌≢◌, ◌⊎◌, ◌++◌, ◌∷◌, [], List, Option, None, Some, Ok, Err}
+use Rattle.std.specs.Prelude.{string_bytes, codes}
+use Rattle.sre_lines.specs.Terms.{into_iter_items, Appends, Table, ascii_table, lists_fault, UniError, Refused}
 use Rattle.std.specs.Global.{Global}
 use Rattle.std.specs.IoError.{error_kind}
 use Rattle.std.specs.declared.vec.IntoIter.{IntoIter}

@@ -1,5 +1,6 @@
 -- What a table is written as in a file.
-use Rattle.sre_lines.specs.Terms.{ℕ, ◌≡◌, ◌≢◌, List, [], ◌∷◌, ◌++◌, codes, Table}
+use Rattle.std.specs.Prelude.{ℕ, ◌≡◌, ◌≢◌, List, [], ◌∷◌, ◌++◌, codes}
+use Rattle.sre_lines.specs.Terms.{Table}
 use Rattle.sre_lines.specs.Fields.{words_text, AreWords}
 
 -- the numbers of pairs, one after the other

@@ -2,9 +2,6 @@
 pub use Rattle.std.specs.Fmt.{decimal, digit_glyph, signed_decimal}
 pub use Rattle.std.specs.Io.KnownBytes.{Appends}
 pub use Rattle.std.specs.List.{flat_map, slice_split}
-pub use Rattle.std.specs.Prelude.{All, Bool, Contains, Err, IfErr, IfNone, IfOk, IfSome, IsTrue, List, None, Ok, OnErr}
-pub use Rattle.std.specs.Prelude.{OnOk, Option, Some, [], codes, false, length, map, slice_index, string_bytes, true}
-pub use Rattle.std.specs.Prelude.{◌%◌, ◌++◌, ◌+◌, ◌/◌, ◌<◌, ◌==◌, ◌^◌, ◌↔◌, ◌∷◌, ◌≡◌, ◌≢◌, ◌≤◌, ◌⊎◌, ℕ}
 pub use Rattle.std.specs.Str.{IsUtf8}
 pub use Rattle.std.specs.Str.Parse.{IsNumeral}
 pub use Rattle.std.specs.Vec.Iter.{into_iter_items}

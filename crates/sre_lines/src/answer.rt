@@ -1,6 +1,7 @@
 //! The texts of answers.
 
-ghost use Rattle.sre_lines.specs.Terms.{◌≡◌, ◌++◌, codes, OnOk, string_bytes, decimal, signed_decimal, place_of};
+ghost use Rattle.std.specs.Prelude.{◌≡◌, ◌++◌, codes, OnOk, string_bytes};
+ghost use Rattle.sre_lines.specs.Terms.{decimal, signed_decimal, place_of};
 ghost use Rattle.sre_lines.specs.Answers.{hints_text, marks_text, number_text, yes_no_text};
 ghost use Rattle.sre_lines.specs.Answers.{refusal_name, refusal_text};
 

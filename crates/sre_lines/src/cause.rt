@@ -3,9 +3,9 @@
 //! The line is parsed again without allocation. The first fault from the left is reported, with one exception: a text
 //! that is not UTF-8 is reported only if the line has no other fault.
 
-ghost use Rattle.sre_lines.specs.Terms.{◌≡◌, ◌≢◌, ℕ, ◌+◌, ◌≤◌, ◌++◌, ◌∷◌, List, [], All, IfSome, IfNone, IsTrue, ◌↔◌};
-ghost use Rattle.sre_lines.specs.Terms.{◌^◌, codes, decimal, IsNumeral};
-ghost use Rattle.std.specs.Prelude.{IsFalse};
+ghost use Rattle.std.specs.Prelude.{IsFalse, ◌≡◌, ◌≢◌, ℕ, ◌+◌, ◌≤◌, ◌++◌, ◌∷◌, List, [], All, IfSome, IfNone, IsTrue};
+ghost use Rattle.std.specs.Prelude.{◌↔◌, ◌^◌, codes};
+ghost use Rattle.sre_lines.specs.Terms.{decimal, IsNumeral};
 ghost use Rattle.sre_lines.specs.Fields.{AreWords, IsSubject, words_text, subject_text, verb_text};
 ghost use Rattle.sre_lines.specs.Lines.{IsNoCase, IsLineAt};
 ghost use Rattle.sre_lines.specs.Causes.{IsCause, IsCauseOf, IsNoSubject, fields_of, cause_text, IsWords, IsWordsFault};

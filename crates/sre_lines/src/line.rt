@@ -3,8 +3,9 @@
 //! A case is `check WORDS`, or `match`, `search` or `walk` with WORDS TEXT WINDOW FLAGS. Fields are separated by one
 //! space. The whole line is read before its bytecode is checked, and any other line is rejected.
 
-ghost use Rattle.sre_lines.specs.Terms.{◌≡◌, ◌≢◌, ℕ, ◌^◌, ◌<◌, ◌++◌, ◌∷◌, List, All, Contains, IfSome, IfNone, IfOk};
-ghost use Rattle.sre_lines.specs.Terms.{OnOk, [], IsTrue, ◌↔◌, decimal, Refused};
+ghost use Rattle.std.specs.Prelude.{◌≡◌, ◌≢◌, ℕ, ◌^◌, ◌<◌, ◌++◌, ◌∷◌, List, All, Contains, IfSome, IfNone, IfOk, OnOk};
+ghost use Rattle.std.specs.Prelude.{[], IsTrue, ◌↔◌};
+ghost use Rattle.sre_lines.specs.Terms.{decimal, Refused};
 ghost use Rattle.sre_lines.specs.Fields.{verb_text, words_text, window_text, IsWindow, flags_text, form_text};
 ghost use Rattle.sre_lines.specs.Fields.{bytes_text, subject_text, case_text, IsText, AreWords, IsSubject, IsCase};
 

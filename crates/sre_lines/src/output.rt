@@ -1,6 +1,7 @@
 //! Writes that can fail midway.
 
-ghost use Rattle.sre_lines.specs.Terms.{◌++◌, OnErr, OnOk, Appends};
+ghost use Rattle.std.specs.Prelude.{◌++◌, OnErr, OnOk};
+ghost use Rattle.sre_lines.specs.Terms.{Appends};
 ghost use Rattle.sre_lines.specs.Output.{AppendsPart};
 
 use std::io::{self, Write};

@@ -1,6 +1,6 @@
 //! The program: arguments, files, outputs and status.
 
-ghost use Rattle.sre_lines.specs.Terms.{◌≡◌, ◌≢◌, ◌++◌, ◌∷◌, [], ℕ, List, Some, Ok, Err, IfOk, IfErr, OnOk, codes};
+ghost use Rattle.std.specs.Prelude.{◌≡◌, ◌≢◌, ◌++◌, ◌∷◌, [], ℕ, List, Some, Ok, Err, IfOk, IfErr, OnOk, codes};
 ghost use Rattle.sre_lines.specs.Terms.{into_iter_items, Appends, Table, lists_fault};
 ghost use Rattle.std.specs.Fn.{FnReturnsAt};
 ghost use Rattle.std.specs.Io.Buffered.{writer_contents, writer_buffer};

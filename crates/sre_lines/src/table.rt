@@ -4,8 +4,8 @@
 //! The name and a space are followed by numbers in the form of WORDS, two for each entry. An entry is a character and
 //! its other case, or the first and the last character of a range.
 
-ghost use Rattle.sre_lines.specs.Terms.{◌≡◌, ◌≢◌, ◌++◌, ℕ, List, Err, Some, IfOk, IfSome, IfNone, Refused, Table};
-ghost use Rattle.sre_lines.specs.Terms.{lists_fault};
+ghost use Rattle.std.specs.Prelude.{◌≡◌, ◌≢◌, ◌++◌, ℕ, List, Err, Some, IfOk, IfSome, IfNone};
+ghost use Rattle.sre_lines.specs.Terms.{Refused, Table, lists_fault};
 ghost use Rattle.sre_chars.specs.Lists.{table_with};
 ghost use Rattle.sre_lines.specs.Fields.{words_text, AreWords};
 ghost use Rattle.sre_lines.specs.TableFiles.{list_text, table_text, numbers_of, IsNoTable, LacksList, LeavesList};

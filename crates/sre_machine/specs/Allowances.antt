@@ -1,6 +1,7 @@
 -- How many steps are allowed: whether they are limited, and how many are left.
 -- Definitions for the contracts inside these crates; what sre_engine makes public does not rest on it.
-use Rattle.sre_machine.specs.Terms.{ℕ, ◌≡◌, Bool, true, false, Refused}
+use Rattle.std.specs.Prelude.{ℕ, ◌≡◌, Bool, true, false}
+use Rattle.sre_machine.specs.Terms.{Refused}
 use Rattle.std.specs.declared.alloc.Allocator.{Ghosts as Memory}
 use Rattle.sre_machine.specs.declared.allowance.Allowance.{Allowance}
 use Rattle.sre_machine.specs.declared.allowance.Allowance.TheVariants.{Unlimited, Turns}

@@ -1,6 +1,7 @@
 -- What a list says of each address: which captures may be live from there on.
 -- Definitions for the machine's contracts; what sre_engine makes public does not rest on it.
-use Rattle.sre_machine.specs.Terms.{ℕ, ◌-◌, ◌^◌, ◌≡◌, ◌⊎◌, List, Option, None, Some, slice_get, SreOpcode, Opcode, role}
+use Rattle.std.specs.Prelude.{ℕ, ◌-◌, ◌^◌, ◌≡◌, ◌⊎◌, List, Option, None, Some, slice_get}
+use Rattle.sre_machine.specs.Terms.{SreOpcode, Opcode, role}
 use Rattle.sre_turns.specs.AskedPlaces.{MarkRange, Lies, Within, PlacesAsk, AsksAt, AskedByPlace}
 use Rattle.sre_machine.specs.declared.asked_places.AskedMarks.{AskedMarks}
 use Rattle.sre_machine.specs.declared.asked_places.AskedPlace.{AskedPlace}

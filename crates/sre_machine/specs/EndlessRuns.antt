@@ -1,7 +1,7 @@
 -- Repeats without a greatest count, while failures are memoized: their first end, and the repeat that has the others.
 -- Definitions for the machine's contracts; what sre_engine makes public does not rest on it.
-use Rattle.sre_machine.specs.Terms.{ℕ, ◌+◌, ◌≡◌, ◌<◌, ◌⊎◌, true, false, Option, MatchOption, Ghosts, StringCursor, Test}
-use Rattle.sre_machine.specs.Terms.{RunsOn, Request, run_of, OpcodeAt, Standing}
+use Rattle.std.specs.Prelude.{ℕ, ◌+◌, ◌≡◌, ◌<◌, ◌⊎◌, true, false, Option, MatchOption}
+use Rattle.sre_machine.specs.Terms.{Ghosts, StringCursor, Test, RunsOn, Request, run_of, OpcodeAt, Standing}
 use Rattle.sre_chars.specs.declared.constants.SreOpcode.TheVariants as opcode
 use Rattle.sre_model.specs.Subject.{passes}
 use Rattle.sre_model.specs.Ways.{run_length}

@@ -1,9 +1,9 @@
 -- What a memo has: the failures and the body ends that are memoized, and how long the search goes on without.
-use Rattle.sre_machine.specs.Terms.{ℕ, ◌+◌, ◌-◌, ◌*◌, ◌^◌, ◌<◌, ◌≤◌, ◌≡◌, Bool, true, false, List, [], Option, Some}
-use Rattle.sre_machine.specs.Terms.{None, Ghosts, Tree, WholeItems, Marks, no_marks, marks_in_regions, Run, Asks}
-use Rattle.sre_machine.specs.Terms.{Request, start_of, run_of, AreIdle, MarklessRegions, Point, EndsTable, Kept, Laid}
-use Rattle.sre_machine.specs.Terms.{HoldsNone, kept_of}
-use Rattle.std.specs.Prelude.{negsuc}
+use Rattle.std.specs.Prelude.{negsuc, ℕ, ◌+◌, ◌-◌, ◌*◌, ◌^◌, ◌<◌, ◌≤◌, ◌≡◌, Bool, true, false, List, [], Option, Some}
+use Rattle.std.specs.Prelude.{None}
+use Rattle.sre_machine.specs.Terms.{Ghosts, Tree, WholeItems, Marks, no_marks, marks_in_regions, Run, Asks, Request}
+use Rattle.sre_machine.specs.Terms.{start_of, run_of, AreIdle, MarklessRegions, Point, EndsTable, Kept, Laid, HoldsNone}
+use Rattle.sre_machine.specs.Terms.{kept_of}
 use Rattle.sre_model.specs.LooksBehind.{backs}
 use Rattle.sre_model.specs.References.{refers}
 use Rattle.sre_turns.specs.Nested.{place_under}

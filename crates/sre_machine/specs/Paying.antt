@@ -2,10 +2,9 @@
 -- that the memo takes in, each of which pays for all ends of a repeat with a greatest count. And what steps cost before
 -- that: each is one of those for which the memo waits.
 -- Definitions for the machine's contracts; what sre_engine makes public does not rest on it.
-use Rattle.sre_machine.specs.Terms.{ℕ, ◌+◌, ◌-◌, ◌*◌, ◌≤◌, ◌≡◌, ◌⊎◌, ⊤, List, [], ◌∷◌, Bool, true, false, Option}
+use Rattle.std.specs.Prelude.{◌/◌, min, ℕ, ◌+◌, ◌-◌, ◌*◌, ◌≤◌, ◌≡◌, ◌⊎◌, ⊤, List, [], ◌∷◌, Bool, true, false, Option}
 use Rattle.sre_machine.specs.Terms.{Ghosts, StringCursor, Refused, Run, Limit, Counted, Way, marks_in_regions}
 use Rattle.sre_machine.specs.Terms.{BoardValue, Stands, Next, EndsTable, Kept, Request, start_of, end_of, run_of}
-use Rattle.std.specs.Prelude.{◌/◌, min}
 use Rattle.std.specs.List.{AllByRecursion}
 use Rattle.sre_model.specs.TreePrices.{most_steps}
 use Rattle.sre_model.specs.LooksBehind.{longest_lookbehind}

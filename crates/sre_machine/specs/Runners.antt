@@ -1,9 +1,10 @@
 -- What a runner has, and what an attempt of it preserves, counts and costs.
 -- Definitions for the contracts inside these crates; what sre_engine makes public does not rest on it.
-use Rattle.sre_machine.specs.Terms.{⊤, ℕ, ◌+◌, ◌-◌, ◌*◌, ◌^◌, ◌≡◌, ◌<◌, ◌≤◌, Bool, true, false, Option, None, Some}
-use Rattle.sre_machine.specs.Terms.{Result, Ok, Err, IfOk, Ghosts, StringCursor, Tree, WholeItems, no_marks}
-use Rattle.sre_machine.specs.Terms.{behind_items, ReadsBehind, turns_of, most_each, BoardValue, bare, Decides, outcomes}
-use Rattle.sre_machine.specs.Terms.{Request, asked_of, end_of, run_of, Standing}
+use Rattle.std.specs.Prelude.{⊤, ℕ, ◌+◌, ◌-◌, ◌*◌, ◌^◌, ◌≡◌, ◌<◌, ◌≤◌, Bool, true, false, Option, None, Some, Result}
+use Rattle.std.specs.Prelude.{Ok, Err, IfOk}
+use Rattle.sre_machine.specs.Terms.{Ghosts, StringCursor, Tree, WholeItems, no_marks, behind_items, ReadsBehind}
+use Rattle.sre_machine.specs.Terms.{turns_of, most_each, BoardValue, bare, Decides, outcomes, Request, asked_of, end_of}
+use Rattle.sre_machine.specs.Terms.{run_of, Standing}
 use Rattle.std.specs.declared.alloc.Allocator.{Ghosts as Memory}
 use Rattle.sre_machine.specs.Allowances.{is_limited, left_of}
 use Rattle.sre_machine.specs.Memos.{MemoValue, Recalls}

@@ -1,6 +1,7 @@
 -- What the machine reads of a single-character repeat.
 -- Definitions for the machine's contracts; what sre_engine makes public does not rest on it.
-use Rattle.sre_machine.specs.Terms.{ℕ, ◌+◌, ◌^◌, ◌<◌, Ghosts, Request, run_of}
+use Rattle.std.specs.Prelude.{ℕ, ◌+◌, ◌^◌, ◌<◌}
+use Rattle.sre_machine.specs.Terms.{Ghosts, Request, run_of}
 use Rattle.sre_turns.specs.OperandsOfRuns.{OperandsOfRun}
 use Rattle.sre_machine.specs.declared.run_operands.RunOperands.{RunOperands}
 

@@ -1,9 +1,10 @@
 -- What steps take off those that are left, and what a run of them costs.
 -- Definitions for the machine's contracts; what sre_engine makes public does not rest on it.
-use Rattle.sre_machine.specs.Terms.{ℕ, ◌+◌, ◌-◌, ◌*◌, ◌≡◌, ◌≤◌, ◌⊎◌, Bool, true, false, Option, None, Some, List}
-use Rattle.sre_machine.specs.Terms.{Result, Ok, Err, IfOk, IfErr, Ghosts, StringCursor, Refused, Tree, Way, WholeItems}
-use Rattle.sre_machine.specs.Terms.{behind_items, turns_of, most_each, BoardValue, Limit, raised, Decides, Stands}
-use Rattle.sre_machine.specs.Terms.{StandsWithin, outcomes, Next, Request, asked_of, run_of}
+use Rattle.std.specs.Prelude.{ℕ, ◌+◌, ◌-◌, ◌*◌, ◌≡◌, ◌≤◌, ◌⊎◌, Bool, true, false, Option, None, Some, List, Result, Ok}
+use Rattle.std.specs.Prelude.{Err, IfOk, IfErr}
+use Rattle.sre_machine.specs.Terms.{Ghosts, StringCursor, Refused, Tree, Way, WholeItems, behind_items, turns_of}
+use Rattle.sre_machine.specs.Terms.{most_each, BoardValue, Limit, raised, Decides, Stands, StandsWithin, outcomes, Next}
+use Rattle.sre_machine.specs.Terms.{Request, asked_of, run_of}
 use Rattle.std.specs.declared.alloc.Allocator.{Ghosts as Memory}
 use Rattle.sre_machine.specs.Allowances.{is_limited, left_of}
 use Rattle.sre_machine.specs.Memos.{MemoValue, Recalls}

@@ -1,7 +1,4 @@
 -- The words from elsewhere which contracts and definitions of this crate name.
-pub use Rattle.std.specs.Prelude.{Bool, Err, IfErr, IfNone, IfOk, IfSome, List, MatchOption, None, Ok, Option, Result}
-pub use Rattle.std.specs.Prelude.{Some, [], false, length, slice_get, slice_index_or, true, ◌*◌, ◌+◌, ◌-◌, ◌<◌, ◌^◌}
-pub use Rattle.std.specs.Prelude.{◌∷◌, ◌≡◌, ◌≢◌, ◌≤◌, ◌⊎◌, ℕ, ⊤}
 pub use Rattle.sre_board.specs.Ends.{EndsTable, HoldsOpenEnds, HoldsOpenMore, KeepsOpenEnds, TellsEnd}
 pub use Rattle.sre_board.specs.Failures.{HoldsNoMore, HoldsNone, HoldsOneMore, Kept, Laid, Tells, kept_of}
 pub use Rattle.sre_chars.specs.declared.constants.SreOpcode.{SreOpcode}

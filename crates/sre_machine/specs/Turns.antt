@@ -1,9 +1,10 @@
 -- Where the machine is, and what an instruction's step preserves.
 -- Definitions for the machine's contracts; what sre_engine makes public does not rest on it.
-use Rattle.sre_machine.specs.Terms.{⊤, ℕ, ◌≡◌, ◌≢◌, Bool, true, false, List, [], ◌∷◌, Option, SreOpcode, Ghosts}
-use Rattle.sre_machine.specs.Terms.{StringCursor, Marks, no_marks, Refused, Run, BoardValue, is_inside, spot_at}
-use Rattle.sre_machine.specs.Terms.{Counted, Way, IsBack, StandsWithin, spot, RunsOn, Limit, raised, Next, Point}
-use Rattle.sre_machine.specs.Terms.{Instruction, Again, TellsEnd, KeepsOpenEnds, HoldsOpenEnds, Request, run_of}
+use Rattle.std.specs.Prelude.{⊤, ℕ, ◌≡◌, ◌≢◌, Bool, true, false, List, [], ◌∷◌, Option}
+use Rattle.sre_machine.specs.Terms.{SreOpcode, Ghosts, StringCursor, Marks, no_marks, Refused, Run, BoardValue}
+use Rattle.sre_machine.specs.Terms.{is_inside, spot_at, Counted, Way, IsBack, StandsWithin, spot, RunsOn, Limit, raised}
+use Rattle.sre_machine.specs.Terms.{Next, Point, Instruction, Again, TellsEnd, KeepsOpenEnds, HoldsOpenEnds, Request}
+use Rattle.sre_machine.specs.Terms.{run_of}
 use Rattle.sre_turns.specs.Board.{Trying}
 use Rattle.sre_turns.specs.Asked as marks
 use Rattle.sre_turns.specs.Asked.{MarksAlike}

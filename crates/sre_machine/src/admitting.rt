@@ -7,8 +7,8 @@
 //! At the end of an atomic scope or of a loop's body any character is allowed: the bytecode alone does not show what
 //! follows.
 
-ghost use Rattle.sre_machine.specs.Terms.{◌≡◌, ◌+◌, ◌<◌, ◌≤◌, length, true, IfOk, Opcode, word, skip, contains};
-ghost use Rattle.sre_machine.specs.Terms.{Instruction, Alternatives};
+ghost use Rattle.std.specs.Prelude.{◌≡◌, ◌+◌, ◌<◌, ◌≤◌, length, true, IfOk};
+ghost use Rattle.sre_machine.specs.Terms.{Opcode, word, skip, contains, Instruction, Alternatives};
 ghost use Rattle.sre_model.specs.Tree.{Order};
 ghost use Rattle.sre_model.specs.Grammar.{until_opcode};
 ghost use Rattle.sre_turns.specs.Admitting.{AdmitsOnly, TestsOnly, HasAll, RepeatsOnly, RunsOnly};

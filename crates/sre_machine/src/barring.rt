@@ -1,7 +1,8 @@
 //! Points that must fail, by the next character and the FIRST sets that the request carries. An empty list excludes
 //! nothing.
 
-ghost use Rattle.sre_machine.specs.Terms.{◌≡◌, true, contains, Alternatives, Exhausted, run_of, character_at};
+ghost use Rattle.std.specs.Prelude.{◌≡◌, true};
+ghost use Rattle.sre_machine.specs.Terms.{contains, Alternatives, Exhausted, run_of, character_at};
 ghost use Rattle.sre_turns.specs.Admitting.{IsOutside};
 ghost use Rattle.sre_machine.specs.Turns.{RefusesAt};
 

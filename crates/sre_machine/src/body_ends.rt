@@ -4,8 +4,8 @@
 //! Only the first outcome of a scope's body counts. If no atomic scope sets a capture, that outcome is its end
 //! position. So a body that has ended once is not run again from the same address and position.
 
-ghost use Rattle.sre_machine.specs.Terms.{◌≡◌, ◌⊎◌, IfSome, IfNone, true, false, Refused, HoldsOpenMore, KeepsOpenEnds};
-ghost use Rattle.sre_machine.specs.Terms.{HoldsOpenEnds, run_of};
+ghost use Rattle.std.specs.Prelude.{◌≡◌, ◌⊎◌, IfSome, IfNone, true, false};
+ghost use Rattle.sre_machine.specs.Terms.{Refused, HoldsOpenMore, KeepsOpenEnds, HoldsOpenEnds, run_of};
 ghost use Rattle.sre_machine.specs.Memos.{RecallsOf};
 ghost use Rattle.sre_machine.specs.Turns.{AtPoint, IsKeeping, EndsThere, BodyEnds, KeepsEndsHere};
 ghost use Rattle.sre_machine.specs.Turns.{ForksThere, NoEndTold};

@@ -7,9 +7,10 @@
 //! If the request carries FIRST sets, an ASCII character is looked up there. Then the words of an alternative are read
 //! only if it may match.
 
-ghost use Rattle.sre_machine.specs.Terms.{◌≡◌, ℕ, ◌+◌, ◌<◌, ◌^◌, true, false, IfOk, IfSome, MatchOption, Test, word};
-ghost use Rattle.sre_machine.specs.Terms.{Instruction, Alternatives, Point, Chooses, Exhausted, begins_test, end_of};
-ghost use Rattle.sre_machine.specs.Terms.{run_of, OpcodeAt, TestAt, TestStandsAt, test_takes, character_at};
+ghost use Rattle.std.specs.Prelude.{◌≡◌, ℕ, ◌+◌, ◌<◌, ◌^◌, true, false, IfOk, IfSome, MatchOption};
+ghost use Rattle.sre_machine.specs.Terms.{Test, word, Instruction, Alternatives, Point, Chooses, Exhausted};
+ghost use Rattle.sre_machine.specs.Terms.{begins_test, end_of, run_of, OpcodeAt, TestAt, TestStandsAt, test_takes};
+ghost use Rattle.sre_machine.specs.Terms.{character_at};
 ghost use Rattle.sre_turns.specs.Strides.{YieldsTo};
 ghost use Rattle.sre_machine.specs.Turns.{At, Turn, AtPoint, ContinuesTo, ReadAt, RefusesAt, TurnAt};
 

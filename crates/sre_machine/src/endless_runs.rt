@@ -4,7 +4,7 @@
 //! Of a possessive one they are those of the later repeat alone, if there is one. So the machine continues at that
 //! later repeat, which is looked up and tried like any instruction. Each end is tried once, wherever the repeat began.
 
-ghost use Rattle.sre_machine.specs.Terms.{None, ◌≡◌, ◌+◌, ◌-◌, ◌^◌, ◌<◌, ◌≤◌, MatchOption, IfOk, true, false};
+ghost use Rattle.std.specs.Prelude.{None, ◌≡◌, ◌+◌, ◌-◌, ◌^◌, ◌<◌, ◌≤◌, MatchOption, IfOk, true, false};
 ghost use Rattle.sre_machine.specs.Terms.{unlimited, Longer, end_of, OpcodeAt, Standing, TestAt};
 ghost use Rattle.sre_machine.specs.Turns.{At, TurnOnce, AtPoint, TurnAt};
 ghost use Rattle.sre_machine.specs.EndlessRuns.{TakenAt, NotTakenAt, LacksLeast, EndsFirst, BeginsLater, IsEndlessRun};

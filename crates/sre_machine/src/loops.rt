@@ -5,7 +5,8 @@
 //! REPEAT. After an empty body the loop's end is next, so the same end, saved before that body, is dropped. Otherwise
 //! nested loops would save the square of their depth.
 
-ghost use Rattle.sre_machine.specs.Terms.{◌≡◌, ◌+◌, IfOk, Word, Instruction, next_frame, MayRepeat, run_of, OpcodeAt};
+ghost use Rattle.std.specs.Prelude.{◌≡◌, ◌+◌, IfOk};
+ghost use Rattle.sre_machine.specs.Terms.{Word, Instruction, next_frame, MayRepeat, run_of, OpcodeAt};
 ghost use Rattle.sre_model.specs.Ways.{may_repeat};
 ghost use Rattle.sre_turns.specs.Machine.{with_loop};
 ghost use Rattle.sre_machine.specs.Turns.{Turn, AtOnBoard};

@@ -4,9 +4,9 @@
 //! The contract of each opcode's function says that the accepted outcomes of the run stay the same, with one step less.
 //! Choices wait on the backtrack stack. A choice that is known to fail is not pushed.
 
-ghost use Rattle.sre_machine.specs.Terms.{◌≡◌, ℕ, ◌+◌, ◌^◌, ◌<◌, IfOk, MatchOption, true, BoardValue, Instruction};
-ghost use Rattle.sre_machine.specs.Terms.{Longer, Point, IsBack, Chooses, begins_test, Test, run_of, OpcodeAt, TestAt};
-ghost use Rattle.sre_machine.specs.Terms.{Standing, TestStandsAt, test_takes};
+ghost use Rattle.std.specs.Prelude.{◌≡◌, ℕ, ◌+◌, ◌^◌, ◌<◌, IfOk, MatchOption, true};
+ghost use Rattle.sre_machine.specs.Terms.{BoardValue, Instruction, Longer, Point, IsBack, Chooses, begins_test, Test};
+ghost use Rattle.sre_machine.specs.Terms.{run_of, OpcodeAt, TestAt, Standing, TestStandsAt, test_takes};
 ghost use Rattle.sre_machine.specs.Memos.{RecallsOf};
 ghost use Rattle.sre_machine.specs.Turns.{At, AtPoint, AtOnBoard, Turn, TurnAt, DemandedAt, RefusesAt};
 ghost use Rattle.sre_machine.specs.Turns.{Retreats, Finishes};

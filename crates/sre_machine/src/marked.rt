@@ -7,9 +7,10 @@
 //! Nor do slots make a difference at an address where none is live. A search lists such addresses once, when it first
 //! meets other captures.
 
-ghost use Rattle.sre_machine.specs.Terms.{[], ℕ, ◌≡◌, ◌⊎◌, ◌+◌, ◌-◌, ◌*◌, ◌^◌, ◌<◌, ◌≤◌, IfOk, None, slice_index_or};
-ghost use Rattle.sre_machine.specs.Terms.{true, false, mark_at, SreOpcode, role, Asks, AreIdle, SaysOf, is_inside};
-ghost use Rattle.sre_machine.specs.Terms.{spot_at, HoldsNone, HoldsNoMore, HoldsOneMore, Tells, items_of};
+ghost use Rattle.std.specs.Prelude.{[], ℕ, ◌≡◌, ◌⊎◌, ◌+◌, ◌-◌, ◌*◌, ◌^◌, ◌<◌, ◌≤◌, IfOk, None, slice_index_or, true};
+ghost use Rattle.std.specs.Prelude.{false};
+ghost use Rattle.sre_machine.specs.Terms.{mark_at, SreOpcode, role, Asks, AreIdle, SaysOf, is_inside, spot_at};
+ghost use Rattle.sre_machine.specs.Terms.{HoldsNone, HoldsNoMore, HoldsOneMore, Tells, items_of};
 ghost use Rattle.sre_chars.specs.Numbers.{opcode_number};
 ghost use Rattle.sre_turns.specs.MovesAtReferences.{Named, asks};
 ghost use Rattle.sre_machine.specs.Memos.{MarkedStays};

@@ -6,10 +6,10 @@
 //! search with a step limit counts its steps instead, and its memo opens after 32 for each position. The current run
 //! then continues with the memo, but restarts if it has a step limit.
 
-ghost use Rattle.sre_machine.specs.Terms.{[], ◌≡◌, ◌⊎◌, ◌+◌, ◌-◌, ◌*◌, ◌≤◌, IfSome, IfNone, true, false, is_inside};
-ghost use Rattle.sre_machine.specs.Terms.{spot_at, Refused, HoldsNone, Tells, Laid, kept_of, TellsEnd, HoldsOpenMore};
-ghost use Rattle.sre_machine.specs.Terms.{KeepsOpenEnds, HoldsOpenEnds, StringCursor, MarklessRegions, run_of};
-ghost use Rattle.sre_machine.specs.Terms.{start_of, end_of};
+ghost use Rattle.std.specs.Prelude.{[], ◌≡◌, ◌⊎◌, ◌+◌, ◌-◌, ◌*◌, ◌≤◌, IfSome, IfNone, true, false};
+ghost use Rattle.sre_machine.specs.Terms.{is_inside, spot_at, Refused, HoldsNone, Tells, Laid, kept_of, TellsEnd};
+ghost use Rattle.sre_machine.specs.Terms.{HoldsOpenMore, KeepsOpenEnds, HoldsOpenEnds, StringCursor, MarklessRegions};
+ghost use Rattle.sre_machine.specs.Terms.{run_of, start_of, end_of};
 ghost use Rattle.sre_board.specs.Failures.{KeepsSpot};
 ghost use Rattle.sre_machine.specs.Memos.{MakesRoom, RecallsOf, EndsStay, IsBlankMemo, KeepsEndsOf, KeepsFrom};
 ghost use Rattle.sre_turns.specs.Nested.{repeats};

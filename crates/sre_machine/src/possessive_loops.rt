@@ -3,7 +3,8 @@
 //! Each body is an atomic scope: only its first outcome counts, and the loop continues from there. It never returns to
 //! an earlier body. The loop's count is raised on the stack before a body begins, so the body's end finds it counted.
 
-ghost use Rattle.sre_machine.specs.Terms.{IfOk, Again, OpcodeAt};
+ghost use Rattle.std.specs.Prelude.{IfOk};
+ghost use Rattle.sre_machine.specs.Terms.{Again, OpcodeAt};
 ghost use Rattle.sre_machine.specs.Turns.{At, Turn, AtOnBoard, TurnAt};
 
 use crate::loops::{may_repeat, next_frame};

@@ -3,7 +3,8 @@
 //! A scope is on the backtrack stack while its body is in progress, and the loops around it are set aside. Only the
 //! first outcome of its body counts. So the choices inside are dropped as soon as the body ends.
 
-ghost use Rattle.sre_machine.specs.Terms.{◌≡◌, ◌-◌, [], true, IfOk, MatchOption, is_inside, run_of, OpcodeAt};
+ghost use Rattle.std.specs.Prelude.{◌≡◌, ◌-◌, [], true, IfOk, MatchOption};
+ghost use Rattle.sre_machine.specs.Terms.{is_inside, run_of, OpcodeAt};
 ghost use Rattle.sre_turns.specs.Board.{from_region};
 ghost use Rattle.sre_turns.specs.Machine.{Closes, after_outcome, without_outcome, without_loop};
 ghost use Rattle.sre_machine.specs.Turns.{At, Turn};

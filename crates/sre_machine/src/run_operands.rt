@@ -1,6 +1,7 @@
 //! The operands of a single-character repeat: `skip least greatest test SUCCESS`.
 
-ghost use Rattle.sre_machine.specs.Terms.{◌≡◌, ◌+◌, ◌≤◌, Instruction, end_of, word, run_of, TestAt};
+ghost use Rattle.std.specs.Prelude.{◌≡◌, ◌+◌, ◌≤◌};
+ghost use Rattle.sre_machine.specs.Terms.{Instruction, end_of, word, run_of, TestAt};
 ghost use Rattle.sre_model.specs.TreePrices as prices;
 ghost use Rattle.sre_machine.specs.Runs.{AreOperands};
 ghost use Rattle.sre_machine.specs.Turns.{At, scan_at};

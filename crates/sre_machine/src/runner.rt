@@ -1,7 +1,8 @@
 //! A runner: the memory in which the machine runs, and the number of its runs.
 
-ghost use Rattle.sre_machine.specs.Terms.{◌≡◌, ◌≤◌, ◌+◌, ◌*◌, ◌^◌, ◌<◌, IfErr, false, Tree, WholeItems, no_marks};
-ghost use Rattle.sre_machine.specs.Terms.{ReadsBehind, bare, start_of, end_of, run_of, Standing};
+ghost use Rattle.std.specs.Prelude.{◌≡◌, ◌≤◌, ◌+◌, ◌*◌, ◌^◌, ◌<◌, IfErr, false};
+ghost use Rattle.sre_machine.specs.Terms.{Tree, WholeItems, no_marks, ReadsBehind, bare, start_of, end_of, run_of};
+ghost use Rattle.sre_machine.specs.Terms.{Standing};
 ghost use Rattle.sre_machine.specs.Allowances.{Halted, is_limited};
 ghost use Rattle.sre_machine.specs.Memos.{Recalls, Begins, RecallsOf};
 ghost use Rattle.sre_machine.specs.Runners.{IsReady, MayRun, Began, AttemptDecides, ClearsUnfound, AttemptCosts};

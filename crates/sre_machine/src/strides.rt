@@ -4,8 +4,9 @@
 //! character. That alternative is a single test, and the loop's end must fail there. So there is nothing to save, and
 //! the frame is written once, after all of them. Each counts as a body that began.
 
-ghost use Rattle.sre_machine.specs.Terms.{◌≡◌, ◌+◌, ◌<◌, ◌≤◌, Some, IfSome, Word, unlimited, next_frame, contains};
-ghost use Rattle.sre_machine.specs.Terms.{MayRepeat, TellsBodies, Alternatives, end_of, run_of, OpcodeAt};
+ghost use Rattle.std.specs.Prelude.{◌≡◌, ◌+◌, ◌<◌, ◌≤◌, Some, IfSome};
+ghost use Rattle.sre_machine.specs.Terms.{Word, unlimited, next_frame, contains, MayRepeat, TellsBodies, Alternatives};
+ghost use Rattle.sre_machine.specs.Terms.{end_of, run_of, OpcodeAt};
 ghost use Rattle.sre_turns.specs.Strides.{EndsBody, Strides};
 ghost use Rattle.sre_machine.specs.Turns.{AtPoint, DemandedAt};
 

@@ -3,8 +3,9 @@
 //! In a long batch one set decides the next characters, instead of the alternatives. It has the characters with which
 //! exactly one alternative begins, which is a single test.
 
-ghost use Rattle.sre_machine.specs.Terms.{◌≡◌, ◌⊎◌, ◌+◌, ℕ, true, false, IfSome, Word, Opcode, begins_test, contains};
-ghost use Rattle.sre_machine.specs.Terms.{TellsBodies, Alternatives, run_of, OpcodeAt};
+ghost use Rattle.std.specs.Prelude.{◌≡◌, ◌⊎◌, ◌+◌, ℕ, true, false, IfSome};
+ghost use Rattle.sre_machine.specs.Terms.{Word, Opcode, begins_test, contains, TellsBodies, Alternatives, run_of};
+ghost use Rattle.sre_machine.specs.Terms.{OpcodeAt};
 ghost use Rattle.sre_turns.specs.Strides.{TellsTest};
 ghost use Rattle.sre_machine.specs.Turns.{At, AtPoint};
 

@@ -1,8 +1,8 @@
 //! The steps of a run with an open memo: failures are memoized, and at a memoized failure the machine backtracks at
 //! once.
 
-ghost use Rattle.sre_machine.specs.Terms.{ℕ, ◌≡◌, ◌≢◌, ◌⊎◌, IfOk, true, false, Marks, no_marks, Instruction, Again};
-ghost use Rattle.sre_machine.specs.Terms.{is_inside, spot, run_of, Refused};
+ghost use Rattle.std.specs.Prelude.{ℕ, ◌≡◌, ◌≢◌, ◌⊎◌, IfOk, true, false};
+ghost use Rattle.sre_machine.specs.Terms.{Marks, no_marks, Instruction, Again, is_inside, spot, run_of, Refused};
 ghost use Rattle.sre_machine.specs.Paying.{HoldsTried};
 ghost use Rattle.sre_turns.specs.Board.{MayBeTried};
 ghost use Rattle.sre_turns.specs.Asked.{Unmarked};

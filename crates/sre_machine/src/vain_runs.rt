@@ -4,7 +4,8 @@
 //! searched only after repeats have failed over much of the text, as at each step of an iteration of `[a-z]*b|a` over
 //! letters a.
 
-ghost use Rattle.sre_machine.specs.Terms.{◌≡◌, ℕ, ◌<◌, ◌≤◌, true, length, Opcode, Standing, TestAt};
+ghost use Rattle.std.specs.Prelude.{◌≡◌, ℕ, ◌<◌, ◌≤◌, true, length};
+ghost use Rattle.sre_machine.specs.Terms.{Opcode, Standing, TestAt};
 ghost use Rattle.sre_machine.specs.Turns.{RefusesAt, DemandedAt};
 
 use crate::set_members::word_at;

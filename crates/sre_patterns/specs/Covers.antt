@@ -1,6 +1,6 @@
 -- When a pattern of bytes has a match wherever a tree has a match path.
-use Rattle.sre_patterns.specs.Terms.{ℕ, ◌≡◌, ◌+◌, ◌≤◌, ◌<◌, List, [], length, Some, Re, Matches, Table, Tree, Item, One}
-use Rattle.sre_patterns.specs.Terms.{Test, Subject, Body, ways, item_ways, take, slice_get, char_at}
+use Rattle.std.specs.Prelude.{ℕ, ◌≡◌, ◌+◌, ◌≤◌, ◌<◌, List, [], length, Some, take, slice_get}
+use Rattle.sre_patterns.specs.Terms.{Re, Matches, Table, Tree, Item, One, Test, Subject, Body, ways, item_ways, char_at}
 use Rattle.sre_model.specs.Marks.{Marks}
 use Rattle.std.specs.List.{AllByRecursion}
 use Rattle.std.specs.Char.{len_utf8}

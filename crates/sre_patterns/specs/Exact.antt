@@ -1,6 +1,7 @@
 -- When a pattern of bytes tries the match paths of a tree in their order.
-use Rattle.sre_patterns.specs.Terms.{ℕ, ◌≡◌, ◌<◌, ◌≤◌, ◌⊎◌, List, [], ◌∷◌, Option, None, Re, Matches, Table, Tree, Item}
-use Rattle.sre_patterns.specs.Terms.{One, Test, Subject, Body, ways, item_ways, Rest, Trace, attempt, Way, unlimited}
+use Rattle.std.specs.Prelude.{ℕ, ◌≡◌, ◌<◌, ◌≤◌, ◌⊎◌, List, [], ◌∷◌, Option, None}
+use Rattle.sre_patterns.specs.Terms.{Re, Matches, Table, Tree, Item, One, Test, Subject, Body, ways, item_ways, Rest}
+use Rattle.sre_patterns.specs.Terms.{Trace, attempt, Way, unlimited}
 use Rattle.sre_model.specs.Marks.{Marks}
 use Rattle.std.specs.Option.{option_or}
 use Rattle.sre_patterns.specs.Covers.{View}

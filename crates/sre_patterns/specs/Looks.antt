@@ -1,5 +1,6 @@
 -- Positions, as assertions of the pattern.
-use Rattle.sre_patterns.specs.Terms.{Option, Some, None, Look, SreAtCode}
+use Rattle.std.specs.Prelude.{Option, Some, None}
+use Rattle.sre_patterns.specs.Terms.{Look, SreAtCode}
 use Rattle.regex_hir.specs.declared.look.Look.TheVariants.{Start, End, StartLf, EndLf, WordAscii, WordAsciiNegate}
 use Rattle.sre_chars.specs.declared.constants.SreAtCode.TheVariants.{BEGINNING, BEGINNING_LINE, BEGINNING_STRING}
 use Rattle.sre_chars.specs.declared.constants.SreAtCode.TheVariants.{BOUNDARY, NON_BOUNDARY, END, END_LINE, END_STRING}

@@ -1,7 +1,7 @@
 -- What is said of a pattern for the bytecode at an address.
-use Rattle.sre_patterns.specs.Terms.{ℕ, ◌≡◌, ◌<◌, ◌≤◌, ◌⊎◌, Bool, true, nat_lt, List, [], ◌∷◌, Re, cat, alt, Table}
-use Rattle.sre_patterns.specs.Terms.{SreOpcode, SreAtCode, Tree, Item, Test, RunKind, Opcode, TestStands, ◌&&◌, Branch}
-use Rattle.sre_patterns.specs.Terms.{Run, Atomic, Trees, item_opcode, Reads, ReadsItem}
+use Rattle.std.specs.Prelude.{ℕ, ◌≡◌, ◌<◌, ◌≤◌, ◌⊎◌, Bool, true, nat_lt, List, [], ◌∷◌, ◌&&◌}
+use Rattle.sre_patterns.specs.Terms.{Re, cat, alt, Table, SreOpcode, SreAtCode, Tree, Item, Test, RunKind, Opcode}
+use Rattle.sre_patterns.specs.Terms.{TestStands, Branch, Run, Atomic, Trees, item_opcode, Reads, ReadsItem}
 use Rattle.sre_model.specs.Roles.{role, ToRun, ToRepeat, ToRepeatPossessively, ToCheckGroup}
 use Rattle.regex_class.specs.Ranges.{in_ranges}
 use Rattle.sre_patterns.specs.Covers.{View, InBytes, InUtf8, CoversStart}

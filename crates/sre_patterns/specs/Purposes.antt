@@ -1,6 +1,7 @@
 -- What a pattern does for a tree, by its purpose.
-use Rattle.sre_patterns.specs.Terms.{ℕ, ◌≡◌, Bool, List, Option, Re, Look, Table, SreAtCode, SreOpcode, Tree, Item, One}
-use Rattle.sre_patterns.specs.Terms.{Test, Order, Opcode, Subject, Body, ways, item_ways, uni_of, ⊤, until_opcode}
+use Rattle.std.specs.Prelude.{ℕ, ◌≡◌, Bool, List, Option, ⊤}
+use Rattle.sre_patterns.specs.Terms.{Re, Look, Table, SreAtCode, SreOpcode, Tree, Item, One, Test, Order, Opcode}
+use Rattle.sre_patterns.specs.Terms.{Subject, Body, ways, item_ways, uni_of, until_opcode}
 use Rattle.sre_model.specs.Roles.{role, ToRun}
 use Rattle.sre_patterns.specs.Covers.{View, IsWider, CoversBody}
 use Rattle.sre_patterns.specs.Exact.{ExactBody}

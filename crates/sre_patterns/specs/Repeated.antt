@@ -1,6 +1,6 @@
 -- Repetitions, whose counts are preserved while they are small.
-use Rattle.sre_patterns.specs.Terms.{ℕ, Bool, true, Option, Some, None, nat_lt, Re, repeat, Order, RunKind, min, false}
-use Rattle.sre_patterns.specs.Terms.{◌||◌, cond, Greedy, Lazy, GreedyRun, LazyRun}
+use Rattle.std.specs.Prelude.{ℕ, Bool, true, Option, Some, None, nat_lt, min, false, ◌||◌, cond}
+use Rattle.sre_patterns.specs.Terms.{Re, repeat, Order, RunKind, Greedy, Lazy, GreedyRun, LazyRun}
 
 -- the greatest count of a repetition, unless it or the least one is more than is kept
 abbrev pub most_kept : ℕ → ℕ → ℕ → Option ℕ

@@ -1,5 +1,6 @@
 -- From which character on a test, or a set, gives one answer.
-use Rattle.sre_patterns.specs.Terms.{ℕ, ◌≡◌, ◌≤◌, ◌<◌, Bool, List, Table, HasSet, SetItem, verdict, SetStands}
+use Rattle.std.specs.Prelude.{ℕ, ◌≡◌, ◌≤◌, ◌<◌, Bool, List}
+use Rattle.sre_patterns.specs.Terms.{Table, HasSet, SetItem, verdict, SetStands}
 
 -- from a number on a test has the same answer
 abbrev pub SettledFrom : ℕ → (ℕ → Bool) → Type 0

@@ -1,6 +1,4 @@
 -- The words from elsewhere which contracts and definitions of this crate name.
-pub use Rattle.std.specs.Prelude.{Bool, IfOk, IfSome, List, None, OnOk, Option, Some, [], cond, false, length, map, min}
-pub use Rattle.std.specs.Prelude.{nat_lt, slice_get, take, true, ◌&&◌, ◌+◌, ◌<◌, ◌^◌, ◌||◌, ◌∷◌, ◌≡◌, ◌≤◌, ◌⊎◌, ℕ, ⊤}
 pub use Rattle.regex_hir.specs.Matches.{IsMinLen, Matches}
 pub use Rattle.regex_hir.specs.Meaning.{meaning, repeat}
 pub use Rattle.regex_hir.specs.Re.{Re, Rest, Trace, alt, attempt, cat, empty, literal}

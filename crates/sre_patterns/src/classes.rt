@@ -1,8 +1,8 @@
 //! Single-character tests, as classes of bytes or characters.
 
-ghost use Rattle.sre_patterns.specs.Terms.{◌≡◌, ◌<◌, ℕ, IfOk, Some, [], ◌∷◌, literal, meaning, Test, Opcode};
-ghost use Rattle.sre_patterns.specs.Terms.{TestStands, HasTest, items_of, uni_of, holds, Table, AnyAll, Literal, Plain};
-ghost use Rattle.std.specs.Prelude.{encode_utf8};
+ghost use Rattle.std.specs.Prelude.{encode_utf8, ◌≡◌, ◌<◌, ℕ, IfOk, Some, [], ◌∷◌};
+ghost use Rattle.sre_patterns.specs.Terms.{literal, meaning, Test, Opcode, TestStands, HasTest, items_of, uni_of};
+ghost use Rattle.sre_patterns.specs.Terms.{holds, Table, AnyAll, Literal, Plain};
 ghost use Rattle.sre_patterns.specs.Covers.{CoversTest};
 ghost use Rattle.sre_patterns.specs.Patterns.{view_of, AtTest, HasBelow, HasJust};
 ghost use Rattle.sre_patterns.specs.Purposes.{ServesTest, HasFor};

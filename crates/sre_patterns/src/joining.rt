@@ -1,6 +1,7 @@
 //! Concatenation and alternation of patterns.
 
-ghost use Rattle.sre_patterns.specs.Terms.{OnOk, IfOk, Re, cat, alt, empty, literal, meaning, map};
+ghost use Rattle.std.specs.Prelude.{OnOk, IfOk, map};
+ghost use Rattle.sre_patterns.specs.Terms.{Re, cat, alt, empty, literal, meaning};
 ghost use Rattle.sre_patterns.specs.Covers.{IsWider};
 ghost use Rattle.sre_patterns.specs.Patterns.{cat_onto};
 ghost use Rattle.sre_patterns.specs.Purposes.{Replaces};

@@ -1,6 +1,6 @@
 //! Positions of AT instructions, as assertions (`Look`) of the kit's patterns.
 
-ghost use Rattle.sre_patterns.specs.Terms.{◌≡◌};
+ghost use Rattle.std.specs.Prelude.{◌≡◌};
 ghost use Rattle.sre_patterns.specs.Looks as looks;
 ghost use Rattle.sre_patterns.specs.Patterns as patterns;
 ghost use Rattle.sre_patterns.specs.Purposes as purposes;

@@ -1,7 +1,7 @@
 //! Repetitions, whose counts are exact up to a limit.
 
-ghost use Rattle.sre_patterns.specs.Terms.{◌≡◌, ◌≤◌, ◌+◌, ◌<◌, ◌^◌, IfOk, length, true, None, meaning, repeat, Word};
-ghost use Rattle.sre_patterns.specs.Terms.{items_of, IsMinLen};
+ghost use Rattle.std.specs.Prelude.{◌≡◌, ◌≤◌, ◌+◌, ◌<◌, ◌^◌, IfOk, length, true, None};
+ghost use Rattle.sre_patterns.specs.Terms.{meaning, repeat, Word, items_of, IsMinLen};
 ghost use Rattle.sre_patterns.specs.Exact.{AreKept};
 ghost use Rattle.sre_patterns.specs.Purposes.{WhenInOrder, RunsSo, LoopsSo};
 ghost use Rattle.sre_patterns.specs.Repeated as repetitions;

@@ -3,8 +3,9 @@
 //! Then the results up to that character determine the class of all characters. The bound is unknown if a Unicode table
 //! decides: for case, and for Unicode's letters and digits.
 
-ghost use Rattle.sre_patterns.specs.Terms.{◌≡◌, ◌+◌, ℕ, Table, Test, Opcode, HasSet, HasTest, TestStands, holds};
-ghost use Rattle.sre_patterns.specs.Terms.{items_of, uni_of, IfSome, category_number};
+ghost use Rattle.std.specs.Prelude.{◌≡◌, ◌+◌, ℕ, IfSome};
+ghost use Rattle.sre_patterns.specs.Terms.{Table, Test, Opcode, HasSet, HasTest, TestStands, holds, items_of, uni_of};
+ghost use Rattle.sre_patterns.specs.Terms.{category_number};
 ghost use Rattle.sre_chars.specs.Categories.{category};
 ghost use Rattle.sre_patterns.specs.Settling.{SettledFrom, SettledSet, SettlesBehind};
 

@@ -1,6 +1,6 @@
 //! What is translated to a pattern, and what the pattern is for.
 
-ghost use Rattle.sre_patterns.specs.Terms.{OnOk};
+ghost use Rattle.std.specs.Prelude.{OnOk};
 ghost use Rattle.sre_patterns.specs.Purposes.{OnlyCovers};
 
 use crate::encoding::Encoding;

@@ -6,7 +6,8 @@
 //! body can be empty, since SRE ends such a loop differently. Counts must be within the limit `KEPT`. Over UTF-8, it
 //! must be known which of all characters a test accepts.
 
-ghost use Rattle.sre_patterns.specs.Terms.{◌≡◌, IfOk, Some, meaning, empty, Tree, Opcode, HasTest, items_of, uni_of};
+ghost use Rattle.std.specs.Prelude.{◌≡◌, IfOk, Some};
+ghost use Rattle.sre_patterns.specs.Terms.{meaning, empty, Tree, Opcode, HasTest, items_of, uni_of};
 ghost use Rattle.sre_model.specs.Grammar.{WholeItems};
 ghost use Rattle.sre_patterns.specs.Covers.{Covers, CoversStart};
 ghost use Rattle.sre_patterns.specs.Exact.{ExactTree};

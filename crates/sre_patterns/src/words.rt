@@ -1,6 +1,7 @@
 //! Reads code words where the tree determines what they are.
 
-ghost use Rattle.sre_patterns.specs.Terms.{◌≡◌, ◌+◌, ◌<◌, ◌^◌, length, Word, Opcode, HasTest, items_of, at_number};
+ghost use Rattle.std.specs.Prelude.{◌≡◌, ◌+◌, ◌<◌, ◌^◌, length};
+ghost use Rattle.sre_patterns.specs.Terms.{Word, Opcode, HasTest, items_of, at_number};
 ghost use Rattle.sre_patterns.specs.Patterns.{HasItem};
 ghost use Rattle.sre_model.specs.Grammar as grammar;
 

@@ -1,6 +1,7 @@
 -- The matches of an iteration that adjoin each other: definitions for private functions' contracts.
-use Rattle.sre_recipes.specs.Terms.{◌≡◌, ℕ, List, [], ◌∷◌, cond, nat_eq, Ghosts, Tree, Whole, Match, words_of, start_of}
-use Rattle.sre_recipes.specs.Terms.{code_of, request_of, shown_of, left_of, Gives, SearchIter}
+use Rattle.std.specs.Prelude.{◌≡◌, ℕ, List, [], ◌∷◌, cond, nat_eq}
+use Rattle.sre_recipes.specs.Terms.{Ghosts, Tree, Whole, Match, words_of, start_of, code_of, request_of, shown_of}
+use Rattle.sre_recipes.specs.Terms.{left_of, Gives, SearchIter}
 
 -- of matches in order those up to the first gap from p on, without the empty ones
 abbrev pub adjoining : ℕ → List Match → List Match

@@ -1,6 +1,7 @@
 -- A match with its groups, as it shows.
 -- Of the specification: what sre_recipes makes public rests on it.
-use Rattle.sre_recipes.specs.Terms.{ℕ, List, map, Option, option_map}
+use Rattle.std.specs.Prelude.{ℕ, List, map, Option}
+use Rattle.sre_recipes.specs.Terms.{option_map}
 use Rattle.sre_recipes.specs.declared.groups.CapturesOf.{CapturesOf}
 
 -- the characters of each text, as texts of this type have them

@@ -1,7 +1,8 @@
 -- A text whose matches are replaced by what a function gives for each.
 -- Of the specification: what sre_recipes makes public rests on it.
 use denote.Ref.{Bor}
-use Rattle.sre_recipes.specs.Terms.{◌≡◌, ℕ, List, [], ◌∷◌, ◌++◌, slice_range, Result, Ok, Match}
+use Rattle.std.specs.Prelude.{◌≡◌, ℕ, List, [], ◌∷◌, ◌++◌, slice_range, Result, Ok}
+use Rattle.sre_recipes.specs.Terms.{Match}
 use Rattle.sre_recipes.specs.declared.groups.CapturesOf.{CapturesOf}
 use Rattle.sre_recipes.specs.Slices.{captured}
 use Rattle.sre_recipes.specs.Captured.{captures_shown}

@@ -1,9 +1,9 @@
 -- What an iteration within bounds takes of them.
 -- Of the meaning: what sre_recipes makes public rests on it.
-use Rattle.sre_recipes.specs.Terms.{◌≡◌, ◌≤◌, ℕ, ◌+◌, ◌-◌, Bool, true, false, List, [], ◌∷◌, ◌++◌, length, Option, Some}
-use Rattle.sre_recipes.specs.Terms.{None, IfSome, IsSome, Ok, min, ◌*◌, Refused, Code, Tree, Whole, Asked, Match, walk}
-use Rattle.sre_recipes.specs.Terms.{words_of, Shown, MayTakeMemory, SreError}
-use Rattle.std.specs.Prelude.{◌⊎◌}
+use Rattle.std.specs.Prelude.{◌⊎◌, ◌≡◌, ◌≤◌, ℕ, ◌+◌, ◌-◌, Bool, true, false, List, [], ◌∷◌, ◌++◌, length, Option, Some}
+use Rattle.std.specs.Prelude.{None, IfSome, IsSome, Ok, min, ◌*◌}
+use Rattle.sre_recipes.specs.Terms.{Refused, Code, Tree, Whole, Asked, Match, walk, words_of, Shown, MayTakeMemory}
+use Rattle.sre_recipes.specs.Terms.{SreError}
 use Rattle.sre_model.specs.Anchors.{is_anchored}
 use Rattle.sre_engine.specs.Found.{asked_after}
 use Rattle.sre_engine.specs.Codes.{items_of}

@@ -1,7 +1,8 @@
 -- What an iteration over the texts of matches gives.
 -- Definitions for the contracts of this crate.
-use Rattle.sre_recipes.specs.Terms.{◌≡◌, false, Option, Some, None, Result, Ok, Err, slice_range, Ghosts, Refused}
-use Rattle.sre_recipes.specs.Terms.{string_of, code_of, MayTakeMemory, SreError, SpanIter, has_ended, GivesSpan}
+use Rattle.std.specs.Prelude.{◌≡◌, false, Option, Some, None, Result, Ok, Err, slice_range}
+use Rattle.sre_recipes.specs.Terms.{Ghosts, Refused, string_of, code_of, MayTakeMemory, SreError, SpanIter, has_ended}
+use Rattle.sre_recipes.specs.Terms.{GivesSpan}
 use Rattle.sre_finder.specs.declared.span_iter.Span.{Span}
 use Rattle.sre_finder.specs.SpanIters.{request_of, Ends, IsOver}
 use Rattle.sre_recipes.specs.declared.found.FoundTexts.{FoundTexts}

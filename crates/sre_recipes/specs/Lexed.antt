@@ -1,7 +1,7 @@
 -- The tokens that a text begins with.
 -- Of the specification: what sre_recipes makes public rests on it.
-use Rattle.sre_recipes.specs.Terms.{ℕ, ◌+◌, ◌-◌, true, List, [], ◌∷◌, Option, Some, None, Tree, Asked, Match, matched}
-use Rattle.std.specs.Prelude.{zero, suc, ℤ}
+use Rattle.std.specs.Prelude.{zero, suc, ℤ, ℕ, ◌+◌, ◌-◌, true, List, [], ◌∷◌, Option, Some, None}
+use Rattle.sre_recipes.specs.Terms.{Tree, Asked, Match, matched}
 use Rattle.sre_recipes.specs.declared.lexer.TokenOf.{TokenOf}
 use Rattle.sre_recipes.specs.Slices.{slice_of}
 

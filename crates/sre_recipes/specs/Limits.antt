@@ -1,7 +1,7 @@
 -- How far an iteration is followed within bounds: definitions for private functions' contracts.
-use Rattle.sre_recipes.specs.Terms.{◌≡◌, ℕ, ◌+◌, ◌-◌, nat_eq, Bool, true, false, [], Option, Some, None, Ghosts, Tree}
-use Rattle.sre_recipes.specs.Terms.{Whole, words_of, code_of, asked_of, match_shown, request_of, shown_of, left_of}
-use Rattle.sre_recipes.specs.Terms.{IsOver, SearchIter}
+use Rattle.std.specs.Prelude.{◌≡◌, ℕ, ◌+◌, ◌-◌, nat_eq, Bool, true, false, [], Option, Some, None}
+use Rattle.sre_recipes.specs.Terms.{Ghosts, Tree, Whole, words_of, code_of, asked_of, match_shown, request_of, shown_of}
+use Rattle.sre_recipes.specs.Terms.{left_of, IsOver, SearchIter}
 use Rattle.sre_engine.specs.Iterators.{has_ended}
 use Rattle.sre_recipes.specs.declared.bounds.Bounds.{Bounds}
 use Rattle.sre_recipes.specs.Bounded.{first_of}

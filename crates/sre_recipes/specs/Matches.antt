@@ -1,7 +1,8 @@
 -- Matches and groups with their byte offsets, as they show.
 -- Of the specification: what sre_recipes makes public rests on it.
-use Rattle.sre_recipes.specs.Terms.{ℕ, ◌+◌, ◌-◌, ◌/◌, List, length, map, Option, Some, None, cond, nat_eq, nat_le}
-use Rattle.sre_recipes.specs.Terms.{slice_range, range_with_len, option_map, Marks, group}
+use Rattle.std.specs.Prelude.{ℕ, ◌+◌, ◌-◌, ◌/◌, List, length, map, Option, Some, None, cond, nat_eq, nat_le}
+use Rattle.std.specs.Prelude.{slice_range}
+use Rattle.sre_recipes.specs.Terms.{range_with_len, option_map, Marks, group}
 use Rattle.sre_engine.specs.Found as model
 use Rattle.sre_recipes.specs.declared.matches.Match.{Match}
 use Rattle.sre_recipes.specs.declared.groups.CapturesOf.{CapturesOf}

@@ -1,6 +1,7 @@
 -- The next match of an iteration with a prefilter: a definition for private functions' contracts.
-use Rattle.sre_recipes.specs.Terms.{◌≡◌, ◌≤◌, Bool, false, ◌∷◌, Ghosts, StringCursor, Tree, Whole, Match, words_of}
-use Rattle.sre_recipes.specs.Terms.{string_of, start_of, end_of, code_of, SpanIter, has_ended}
+use Rattle.std.specs.Prelude.{◌≡◌, ◌≤◌, Bool, false, ◌∷◌}
+use Rattle.sre_recipes.specs.Terms.{Ghosts, StringCursor, Tree, Whole, Match, words_of, string_of, start_of, end_of}
+use Rattle.sre_recipes.specs.Terms.{code_of, SpanIter, has_ended}
 use Rattle.sre_finder.specs.SpanIters.{request_of, shown_of, left_of}
 use Rattle.sre_recipes.specs.Spans.{IsFound, Shows}
 

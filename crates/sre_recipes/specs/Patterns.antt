@@ -1,6 +1,7 @@
 -- What a pattern that owns its code shows, and what its searches ask.
 -- Of the specification: what sre_recipes makes public rests on it.
-use Rattle.sre_recipes.specs.Terms.{◌≤◌, ◌<◌, ℕ, List, length, min, false, Table, Asked, Shown}
+use Rattle.std.specs.Prelude.{◌≤◌, ◌<◌, ℕ, List, length, min, false}
+use Rattle.sre_recipes.specs.Terms.{Table, Asked, Shown}
 use Rattle.sre_chars.specs.declared.constants.EmptyRule.TheVariants.{Never}
 
 -- its words, its table, and what its state shows

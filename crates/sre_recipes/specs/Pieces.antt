@@ -1,6 +1,7 @@
 -- What lies between matches.
 -- Of the specification: what sre_recipes makes public rests on it.
-use Rattle.sre_recipes.specs.Terms.{ℕ, List, [], ◌∷◌, ◌++◌, map, slice_range, Option, Some, range_with_len, Match}
+use Rattle.std.specs.Prelude.{ℕ, List, [], ◌∷◌, ◌++◌, map, slice_range, Option, Some}
+use Rattle.sre_recipes.specs.Terms.{range_with_len, Match}
 use Rattle.sre_recipes.specs.Slices.{numbered_group}
 
 -- the characters up to each match, and those behind the last one up to `to`

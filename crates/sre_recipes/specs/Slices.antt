@@ -1,7 +1,8 @@
 -- The characters of a match and of its groups.
 -- Of the specification: what sre_recipes makes public rests on it.
-use Rattle.sre_recipes.specs.Terms.{ℕ, ◌+◌, ◌-◌, ◌/◌, List, length, map, Option, Some, None, true, cond, nat_eq, nat_le}
-use Rattle.sre_recipes.specs.Terms.{slice_range, range_with_len, Marks, group, Asked, Match}
+use Rattle.std.specs.Prelude.{ℕ, ◌+◌, ◌-◌, ◌/◌, List, length, map, Option, Some, None, true, cond, nat_eq, nat_le}
+use Rattle.std.specs.Prelude.{slice_range}
+use Rattle.sre_recipes.specs.Terms.{range_with_len, Marks, group, Asked, Match}
 
 -- what is asked where a match has to end at the window's end
 abbrev pub to_the_end : Asked → Asked

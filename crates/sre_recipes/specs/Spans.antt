@@ -1,5 +1,6 @@
 -- Where a match starts and ends in a text, as an iteration leaves it: definitions for private functions' contracts.
-use Rattle.sre_recipes.specs.Terms.{ℕ, Bool, true, ◌≡◌, ◌≤◌, StringCursor, Match, Shown, match_shown}
+use Rattle.std.specs.Prelude.{ℕ, Bool, true, ◌≡◌, ◌≤◌}
+use Rattle.sre_recipes.specs.Terms.{StringCursor, Match, Shown, match_shown}
 
 -- a cursor of a text stands at a position
 pub record StandsAt (stands : StringCursor → ℕ → Type 0) (c : StringCursor) (p : ℕ) : Type 0 where

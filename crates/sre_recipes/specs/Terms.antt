@@ -1,9 +1,6 @@
 -- The words from elsewhere which contracts and definitions of this crate name.
 pub use Rattle.std.specs.List.{range_with_len}
 pub use Rattle.std.specs.Option.{option_map}
-pub use Rattle.std.specs.Prelude.{Bool, Err, IfOk, IfSome, IsSome, List, MatchOption, None, Ok, OnErr, Option, Result}
-pub use Rattle.std.specs.Prelude.{Some, [], cond, false, is_none, is_some, length, map, min, nat_eq, nat_le}
-pub use Rattle.std.specs.Prelude.{slice_range, true, ◌*◌, ◌++◌, ◌+◌, ◌-◌, ◌/◌, ◌<◌, ◌∷◌, ◌≡◌, ◌≤◌, ℕ, ⊤}
 pub use Rattle.std.specs.Str.{chars}
 pub use Rattle.sre_chars.specs.Tables.{Table}
 pub use Rattle.sre_chars.specs.declared.string.StrDrive.{Ghosts}

@@ -1,6 +1,6 @@
 //! Limits of a recipe: a number of matches, or a number of steps.
 
-ghost use Rattle.sre_recipes.specs.Terms.{◌≡◌, ◌<◌, false, None, Some, IfOk, IfSome, OnErr, MatchOption, IsSome};
+ghost use Rattle.std.specs.Prelude.{◌≡◌, ◌<◌, false, None, Some, IfOk, IfSome, OnErr, MatchOption, IsSome};
 ghost use Rattle.sre_recipes.specs.Terms.{string_of, request_of, shown_of, Gives, IsOver, most_items, Refused};
 ghost use Rattle.sre_recipes.specs.Spans.{IsSpan};
 ghost use Rattle.sre_recipes.specs.Limits.{is_spent, one_less, Takes, Stops, Goes, Ends, SpendsWithin};

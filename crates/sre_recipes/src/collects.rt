@@ -1,10 +1,10 @@
 //! Collectors: what gathers something of each match of an iteration. There is one loop over the matches of a
 //! `SearchIter` within bounds here, and one over those of a `SpanIter` in `every`.
 
-ghost use Rattle.sre_recipes.specs.Terms.{◌≡◌, ◌≤◌, ◌∷◌, [], ℕ, List, Bool, true, false, None, Some, length, IfOk};
-ghost use Rattle.sre_recipes.specs.Terms.{IsSome, OnErr, Tree, Whole, Match, walk, words_of, string_of, start_of};
-ghost use Rattle.sre_recipes.specs.Terms.{end_of, code_of, asked_of, Refused};
-ghost use Rattle.std.specs.Prelude.{not};
+ghost use Rattle.std.specs.Prelude.{not, ◌≡◌, ◌≤◌, ◌∷◌, [], ℕ, List, Bool, true, false, None, Some, length, IfOk};
+ghost use Rattle.std.specs.Prelude.{IsSome, OnErr};
+ghost use Rattle.sre_recipes.specs.Terms.{Tree, Whole, Match, walk, words_of, string_of, start_of, end_of, code_of};
+ghost use Rattle.sre_recipes.specs.Terms.{asked_of, Refused};
 ghost use Rattle.sre_recipes.specs.Spans.{IsFound, Shows};
 ghost use Rattle.sre_recipes.specs.Bounded.{first_of, AreLeft, Outlast};
 ghost use Rattle.sre_recipes.specs.Followed.{Followed};

@@ -1,7 +1,7 @@
 //! Replacement of all matches by the results of a closure.
 
-ghost use Rattle.sre_recipes.specs.Terms.{◌≡◌, ◌++◌, true, None, Some, Err, is_none, IfOk, IfSome, IsSome, OnErr, Tree};
-ghost use Rattle.sre_recipes.specs.Terms.{Whole, walk, words_of, string_of, start_of, end_of, code_of, asked_of};
+ghost use Rattle.std.specs.Prelude.{◌≡◌, ◌++◌, true, None, Some, Err, is_none, IfOk, IfSome, IsSome, OnErr};
+ghost use Rattle.sre_recipes.specs.Terms.{Tree, Whole, walk, words_of, string_of, start_of, end_of, code_of, asked_of};
 ghost use Rattle.sre_recipes.specs.Terms.{Refused};
 ghost use Rattle.std.specs.Global.{Global};
 ghost use Rattle.sre_recipes.specs.Computed.{Computes, ReplacedInOrder};

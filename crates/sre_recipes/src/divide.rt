@@ -1,7 +1,7 @@
 //! Splitting: the pieces of text between matches.
 
-ghost use Rattle.sre_recipes.specs.Terms.{⊤, ◌≡◌, ◌++◌, true, false, None, Some, map, is_none, IfOk, IfSome, IsSome};
-ghost use Rattle.sre_recipes.specs.Terms.{OnErr, option_map, Tree, Whole, walk, words_of, string_of, start_of, end_of};
+ghost use Rattle.std.specs.Prelude.{⊤, ◌≡◌, ◌++◌, true, false, None, Some, map, is_none, IfOk, IfSome, IsSome, OnErr};
+ghost use Rattle.sre_recipes.specs.Terms.{option_map, Tree, Whole, walk, words_of, string_of, start_of, end_of};
 ghost use Rattle.sre_recipes.specs.Terms.{code_of, asked_of, Refused};
 ghost use Rattle.sre_recipes.specs.Spans.{StandsBy};
 ghost use Rattle.sre_recipes.specs.Pieces.{pieces_between, pieces_and_groups};

@@ -1,7 +1,7 @@
 //! All matches of a text, by an iteration over the spans that DFAs find.
 
-ghost use Rattle.sre_recipes.specs.Terms.{⊤, ◌≡◌, ◌<◌, ◌≤◌, ◌++◌, ℕ, true, false, map, IfOk, IsSome, MatchOption};
-ghost use Rattle.sre_recipes.specs.Terms.{OnErr, Refused, Tree, Whole, words_of, string_of, start_of, end_of, code_of};
+ghost use Rattle.std.specs.Prelude.{⊤, ◌≡◌, ◌<◌, ◌≤◌, ◌++◌, ℕ, true, false, map, IfOk, IsSome, MatchOption, OnErr};
+ghost use Rattle.sre_recipes.specs.Terms.{Refused, Tree, Whole, words_of, string_of, start_of, end_of, code_of};
 ghost use Rattle.sre_recipes.specs.Terms.{has_ended, most_spans, GivesSpan};
 ghost use Rattle.sre_finder.specs.SpanIters.{request_of, left_of, IsOver};
 ghost use Rattle.sre_recipes.specs.Matches.{match_seen, placed_match, placed_groups, groups_seen};

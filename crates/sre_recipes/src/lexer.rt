@@ -1,8 +1,8 @@
 //! Tokens: matches each of which begins where the previous one ends.
 
-ghost use Rattle.sre_recipes.specs.Terms.{◌≡◌, ◌<◌, ◌++◌, map, nat_eq, IfOk, OnErr, MatchOption, IsSome, Tree, Whole};
-ghost use Rattle.sre_recipes.specs.Terms.{words_of, string_of, start_of, code_of, asked_of, match_shown, request_of};
-ghost use Rattle.sre_recipes.specs.Terms.{shown_of, most_items, Refused};
+ghost use Rattle.std.specs.Prelude.{◌≡◌, ◌<◌, ◌++◌, map, nat_eq, IfOk, OnErr, MatchOption, IsSome};
+ghost use Rattle.sre_recipes.specs.Terms.{Tree, Whole, words_of, string_of, start_of, code_of, asked_of, match_shown};
+ghost use Rattle.sre_recipes.specs.Terms.{request_of, shown_of, most_items, Refused};
 ghost use Rattle.sre_recipes.specs.Lexed.{token_matches, reached, lexeme_of, lexeme_shown};
 ghost use Rattle.sre_recipes.specs.Spans.{IsSpan, StandsAt};
 ghost use Rattle.sre_recipes.specs.Adjoining.{unless_empty, Adjoins, NoneAdjoins};

@@ -1,7 +1,7 @@
 //! A match with its byte offsets and its text, and those of its groups.
 
-ghost use Rattle.sre_recipes.specs.Terms.{◌≡◌, ◌≤◌, ◌+◌, ◌++◌, true, map, IfOk, OnErr, range_with_len, option_map};
-ghost use Rattle.sre_recipes.specs.Terms.{match_shown, answer_of, Refused};
+ghost use Rattle.std.specs.Prelude.{◌≡◌, ◌≤◌, ◌+◌, ◌++◌, true, map, IfOk, OnErr};
+ghost use Rattle.sre_recipes.specs.Terms.{range_with_len, option_map, match_shown, answer_of, Refused};
 ghost use Rattle.sre_recipes.specs.Matches.{match_seen, placed, placed_match, placed_marks, placed_group};
 ghost use Rattle.sre_recipes.specs.Matches.{placed_groups, groups_seen};
 ghost use Rattle.sre_recipes.specs.Spans.{IsSpan};

@@ -1,8 +1,8 @@
 //! Replacement of all matches by a template.
 
-ghost use Rattle.sre_recipes.specs.Terms.{⊤, ◌≡◌, ◌++◌, true, None, Some, is_none, IfOk, IfSome, IsSome, OnErr, chars};
-ghost use Rattle.sre_recipes.specs.Terms.{Tree, Whole, walk, words_of, string_of, start_of, end_of, code_of, asked_of};
-ghost use Rattle.sre_recipes.specs.Terms.{match_shown, Refused};
+ghost use Rattle.std.specs.Prelude.{⊤, ◌≡◌, ◌++◌, true, None, Some, is_none, IfOk, IfSome, IsSome, OnErr};
+ghost use Rattle.sre_recipes.specs.Terms.{chars, Tree, Whole, walk, words_of, string_of, start_of, end_of, code_of};
+ghost use Rattle.sre_recipes.specs.Terms.{asked_of, match_shown, Refused};
 ghost use Rattle.std.specs.String.{string_bytes};
 ghost use Rattle.sre_recipes.specs.Spans.{IsSpan, StandsBy};
 ghost use Rattle.sre_recipes.specs.Templates.{piece_of, written, replaced};

@@ -1,7 +1,7 @@
 //! The texts of a match and of its groups, reached from the cursor at the match's end.
 
-ghost use Rattle.sre_recipes.specs.Terms.{◌≡◌, ◌+◌, ◌<◌, ◌≤◌, length, slice_range, MatchOption, option_map};
-ghost use Rattle.sre_recipes.specs.Terms.{match_shown};
+ghost use Rattle.std.specs.Prelude.{◌≡◌, ◌+◌, ◌<◌, ◌≤◌, length, slice_range, MatchOption};
+ghost use Rattle.sre_recipes.specs.Terms.{option_map, match_shown};
 ghost use Rattle.sre_recipes.specs.Slices.{slice_of, group_of, numbered_group};
 
 use crate::span::{back_to, on_by, span_of};

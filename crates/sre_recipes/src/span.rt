@@ -1,7 +1,7 @@
 //! Start and end cursors of the matches of an iteration.
 
-ghost use Rattle.sre_recipes.specs.Terms.{◌≡◌, ◌+◌, ◌<◌, ◌≤◌, length, IfOk, OnErr, MatchOption, IsSome, string_of};
-ghost use Rattle.sre_recipes.specs.Terms.{request_of, shown_of, IsOver, Gives, most_items, Refused};
+ghost use Rattle.std.specs.Prelude.{◌≡◌, ◌+◌, ◌<◌, ◌≤◌, length, IfOk, OnErr, MatchOption, IsSome};
+ghost use Rattle.sre_recipes.specs.Terms.{string_of, request_of, shown_of, IsOver, Gives, most_items, Refused};
 ghost use Rattle.sre_recipes.specs.Spans.{IsSpan, StandsAt};
 
 use sre_engine::{SearchIter, SreError, State, StrDrive, StringCursor};

@@ -1,6 +1,7 @@
 -- FIRST sets as lists by address: which characters may come next there.
 -- The clauses of `Request::with_admitted`, `Request::admitted` and `step_admitted` rest on it.
-use Rattle.sre_request.specs.Terms.{ℕ, ◌≡◌, List, Some, slice_get, contains}
+use Rattle.std.specs.Prelude.{ℕ, ◌≡◌, List, Some, slice_get}
+use Rattle.sre_request.specs.Terms.{contains}
 use Rattle.std.proofs.Props.{props}
 use Rattle.sre_turns.specs.declared.Point.TheVariants.{Instruction, Alternatives}
 use Rattle.sre_turns.specs.Admitting.{AdmitsOnly}

@@ -1,7 +1,8 @@
 -- Which ASCII characters a set or a test takes.
 -- Definitions for the request's contracts; what sre_engine makes public does not rest on it.
-use Rattle.sre_request.specs.Terms.{ℕ, ◌≡◌, ◌<◌, Bool, true, false, List, contains, Table, SreOpcode, SetItem, Test}
-use Rattle.sre_request.specs.Terms.{is_member, holds, SetStands, HasSet, TestStands}
+use Rattle.std.specs.Prelude.{ℕ, ◌≡◌, ◌<◌, Bool, true, false, List}
+use Rattle.sre_request.specs.Terms.{contains, Table, SreOpcode, SetItem, Test, is_member, holds, SetStands, HasSet}
+use Rattle.sre_request.specs.Terms.{TestStands}
 use Rattle.sre_code.specs.declared.ascii_set.AsciiSet.{AsciiSet}
 use Rattle.sre_chars.specs.declared.constants.SreOpcode.TheVariants as opcode
 

@@ -1,6 +1,7 @@
 -- What is read of a request's words and text: a word, a test, a character.
 -- Definitions for the request's contracts; what sre_engine makes public does not rest on it.
-use Rattle.sre_request.specs.Terms.{ℕ, ◌<◌, Bool, length, Ghosts, Test, holds, Word, TestStands}
+use Rattle.std.specs.Prelude.{ℕ, ◌<◌, Bool, length}
+use Rattle.sre_request.specs.Terms.{Ghosts, Test, holds, Word, TestStands}
 use Rattle.sre_model.specs.Subject.{char_at}
 use Rattle.sre_request.specs.declared.request.Request.{Request}
 use Rattle.sre_request.specs.Runs.{run_of}

@@ -1,6 +1,7 @@
 -- What a request asks.
 -- Public clauses rest on it.
-use Rattle.sre_request.specs.Terms.{ℕ, Bool, List, Ghosts, StringCursor, Asked, items_of, uni_of}
+use Rattle.std.specs.Prelude.{ℕ, Bool, List}
+use Rattle.sre_request.specs.Terms.{Ghosts, StringCursor, Asked, items_of, uni_of}
 use Rattle.std.specs.Borrow.{Bor}
 use Rattle.sre_chars.specs.declared.constants.EmptyRule.{EmptyRule}
 use Rattle.sre_code.specs.declared.code.Code.{Code}

@@ -1,6 +1,7 @@
 -- The run of the machine for a request.
 -- Definitions for the machine's contracts. What sre_engine makes public rests on them by `Starts::beyond` alone.
-use Rattle.sre_request.specs.Terms.{ℕ, SreOpcode, Ghosts, StringCursor, subject_of, is_accepted, Opcode, items_of}
+use Rattle.std.specs.Prelude.{ℕ}
+use Rattle.sre_request.specs.Terms.{SreOpcode, Ghosts, StringCursor, subject_of, is_accepted, Opcode, items_of}
 use Rattle.sre_model.specs.Standing.{HasTest}
 use Rattle.sre_model.specs.Runs.{Run}
 use Rattle.sre_request.specs.declared.request.Request.{Request}

@@ -1,7 +1,7 @@
 -- Stretches of characters.
 -- Definitions for the request's contracts; what sre_engine makes public does not rest on it.
-use Rattle.sre_request.specs.Terms.{ℕ, ◌+◌, ◌-◌, ◌≡◌, ◌≢◌, ◌<◌, ◌≤◌, Bool, cond, nat_eq, Ghosts, StringCursor, Test}
-use Rattle.std.specs.Prelude.{not}
+use Rattle.std.specs.Prelude.{not, ℕ, ◌+◌, ◌-◌, ◌≡◌, ◌≢◌, ◌<◌, ◌≤◌, Bool, cond, nat_eq}
+use Rattle.sre_request.specs.Terms.{Ghosts, StringCursor, Test}
 use Rattle.sre_model.specs.CountedRuns.{Ended}
 use Rattle.sre_request.specs.declared.request.Request.{Request}
 use Rattle.sre_request.specs.Runs.{run_of, Standing}

@@ -1,6 +1,4 @@
 -- The words from elsewhere which contracts and definitions of this crate name.
-pub use Rattle.std.specs.Prelude.{Bool, IfOk, IfSome, IsSome, List, Some, cond, false, is_ok, length, nat_eq, slice_get}
-pub use Rattle.std.specs.Prelude.{slice_range, true, ◌&&◌, ◌+◌, ◌-◌, ◌<◌, ◌^◌, ◌≡◌, ◌≢◌, ◌≤◌, ℕ, ⊤}
 pub use Rattle.sre_chars.specs.Categories.{category, is_linebreak}
 pub use Rattle.sre_chars.specs.Tables.{Table, is_between, lower_ascii}
 pub use Rattle.sre_chars.specs.declared.constants.SreOpcode.{SreOpcode}

@@ -2,7 +2,8 @@
 //!
 //! Most characters are ASCII. For these one bit decides, instead of the test or a scan of a set's items.
 
-ghost use Rattle.sre_request.specs.Terms.{◌≡◌, ℕ, ◌<◌, nat_eq, true, IfSome, IsSome, contains, lower_ascii, Opcode};
+ghost use Rattle.std.specs.Prelude.{◌≡◌, ℕ, ◌<◌, nat_eq, true, IfSome, IsSome};
+ghost use Rattle.sre_request.specs.Terms.{contains, lower_ascii, Opcode};
 ghost use Rattle.sre_model.specs.Standing.{HasTest};
 ghost use Rattle.sre_request.specs.AsciiSets.{TakesAscii, is_told};
 

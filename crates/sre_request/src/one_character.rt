@@ -2,7 +2,8 @@
 //!
 //! A caller that knows the opcode passes it as a constant, so that the match on opcodes is compiled away.
 
-ghost use Rattle.sre_request.specs.Terms.{◌≡◌, ℕ, List, Test, Locale, SetItem, is_literal, in_set, SetStands, HasSet};
+ghost use Rattle.std.specs.Prelude.{◌≡◌, ℕ, List};
+ghost use Rattle.sre_request.specs.Terms.{Test, Locale, SetItem, is_literal, in_set, SetStands, HasSet};
 ghost use Rattle.sre_request.specs.Runs.{OpcodeAt, TestAt};
 ghost use Rattle.sre_request.specs.Reads.{TestStandsAt, test_takes};
 

@@ -3,7 +3,8 @@
 //! It reads characters before the start of the range, and none from its end on. Word characters of the locale are
 //! ASCII's.
 
-ghost use Rattle.sre_request.specs.Terms.{◌≡◌, ◌+◌, nat_eq, ◌&&◌, category, is_linebreak};
+ghost use Rattle.std.specs.Prelude.{◌≡◌, ◌+◌, nat_eq, ◌&&◌};
+ghost use Rattle.sre_request.specs.Terms.{category, is_linebreak};
 ghost use Rattle.sre_chars.specs.Numbers.{category_number};
 ghost use Rattle.sre_model.specs.Subject.{before, after, is_on_nothing, bars_non_boundary, is_boundary, holds_at};
 ghost use Rattle.sre_request.specs.Requests.{end_of};

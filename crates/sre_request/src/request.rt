@@ -1,6 +1,7 @@
 //! [`Request`]: the parts of a match or a search.
 
-ghost use Rattle.sre_request.specs.Terms.{⊤, ◌≡◌, ◌+◌, ◌^◌, ◌≤◌, length, items_of};
+ghost use Rattle.std.specs.Prelude.{⊤, ◌≡◌, ◌+◌, ◌^◌, ◌≤◌, length};
+ghost use Rattle.sre_request.specs.Terms.{items_of};
 ghost use Rattle.sre_request.specs.Admitting.{AllAdmitted, one_all_admitted};
 
 use crate::admitted::Admitted;

@@ -2,7 +2,8 @@
 //!
 //! The opcode is matched once, before a loop of its own that has the operands at hand.
 
-ghost use Rattle.sre_request.specs.Terms.{◌≡◌, ℕ, ◌+◌, ◌-◌, ◌<◌, ◌≤◌, Bool, true, false, cond, IfSome, Test};
+ghost use Rattle.std.specs.Prelude.{◌≡◌, ℕ, ◌+◌, ◌-◌, ◌<◌, ◌≤◌, Bool, true, false, cond, IfSome};
+ghost use Rattle.sre_request.specs.Terms.{Test};
 ghost use Rattle.sre_model.specs.Subject.{passes};
 ghost use Rattle.sre_model.specs.Ways.{most_from, run_length, longest_run};
 ghost use Rattle.sre_request.specs.Requests.{end_of};

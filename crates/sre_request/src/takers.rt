@@ -1,7 +1,8 @@
 //! Tests of one character with their operands at hand, for the loops of repeats.
 
-ghost use Rattle.sre_request.specs.Terms.{⊤, ◌≡◌, ℕ, ◌+◌, ◌<◌, ◌≤◌, Bool, List, length, slice_range, category, Table};
-ghost use Rattle.sre_request.specs.Terms.{is_between, SetItem, Charset, item_holds, is_member, SetStands, contains};
+ghost use Rattle.std.specs.Prelude.{⊤, ◌≡◌, ℕ, ◌+◌, ◌<◌, ◌≤◌, Bool, List, length, slice_range};
+ghost use Rattle.sre_request.specs.Terms.{category, Table, is_between, SetItem, Charset, item_holds, is_member};
+ghost use Rattle.sre_request.specs.Terms.{SetStands, contains};
 ghost use Rattle.sre_chars.specs.Numbers.{category_number};
 ghost use Rattle.sre_request.specs.AsciiSets.{IsAsciiPart};
 

@@ -1,6 +1,6 @@
 //! Moves over the text of a request, by one character or by some.
 
-ghost use Rattle.sre_request.specs.Terms.{◌≡◌, ◌≢◌, ◌+◌, ◌-◌, ◌<◌, ◌≤◌, length, true, false};
+ghost use Rattle.std.specs.Prelude.{◌≡◌, ◌≢◌, ◌+◌, ◌-◌, ◌<◌, ◌≤◌, length, true, false};
 ghost use Rattle.sre_request.specs.Requests.{end_of};
 ghost use Rattle.sre_request.specs.Runs.{run_of, Standing};
 ghost use Rattle.sre_request.specs.Reads.{character_at};

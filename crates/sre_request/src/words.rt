@@ -1,6 +1,6 @@
 //! Single code words of a request, at addresses that a proof knows to exist.
 
-ghost use Rattle.sre_request.specs.Terms.{◌+◌, ◌<◌, ◌^◌};
+ghost use Rattle.std.specs.Prelude.{◌+◌, ◌<◌, ◌^◌};
 ghost use Rattle.sre_request.specs.Reads.{HasWordAt, WordAt};
 
 use crate::Request;

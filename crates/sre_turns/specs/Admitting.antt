@@ -1,11 +1,11 @@
 -- FIRST sets: what may come next at a point, which is an ASCII character of a set, or one past ASCII. Where another one
 -- comes next, the point fails; it fails where the range ends, too, unless the set has every ASCII character.
 -- Definitions for the machine's contracts. What is public rests on `AdmitsOnly`, by the lists that a request may carry.
-use Rattle.sre_turns.specs.Terms.{⊤, ℕ, ◌+◌, ◌≡◌, ◌<◌, Bool, true, false, List, [], Table, Test, Order, holds, Marks}
-use Rattle.sre_turns.specs.Terms.{Subject, char_at, Way, Opcode, word, skip, Role, ToFail, ToEnd, ToTest}
-use Rattle.sre_turns.specs.Terms.{ToCheckPosition, ToMark, ToBranch, ToJump, ToRun, ToRepeat, ToLoop}
-use Rattle.sre_turns.specs.Terms.{ToRepeatPossessively, ToGroupAtomically, ToLook, ToRefer, ToCheckGroup, ToNothing}
-use Rattle.sre_turns.specs.Terms.{TestStands, until_opcode}
+use Rattle.std.specs.Prelude.{⊤, ℕ, ◌+◌, ◌≡◌, ◌<◌, Bool, true, false, List, []}
+use Rattle.sre_turns.specs.Terms.{Table, Test, Order, holds, Marks, Subject, char_at, Way, Opcode, word, skip, Role}
+use Rattle.sre_turns.specs.Terms.{ToFail, ToEnd, ToTest, ToCheckPosition, ToMark, ToBranch, ToJump, ToRun, ToRepeat}
+use Rattle.sre_turns.specs.Terms.{ToLoop, ToRepeatPossessively, ToGroupAtomically, ToLook, ToRefer, ToCheckGroup}
+use Rattle.sre_turns.specs.Terms.{ToNothing, TestStands, until_opcode}
 use Rattle.sre_turns.specs.declared.Frame.{Frame}
 use Rattle.sre_turns.specs.declared.Point.TheVariants.{Instruction, Alternatives}
 use Rattle.sre_turns.specs.declared.Point.{Point}

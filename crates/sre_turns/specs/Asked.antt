@@ -1,6 +1,7 @@
 -- Captures as far as a step depends on them: those that a back-reference or a conditional may read.
 -- Definitions for the machine's contracts; what sre_engine makes public does not rest on it.
-use Rattle.sre_turns.specs.Terms.{⊤, ℕ, ◌+◌, ◌*◌, ◌≡◌, ◌⊎◌, List, [], ◌∷◌, Marks, no_marks, mark_at, Way}
+use Rattle.std.specs.Prelude.{⊤, ℕ, ◌+◌, ◌*◌, ◌≡◌, ◌⊎◌, List, [], ◌∷◌}
+use Rattle.sre_turns.specs.Terms.{Marks, no_marks, mark_at, Way}
 use Rattle.sre_turns.specs.MovesAtReferences.{Asks}
 
 -- some marks are the same in both

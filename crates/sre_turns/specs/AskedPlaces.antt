@@ -1,11 +1,11 @@
 -- Which captures may be live at an address: read from there on, before they are set anew. Where none is, captures make
 -- no difference to the outcomes of a configuration.
 -- Definitions for the machine's contracts; what sre_engine makes public does not rest on it.
-use Rattle.sre_turns.specs.Terms.{⊤, ℕ, ◌+◌, ◌*◌, ◌≡◌, ◌<◌, ◌≤◌, ◌⊎◌, Bool, true, List, [], ◌∷◌, Some, SreOpcode, Test}
-use Rattle.sre_turns.specs.Terms.{Marks, Word, Opcode, word, skip, Role, ToFail, ToEnd, ToTest, ToCheckPosition, ToMark}
-use Rattle.sre_turns.specs.Terms.{ToBranch, ToJump, ToRun, ToRepeat, ToLoop, ToRepeatPossessively, ToGroupAtomically}
-use Rattle.sre_turns.specs.Terms.{ToLook, ToRefer, ToCheckGroup, ToNothing, role, TestStands, Subject, Way, slice_get}
-use Rattle.sre_turns.specs.Terms.{SameStops}
+use Rattle.std.specs.Prelude.{⊤, ℕ, ◌+◌, ◌*◌, ◌≡◌, ◌<◌, ◌≤◌, ◌⊎◌, Bool, true, List, [], ◌∷◌, Some, slice_get}
+use Rattle.sre_turns.specs.Terms.{SreOpcode, Test, Marks, Word, Opcode, word, skip, Role, ToFail, ToEnd, ToTest}
+use Rattle.sre_turns.specs.Terms.{ToCheckPosition, ToMark, ToBranch, ToJump, ToRun, ToRepeat, ToLoop}
+use Rattle.sre_turns.specs.Terms.{ToRepeatPossessively, ToGroupAtomically, ToLook, ToRefer, ToCheckGroup, ToNothing}
+use Rattle.sre_turns.specs.Terms.{role, TestStands, Subject, Way, SameStops}
 use Rattle.sre_turns.specs.declared.Frame.{Frame}
 use Rattle.sre_turns.specs.declared.Point.TheVariants.{Instruction, Alternatives, Shorter, Longer, Again}
 use Rattle.sre_turns.specs.declared.Point.{Point}

@@ -1,6 +1,7 @@
 -- The backtrack stack: what a run of the machine holds beside its address and position.
 -- Definitions for the machine's contracts; what sre_engine makes public does not rest on it.
-use Rattle.sre_turns.specs.Terms.{⊤, ℕ, ◌≡◌, ◌⊎◌, Bool, true, List, [], ◌∷◌, StringCursor, Marks}
+use Rattle.std.specs.Prelude.{⊤, ℕ, ◌≡◌, ◌⊎◌, Bool, true, List, [], ◌∷◌}
+use Rattle.sre_turns.specs.Terms.{StringCursor, Marks}
 use Rattle.sre_turns.specs.declared.Frame.{Frame}
 use Rattle.sre_turns.specs.declared.Point.{Point}
 use Rattle.sre_turns.specs.declared.Point.TheVariants.{Instruction, Alternatives, Shorter, Longer, Inside, Again, Tried}

@@ -1,6 +1,7 @@
 -- Bodies of atomic scopes that set no capture, points inside one, and bytecode all of whose atomic scopes have one.
 -- Definitions for the machine's contracts; what sre_engine makes public does not rest on it.
-use Rattle.sre_turns.specs.Terms.{ℕ, ◌≡◌, false, List, [], Tree, Opcode, Reads, WholeItems, sets_mark, marks_in_regions}
+use Rattle.std.specs.Prelude.{ℕ, ◌≡◌, false, List, []}
+use Rattle.sre_turns.specs.Terms.{Tree, Opcode, Reads, WholeItems, sets_mark, marks_in_regions}
 use Rattle.sre_chars.specs.declared.constants.SreOpcode.TheVariants as opcode
 use Rattle.sre_turns.specs.declared.Point.{Point}
 use Rattle.sre_turns.specs.Moves.{Spot}

@@ -2,7 +2,8 @@
 -- do those of each equivalent one.
 -- Definitions for the machine's contracts: the memo stores such ends beside failures, and the machine goes there at
 -- once. What sre_engine makes public does not rest on it.
-use Rattle.sre_turns.specs.Terms.{ℕ, ◌≡◌, List, AllByRecursion, Marks, Way, first, here, Run}
+use Rattle.std.specs.Prelude.{ℕ, ◌≡◌, List}
+use Rattle.sre_turns.specs.Terms.{AllByRecursion, Marks, Way, first, here, Run}
 use Rattle.sre_turns.specs.Moves.{Spot}
 use Rattle.sre_turns.specs.Machine.{Runs}
 use Rattle.sre_turns.specs.Alike.{Alike}

@@ -1,7 +1,8 @@
 -- The outcome of an instruction that is tried. Its first outcome that counts is the first that counts of what is to
 -- come: where the machine backtracks there was none, and where the body of an atomic scope ends that end is the first.
 -- Definitions for the machine's contracts; what sre_engine makes public does not rest on it.
-use Rattle.sre_turns.specs.Terms.{◌≡◌, Bool, true, false, List, [], ◌∷◌, filter, Way, first, Run}
+use Rattle.std.specs.Prelude.{◌≡◌, Bool, true, false, List, [], ◌∷◌}
+use Rattle.sre_turns.specs.Terms.{filter, Way, first, Run}
 use Rattle.sre_turns.specs.Board.{Choice, from_region}
 
 -- what counts of some outcomes: inside a region each, outside all regions those that are accepted

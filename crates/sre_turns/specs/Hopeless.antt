@@ -1,7 +1,8 @@
 -- Hopeless configurations: the machine was there and failed, so it fails at each equivalent one.
 -- Definitions for the machine's contracts: the memo of failures stores such configurations, and the machine leaves them
 -- at once. What sre_engine makes public does not rest on it.
-use Rattle.sre_turns.specs.Terms.{ℕ, ◌≡◌, ◌⊎◌, Bool, List, Marks, Way, Run}
+use Rattle.std.specs.Prelude.{ℕ, ◌≡◌, ◌⊎◌, Bool, List}
+use Rattle.sre_turns.specs.Terms.{Marks, Way, Run}
 pub use Rattle.sre_turns.specs.Fruit.{fruit, Fruitless, SameFruit, is_inside}
 use Rattle.sre_turns.specs.Moves.{Spot}
 use Rattle.sre_turns.specs.Machine.{Runs}

@@ -1,7 +1,7 @@
 -- What a run may still take: steps, and in a search over bytecode whose steps are counted a potential, which goes down
 -- with each step, and up by credits where an instruction that may branch is executed.
 -- Definitions for the machine's contracts; what sre_engine makes public does not rest on it.
-use Rattle.sre_turns.specs.Terms.{⊤, ℕ, ◌+◌, ◌-◌, ◌≤◌, ◌≡◌, Bool, true, false, List, [], ◌∷◌, drop, length, map}
+use Rattle.std.specs.Prelude.{⊤, ℕ, ◌+◌, ◌-◌, ◌≤◌, ◌≡◌, Bool, true, false, List, [], ◌∷◌, drop, length, map}
 use Rattle.sre_turns.specs.Terms.{SreOpcode, Opcode, role, Run, Marks}
 use Rattle.sre_turns.specs.Attempts.{Attempt}
 use Rattle.sre_turns.specs.Board.{Choice, Else, Keep, Trying}

@@ -1,9 +1,10 @@
 -- The machine: the outcomes at a point of the bytecode, and what a step preserves. With it come the names that its
 -- definitions speak of.
 -- Definitions for the machine's contracts; what sre_engine makes public does not rest on it.
-use Rattle.sre_turns.specs.Terms.{⊤, ℕ, suc, ◌+◌, ◌≡◌, ◌<◌, ◌≤◌, Bool, false, List, [], ◌∷◌, ◌++◌, drop, length, Option}
-use Rattle.sre_turns.specs.Terms.{Some, None, filter, SreOpcode, Table, Tree, Test, holds, mark_at, no_marks, char_at}
-use Rattle.sre_turns.specs.Terms.{first, here, TestStands, Literal, Plain, ways}
+use Rattle.std.specs.Prelude.{⊤, ℕ, suc, ◌+◌, ◌≡◌, ◌<◌, ◌≤◌, Bool, false, List, [], ◌∷◌, ◌++◌, drop, length, Option}
+use Rattle.std.specs.Prelude.{Some, None}
+use Rattle.sre_turns.specs.Terms.{filter, SreOpcode, Table, Tree, Test, holds, mark_at, no_marks, char_at, first, here}
+use Rattle.sre_turns.specs.Terms.{TestStands, Literal, Plain, ways}
 pub use Rattle.sre_chars.specs.declared.string.StringCursor.{StringCursor}
 pub use Rattle.sre_model.specs.Marks.{Marks}
 pub use Rattle.sre_model.specs.Subject.{Subject, passes}

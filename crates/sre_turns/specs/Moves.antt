@@ -1,7 +1,8 @@
 -- Moves: what the machine does in one step, by the role of the opcode. Nothing here is recursive.
 -- Definitions for the machine's contracts; what sre_engine makes public does not rest on it.
-use Rattle.sre_turns.specs.Terms.{ℕ, ◌+◌, ◌≡◌, ◌<◌, length, drop, cond, nat_eq, List, [], ◌∷◌, Test, Marks, Subject}
-use Rattle.sre_turns.specs.Terms.{passes, Word, skip, TestStands, Way, at_number, SreAtCode, set_mark, holds_at}
+use Rattle.std.specs.Prelude.{ℕ, ◌+◌, ◌≡◌, ◌<◌, length, drop, cond, nat_eq, List, [], ◌∷◌}
+use Rattle.sre_turns.specs.Terms.{Test, Marks, Subject, passes, Word, skip, TestStands, Way, at_number, SreAtCode}
+use Rattle.sre_turns.specs.Terms.{set_mark, holds_at}
 use Rattle.sre_turns.specs.declared.Frame.{Frame}
 use Rattle.sre_turns.specs.declared.Region.TheVariants.{AtomicGroup, Ahead, NotAhead, Owed, Further}
 use Rattle.sre_turns.specs.declared.Region.{Region}

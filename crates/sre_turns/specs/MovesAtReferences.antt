@@ -1,10 +1,11 @@
 -- What the machine does in one step at a back-reference to a group: GROUPREF group and its three foldings, and at a
 -- conditional on one: GROUPREF_EXISTS group skip.
 -- Definitions for the machine's contracts; what sre_engine makes public does not rest on it.
-use Rattle.sre_turns.specs.Terms.{ℕ, ◌+◌, ◌-◌, ◌≡◌, ◌<◌, ◌≤◌, ◌&&◌, length, cond, nat_le, Bool, true, false, List, Some}
-use Rattle.sre_turns.specs.Terms.{None, SreOpcode, Tree, Fold, refers, asked_from, asked_to, Role, ToRefer}
-use Rattle.sre_turns.specs.Terms.{ToCheckGroup, role, Marks, group, Subject, same_folded, Word, word, Opcode}
-use Rattle.sre_turns.specs.Terms.{WholeItems, reference_opcode}
+use Rattle.std.specs.Prelude.{ℕ, ◌+◌, ◌-◌, ◌≡◌, ◌<◌, ◌≤◌, ◌&&◌, length, cond, nat_le, Bool, true, false, List, Some}
+use Rattle.std.specs.Prelude.{None}
+use Rattle.sre_turns.specs.Terms.{SreOpcode, Tree, Fold, refers, asked_from, asked_to, Role, ToRefer, ToCheckGroup}
+use Rattle.sre_turns.specs.Terms.{role, Marks, group, Subject, same_folded, Word, word, Opcode, WholeItems}
+use Rattle.sre_turns.specs.Terms.{reference_opcode}
 use Rattle.sre_turns.specs.declared.Point.TheVariants.{Instruction}
 use Rattle.sre_turns.specs.Moves.{Spot, to_point, to_place, Move, Stop, Go}
 

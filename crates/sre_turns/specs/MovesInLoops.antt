@@ -1,8 +1,8 @@
 -- What the machine does in one step at a loop: REPEAT skip least greatest body, and then MAX_UNTIL or MIN_UNTIL; and
 -- POSSESSIVE_REPEAT skip least greatest body SUCCESS, whose bodies are atomic scopes.
 -- Definitions for the machine's contracts; what sre_engine makes public does not rest on it.
-use Rattle.sre_turns.specs.Terms.{ℕ, ◌+◌, ◌≡◌, ◌<◌, length, min, cond, nat_lt, List, ◌∷◌, Option, Some, None, Order}
-use Rattle.sre_turns.specs.Terms.{unlimited, may_repeat, Word, skip, Greedy, Lazy}
+use Rattle.std.specs.Prelude.{ℕ, ◌+◌, ◌≡◌, ◌<◌, length, min, cond, nat_lt, List, ◌∷◌, Option, Some, None}
+use Rattle.sre_turns.specs.Terms.{Order, unlimited, may_repeat, Word, skip, Greedy, Lazy}
 use Rattle.sre_turns.specs.declared.Frame.{Frame}
 use Rattle.sre_turns.specs.declared.Point.TheVariants.{Instruction}
 use Rattle.sre_turns.specs.declared.Region.{Region}

@@ -1,8 +1,9 @@
 -- Where the machine is in the bytecode of a tree, and where its steps lead to.
 -- For the law that the step bound suffices: the memo of failures lays out its bits for the loops in progress at an
 -- address, and these are always the same. What sre_engine makes public does not rest on it.
-use Rattle.sre_turns.specs.Terms.{⊤, ℕ, ◌+◌, ◌-◌, ◌≤◌, List, [], ◌∷◌, length, drop, Option, Some, None, ◌*◌, Bool, true}
-use Rattle.sre_turns.specs.Terms.{false, AllByRecursion, Tree, Subject, word, WholeItems}
+use Rattle.std.specs.Prelude.{⊤, ℕ, ◌+◌, ◌-◌, ◌≤◌, List, [], ◌∷◌, length, drop, Option, Some, None, ◌*◌, Bool, true}
+use Rattle.std.specs.Prelude.{false}
+use Rattle.sre_turns.specs.Terms.{AllByRecursion, Tree, Subject, word, WholeItems}
 use Rattle.sre_turns.specs.declared.Frame.{Frame}
 use Rattle.sre_turns.specs.declared.Point.TheVariants.{Instruction, Again}
 use Rattle.sre_turns.specs.declared.Point.{Point}

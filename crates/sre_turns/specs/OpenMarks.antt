@@ -1,6 +1,7 @@
 -- The markers of instructions that are tried in the innermost atomic scope: what is known of each of them where its
 -- body ends, and which of all that is tried goes then.
-use Rattle.sre_turns.specs.Terms.{List, [], ◌∷◌, AllByRecursion}
+use Rattle.std.specs.Prelude.{List, [], ◌∷◌}
+use Rattle.sre_turns.specs.Terms.{AllByRecursion}
 use Rattle.sre_turns.specs.Board.{Choice, Else, Keep, Trying}
 use Rattle.sre_turns.specs.Moves.{Spot, spot_at}
 

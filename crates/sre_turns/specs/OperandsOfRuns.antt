@@ -1,6 +1,7 @@
 -- What follows the opcode of a single-character repeat.
 -- Definitions for the machine's contracts; what sre_engine makes public does not rest on it.
-use Rattle.sre_turns.specs.Terms.{ℕ, ◌+◌, ◌≡◌, List, Word, skip, HasTest}
+use Rattle.std.specs.Prelude.{ℕ, ◌+◌, ◌≡◌, List}
+use Rattle.sre_turns.specs.Terms.{Word, skip, HasTest}
 
 -- skip least greatest test: the skip leads to the run's tail, and a test stands there
 pub record OperandsOfRun (ws : List ℕ) (i tail low high : ℕ) : Type 0 where

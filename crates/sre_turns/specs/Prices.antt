@@ -2,12 +2,13 @@
 -- what such an instruction is given each time that it is executed, which pays for each of its ways to go on (amortized
 -- analysis).
 -- For the law that the step bound suffices. What sre_engine makes public does not rest on it.
-use Rattle.sre_turns.specs.Terms.{ℕ, suc, ◌+◌, ◌-◌, ◌*◌, ◌≤◌, ◌≡◌, Bool, true, List, [], ◌∷◌, length, cond, min, nat_eq}
+use Rattle.std.specs.Prelude.{ℕ, suc, ◌+◌, ◌-◌, ◌*◌, ◌≤◌, ◌≡◌, Bool, true, List, [], ◌∷◌, length, cond, min, nat_eq}
+use Rattle.std.specs.Prelude.{zero, max, slice_index_or}
 use Rattle.sre_turns.specs.Terms.{SreOpcode, GreedyRun, LazyRun, PossessiveRun, word, skip, unlimited, Role, ToEnd}
 use Rattle.sre_turns.specs.Terms.{ToTest, ToCheckPosition, ToMark, ToBranch, ToJump, ToRun, ToRepeat, ToLoop}
-use Rattle.sre_turns.specs.Terms.{ToRepeatPossessively, ToGroupAtomically, ToLook, ToRefer, ToCheckGroup, role, zero}
-use Rattle.sre_turns.specs.Terms.{max, slice_index_or, other_ends, scan_price, TestKind, OfAny, OfAnyAll, OfCategory}
-use Rattle.sre_turns.specs.Terms.{OfLiteral, OfNotLiteral, OfSet}
+use Rattle.sre_turns.specs.Terms.{ToRepeatPossessively, ToGroupAtomically, ToLook, ToRefer, ToCheckGroup, role}
+use Rattle.sre_turns.specs.Terms.{other_ends, scan_price, TestKind, OfAny, OfAnyAll, OfCategory, OfLiteral}
+use Rattle.sre_turns.specs.Terms.{OfNotLiteral, OfSet}
 use Rattle.sre_chars.specs.declared.constants.SreOpcode.TheVariants as opcode
 use Rattle.sre_turns.specs.declared.Point.TheVariants.{Instruction, Alternatives, Shorter, Longer, Again}
 use Rattle.sre_turns.specs.declared.Point.{Point}

@@ -1,8 +1,8 @@
 -- Repeats of one test without a greatest count: but for its own first end, the outcomes of one are those of the repeat
 -- one character later.
 -- Definitions for the machine's contracts; what sre_engine makes public does not rest on it.
-use Rattle.sre_turns.specs.Terms.{ℕ, ◌+◌, ◌≡◌, ◌<◌, ◌≤◌, ◌⊎◌, true, List, Test, Subject, passes, unlimited, Word}
-use Rattle.sre_turns.specs.Terms.{Opcode, HasTest}
+use Rattle.std.specs.Prelude.{ℕ, ◌+◌, ◌≡◌, ◌<◌, ◌≤◌, ◌⊎◌, true, List}
+use Rattle.sre_turns.specs.Terms.{Test, Subject, passes, unlimited, Word, Opcode, HasTest}
 use Rattle.sre_chars.specs.declared.constants.SreOpcode.TheVariants as opcode
 
 -- each character from p up to q passes

@@ -1,7 +1,8 @@
 -- Where the machine is in a search over bytecode whose steps are counted: in the bytecode of its tree, in the range
 -- from a start on, and after where the last bodies of its loops began.
 -- For the law that the step bound suffices. What sre_engine makes public does not rest on it.
-use Rattle.sre_turns.specs.Terms.{ℕ, ◌≤◌, ◌≡◌, false, List, Tree, Subject, WholeItems, refers, Run}
+use Rattle.std.specs.Prelude.{ℕ, ◌≤◌, ◌≡◌, false, List}
+use Rattle.sre_turns.specs.Terms.{Tree, Subject, WholeItems, refers, Run}
 use Rattle.sre_turns.specs.Moves.{Spot}
 use Rattle.sre_turns.specs.Alike.{least_from}
 use Rattle.sre_turns.specs.Nested.{Lies, Passed, InWindow}

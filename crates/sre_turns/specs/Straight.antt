@@ -1,8 +1,8 @@
 -- Bodies of atomic scopes, where the machine is in one, and where it has one way to go on at most.
 -- Definitions for the machine's contracts; what sre_engine makes public does not rest on it.
-use Rattle.sre_turns.specs.Terms.{ℕ, ◌+◌, ◌≡◌, ◌≤◌, Bool, true, false, List, SreOpcode, Tree, Opcode, Role, ToBranch}
-use Rattle.sre_turns.specs.Terms.{ToRun, ToRepeat, ToLoop, ToRepeatPossessively, role, Run, backs, forks}
-use Rattle.sre_turns.specs.Terms.{has_forked_region}
+use Rattle.std.specs.Prelude.{ℕ, ◌+◌, ◌≡◌, ◌≤◌, Bool, true, false, List}
+use Rattle.sre_turns.specs.Terms.{SreOpcode, Tree, Opcode, Role, ToBranch, ToRun, ToRepeat, ToLoop}
+use Rattle.sre_turns.specs.Terms.{ToRepeatPossessively, role, Run, backs, forks, has_forked_region}
 use Rattle.sre_turns.specs.declared.Region.TheVariants.{AtomicGroup, Ahead, NotAhead, Owed, Further}
 use Rattle.sre_turns.specs.declared.Region.{Region}
 use Rattle.sre_turns.specs.declared.Point.{Point}

@@ -1,7 +1,7 @@
 -- Batched loop iterations: bodies of a loop that are gone over in one step.
 -- Definitions for the machine's contracts; what sre_engine makes public does not rest on it.
-use Rattle.sre_turns.specs.Terms.{ℕ, ◌+◌, ◌≡◌, ◌<◌, ◌≤◌, Bool, true, false, List, ◌∷◌, StringCursor, Word, Marks, Run}
-use Rattle.sre_turns.specs.Terms.{Way, may_repeat, unlimited}
+use Rattle.std.specs.Prelude.{ℕ, ◌+◌, ◌≡◌, ◌<◌, ◌≤◌, Bool, true, false, List, ◌∷◌}
+use Rattle.sre_turns.specs.Terms.{StringCursor, Word, Marks, Run, Way, may_repeat, unlimited}
 use Rattle.sre_turns.specs.Bodies.{Confined}
 use Rattle.sre_turns.specs.Machine.{IsAt, with_loop, Refuses, Exhausted, Continues, IsRead}
 use Rattle.sre_turns.specs.Board.{BoardValue, Choice}

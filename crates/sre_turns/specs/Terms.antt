@@ -1,8 +1,5 @@
 -- The words from elsewhere which contracts and definitions of this crate name.
 pub use Rattle.std.specs.List.{AllByRecursion, filter}
-pub use Rattle.std.specs.Prelude.{Bool, List, None, Option, Some, [], cond, drop, false, length, map, max, min, nat_eq}
-pub use Rattle.std.specs.Prelude.{nat_le, nat_lt, slice_get, slice_index_or, suc, true, zero, ◌&&◌, ◌*◌, ◌++◌, ◌+◌, ◌-◌}
-pub use Rattle.std.specs.Prelude.{◌<◌, ◌||◌, ◌∷◌, ◌≡◌, ◌≤◌, ◌⊎◌, ℕ, ⊤}
 pub use Rattle.sre_chars.specs.Numbers.{at_number}
 pub use Rattle.sre_chars.specs.Tables.{Table}
 pub use Rattle.sre_chars.specs.declared.constants.SreAtCode.{SreAtCode}

@@ -1,11 +1,12 @@
 -- Steps: what the machine does at a point, and the outcomes of a configuration.
 -- Definitions for the machine's contracts; what sre_engine makes public does not rest on it.
-use Rattle.sre_turns.specs.Terms.{ℕ, suc, ◌+◌, ◌≡◌, List, [], ◌∷◌, ◌++◌, SreOpcode, Role, ToFail, ToEnd, ToTest}
-use Rattle.sre_turns.specs.Terms.{ToCheckPosition, ToMark, ToBranch, ToJump, ToRun, ToRepeat, ToLoop}
-use Rattle.sre_turns.specs.Terms.{ToRepeatPossessively, ToGroupAtomically, ToLook, ToRefer, ToCheckGroup, ToNothing}
-use Rattle.sre_turns.specs.Terms.{role, Subject, Way, here, Opcode, ◌-◌, ◌<◌, length, cond, nat_lt, Word, skip, ◌≤◌}
-use Rattle.sre_turns.specs.Terms.{◌&&◌, nat_eq, Test, GreedyRun, LazyRun, PossessiveRun, passes, unlimited, TestStands}
-use Rattle.sre_turns.specs.Terms.{◌||◌, RunKind, run_length, longest_run}
+use Rattle.std.specs.Prelude.{ℕ, suc, ◌+◌, ◌≡◌, List, [], ◌∷◌, ◌++◌, ◌-◌, ◌<◌, length, cond, nat_lt, ◌≤◌, ◌&&◌, nat_eq}
+use Rattle.std.specs.Prelude.{◌||◌}
+use Rattle.sre_turns.specs.Terms.{SreOpcode, Role, ToFail, ToEnd, ToTest, ToCheckPosition, ToMark, ToBranch, ToJump}
+use Rattle.sre_turns.specs.Terms.{ToRun, ToRepeat, ToLoop, ToRepeatPossessively, ToGroupAtomically, ToLook, ToRefer}
+use Rattle.sre_turns.specs.Terms.{ToCheckGroup, ToNothing, role, Subject, Way, here, Opcode, Word, skip, Test}
+use Rattle.sre_turns.specs.Terms.{GreedyRun, LazyRun, PossessiveRun, passes, unlimited, TestStands, RunKind, run_length}
+use Rattle.sre_turns.specs.Terms.{longest_run}
 use Rattle.sre_model.specs.Tree.{Sign, Positive, Negative}
 use Rattle.sre_turns.specs.declared.Region.{Region}
 use Rattle.sre_turns.specs.declared.Point.TheVariants.{Instruction, Alternatives, Shorter, Longer, Inside, Again, Tried}

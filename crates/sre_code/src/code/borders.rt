@@ -4,7 +4,8 @@
 //! next word after it. So the claimed border lengths, each confirmed before it is used, lead to the next one: in linear
 //! time and without memory.
 
-ghost use Rattle.sre_code.specs.Terms.{◌≡◌, ◌+◌, ◌^◌, ◌<◌, ◌≤◌, ◌↔◌, IsTrue, IfOk, length, true, are_overlaps};
+ghost use Rattle.std.specs.Prelude.{◌≡◌, ◌+◌, ◌^◌, ◌<◌, ◌≤◌, ◌↔◌, IsTrue, IfOk, length, true};
+ghost use Rattle.sre_code.specs.Terms.{are_overlaps};
 ghost use Rattle.sre_code.specs.Borders.{Longest, RightUpTo, Right};
 
 use sre_growth::Refusal;

@@ -3,8 +3,8 @@
 //! A summary tells whether an atomic scope may branch and whether one sets a capture. If not both, a second scan counts
 //! the counter states.
 
-ghost use Rattle.sre_code.specs.Terms.{◌≡◌, ◌+◌, ℕ, ◌-◌, ◌*◌, ◌^◌, length, min, true, false, IfSome, ◌≤◌, Tree};
-ghost use Rattle.sre_code.specs.Terms.{WholeItems, refers, longest_lookbehind, nat_le};
+ghost use Rattle.std.specs.Prelude.{◌≡◌, ◌+◌, ℕ, ◌-◌, ◌*◌, ◌^◌, length, min, true, false, IfSome, ◌≤◌, nat_le};
+ghost use Rattle.sre_code.specs.Terms.{Tree, WholeItems, refers, longest_lookbehind};
 ghost use Rattle.sre_code.specs.MostSlots.{SlotsTold};
 ghost use Rattle.sre_code.specs.Bounds.{CountedTold, BoundTold, NumberBy, AreWhole, room_by, bound_by, bound_of};
 ghost use Rattle.sre_code.specs.Prices.{AreHeld};

@@ -1,7 +1,8 @@
 //! Branches: `<BRANCH>`, the alternatives as `<length> <items> <JUMP> <skip>`, then 0 instead of a further length. Each
 //! JUMP leads past that 0.
 
-ghost use Rattle.sre_code.specs.Terms.{◌≡◌, Opcode};
+ghost use Rattle.std.specs.Prelude.{◌≡◌};
+ghost use Rattle.sre_code.specs.Terms.{Opcode};
 ghost use Rattle.sre_code.specs.Steps.{Gives, ItemAt, EndGives, BoundsAt, MoreAt, Closes, Closing};
 
 use crate::code::error::CodeError;

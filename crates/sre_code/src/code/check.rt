@@ -1,6 +1,7 @@
 //! The check, generic in the allocator of its stack.
 
-ghost use Rattle.sre_code.specs.Terms.{◌≡◌, ◌≢◌, ◌≤◌, length, IfOk, IfErr, OnOk, Tree, Whole, IsCode, Refused};
+ghost use Rattle.std.specs.Prelude.{◌≡◌, ◌≢◌, ◌≤◌, length, IfOk, IfErr, OnOk};
+ghost use Rattle.sre_code.specs.Terms.{Tree, Whole, IsCode, Refused};
 ghost use Rattle.sre_code.specs.Refusals.{place_of};
 ghost use Rattle.sre_code.specs.Codes.{words_of, uni_of};
 

@@ -2,7 +2,8 @@
 //!
 //! The block is `<INFO> <skip> <flags> <least width> <greatest width>`, then a prefix or a set, as the flags say.
 
-ghost use Rattle.sre_code.specs.Terms.{◌≡◌, ◌≤◌, Tree, WholeItems, width, confirmed_width, behind_prefix, is_literal};
+ghost use Rattle.std.specs.Prelude.{◌≡◌, ◌≤◌};
+ghost use Rattle.sre_code.specs.Terms.{Tree, WholeItems, width, confirmed_width, behind_prefix, is_literal};
 ghost use Rattle.sre_code.specs.Fronts.{Fronts, HasBlock};
 ghost use Rattle.sre_code.specs.Prefixes.{Ends, LeftAt};
 ghost use Rattle.sre_code.specs.Hinted.{Confirmed};

@@ -2,7 +2,8 @@
 //! `<GROUPREF_EXISTS> <group> <skip> <items> <JUMP> <skip> <items>`. Its first skip leads to the second items, and the
 //! JUMP past them. The first skip counts from the group's word.
 
-ghost use Rattle.sre_code.specs.Terms.{◌≡◌, ◌+◌, ℕ, List, Ok, Opcode};
+ghost use Rattle.std.specs.Prelude.{◌≡◌, ◌+◌, ℕ, List, Ok};
+ghost use Rattle.sre_code.specs.Terms.{Opcode};
 ghost use Rattle.sre_code.specs.Steps.{Gives, ItemAt, EndGives, Closes, Closing};
 
 use crate::code::error::CodeError;

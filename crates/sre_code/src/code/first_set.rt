@@ -3,8 +3,9 @@
 //! After MARK items, the code has to begin with a literal in the set, or with an IN of the same words. Or it begins
 //! with a branch whose alternatives all begin like this.
 
-ghost use Rattle.sre_code.specs.Terms.{◌≡◌, ◌≤◌, ◌↔◌, IsTrue, List, length, slice_range, Decides, Tree, SetItem};
-ghost use Rattle.sre_code.specs.Terms.{is_member, WholeItems, behind_marks, HasFirstSet, TestIn, EachTestIn, FirstIn};
+ghost use Rattle.std.specs.Prelude.{◌≡◌, ◌≤◌, ◌↔◌, IsTrue, List, length, slice_range};
+ghost use Rattle.sre_code.specs.Terms.{Decides, Tree, SetItem, is_member, WholeItems, behind_marks, HasFirstSet};
+ghost use Rattle.sre_code.specs.Terms.{TestIn, EachTestIn, FirstIn};
 ghost use Rattle.sre_code.specs.Fronts.{HasBlock};
 ghost use Rattle.sre_code.specs.Prefixes.{Ends};
 ghost use Rattle.sre_code.specs.FirstSets.{HasBlockSet, IsSetUpTo, Tells, TellsEach};

@@ -4,7 +4,8 @@
 //! like any other instruction. A JUMP ends an alternative, and the next one, or the end of the branch, follows the
 //! length word after it. The JUMP of a conditional is never reached.
 
-ghost use Rattle.sre_code.specs.Terms.{◌≡◌, Opcode, role};
+ghost use Rattle.std.specs.Prelude.{◌≡◌};
+ghost use Rattle.sre_code.specs.Terms.{Opcode, role};
 ghost use Rattle.sre_code.specs.Instructions.{own_words, NextAt};
 
 use crate::code::character;

@@ -6,8 +6,8 @@
 //! Without a stack the scan of a summary cannot pass a conditional, so its answer is then `true`. A second scan goes
 //! word by word. It may take operands for a scope or a MARK, but it misses none.
 
-ghost use Rattle.sre_code.specs.Terms.{◌≡◌, ◌<◌, ◌≤◌, ◌+◌, ℕ, false, length, Tree, role, Opcode, WholeItems};
-ghost use Rattle.sre_code.specs.Terms.{marks_in_regions, refers};
+ghost use Rattle.std.specs.Prelude.{◌≡◌, ◌<◌, ◌≤◌, ◌+◌, ℕ, false, length};
+ghost use Rattle.sre_code.specs.Terms.{Tree, role, Opcode, WholeItems, marks_in_regions, refers};
 ghost use Rattle.sre_chars.specs.declared.constants.SreOpcode.TheVariants as opcode;
 ghost use Rattle.sre_code.specs.RegionWords.{closing_place, RegionWord};
 

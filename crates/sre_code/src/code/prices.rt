@@ -4,8 +4,8 @@
 //! it. So a few numbers describe it, and two prices compose. A scan adds up the prices of the items of one level, and
 //! calls itself for each body.
 
-ghost use Rattle.sre_code.specs.Terms.{ℕ, ◌≡◌, ◌<◌, ◌≤◌, ◌+◌, ◌*◌, ◌^◌, length, Some, IfSome, false, cond, Opcode};
-ghost use Rattle.sre_code.specs.Terms.{role, scan_price};
+ghost use Rattle.std.specs.Prelude.{ℕ, ◌≡◌, ◌<◌, ◌≤◌, ◌+◌, ◌*◌, ◌^◌, length, Some, IfSome, false, cond};
+ghost use Rattle.sre_code.specs.Terms.{Opcode, role, scan_price};
 ghost use Rattle.sre_code.specs.Saturating.{Held};
 ghost use Rattle.sre_code.specs.Prices.{IsHeld, AreHeld, steps_at, cost_at, joined, passed, kind_of, straight_price};
 ghost use Rattle.sre_code.specs.Prices.{run_ends, scope_price, loop_price, possessive_price, with_alternative};

@@ -1,6 +1,7 @@
 //! Sets: items, one after the other.
 
-ghost use Rattle.sre_code.specs.Terms.{◌≤◌, ◌⊎◌, length, IsTrue, ◌↔◌, Opcode, BytesBelow, BlocksBelow};
+ghost use Rattle.std.specs.Prelude.{◌≤◌, ◌⊎◌, length, IsTrue, ◌↔◌};
+ghost use Rattle.sre_code.specs.Terms.{Opcode, BytesBelow, BlocksBelow};
 ghost use Rattle.sre_code.specs.Reading.{SetItemEnds, SetFills};
 
 use crate::code::error::CodeError;

@@ -8,7 +8,8 @@
 //! calls. The counter states of a possessive loop are not multiplied with those inside, since its bodies are matched
 //! apart. A conditional ends the scan.
 
-ghost use Rattle.sre_code.specs.Terms.{◌≡◌, ◌<◌, ◌≤◌, length, IfSome, Opcode, role, loop_slots, counted_to};
+ghost use Rattle.std.specs.Prelude.{◌≡◌, ◌<◌, ◌≤◌, length, IfSome};
+ghost use Rattle.sre_code.specs.Terms.{Opcode, role, loop_slots, counted_to};
 ghost use Rattle.sre_code.specs.SlotScans.{kind_of, AreTold, LoopTold, OtherTold, PossessiveTold, ToldAt};
 
 use crate::code::instructions::next;

@@ -3,7 +3,8 @@
 //! An atomic scope is an atomic group, a lookaround or a possessive loop. Such scopes nest, so an instruction is inside
 //! of one exactly if the farthest end of those that have begun is behind it.
 
-ghost use Rattle.sre_code.specs.Terms.{◌≡◌, ◌<◌, ◌+◌, length, Tree, word, WholeItems, role};
+ghost use Rattle.std.specs.Prelude.{◌≡◌, ◌<◌, ◌+◌, length};
+ghost use Rattle.sre_code.specs.Terms.{Tree, word, WholeItems, role};
 ghost use Rattle.sre_code.specs.Summaries.{noted, IsSummary};
 
 use crate::code::instructions::next;

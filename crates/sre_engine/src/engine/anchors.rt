@@ -1,6 +1,7 @@
 //! Codes that match at the start of the text only.
 
-ghost use Rattle.sre_engine.specs.Terms.{◌≡◌, Tree, WholeItems, is_anchored, run_of};
+ghost use Rattle.std.specs.Prelude.{◌≡◌};
+ghost use Rattle.sre_engine.specs.Terms.{Tree, WholeItems, is_anchored, run_of};
 
 use sre_chars::constants::{SreAtCode, SreOpcode};
 use sre_chars::string::StrDrive;

@@ -4,8 +4,9 @@
 //! loop, and a type for each kind: occurrences of a prefix, members of a first set, starts that the FIRST set allows,
 //! and the start of the range alone.
 
-ghost use Rattle.sre_engine.specs.Terms.{◌≡◌, ◌≤◌, ◌<◌, ◌+◌, ℕ, IfSome, None, Bool, true, false, Run, Asked, Code};
-ghost use Rattle.sre_engine.specs.Terms.{string_of, start_of, end_of, code_of, asked_of, run_of, Standing};
+ghost use Rattle.std.specs.Prelude.{◌≡◌, ◌≤◌, ◌<◌, ◌+◌, ℕ, IfSome, None, Bool, true, false};
+ghost use Rattle.sre_engine.specs.Terms.{Run, Asked, Code, string_of, start_of, end_of, code_of, asked_of, run_of};
+ghost use Rattle.sre_engine.specs.Terms.{Standing};
 ghost use Rattle.sre_engine.specs.declared.engine.candidates.Candidate.{Candidate};
 ghost use Rattle.sre_engine.specs.Scans.{NoMatch};
 ghost use Rattle.sre_engine.specs.Candidates.{bare_candidate, IsCandidate, ComparesFew, Failed};

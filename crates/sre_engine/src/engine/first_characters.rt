@@ -1,9 +1,10 @@
 //! What must come first in each match, read from the first code words.
 
-ghost use Rattle.sre_engine.specs.Terms.{◌≡◌, ◌⊎◌, ◌+◌, ◌-◌, ◌^◌, ◌<◌, ◌≤◌, ℕ, length, true, false, IfSome, None, Some};
-ghost use Rattle.sre_engine.specs.Terms.{IsSomeAnd, at_number, Tree, Trees, Test, Subject, holds_at, Word, ReadsBranch};
-ghost use Rattle.sre_engine.specs.Terms.{HasTest, NoWay, NoneOf, NotPassed, Leads, TreeStands, HasTree};
-ghost use Rattle.sre_engine.specs.Terms.{HasAlternatives, begins_test, TakesAscii, words_of, BEGINNING_LINE, AreItems};
+ghost use Rattle.std.specs.Prelude.{◌≡◌, ◌⊎◌, ◌+◌, ◌-◌, ◌^◌, ◌<◌, ◌≤◌, ℕ, length, true, false, IfSome, None, Some};
+ghost use Rattle.std.specs.Prelude.{IsSomeAnd};
+ghost use Rattle.sre_engine.specs.Terms.{at_number, Tree, Trees, Test, Subject, holds_at, Word, ReadsBranch, HasTest};
+ghost use Rattle.sre_engine.specs.Terms.{NoWay, NoneOf, NotPassed, Leads, TreeStands, HasTree, HasAlternatives};
+ghost use Rattle.sre_engine.specs.Terms.{begins_test, TakesAscii, words_of, BEGINNING_LINE, AreItems};
 ghost use Rattle.sre_engine.specs.Beginnings.{BeginsIn, BeginsAtLines, KnowsTest, KnowsLines, first_test, has_ascii};
 ghost use Rattle.sre_engine.specs.Beginnings.{IsAsciiOf, is_line_start};
 ghost use Rattle.sre_engine.specs.Leading.{IsPast, LeadsToTest, LeadsToCode, IsTestAt, Wants, WantsFirst};

@@ -5,7 +5,8 @@
 //! steps. So an iteration does it after its first steps if much of the text is left, and else after many steps. These
 //! may be those of many texts.
 
-ghost use Rattle.sre_engine.specs.Terms.{◌≡◌, ℕ, ◌<◌, List, length, items_of, code_of};
+ghost use Rattle.std.specs.Prelude.{◌≡◌, ℕ, ◌<◌, List, length};
+ghost use Rattle.sre_engine.specs.Terms.{items_of, code_of};
 ghost use Rattle.sre_engine.specs.FirstSets.{SetsOf, no_sets};
 
 use crate::engine::opening::Opening;

@@ -3,8 +3,9 @@
 //! A repeat from a start inside ends at the same position. So it leads to no end that the repeat from its start has not
 //! tried. A search that continues after the repeat passes each character once.
 
-ghost use Rattle.sre_engine.specs.Terms.{◌≡◌, ◌+◌, ◌^◌, ◌<◌, ◌≤◌, length, true, IfSome, MatchOption, None, Tree};
-ghost use Rattle.sre_engine.specs.Terms.{WholeItems, at_start, RunStands, end_of, asked_of, run_of, Standing, OpcodeAt};
+ghost use Rattle.std.specs.Prelude.{◌≡◌, ◌+◌, ◌^◌, ◌<◌, ◌≤◌, length, true, IfSome, MatchOption, None};
+ghost use Rattle.sre_engine.specs.Terms.{Tree, WholeItems, at_start, RunStands, end_of, asked_of, run_of, Standing};
+ghost use Rattle.sre_engine.specs.Terms.{OpcodeAt};
 ghost use Rattle.sre_engine.specs.Starts.{NoneUntil, PassesTo};
 
 use crate::engine::first_characters::is_test;

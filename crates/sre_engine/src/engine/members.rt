@@ -1,7 +1,8 @@
 //! Members of a confirmed first set: a match begins only at one of them.
 
-ghost use Rattle.sre_engine.specs.Terms.{◌≡◌, ◌≤◌, List, true, IfSome, SetItem, is_member, AreTold, words_of, uni_of};
-ghost use Rattle.sre_engine.specs.Terms.{hints_of, end_of, code_of, asked_of, Standing};
+ghost use Rattle.std.specs.Prelude.{◌≡◌, ◌≤◌, List, true, IfSome};
+ghost use Rattle.sre_engine.specs.Terms.{SetItem, is_member, AreTold, words_of, uni_of, hints_of, end_of, code_of};
+ghost use Rattle.sre_engine.specs.Terms.{asked_of, Standing};
 ghost use Rattle.sre_engine.specs.Members.{IsFirstSet, NextMember};
 
 use sre_chars::string::{StrDrive, StringCursor};

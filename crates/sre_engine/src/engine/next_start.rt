@@ -1,6 +1,7 @@
 //! The next start at which a match may begin, by what must come first. The search skips all others without a run.
 
-ghost use Rattle.sre_engine.specs.Terms.{◌≡◌, ◌-◌, ◌≤◌, end_of, run_of, Standing};
+ghost use Rattle.std.specs.Prelude.{◌≡◌, ◌-◌, ◌≤◌};
+ghost use Rattle.sre_engine.specs.Terms.{end_of, run_of, Standing};
 ghost use Rattle.sre_engine.specs.Starts.{TestsThere, WantedFrom, NextStart, NextHeld};
 
 use crate::engine::first_characters::{First, Wanted};

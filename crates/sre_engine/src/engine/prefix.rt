@@ -6,9 +6,9 @@
 //! first words that is probably the rarest. The scan then goes back to the start of that occurrence, and reads only the
 //! characters between twice.
 
-ghost use Rattle.sre_engine.specs.Terms.{◌≡◌, ◌↔◌, ◌+◌, ◌-◌, ◌*◌, ◌^◌, ◌<◌, ◌≤◌, length, true, false, IsTrue, None};
-ghost use Rattle.sre_engine.specs.Terms.{IfSome, not, ◌||◌, nat_eq, hints_of, end_of, code_of, run_of, Standing};
-ghost use Rattle.sre_engine.specs.Terms.{match_all_of};
+ghost use Rattle.std.specs.Prelude.{◌≡◌, ◌↔◌, ◌+◌, ◌-◌, ◌*◌, ◌^◌, ◌<◌, ◌≤◌, length, true, false, IsTrue, None, IfSome};
+ghost use Rattle.std.specs.Prelude.{not, ◌||◌, nat_eq};
+ghost use Rattle.sre_engine.specs.Terms.{hints_of, end_of, code_of, run_of, Standing, match_all_of};
 ghost use Rattle.sre_engine.specs.Prefixed.{IsPrefix};
 ghost use Rattle.sre_engine.specs.Scans.{Overlapping, FirstSame, ScanIsAt, ScanGoesTo, NoPlaceBetween};
 

@@ -1,8 +1,9 @@
 //! [`State`]: runs a match or a search, and shows the match.
 
-ghost use Rattle.sre_engine.specs.Terms.{◌≡◌, ◌+◌, ◌-◌, ◌*◌, ◌<◌, ◌≤◌, length, IfOk, OnErr, true, false, Some, None};
-ghost use Rattle.sre_engine.specs.Terms.{IfSome, ◌≢◌, Tree, Whole, no_marks, matched, found, is_anchored, words_of};
-ghost use Rattle.sre_engine.specs.Terms.{string_of, start_of, end_of, code_of, asked_of, stands_in, Refused};
+ghost use Rattle.std.specs.Prelude.{◌≡◌, ◌+◌, ◌-◌, ◌*◌, ◌<◌, ◌≤◌, length, IfOk, OnErr, true, false, Some, None, IfSome};
+ghost use Rattle.std.specs.Prelude.{◌≢◌};
+ghost use Rattle.sre_engine.specs.Terms.{Tree, Whole, no_marks, matched, found, is_anchored, words_of, string_of};
+ghost use Rattle.sre_engine.specs.Terms.{start_of, end_of, code_of, asked_of, stands_in, Refused};
 ghost use Rattle.sre_engine.specs.Answers.{answer_of, Spans, MayTakeMemory};
 ghost use Rattle.sre_engine.specs.Counts.{CountsUpTo, BeginsAgain, KeepsToSteps, runs_of};
 ghost use Rattle.sre_engine.specs.Searches.{Answered, CountsAll, has_found, RunsOnceAnchored};

@@ -1,7 +1,8 @@
 //! One step of an iteration: the next match, and the request after it.
 
-ghost use Rattle.sre_engine.specs.Terms.{◌≡◌, ◌≤◌, OnErr, items_of, string_of, start_of, code_of, asked_of, stands_in};
-ghost use Rattle.sre_engine.specs.Terms.{is_limited, Refused};
+ghost use Rattle.std.specs.Prelude.{◌≡◌, ◌≤◌, OnErr};
+ghost use Rattle.sre_engine.specs.Terms.{items_of, string_of, start_of, code_of, asked_of, stands_in, is_limited};
+ghost use Rattle.sre_engine.specs.Terms.{Refused};
 ghost use Rattle.sre_engine.specs.Answers.{MayTakeMemory};
 ghost use Rattle.sre_engine.specs.Costs.{Charged};
 ghost use Rattle.sre_engine.specs.Counts.{BeginsAgain, KeepsToSteps, runs_of};

@@ -1,8 +1,8 @@
 //! The list of all matches.
 
-ghost use Rattle.sre_engine.specs.Terms.{◌≡◌, ◌<◌, ◌≤◌, ◌+◌, ◌-◌, ◌++◌, map, IfOk, OnErr, vec_len, Tree, Whole};
-ghost use Rattle.sre_engine.specs.Terms.{no_marks, walk, most_matches, AreInOrder, items_of, words_of, string_of};
-ghost use Rattle.sre_engine.specs.Terms.{start_of, end_of, code_of, asked_of, stands_in, Refused};
+ghost use Rattle.std.specs.Prelude.{◌≡◌, ◌<◌, ◌≤◌, ◌+◌, ◌-◌, ◌++◌, map, IfOk, OnErr};
+ghost use Rattle.sre_engine.specs.Terms.{vec_len, Tree, Whole, no_marks, walk, most_matches, AreInOrder, items_of};
+ghost use Rattle.sre_engine.specs.Terms.{words_of, string_of, start_of, end_of, code_of, asked_of, stands_in, Refused};
 ghost use Rattle.sre_engine.specs.Counts.{StepsCount, CountsOfWalk};
 ghost use Rattle.sre_engine.specs.FirstSets.{SetsOf};
 ghost use Rattle.sre_engine.specs.Searches.{Stepped};

@@ -1,6 +1,7 @@
 //! The last start with room for the confirmed least width.
 
-ghost use Rattle.sre_engine.specs.Terms.{◌≡◌, true, false, code_of, asked_of};
+ghost use Rattle.std.specs.Prelude.{◌≡◌, true, false};
+ghost use Rattle.sre_engine.specs.Terms.{code_of, asked_of};
 ghost use Rattle.sre_engine.specs.Prefixed.{IsLast, FitsAt};
 
 use sre_chars::string::StrDrive;

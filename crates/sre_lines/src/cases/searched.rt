@@ -1,6 +1,7 @@
 //! The search of a case, with a prefilter.
 
-ghost use Rattle.sre_lines.specs.Terms.{◌≡◌, true, IfOk, Tree, Whole, found, words_of, asked_of, code_of};
+ghost use Rattle.std.specs.Prelude.{◌≡◌, true, IfOk};
+ghost use Rattle.sre_lines.specs.Terms.{Tree, Whole, found, words_of, asked_of, code_of};
 ghost use Rattle.sre_engine.specs.Answers.{answer_of};
 ghost use Rattle.sre_engine.specs.Requests.{stands_in};
 

@@ -1,6 +1,7 @@
 //! All matches of a case, one after the other.
 
-ghost use Rattle.sre_lines.specs.Terms.{◌≡◌, ◌++◌, OnOk, string_bytes, Tree, Whole, walk, words_of, asked_of, code_of};
+ghost use Rattle.std.specs.Prelude.{◌≡◌, ◌++◌, OnOk, string_bytes};
+ghost use Rattle.sre_lines.specs.Terms.{Tree, Whole, walk, words_of, asked_of, code_of};
 ghost use Rattle.sre_finder.specs.SpanIters.{request_of, left_of};
 ghost use Rattle.sre_lines.specs.Cases.{gap_text, walk_text};
 

@@ -1,8 +1,8 @@
 //! Failures that are memoized under live captures.
 
-ghost use Rattle.sre_machine.specs.Terms.{ℕ, ◌≡◌, ◌⊎◌, ◌+◌, ◌*◌, ◌<◌, ◌≤◌, None, slice_index_or, true, mark_at};
-ghost use Rattle.sre_machine.specs.Terms.{is_inside, Asks, spot_at, AreIdle, SaysOf, items_of, Refused, HoldsNone};
-ghost use Rattle.sre_machine.specs.Terms.{HoldsNoMore, HoldsOneMore, Tells};
+ghost use Rattle.std.specs.Prelude.{ℕ, ◌≡◌, ◌⊎◌, ◌+◌, ◌*◌, ◌<◌, ◌≤◌, None, slice_index_or, true};
+ghost use Rattle.sre_machine.specs.Terms.{mark_at, is_inside, Asks, spot_at, AreIdle, SaysOf, items_of, Refused};
+ghost use Rattle.sre_machine.specs.Terms.{HoldsNone, HoldsNoMore, HoldsOneMore, Tells};
 ghost use Rattle.sre_machine.specs.Memos.{EndsStay, MarkedStays};
 
 use crate::memo::Memo;
