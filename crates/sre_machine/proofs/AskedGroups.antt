@@ -1,10 +1,7 @@
 -- The groups after opcodes that read them end before the capture slot that a scan of the bytecode returns.
 use Rattle.sre_machine.proofs.Terms.{◌≡◌, ℕ, ◌+◌, ◌-◌, ◌*◌, ◌<◌, ◌≤◌, ◌⊎◌, inl, inr, Bool, true, false, List, length}
 use Rattle.sre_machine.proofs.Terms.{sym, ◌∙◌, ap, subst, arith, cases_lt, SreOpcode, word, role, AreWords, word_of}
-use Rattle.sre_machine.proofs.Terms.{Asks, Named, Covers}
-use Rattle.sre_chars.specs.Numbers.{opcode_number}
-use Rattle.sre_model.proofs.Words.{same_number, word_within}
-use Rattle.sre_turns.specs.MovesAtReferences.{asks}
+use Rattle.sre_machine.proofs.Terms.{Asks, Named, Covers, opcode_number, same_number, word_within, asks}
 
 -- the groups behind the words up to a place
 pub record CoversTo (ws : List ℕ) (n end : ℕ) : Type 0 where

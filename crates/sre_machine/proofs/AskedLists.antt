@@ -1,16 +1,161 @@
--- A list of the captures that may be live at each address stays right where one more address is filled in.
+-- Live captures at an instruction, by its opcode, where the words are as the computation reads them. A list of the
+-- captures that may be live at each address stays right where one more address is filled in.
 -- The list of live captures by address rests on this; nothing else here does.
 use Rattle.sre_machine.proofs.Terms.{◌≡◌, ℕ, ◌<◌, ◌≤◌, ◌⊎◌, inl, inr, List, [], ◌∷◌, ◌++◌, Option, Some, None, Bool}
 use Rattle.sre_machine.proofs.Terms.{true, length, slice_get, refl, sym, ◌∙◌, ap, subst, arith, role, AreWords, AreIdle}
 use Rattle.sre_machine.proofs.Terms.{Lies, MarkRange, Within, AsksAt, AlternativesAsk, AskedMarks, AskedPlace, range_of}
 use Rattle.sre_machine.proofs.Terms.{any_marks, asks_for_any, told_or_any, asks_of, AllAsked, AreMarks, HaveAll}
-use Rattle.sre_machine.proofs.Terms.{InstructionAsks}
-use Rattle.std.proofs.Common.{zero, suc}
-use Rattle.std.proofs.Common.{slice_set}
-use Rattle.sre_turns.specs.AskedPlaces.{PlacesAsk}
-use Rattle.sre_turns.proofs.memoization.SameComes.{are_idle}
-use Rattle.sre_turns.proofs.analyses.AskedPlaces.{IsNarrower, IsSameBut, one_place_told, told_everywhere}
-use Rattle.sre_machine.proofs.AskedHere.{named_groups}
+use Rattle.sre_machine.proofs.Terms.{InstructionAsks, zero, suc, slice_set, PlacesAsk, are_idle, IsNarrower, IsSameBut}
+use Rattle.sre_machine.proofs.Terms.{one_place_told, told_everywhere, ◌+◌, ◌*◌, SreOpcode, Test, Any, InCategory}
+use Rattle.sre_machine.proofs.Terms.{Literal, NotLiteral, Plain, Ascii, Unicode, Word, Opcode, word, skip, word_of}
+use Rattle.sre_machine.proofs.Terms.{AnyAll, In, Locale, test_opcode, TestOperands, same_opcode, GroupLies, MarkLeads}
+use Rattle.sre_machine.proofs.Terms.{GroupAsked, whole_asks, LetGo}
+use Rattle.sre_model.specs.Roles.{TestKind, ToTest}
+use Rattle.sre_chars.specs.declared.constants.SreOpcode.TheVariants as opcode
+
+-- marks that have all of others have what those do
+pub all_had : (marks others : AskedMarks) (r : MarkRange) → HaveAll marks (range_of others) → HaveAll others r
+    → HaveAll marks r
+all_had marks others r h k = record { all = λ n l. h.all n (k.all n l) }
+
+pub had_at : (list : List AskedPlace) (i j : ℕ) (marks others : AskedMarks) → i ≡ j → HaveAll marks (range_of others)
+    → HaveAll others ((asks_of list).instruction i) → HaveAll marks ((asks_of list).instruction j)
+had_at list i j marks others same h k =
+    subst (λ n. HaveAll marks ((asks_of list).instruction n)) same (all_had marks others _ h k)
+
+-- the alternatives that follow a length word
+pub alternatives_ask : (ws : List ℕ) (list : List AskedPlace) (q v : ℕ) (own first others : AskedMarks) → Word ws q v
+    → HaveAll own (range_of first) → HaveAll own (range_of others) → HaveAll first ((asks_of list).instruction (q + 1))
+    → HaveAll others ((asks_of list).alternatives (q + v)) → AlternativesAsk ws (asks_of list) (range_of own) q
+alternatives_ask ws list q v own first others w h k one rest = record {
+  first = λ some n l. h.all n (one.all n l);
+  others = λ some.
+      subst (λ n. Within ((asks_of list).alternatives (q + n)) (range_of own)) (sym (word_of ws q v w))
+      (λ n l. k.all n (rest.all n l));
+}
+
+-- the marks of groups that words name
+pub named_groups : (ws : List ℕ) → AreWords ws → (i g : ℕ) → Word ws i g
+    → GroupLies (λ k. ⊥) (range_of any_marks) g
+named_groups ws are i g w =
+    let few = are.fits i g w in
+    record {
+      start = inl (omega (arith, few), omega (arith, few));
+      end = inl (omega (arith, few), omega (arith, few));
+    }
+
+-- the group that a reference names is asked for
+pub group_asked : (ws : List ℕ) (i g : ℕ) (own marks : AskedMarks) → g ≡ word ws (i + 1)
+    → GroupLies (λ k. ⊥) (range_of own) g → HaveAll marks (range_of own) → GroupAsked (λ k. ⊥) ws (range_of marks) i
+group_asked ws i g own marks same lies has = record {
+  each = λ n asked w.
+      let named : g ≡ n = same ∙ word_of ws (i + 1) n w in
+      subst (GroupLies (λ k. ⊥) (range_of marks)) named (record {
+        start = had (2 * g) lies.start;
+        end = had (2 * g + 1) lies.end;
+      });
+}
+  where
+    had : (k : ℕ) → Lies k (range_of own) ⊎ ⊥ → Lies k (range_of marks) ⊎ ⊥
+    had k (inl l) = inl (has.all k l)
+    had k (inr e) = inr e
+
+-- what is behind a MARK is asked for, but for its own
+pub mark_leads : (ws : List ℕ) (list : List AskedPlace) (i n : ℕ) (behind marks : AskedMarks) → n ≡ word ws (i + 1)
+    → HaveAll behind ((asks_of list).instruction (i + 2)) → LetGo n marks behind
+    → MarkLeads ws (asks_of list) (range_of marks) i
+mark_leads ws list i n behind marks same has lets = record {
+  each = λ v w k l. elim (lets.each k (has.all k l)) [
+    | (inl left) ↦ inl left
+    | (inr own) ↦ inr (own ∙ same ∙ word_of ws (i + 1) v w)
+  ];
+}
+
+-- where a test ends, by its opcode
+abbrev test_end : List ℕ → ℕ → SreOpcode → ℕ
+test_end ws i opcode.ANY = i + 1
+test_end ws i opcode.ANY_ALL = i + 1
+test_end ws i opcode.IN = skip ws (i + 1)
+test_end ws i opcode.IN_IGNORE = skip ws (i + 1)
+test_end ws i opcode.IN_LOC_IGNORE = skip ws (i + 1)
+test_end ws i opcode.IN_UNI_IGNORE = skip ws (i + 1)
+test_end ws i _ = i + 2
+
+ends_by_opcode : (ws : List ℕ) (i j : ℕ) (t : Test) → TestOperands ws i j t → j ≡ test_end ws i (test_opcode t)
+ends_by_opcode ws i j Any h = h
+ends_by_opcode ws i j AnyAll h = h
+ends_by_opcode ws i j (InCategory c) h = h.1
+ends_by_opcode ws i j (Literal Plain v) h = h.1
+ends_by_opcode ws i j (Literal mode v) h = h.1
+ends_by_opcode ws i j (NotLiteral Plain v) h = h.1
+ends_by_opcode ws i j (NotLiteral mode v) h = h.1
+ends_by_opcode ws i j (In Plain set) h = h.0
+ends_by_opcode ws i j (In mode set) h = h.0
+
+-- what an instruction of a group of opcodes asks for
+module _ (ws : List ℕ) (list : List AskedPlace) (i : ℕ) (marks : AskedMarks) where
+  abbrev Has : ℕ → Type 0
+  Has n = HaveAll marks ((asks_of list).instruction n)
+
+  -- whatever stands there
+  pub any_asked : AreWords ws → AreMarks list → marks ≡ any_marks → InstructionAsks ws list i marks
+  any_asked are within same = record {
+    each = λ o w.
+        subst (λ m. AsksAt (λ k. ⊥) ws (asks_of list) (range_of m) (role o) i) (sym same)
+        (whole_asks (λ k. ⊥) ws (asks_of list) (range_of any_marks) within.instruction within.alternatives
+        (named_groups ws are) (role o) i);
+  }
+
+  module _ (o : SreOpcode) (w : Opcode ws i o) where
+    as_if : {p : SreOpcode} → o ≡ p → AsksAt (λ k. ⊥) ws (asks_of list) (range_of marks) (role p) i
+        → InstructionAsks ws list i marks
+    as_if {p} e h = record {
+      each = λ q v.
+          let same : p ≡ q = sym e ∙ same_opcode ws i o q w v in
+          subst (λ z. AsksAt (λ k. ⊥) ws (asks_of list) (range_of marks) (role z) i) same h;
+    }
+
+    -- a test asks for what is asked where it ends
+    test_asks : {p : SreOpcode} {kind : TestKind} → o ≡ p → role p ≡ ToTest kind → Has (test_end ws i p)
+        → InstructionAsks ws list i marks
+    test_asks {p} e is h =
+        as_if e (subst (λ z. AsksAt (λ k. ⊥) ws (asks_of list) (range_of marks) z i) (sym is) (record {
+          each = λ j t s.
+              let code : test_opcode t ≡ p = same_opcode ws i (test_opcode t) o s.code w ∙ e in
+              let ends : test_end ws i p ≡ j =
+              ap (test_end ws i) (sym code) ∙ sym (ends_by_opcode ws i j t s.operands) in
+              subst (λ k. Within ((asks_of list).instruction k) (range_of marks)) ends h.all;
+        }))
+
+    pub literal_asks : (o ≡ opcode.AT) ⊎ ((o ≡ opcode.CATEGORY) ⊎ ((o ≡ opcode.LITERAL) ⊎ ((o ≡ opcode.LITERAL_IGNORE)
+        ⊎ ((o ≡ opcode.LITERAL_LOC_IGNORE) ⊎ ((o ≡ opcode.LITERAL_UNI_IGNORE) ⊎ ((o ≡ opcode.NOT_LITERAL)
+        ⊎ ((o ≡ opcode.NOT_LITERAL_IGNORE) ⊎ ((o ≡ opcode.NOT_LITERAL_LOC_IGNORE)
+        ⊎ (o ≡ opcode.NOT_LITERAL_UNI_IGNORE)))))))))
+        → Has (i + 2) → InstructionAsks ws list i marks
+    literal_asks (inl e) h = as_if e h.all
+    literal_asks (inr (inl e)) h = test_asks e refl h
+    literal_asks (inr (inr (inl e))) h = test_asks e refl h
+    literal_asks (inr (inr (inr (inl e)))) h = test_asks e refl h
+    literal_asks (inr (inr (inr (inr (inl e))))) h = test_asks e refl h
+    literal_asks (inr (inr (inr (inr (inr (inl e)))))) h = test_asks e refl h
+    literal_asks (inr (inr (inr (inr (inr (inr (inl e))))))) h = test_asks e refl h
+    literal_asks (inr (inr (inr (inr (inr (inr (inr (inl e)))))))) h = test_asks e refl h
+    literal_asks (inr (inr (inr (inr (inr (inr (inr (inr (inl e))))))))) h = test_asks e refl h
+    literal_asks (inr (inr (inr (inr (inr (inr (inr (inr (inr e))))))))) h = test_asks e refl h
+
+    pub skip_asks : (t : ℕ) → t ≡ skip ws (i + 1)
+        → (o ≡ opcode.JUMP) ⊎ ((o ≡ opcode.IN) ⊎ ((o ≡ opcode.IN_IGNORE) ⊎ ((o ≡ opcode.IN_LOC_IGNORE)
+        ⊎ ((o ≡ opcode.IN_UNI_IGNORE) ⊎ ((o ≡ opcode.REPEAT_ONE) ⊎ ((o ≡ opcode.MIN_REPEAT_ONE)
+        ⊎ (o ≡ opcode.POSSESSIVE_REPEAT_ONE)))))))
+        → Has t → InstructionAsks ws list i marks
+    skip_asks t leads (inl e) h = as_if e (subst Has leads h).all
+    skip_asks t leads (inr (inl e)) h = test_asks e refl (subst Has leads h)
+    skip_asks t leads (inr (inr (inl e))) h = test_asks e refl (subst Has leads h)
+    skip_asks t leads (inr (inr (inr (inl e)))) h = test_asks e refl (subst Has leads h)
+    skip_asks t leads (inr (inr (inr (inr (inl e))))) h = test_asks e refl (subst Has leads h)
+    skip_asks t leads (inr (inr (inr (inr (inr (inl e)))))) h = as_if e (subst Has leads h).all
+    skip_asks t leads (inr (inr (inr (inr (inr (inr (inl e))))))) h = as_if e (subst Has leads h).all
+    skip_asks t leads (inr (inr (inr (inr (inr (inr (inr e))))))) h = as_if e (subst Has leads h).all
 
 -- nothing is told yet of the places before one
 pub record NoneBefore (list : List AskedPlace) (place : ℕ) : Type 0 where

@@ -1,15 +1,10 @@
 -- Lists by address: what an entry says of sets.
 -- The list by which branches skip alternatives rests on this; nothing else here does.
 use Rattle.sre_machine.proofs.Terms.{◌≡◌, ℕ, ◌+◌, Bool, true, false, not, ◌&&◌, ◌||◌, nat_lt, List, [], ◌∷◌, Some, refl}
-use Rattle.sre_machine.proofs.Terms.{sym, ap, ◌∙◌, arith, nat_tests, Opcode, contains}
-use Rattle.std.proofs.Common.{cond}
-use Rattle.sre_chars.specs.Tables.{Table}
+use Rattle.sre_machine.proofs.Terms.{sym, ap, ◌∙◌, arith, nat_tests, Opcode, contains, cond, Table, SetItem, Single}
+use Rattle.sre_machine.proofs.Terms.{Range, RangeUniIgnore, Category, Charset, BigCharset, Negate, item_holds, verdict}
+use Rattle.sre_machine.proofs.Terms.{is_member, negated, nothing_left, AsciiSet, HoldsFor, AreTold}
 use Rattle.sre_chars.specs.declared.constants.SreOpcode.TheVariants as opcode
-use Rattle.sre_model.specs.Tree.{SetItem, Single, Range, RangeUniIgnore, Category, Charset, BigCharset, Negate}
-use Rattle.sre_model.specs.Characters.{item_holds, verdict, is_member}
-use Rattle.sre_model.proofs.Members.{negated, nothing_left}
-use Rattle.sre_code.specs.declared.ascii_set.AsciiSet.{AsciiSet}
-use Rattle.sre_code.specs.AsciiSets.{HoldsFor, AreTold}
 
 -- a set at its end, behind NEGATE, and behind an item
 pub none_told : (ws : List ℕ) (i : ℕ) (members : AsciiSet) → Opcode ws i opcode.FAILURE
@@ -24,27 +19,12 @@ cond_not : (b x y z : Bool) → y ≡ not z → cond b (not x) y ≡ not (cond b
 cond_not true x y z e = refl
 cond_not false x y z e = e
 
-not_not : (b : Bool) → not (not b) ≡ b
-not_not true = refl
-not_not false = refl
-
 -- the opposite verdict where it begins with the opposite
 turned : (table : Table) (taken : Bool) (set : List SetItem) (c : ℕ)
     → verdict table (not taken) set c ≡ not (verdict table taken set c)
 turned table taken [] c = refl
 turned table taken (Negate ∷ rest) c = turned table (not taken) rest c
-turned table taken (Single v ∷ rest) c =
-    cond_not (item_holds table (Single v) c) taken _ _ (turned table taken rest c)
-turned table taken (Range a b ∷ rest) c =
-    cond_not (item_holds table (Range a b) c) taken _ _ (turned table taken rest c)
-turned table taken (RangeUniIgnore a b ∷ rest) c =
-    cond_not (item_holds table (RangeUniIgnore a b) c) taken _ _ (turned table taken rest c)
-turned table taken (Category n ∷ rest) c =
-    cond_not (item_holds table (Category n) c) taken _ _ (turned table taken rest c)
-turned table taken (Charset bits ∷ rest) c =
-    cond_not (item_holds table (Charset bits) c) taken _ _ (turned table taken rest c)
-turned table taken (BigCharset ns bits ∷ rest) c =
-    cond_not (item_holds table (BigCharset ns bits) c) taken _ _ (turned table taken rest c)
+turned table taken (x ∷ rest) c = cond_not (item_holds table x c) taken _ _ (turned table taken rest c)
 
 pub negated_told : (ws : List ℕ) (i : ℕ) (others members : AsciiSet) → Opcode ws i opcode.NEGATE
     → AreTold ws (i + 1) (Some others)

@@ -4,15 +4,8 @@ use Rattle.sre_machine.proofs.Terms.{◌≡◌, ℕ, inl, inr, true, false, List
 use Rattle.sre_machine.proofs.Terms.{◌∙◌, subst, arith, AllByRecursion, Ghosts, StringCursor, has_forked_region, Way}
 use Rattle.sre_machine.proofs.Terms.{Attempt, BoardValue, is_inside, Limit, Later, Spot, Next, no_reference, Request}
 use Rattle.sre_machine.proofs.Terms.{run_of, MemoValue, Holds, Holding, Pays, Remembering, rows_from, KeepsBodyEnd}
-use Rattle.sre_machine.proofs.Terms.{Proceeds}
-use Rattle.std.proofs.Common.{map}
-use Rattle.sre_turns.specs.Limits.{open_attempts, without_open}
-use Rattle.sre_turns.specs.Machine.{Ends}
-use Rattle.sre_turns.specs.OpenMarks.{open_spots}
-use Rattle.sre_turns.proofs.bound.FaringInRegions.{opened_first}
-use Rattle.sre_board.specs.Accounts.{BitOf, IsEnded, StaysEnded}
-use Rattle.sre_board.proofs.AccountLaws.{account_ends, account_same_ends}
-use Rattle.sre_board.proofs.EndsTold.{bit_numbered}
+use Rattle.sre_machine.proofs.Terms.{Proceeds, map, open_attempts, without_open, Ends, open_spots, opened_first, BitOf}
+use Rattle.sre_machine.proofs.Terms.{IsEnded, StaysEnded, account_ends, account_same_ends, bit_numbered}
 use Rattle.sre_machine.proofs.Paying.{grants_nothing, pays_unless}
 
 -- what holds of all of two lists holds of those of the second

@@ -4,25 +4,13 @@ use Rattle.sre_machine.proofs.Terms.{None, refl, sym, subst, arith, Ghosts, Stri
 use Rattle.sre_machine.proofs.Terms.{HasTest, passes, Test, Way, unlimited, word_there, BoardValue, Else, Limit, Runs}
 use Rattle.sre_machine.proofs.Terms.{Tries, HasRun, Later, Refuses, spot, spot_at, Instruction, both_first}
 use Rattle.sre_machine.proofs.Terms.{both_wait_there, operands_within, run_there, Request, end_of, run_of, OpcodeAt}
-use Rattle.sre_machine.proofs.Terms.{AreOperands, NotTakenAt, RunOperands}
+use Rattle.sre_machine.proofs.Terms.{AreOperands, NotTakenAt, RunOperands, run_opcode, TestStands, RunKind, run_length}
+use Rattle.sre_machine.proofs.Terms.{run_inside, run_at_most, GoesBoth, RunsOn, both_second, run_next, passed}
+use Rattle.sre_machine.proofs.Terms.{pass_last, lazy_next, greedy_both, greedy_only, greedy_short, lazy_both, lazy_only}
+use Rattle.sre_machine.proofs.Terms.{lazy_short, possessive_on, possessive_only, possessive_short, Standing, At}
+use Rattle.sre_machine.proofs.Terms.{AllTaken, HasOtherEnds, LacksLeast, EndsFirst, TakenAt}
 use Rattle.sre_chars.specs.declared.constants.SreOpcode.TheVariants as opcode
-use Rattle.sre_model.specs.Grammar.{run_opcode}
-use Rattle.sre_model.specs.Standing.{TestStands}
-use Rattle.sre_model.specs.Tree.{RunKind}
-use Rattle.sre_model.specs.Ways.{run_length}
-use Rattle.sre_model.proofs.Longest.{run_inside, run_at_most}
-use Rattle.sre_turns.specs.Machine.{GoesBoth}
-use Rattle.sre_turns.specs.RunEnds.{RunsOn}
 use Rattle.sre_turns.specs.declared.Next.TheVariants as next
-use Rattle.sre_turns.proofs.semantics.Moving.{both_second}
-use Rattle.sre_turns.proofs.semantics.RunEnds.{run_next, passed, pass_last}
-use Rattle.sre_turns.proofs.semantics.LazyRunEnds.{lazy_next}
-use Rattle.sre_turns.proofs.semantics.NextRuns.{greedy_both, greedy_only, greedy_short, lazy_both, lazy_only}
-use Rattle.sre_turns.proofs.semantics.NextRuns.{lazy_short}
-use Rattle.sre_turns.proofs.semantics.NextRuns.{possessive_on, possessive_only, possessive_short}
-use Rattle.sre_request.specs.Runs.{Standing}
-use Rattle.sre_machine.specs.Turns.{At}
-use Rattle.sre_machine.specs.EndlessRuns.{AllTaken, HasOtherEnds, LacksLeast, EndsFirst, TakenAt}
 
 -- a run of which no greatest count stands there is one
 pub endless_there : (r : Run) (kind : RunKind) (i n : ℕ) (c : StringCursor) → Opcode r.words i (run_opcode kind)

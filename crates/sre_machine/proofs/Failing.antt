@@ -5,14 +5,10 @@ use Rattle.sre_machine.proofs.Terms.{no_marks, Way, BoardValue, Trying, IsAt, Ar
 use Rattle.sre_machine.proofs.Terms.{Instruction, Point, Tree, Whole, refers, tree_of, HasReference, Asks, words_of}
 use Rattle.sre_machine.proofs.Terms.{items_of, Code, whole_of, whole_items, Request, code_of, run_of, GivesUp, GoesOn}
 use Rattle.sre_machine.proofs.Terms.{TriesOn, LeavesOrStays, EndsThere, RunsOnAt, scan_at, Pays, is_inside, spot_at}
-use Rattle.sre_machine.proofs.Terms.{Kept, Remembers, MemoValue}
+use Rattle.sre_machine.proofs.Terms.{Kept, Remembers, MemoValue, asked_from, asked_to, no_group, TurnAt, TurnOnce}
+use Rattle.sre_machine.proofs.Terms.{Takes, StaysAt, Fails, HoldsOneMore, remembers_more, end_taken}
 use Rattle.sre_turns.specs.declared.Next.TheVariants as next
-use Rattle.sre_model.specs.References.{asked_from, asked_to, no_group}
-use Rattle.sre_machine.specs.Turns.{TurnAt, TurnOnce, Takes, StaysAt, Fails}
-use Rattle.sre_board.specs.Failures.{HoldsOneMore}
-use Rattle.sre_board.proofs.Remembering.{remembers_more}
 use Rattle.sre_machine.proofs.Paying.{grants_nothing, pays_nothing, pays_less}
-use Rattle.sre_turns.proofs.memoization.BodyEnds.{end_taken}
 
 -- a mark was made, or none: the machine may stand there still
 pub stays_tried : (r : Run) (point : Point) (cursor : StringCursor) (b c : BoardValue) (made : Bool)

@@ -1,35 +1,54 @@
--- Steps one after the other: what they cost at most, where all credits that are granted are paid.
+-- Steps one after the other, as the machine's loop counts them: what they cost at most, where all credits that are
+-- granted are paid.
 use Rattle.sre_machine.proofs.Terms.{◌≡◌, ℕ, ◌+◌, ◌*◌, ◌≤◌, ◌⊎◌, inl, inr, true, false, Bool, List, [], Result, Ok, Err}
 use Rattle.sre_machine.proofs.Terms.{IfOk, refl, sym, ap, ◌∙◌, subst, arith, true≢false, Refused, Ghosts, StringCursor}
 use Rattle.sre_machine.proofs.Terms.{Tree, Way, Run, BoardValue, bare, Limit, Grants, earlier, raised, Stands, spot}
 use Rattle.sre_machine.proofs.Terms.{outcomes, Next, Instruction, Again, run_code, Request, start_of, end_of, code_of}
 use Rattle.sre_machine.proofs.Terms.{asked_of, words_of, Code, whole_items, Whole, refers, run_of, MemoValue, Recalls}
 use Rattle.sre_machine.proofs.Terms.{left_of, Pays, Remembering, rows_from, TurnsSoFar, first_limit, no_marks}
-use Rattle.sre_machine.proofs.Terms.{behind_items, AreWords, tree_of, Proceeds}
-use Rattle.std.proofs.Common.{◌/◌}
-use Rattle.std.proofs.Common.{mul-le-mul, add-mul, one-mul, max}
-use Rattle.sre_turns.specs.Settled.{Counted}
+use Rattle.sre_machine.proofs.Terms.{behind_items, AreWords, tree_of, Proceeds, ◌/◌, mul-le-mul, add-mul, one-mul, max}
+use Rattle.sre_machine.proofs.Terms.{Counted, most_paid, kept_of, account_few, account_none, longest_lookbehind}
+use Rattle.sre_machine.proofs.Terms.{KeepsEndsOf, KeepsFrom, is_limited, Stops, Settles, Waited, Allowance, steps}
+use Rattle.sre_machine.proofs.Terms.{most_steps, most_each, turn_spent, HoldsBits, run_cost, each_of, RunStops}
+use Rattle.sre_machine.proofs.Terms.{RunSettles, AnewStops, AnewSettles, started, behind_has, settled_behind}
+use Rattle.sre_machine.proofs.Terms.{ReadsBehind, WholeItems, ◌-◌, Later, StandsWithin, Advances, Arrives, toll, Point}
+use Rattle.sre_machine.proofs.Terms.{arrived_at, repeats}
 use Rattle.sre_turns.specs.declared.Next.TheVariants as next
-use Rattle.sre_board.specs.Accounts.{most_paid}
-use Rattle.sre_board.specs.Failures.{kept_of}
-use Rattle.sre_board.proofs.AccountLaws.{account_few, account_none}
-use Rattle.sre_model.specs.LooksBehind.{longest_lookbehind}
-use Rattle.sre_machine.specs.Memos.{KeepsEndsOf, KeepsFrom}
-use Rattle.sre_machine.specs.Allowances.{is_limited}
-use Rattle.sre_machine.specs.Paying.{Within, Stops, Settles, Waited}
-use Rattle.sre_machine.specs.declared.allowance.Allowance.{Allowance}
-use Rattle.sre_turns.specs.Prices.{steps}
-use Rattle.sre_model.specs.TreePrices.{most_steps}
-use Rattle.sre_model.specs.TurnBounds.{most_each}
-use Rattle.sre_model.proofs.TurnBounds.{turn_spent}
-use Rattle.sre_machine.specs.Paying.{HoldsBits, run_cost, each_of, RunStops, RunSettles, AnewStops}
-use Rattle.sre_machine.specs.Paying.{AnewSettles}
-use Rattle.sre_turns.proofs.semantics.Start.{started, behind_has}
-use Rattle.sre_turns.proofs.bound.SettledMoves.{settled_behind}
-use Rattle.sre_model.specs.Prefixes.{ReadsBehind}
-use Rattle.sre_model.specs.Grammar.{WholeItems}
-use Rattle.sre_machine.proofs.Taken.{proceeds_taken}
+use Rattle.sre_machine.specs.Paying.{Within}
 use Rattle.sre_machine.proofs.Paying.{unless_refused, pays_nothing, pays_then, pays_raised, pays_less, held}
+
+module _ (r : Run) (all : List Way) (limit turned counted : ℕ) (old new : BoardValue) (n : Next)
+    (one : counted ≡ turned + 1) where
+  -- it was one of those that may be taken
+  abbrev pub TurnCounted : Type 0
+  TurnCounted = (counted ≤ limit) × StandsWithin r all (limit - counted) n new
+
+  counts : (l : Limit) → l.turns ≡ limit - turned → Later r all l n new → TurnCounted
+  counts l e x =
+      (omega (arith, e, x.0, one), record { limit = _; turns_left = omega (arith, e, one); stands = x.1 })
+
+  -- at a point that was reached
+  pub point_taken : (pt : Point) (c : StringCursor) (m at : Next) → m ≡ at
+      → ((l : Limit) → Stands r all l at old → Arrives r all l pt c old) → Advances r pt c old n new
+      → StandsWithin r all (limit - turned) m old → TurnCounted
+  point_taken pt c m at is reached turn x =
+      let y = reached x.limit (subst (λ z. Stands r all x.limit z old) is x.stands) in
+      let code = run_code r (spot pt c old) y.runs in
+      let more : Limit = raised (toll r.words r.subject.end code.0 pt (repeats old.frames)) x.limit in
+      counts more x.turns_left (turn all more (arrived_at code.0 code.1 y))
+
+  -- where more may be granted before it, and is paid in some way
+  pub proceeds_taken : (m : Next) (P : Limit → Limit → Type 0)
+      → ((l : Limit) → Stands r all l m old → Proceeds r all l n new (λ more. P l more))
+      → StandsWithin r all (limit - turned) m old → TurnCounted
+  proceeds_taken m P turn x =
+      let y = turn x.limit x.stands in
+      counts y.0 (omega (arith, y.1.turns, x.turns_left)) y.2
+
+  -- where nothing is granted
+  pub later_taken : (m : Next) → ((l : Limit) → Stands r all l m old → Later r all l n new)
+      → StandsWithin r all (limit - turned) m old → TurnCounted
+  later_taken m turn x = counts x.limit x.turns_left (turn x.limit x.stands)
 
 -- wherever the machine stands, no more steps were taken than the potential allows
 pub stands_within : (r : Run) (all : List Way) (l : Limit) (n : Next) (b : BoardValue) → Counted r
@@ -62,8 +81,7 @@ pays_waited r m' m₁ l same =
       ap (λ (k : MemoValue). k.ends) same,
       ap (λ (k : MemoValue). k.keeps_ends) same,
       ap (λ (k : MemoValue). k.first) same,
-    )
-    (λ h. ap (λ (k : MemoValue). k.is_open) same ∙ h) refl refl
+    ) (λ h. ap (λ (k : MemoValue). k.is_open) same ∙ h) refl refl
 
 -- so many steps cost no more than the potential and the credits, with what scans are charged
 cost_of : {S : Type 0} {text : Ghosts S} (r : Request S text) (before : ℕ) (pl : Remembering r) (limit more : Limit)
@@ -207,14 +225,12 @@ module _ {M S : Type 0} {text : Ghosts S} {r : Request S text} {all : List Way} 
         }
 
 -- a run from its first instruction on
-module _ {S : Type 0} {text : Ghosts S} (r : Request S text) (all : List Way) (i : ℕ) (t : Tree)
-    (start : StringCursor)
+module _ {S : Type 0} {text : Ghosts S} (r : Request S text) (all : List Way) (i : ℕ) (t : Tree) (start : StringCursor)
     (b : BoardValue) (m : MemoValue) (left left' : ℕ)
     (stands : (first : ℕ) → first ≤ start.position
     → Stands (run_of r) all (first_limit (run_of r) i t start first) (next.At i start) b)
     (few_steps : (pl : Remembering r) → steps (run_of r).words i ≤ most_steps pl.plain.tree) where
-  few_first : (pl : Remembering r) (tolls : ℕ)
-      → left ≤ left' + (steps (run_of r).words i + tolls + 1) * each_of r pl
+  few_first : (pl : Remembering r) (tolls : ℕ) → left ≤ left' + (steps (run_of r).words i + tolls + 1) * each_of r pl
       → left ≤ left' + run_cost r pl tolls
   few_first pl tolls spent =
       let l : (steps (run_of r).words i + tolls + 1) * each_of r pl ≤ run_cost r pl tolls =
@@ -225,14 +241,8 @@ module _ {S : Type 0} {text : Ghosts S} (r : Request S text) (all : List Way) (i
   run_stops g = record {
     keeping = λ pl from keeps n h.
         let limit = first_limit (run_of r) i t start (start_of r) in
-        unless_refused (g.cost pl keeps limit (stands (start_of r) from) refl refl n h) (λ z. inr (
-          z.0,
-          omega (
-            arith,
-            z.1,
-          ),
-          few_first pl z.0 z.2,
-        ));
+        let cost = g.cost pl keeps limit (stands (start_of r) from) refl refl n h in
+        unless_refused cost (λ z. inr (z.0, omega (arith, z.1), few_first pl z.0 z.2));
     closed = λ pl from closed. inr (0, omega arith, omega (arith, g.waited closed));
   }
 
@@ -241,15 +251,8 @@ module _ {S : Type 0} {text : Ghosts S} (r : Request S text) (all : List Way) (i
   run_settles m' g = record {
     keeping = λ pl from keeps n h.
         let limit = first_limit (run_of r) i t start (start_of r) in
-        unless_refused (g.cost pl keeps limit (stands (start_of r) from) refl refl n h) (λ z. inr (
-          z.0,
-          z.1,
-          omega
-              (arith, z.2),
-          z.3,
-          z.4,
-          few_first pl z.0 z.5,
-        ));
+        let cost = g.cost pl keeps limit (stands (start_of r) from) refl refl n h in
+        unless_refused cost (λ z. inr (z.0, z.1, omega (arith, z.2), z.3, z.4, few_first pl z.0 z.5));
     closed = λ pl from closed. let w = g.waited closed in inr (inl (w.closed, w.turns));
   }
 
@@ -274,25 +277,16 @@ module _ {S : Type 0} {text : Ghosts S} (r : Request S text) (start : StringCurs
 
   pub anew_stops : {M : Type 0} (left' : ℕ) → RunStops M r start m left left' → AnewStops M r start left left'
   anew_stops left' g = record {
-    cost = λ pl from. unless_refused (g.keeping pl from keeps 0 (none_held pl)) (λ z. inr (
-      z.0,
-      omega (arith, z.1),
-      z.2,
-    ));
+    cost = λ pl from.
+        unless_refused (g.keeping pl from keeps 0 (none_held pl)) (λ z. inr (z.0, omega (arith, z.1), z.2));
   }
 
   pub anew_settles : {M : Type 0} (m' : MemoValue) (left' : ℕ) → RunSettles M r start m m' left left'
       → AnewSettles M r start m' left left'
   anew_settles m' left' g = record {
     cost = λ pl from.
-        unless_refused (g.keeping pl from keeps 0 (none_held pl)) (λ z. inr (
-          z.0,
-          z.1,
-          omega (arith, z.2),
-          z.3,
-          z.4,
-          z.5,
-        ));
+        let cost = g.keeping pl from keeps 0 (none_held pl) in
+        unless_refused cost (λ z. inr (z.0, z.1, omega (arith, z.2), z.3, z.4, z.5));
   }
 
 -- and what that says of the whole: the run before it was waited for
@@ -308,18 +302,8 @@ module _ {S : Type 0} {text : Ghosts S} (r : Request S text) (start : StringCurs
       → RunSettles M r start m m' given left
   again_settles m' g = record {
     keeping = λ pl from kept n h. absurd (true≢false (sym kept ∙ closed));
-    closed = λ pl from c. unless_refused (g.cost pl from) (λ z. inr (inr (
-      z.0,
-      z.1,
-      z.2,
-      z.3,
-      z.4,
-      omega (
-        arith,
-        z.5,
-        waited,
-      ),
-    )));
+    closed = λ pl from c.
+        unless_refused (g.cost pl from) (λ z. inr (inr (z.0, z.1, z.2, z.3, z.4, omega (arith, z.5, waited))));
   }
 
 -- how it begins, whatever the range's start is, up to there
@@ -337,8 +321,7 @@ begins_run r literals start b v whole behind stands inside fresh first from =
     (behind pl.tree pl.whole) from inside)
 
 -- what follows where a result is none
-pub if_ok : {T E : Type 0} {A B : T → Type 0} (x : Result T E) → ((t : T) → x ≡ Ok t → A t → B t) → IfOk x A
-    → IfOk x B
+pub if_ok : {T E : Type 0} {A B : T → Type 0} (x : Result T E) → ((t : T) → x ≡ Ok t → A t → B t) → IfOk x A → IfOk x B
 if_ok (Ok t) f h = f t refl h
 if_ok (Err e) f h = h
 

@@ -2,16 +2,9 @@
 use Rattle.sre_machine.proofs.Terms.{◌≡◌, ℕ, inr, List, [], ◌∷◌, drop, length, sym, ap, ◌∙◌, subst, arith, Ghosts}
 use Rattle.sre_machine.proofs.Terms.{StringCursor, Way, BoardValue, Trying, Attempt, Limit, attempt, without_tried}
 use Rattle.sre_machine.proofs.Terms.{Backs, spot, is_inside, spot_at, Point, Kept, HasBit, Request, end_of, run_of}
-use Rattle.sre_machine.proofs.Terms.{MemoValue, Holds, HoldsTried, Pays, rows_from}
-use Rattle.std.proofs.lemmas.List.{append-nil}
-use Rattle.sre_turns.specs.Limits.{tried_spots}
-use Rattle.sre_turns.proofs.bound.Faring.{newest_tried}
-use Rattle.sre_turns.specs.Nested.{most_slots}
-use Rattle.sre_board.specs.Accounts.{BitsOf}
-use Rattle.sre_board.specs.Failures.{KeepsSpot, Roomy, RowsStay}
-use Rattle.sre_board.proofs.AccountLaws.{account_closes, no_new_row}
-use Rattle.sre_board.proofs.RowsAdded.{rows_stay}
-use Rattle.sre_board.specs.declared.failures.Row.{Row}
+use Rattle.sre_machine.proofs.Terms.{MemoValue, Holds, HoldsTried, Pays, rows_from, append-nil, tried_spots}
+use Rattle.sre_machine.proofs.Terms.{newest_tried, most_slots, BitsOf, KeepsSpot, Roomy, RowsStay, account_closes}
+use Rattle.sre_machine.proofs.Terms.{no_new_row, rows_stay, Row}
 
 -- the first that is tried has a bit
 first_bit : (k : Kept) (ws : List ℕ) (x : Attempt) (xs : List Attempt) (bs : List ℕ) → BitsOf k ws (x ∷ xs) bs

@@ -3,12 +3,9 @@ use Rattle.sre_machine.proofs.Terms.{◌≡◌, ℕ, ◌+◌, ◌≤◌, true, L
 use Rattle.sre_machine.proofs.Terms.{Word, word, HasTest, passes, Way, unlimited, word_there, BoardValue, Else, Limit}
 use Rattle.sre_machine.proofs.Terms.{Goes, Later, SkipsBoth, spot, Instruction, Longer, both_first, run_nothing}
 use Rattle.sre_machine.proofs.Terms.{both_wait_there, longer_past, operands_within, Request, run_of, OpcodeAt}
-use Rattle.sre_machine.proofs.Terms.{AreOperands, NotTakenAt, RunOperands}
+use Rattle.sre_machine.proofs.Terms.{AreOperands, NotTakenAt, RunOperands, later_goes, longer_stops, BeginsLater}
 use Rattle.sre_chars.specs.declared.constants.SreOpcode.TheVariants as opcode
 use Rattle.sre_turns.specs.declared.Next.TheVariants as next
-use Rattle.sre_turns.proofs.semantics.LaterRuns.{later_goes}
-use Rattle.sre_turns.proofs.semantics.LazyRunEnds.{longer_stops}
-use Rattle.sre_machine.specs.EndlessRuns.{BeginsLater}
 
 module _ {S : Type 0} {text : Ghosts S} (r : Request S text) (place count : ℕ) (o : RunOperands)
     (read : AreOperands r place o) (w : OpcodeAt r place opcode.MIN_REPEAT_ONE)

@@ -1,13 +1,9 @@
 pub mod Paying
-pub mod Halting
 pub mod Failing
-pub mod AtOnce
 pub mod AskedGroups
 pub mod Recalling
-pub mod KnownEnds
 pub mod EndlessRuns
 pub mod LaterRuns
-pub mod Taken
 pub mod LoopCounts
 pub mod Opening
 pub mod Tried
@@ -15,12 +11,8 @@ pub mod Keeping
 pub mod MarksPassed
 pub mod Following
 pub mod Ending
-pub mod NothingBefore
-pub mod Elsewhere
-pub mod VainRuns
 pub mod ByPlace
 pub mod AdmittedHere
-pub mod AskedHere
 pub mod AskedLists
 pub mod ToldBodies
 pub mod Terms

@@ -1,9 +1,6 @@
 -- The innermost loop, as the operands of its REPEAT are read.
 use Rattle.sre_machine.proofs.Terms.{◌≡◌, ℕ, ◌+◌, ◌≤◌, true, List, ◌∷◌, drop, Word, Opcode, until_opcode, Run, Order}
-use Rattle.sre_machine.proofs.Terms.{unlimited, BoardValue, MayRepeat, Frame}
-use Rattle.sre_model.specs.Ways.{may_repeat}
-use Rattle.sre_turns.proofs.semantics.StepsInLoops.{InLoop}
-use Rattle.sre_turns.proofs.semantics.StepsInPossessiveLoops.{InPossessiveLoop}
+use Rattle.sre_machine.proofs.Terms.{unlimited, BoardValue, MayRepeat, Frame, may_repeat, InLoop, InPossessiveLoop}
 
 -- a greedy or a lazy loop
 pub in_progress : {r : Run} {o : Order} {u low high : ℕ} {b : BoardValue} {f : Frame}

@@ -3,12 +3,8 @@
 use Rattle.sre_machine.proofs.Terms.{◌≡◌, ◌≤◌, Bool, true, List, ◌∷◌, ap, ◌∙◌, Ghosts, StringCursor, Marks, Run, Way}
 use Rattle.sre_machine.proofs.Terms.{BoardValue, Trying, is_inside, Limit, attempt, earlier, without_tried, Backs, Goes}
 use Rattle.sre_machine.proofs.Terms.{Advances, Later, spot, Next, Point, asked_by_stop, later_again, Request, asked_of}
-use Rattle.sre_machine.proofs.Terms.{run_of, MemoValue, Recalls, HoldsTried, GoesBack}
-use Rattle.sre_turns.specs.Board.{choice}
-use Rattle.sre_turns.specs.Machine.{IsBack}
-use Rattle.sre_turns.specs.Hopeless.{Hopeless, MarksServe}
-use Rattle.sre_turns.proofs.memoization.Trying.{tried_waits, tried_hopeless}
-use Rattle.sre_machine.specs.Turns.{Retreats}
+use Rattle.sre_machine.proofs.Terms.{run_of, MemoValue, Recalls, HoldsTried, GoesBack, choice, IsBack, Hopeless}
+use Rattle.sre_machine.proofs.Terms.{MarksServe, tried_waits, tried_hopeless, Retreats}
 use Rattle.sre_machine.proofs.Keeping.{pays_kept}
 use Rattle.sre_machine.proofs.Paying.{pays_then}
 

@@ -7,29 +7,13 @@ use Rattle.sre_machine.proofs.Terms.{BoardValue, Trying, is_inside, Attempt, Lim
 use Rattle.sre_machine.proofs.Terms.{Arrives, Goes, Tries, spot, Spot, Instruction, Again, Point, run_code, here_forked}
 use Rattle.sre_machine.proofs.Terms.{RefersToGroups, ForksThere, NoEndTold, RunsOnAt, scan_at, toll, no_reference}
 use Rattle.sre_machine.proofs.Terms.{arrived_at, HasReference, HasBit, right_stays, Request, start_of, end_of, run_of}
-use Rattle.sre_machine.proofs.Terms.{MemoValue, RecallsOf, Pays, Remembering, Holds, Holding, rows_from}
+use Rattle.sre_machine.proofs.Terms.{MemoValue, RecallsOf, Pays, Remembering, Holds, Holding, rows_from, Alike, CodeAt}
+use Rattle.sre_machine.proofs.Terms.{with_tried, FaresAt, repeats, place_of, SettledIn, here_settled, StraightPoint}
+use Rattle.sre_machine.proofs.Terms.{forks_never, BringsNoTolls, toll_few, split_few, no_toll, no_scan, price_of}
+use Rattle.sre_machine.proofs.Terms.{split_toll, scan_toll, arrived_once, none_tried, again_place, trying_goes}
+use Rattle.sre_machine.proofs.Terms.{trying_tries, opcode_within, toll_at, HoldsEnd, Entry, IsOpen, account_opens}
+use Rattle.sre_machine.proofs.Terms.{end_told_before, no_end_outside, account_prepared, bit_prepared, MakesRoom}
 use Rattle.sre_chars.specs.declared.constants.SreOpcode.TheVariants as opcode
-use Rattle.sre_turns.specs.Alike.{Alike}
-use Rattle.sre_turns.specs.Limits.{CodeAt, with_tried, FaresAt}
-use Rattle.sre_turns.specs.Nested.{repeats, place_of}
-use Rattle.sre_turns.specs.Settled.{SettledIn}
-use Rattle.sre_turns.proofs.bound.HereMoves.{here_settled}
-use Rattle.sre_turns.proofs.memoization.Straight.{StraightPoint, forks_never}
-use Rattle.sre_machine.specs.Turns.{BringsNoTolls}
-use Rattle.sre_turns.proofs.bound.GrantedTolls.{toll_few, split_few, no_toll, no_scan}
-use Rattle.sre_turns.specs.Prices.{price_of, split_toll, scan_toll}
-use Rattle.sre_turns.proofs.semantics.Moving.{arrived_once}
-use Rattle.sre_turns.proofs.memoization.OpenMarks.{none_tried}
-use Rattle.sre_turns.proofs.semantics.StepsInPossessiveLoops.{again_place}
-use Rattle.sre_turns.proofs.memoization.Trying.{trying_goes, trying_tries}
-use Rattle.sre_model.proofs.Words.{opcode_within}
-use Rattle.sre_board.specs.Accounts.{toll_at}
-use Rattle.sre_board.specs.Ends.{HoldsEnd}
-use Rattle.sre_board.specs.Failures.{Entry, IsOpen}
-use Rattle.sre_board.proofs.AccountLaws.{account_opens}
-use Rattle.sre_board.proofs.EndsTold.{end_told_before, no_end_outside}
-use Rattle.sre_board.proofs.Prepared.{account_prepared, bit_prepared}
-use Rattle.sre_machine.specs.Memos.{MakesRoom}
 use Rattle.sre_machine.proofs.Paying.{pays_refused, pays_unless, pays_nothing, pays_left}
 
 -- failures are memoized still, or an allocation failed
@@ -99,14 +83,6 @@ pub record PreparedAt (M : Type 0) {S : Type 0} {text : Ghosts S} (r : Request S
   pub makes : MakesRoom (run_of r).words m.first (end_of r) point (repeats b.frames) m m'
   pub same : m'.stopped ≡ false → m' ≡ record m { kept = m'.kept }
   pub refused : m'.stopped ≡ true → Refused M
-
--- the same, as it is read off the request
-pub prepared_at : {M S : Type 0} {text : Ghosts S} (r : Request S text) (point : Point) (b : BoardValue)
-    (m m' : MemoValue) (ws : List ℕ) (end : ℕ) → ws ≡ (run_of r).words → end ≡ end_of r
-    → MakesRoom ws m.first end point (repeats b.frames) m m' → (m'.stopped ≡ false → m' ≡ record m { kept = m'.kept })
-    → (m'.stopped ≡ true → Refused M) → PreparedAt M r point b m m'
-prepared_at r point b m m' ws end words stop makes same refused =
-    record { makes = rw (words, stop) at makes; same = same; refused = refused }
 
 -- an instruction, or a possessive loop, that was reached
 module _ {S : Type 0} {text : Ghosts S} (r : Request S text) (point : Point) (cursor : StringCursor) (b : BoardValue)
@@ -214,21 +190,17 @@ module _ {S : Type 0} {text : Ghosts S} (r : Request S text) (point : Point) (cu
   module _ {M : Type 0} (m m' : MemoValue) (p : PreparedAt M r point b m m') (forks : ForksThere r point) where
     faring : (pl : Remembering r)
         → FaresAt (run_of r) pl.plain limit (price_of (run_of r).words (run_of r).subject.end here) here b.choices
-    faring pl = let code = run_code (run_of r) here x.runs in x.fares pl.plain code.0 code.1
-
-    forked : StraightPoint (run_of r).words point → ⊥
-    forked = forks_here r point forks
+    faring pl = x.fares pl.plain code.0 code.1
 
     -- it is settled, in an atomic scope, too
-    settled : (pl : Remembering r) → SettledIn (run_of r) pl.plain (limit.start - backs pl.plain.tree) here
-    settled pl = here_settled (run_of r) pl.plain limit.start b.choices here (faring pl).here
-
     settled_at : (pl : Remembering r) → limit.start ≡ start_of r → SettledIn (run_of r) pl.plain (rows_from r pl) here
-    settled_at pl at = subst (λ n. SettledIn (run_of r) pl.plain (n - backs pl.plain.tree) here) at (settled pl)
+    settled_at pl at =
+        subst (λ n. SettledIn (run_of r) pl.plain (n - backs pl.plain.tree) here) at
+        (here_settled (run_of r) pl.plain limit.start b.choices here (faring pl).here)
 
     in_forked : (pl : Remembering r) → is_inside b.choices ≡ true → has_forked_region pl.plain.tree ≡ true
     in_forked pl inside =
-        here_forked (run_of r) pl.plain limit.start b.choices here (faring pl).here forked inside
+        here_forked (run_of r) pl.plain limit.start b.choices here (faring pl).here (forks_here r point forks) inside
 
     stands_in : (place : ℕ) × (place_of here ≡ Some place) × (place < length (run_of r).words)
     stands_in = forking_place r point cursor b forks x.runs
@@ -359,17 +331,14 @@ module _ {S : Type 0} {text : Ghosts S} (r : Request S text) (point : Point) (cu
         (marked : made ≡ true → c ≡ record b { choices = Trying point b.frames cursor b.marks ∷ b.choices })
         (left : made ≡ false → c ≡ b) (none : made ≡ false → Refused M)
         (opened : IsOpen m'.kept (run_of r).words (is_inside b.choices) here) where
-      -- so many are few, but for a repeat without a greatest count
-      few_units : (RunsOnAt (run_of r).words point → ⊥) → own + scan_at r point ≤ toll_at (run_of r) here
-      few_units counted = few_tolls (run_of r) point cursor b code.0 code.1 counted x.runs
-
-      -- so the instruction is executed, where its mark was made; it was not where an allocation failed
+      -- the instruction is executed, where its mark was made; it was not where an allocation failed
       pub goes_tried : (more : Limit) × Grants limit more × Goes (run_of r) all more point cursor c
           × ((RunsOnAt (run_of r).words point → ⊥) → Pays M r m limit m' (raised (scan_at r point) more))
       goes_tried =
           goes_paid c made marked left
           (λ more. (RunsOnAt (run_of r).words point → ⊥) → Pays M r m limit m' (raised (scan_at r point) more))
-          (λ _ counted. pays_tried recalls untold own (few_units counted) opened)
+          (λ _ counted. pays_tried recalls untold own
+          (few_tolls (run_of r) point cursor b code.0 code.1 counted x.runs) opened)
           (λ e counted. pays_refused r m m' limit _ (none e))
 
       -- the same for a repeat that is split

@@ -1,13 +1,9 @@
 -- Memoized configurations are hopeless, and memoized ends are right.
 use Rattle.sre_machine.proofs.Terms.{◌≡◌, ℕ, ◌+◌, ◌*◌, ◌<◌, ◌⊎◌, inl, inr, List, Bool, true, refl, sym, ◌∙◌, subst}
 use Rattle.sre_machine.proofs.Terms.{no_marks, Run, AreIdle, Asks, Kept, HoldsNoMore, Remembers, right_stays}
-use Rattle.sre_machine.proofs.Terms.{remembers_still, MemoValue, Covers, Recalls, EndsStay}
-use Rattle.sre_turns.specs.Bodies.{MarklessRegions}
-use Rattle.sre_board.specs.Ends.{EndsTable, EndsRight, HoldsNoEnd}
-use Rattle.sre_board.specs.Failures.{HoldsNone, BitsStay, Grows}
-use Rattle.sre_board.proofs.EndsKept.{right_none}
-use Rattle.sre_board.proofs.Remembering.{remembers_none}
-use Rattle.sre_machine.specs.Memos.{MarkedValue, Recalled, MarkedStays}
+use Rattle.sre_machine.proofs.Terms.{remembers_still, MemoValue, Covers, Recalls, EndsStay, MarklessRegions, EndsTable}
+use Rattle.sre_machine.proofs.Terms.{EndsRight, HoldsNoEnd, HoldsNone, BitsStay, Grows, right_none, remembers_none}
+use Rattle.sre_machine.proofs.Terms.{MarkedValue, Recalled, MarkedStays}
 use Rattle.sre_machine.proofs.AskedGroups.{covers_told}
 
 -- nothing is kept

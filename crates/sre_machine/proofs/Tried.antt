@@ -1,16 +1,16 @@
--- A point is left or tried, by what is known of it.
+-- A point is left or tried, by what is known of it. A point that is executed is paid, though a possessive repeat goes
+-- over its characters at once inside an atomic scope whose ends are not memoized: such a code has no step bound.
 use Rattle.sre_machine.proofs.Terms.{◌≡◌, ◌⊎◌, inl, List, ℕ, Bool, true, false, sym, ◌∙◌, subst, true≢false, Ghosts}
-use Rattle.sre_machine.proofs.Terms.{StringCursor, no_marks, BoardValue, is_inside, spot, spot_at, Point, Refused}
-use Rattle.sre_machine.proofs.Terms.{HoldsNoMore, remembers_still, Request, run_of, MemoValue, RecallsOf}
-use Rattle.sre_machine.proofs.Terms.{RefersToGroups, ForksThere, NoEndTold, GivesUp, GoesOn, TriesOn, LeavesOrStays}
-use Rattle.sre_turns.proofs.memoization.Trying.{hopeless_left}
-use Rattle.sre_board.specs.Failures.{Tells}
-use Rattle.sre_board.specs.declared.failures.Known.{Known}
-use Rattle.sre_board.specs.declared.failures.Known.TheVariants.{Failed, Open, NoBit}
-use Rattle.sre_machine.specs.Turns.{AlikeMarks, ServesThere, TriesKnown}
+use Rattle.sre_machine.proofs.Terms.{MakesRoom, repeats, end_of, StringCursor, no_marks, BoardValue, is_inside, spot}
+use Rattle.sre_machine.proofs.Terms.{spot_at, Point, Refused, HoldsNoMore, remembers_still, Request, run_of, MemoValue}
+use Rattle.sre_machine.proofs.Terms.{RecallsOf, RefersToGroups, ForksThere, NoEndTold, GivesUp, GoesOn, TriesOn}
+use Rattle.sre_machine.proofs.Terms.{LeavesOrStays, hopeless_left, Tells, Known, Failed, Open, NoBit, AlikeMarks}
+use Rattle.sre_machine.proofs.Terms.{ServesThere, TriesKnown, ◌≢◌, inr, refl, Way, Limit, Arrives, Goes, run_code}
+use Rattle.sre_machine.proofs.Terms.{here_forked, Pays, RunsOnAt, Unmarked, IsKeeping, RunsAtOnce, Keeping, Nothing}
+use Rattle.sre_machine.proofs.Terms.{Idle, Marked}
 use Rattle.sre_machine.proofs.Failing.{stays_tried}
 use Rattle.sre_machine.proofs.Opening.{PreparedAt, pays_prepared, goes_untried, tries_untried, goes_tried, tries_tried}
-use Rattle.sre_machine.proofs.Opening.{goes_marked, tries_marked}
+use Rattle.sre_machine.proofs.Opening.{goes_marked, tries_marked, forks_here, run_forks}
 use Rattle.sre_machine.proofs.Paying.{pays_left}
 
 -- what is known of a point tells something of it
@@ -35,17 +35,21 @@ module _ {M S : Type 0} {text : Ghosts S} (r : Request S text) {known : Known} {
     {cursor : StringCursor} {told : Bool} {b c : BoardValue} (m m' : MemoValue) (ws : List ℕ) (q : ℕ)
     (t : TriesKnown M known point cursor told b c) (words : ws ≡ (run_of r).words) (there : q ≡ cursor.position) where
   -- room was made for its failures, and it is known from those that are memoized without marks
-  module _ (p : PreparedAt M r point b m m') (forks : ForksThere r point) (recalls : RecallsOf r m)
+  module _ (end : ℕ) (stop : end ≡ end_of r) (makes : MakesRoom ws m.first end point (repeats b.frames) m m')
+      (same : m'.stopped ≡ false → m' ≡ record m { kept = m'.kept }) (refused : m'.stopped ≡ true → Refused M)
+      (forks : ForksThere r point) (recalls : RecallsOf r m)
       (untold : RefersToGroups r ⊎ NoEndTold r point cursor b m)
       (tells : Tells known m'.kept ws (is_inside b.choices) (spot_at point b.frames q b.marks)) where
+    p : PreparedAt M r point b m m'
+    p = record { makes = rw (words, stop) at makes; same = same; refused = refused }
+
     abbrev Plainly : Known → Type 0
     Plainly k = Tells k m'.kept (run_of r).words (is_inside b.choices) (spot point cursor b)
 
     plainly : Plainly known
     plainly = rw (words, there) at tells
 
-    pub leaves_prepared : ServesThere r no_marks point cursor.position b
-        → LeavesOrStays M r point cursor told b m c m'
+    pub leaves_prepared : ServesThere r no_marks point cursor.position b → LeavesOrStays M r point cursor told b m c m'
     leaves_prepared serves = record {
       left = left_known Plainly known t plainly (λ d. GivesUp M r point cursor b m d m') (λ held all limit x. (
         hopeless_left (run_of r) point cursor b no_marks serves
@@ -86,3 +90,43 @@ module _ {M S : Type 0} {text : Ghosts S} (r : Request S text) {known : Known} {
 
     pub tries_marked_on : TriesOn M r point cursor b m c m'
     tries_marked_on all limit x = tries_marked r point cursor b all limit x c t.made t.marked t.left m m' refers
+
+module _ {S : Type 0} {text : Ghosts S} (r : Request S text) (point : Point) (cursor : StringCursor)
+    (b c : BoardValue) (m m' : MemoValue) (keeping : Keeping) where
+  -- a repeat that goes on inside an atomic scope whose ends are not memoized is in no code of which steps are counted
+  at_once : {M : Type 0} → RunsAtOnce r point keeping c m' → keeping ≡ Unmarked → TriesOn M r point cursor b m c m' →
+      (all : List Way)
+      (l l' more : Limit) → Arrives (run_of r) all l point cursor b → Goes (run_of r) all l' point cursor c
+      → Pays M r m l m' more
+  at_once run unmarked tries all l l' more x y = record {
+    paid = λ pl opened start n h.
+        let here = spot point cursor c in
+        let code = run_code (run_of r) here y.runs in
+        let forked =
+        here_forked (run_of r) pl.plain l'.start c.choices here (y.fares pl.plain code.0 code.1).here
+        (forks_here r point (run_forks r point run.runs)) run.inside in
+        elim ((tries all l x).3.paid pl opened start n h) [
+          | inl refused ↦ inl refused
+          | inr held ↦ absurd (true≢false (sym (held.1.ends forked) ∙ run.none unmarked))
+        ];
+  }
+
+  -- so a point that is executed is paid, where failures are not memoized, where it is no repeat without a greatest
+  -- count, and there
+  pub paid_so : {M : Type 0} → IsKeeping r keeping point b m
+      → (keeping ≢ Nothing → (RunsOnAt (run_of r).words point → ⊥) ⊎ RunsAtOnce r point keeping c m')
+      → (keeping ≢ Nothing → RunsOnAt (run_of r).words point → TriesOn M r point cursor b m c m') → (all : List Way)
+      (l l' more : Limit) → Arrives (run_of r) all l point cursor b → Goes (run_of r) all l' point cursor c
+      → ((RunsOnAt (run_of r).words point → ⊥) → Pays M r m l m' more) → Pays M r m l m' more
+  paid_so {M} is off tries all l l' more x y paid = go keeping refl
+    where
+      go : (k : Keeping) → keeping ≡ k → Pays M r m l m' more
+      go Nothing e = pays_left r m m' l more (is.left e)
+      go Marked e = pays_left r m m' l more (λ opened. is.refers e)
+      go Idle e = pays_left r m m' l more (λ opened. is.refers_idly e)
+      go Unmarked e =
+          let keeps : keeping ≢ Nothing = λ nothing. cc in
+          elim (off keeps) [
+            | inl none ↦ paid none
+            | inr run ↦ at_once run e (tries keeps run.runs) all l l' more x y
+          ]

@@ -1,12 +1,9 @@
 -- Repeats without a greatest count, while failures are memoized: their first end, and the repeat that has the others.
 -- Definitions for the machine's contracts; what sre_engine makes public does not rest on it.
 use Rattle.std.specs.Prelude.{ℕ, ◌+◌, ◌≡◌, ◌<◌, ◌⊎◌, true, false, Option, MatchOption}
-use Rattle.sre_machine.specs.Terms.{Ghosts, StringCursor, Test, RunsOn, Request, run_of, OpcodeAt, Standing}
+use Rattle.sre_machine.specs.Terms.{Ghosts, StringCursor, Test, RunsOn, Request, run_of, OpcodeAt, Standing, passes}
+use Rattle.sre_machine.specs.Terms.{run_length, TestStands, AllPass}
 use Rattle.sre_chars.specs.declared.constants.SreOpcode.TheVariants as opcode
-use Rattle.sre_model.specs.Subject.{passes}
-use Rattle.sre_model.specs.Ways.{run_length}
-use Rattle.sre_model.specs.Standing.{TestStands}
-use Rattle.sre_turns.specs.RunEnds.{AllPass}
 
 -- a run without a greatest count is at a place
 abbrev pub IsEndlessRun : {S : Type 0} {text : Ghosts S} → Request S text → ℕ → Type 0

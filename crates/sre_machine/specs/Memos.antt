@@ -1,14 +1,10 @@
 -- What a memo has: the failures and the body ends that are memoized, and how long the search goes on without.
-use Rattle.std.specs.Prelude.{negsuc, ℕ, ◌+◌, ◌-◌, ◌*◌, ◌^◌, ◌<◌, ◌≤◌, ◌≡◌, Bool, true, false, List, [], Option, Some}
-use Rattle.std.specs.Prelude.{None}
+use Rattle.std.specs.Prelude.{ℕ, ◌+◌, ◌-◌, ◌*◌, ◌^◌, ◌<◌, ◌≤◌, ◌≡◌, Bool, true, false, List, [], Option, Some, None}
+use Rattle.std.specs.Prelude.{negsuc}
 use Rattle.sre_machine.specs.Terms.{Ghosts, Tree, WholeItems, Marks, no_marks, marks_in_regions, Run, Asks, Request}
 use Rattle.sre_machine.specs.Terms.{start_of, run_of, AreIdle, MarklessRegions, Point, EndsTable, Kept, Laid, HoldsNone}
-use Rattle.sre_machine.specs.Terms.{kept_of}
-use Rattle.sre_model.specs.LooksBehind.{backs}
-use Rattle.sre_model.specs.References.{refers}
-use Rattle.sre_turns.specs.Nested.{place_under}
-use Rattle.sre_board.specs.Ends.{EndsRight, HoldsNoEnd}
-use Rattle.sre_board.specs.Failures.{Remembers, Grows, HasSlots, Roomy, NewRow, Capacity, HasRow}
+use Rattle.sre_machine.specs.Terms.{kept_of, backs, refers, place_under, EndsRight, HoldsNoEnd, Remembers, Grows}
+use Rattle.sre_machine.specs.Terms.{HasSlots, Roomy, NewRow, Capacity, HasRow}
 
 -- failures, the marks under which they were kept, behind which mark none is asked for, and from which places on none is
 pub record MarkedValue : Type 0 where

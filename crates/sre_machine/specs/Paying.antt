@@ -2,15 +2,11 @@
 -- that the memo takes in, each of which pays for all ends of a repeat with a greatest count. And what steps cost before
 -- that: each is one of those for which the memo waits.
 -- Definitions for the machine's contracts; what sre_engine makes public does not rest on it.
-use Rattle.std.specs.Prelude.{◌/◌, min, ℕ, ◌+◌, ◌-◌, ◌*◌, ◌≤◌, ◌≡◌, ◌⊎◌, ⊤, List, [], ◌∷◌, Bool, true, false, Option}
+use Rattle.std.specs.Prelude.{ℕ, ◌+◌, ◌-◌, ◌*◌, ◌≤◌, ◌≡◌, ◌⊎◌, ⊤, List, [], ◌∷◌, Bool, true, false, Option, ◌/◌, min}
 use Rattle.sre_machine.specs.Terms.{Ghosts, StringCursor, Refused, Run, Limit, Counted, Way, marks_in_regions}
 use Rattle.sre_machine.specs.Terms.{BoardValue, Stands, Next, EndsTable, Kept, Request, start_of, end_of, run_of}
-use Rattle.std.specs.List.{AllByRecursion}
-use Rattle.sre_model.specs.TreePrices.{most_steps}
-use Rattle.sre_model.specs.LooksBehind.{longest_lookbehind}
-use Rattle.sre_model.specs.Regions.{has_forked_region}
-use Rattle.sre_turns.specs.Attempts.{Attempt}
-use Rattle.sre_board.specs.Accounts.{Account, Room, most_paid}
+use Rattle.sre_machine.specs.Terms.{AllByRecursion, most_steps, longest_lookbehind, has_forked_region, Attempt, Account}
+use Rattle.sre_machine.specs.Terms.{Room, most_paid}
 use Rattle.sre_machine.specs.Memos.{MemoValue, first_kept}
 use Rattle.sre_machine.specs.declared.turns.Decision.{Decision}
 use Rattle.sre_machine.specs.declared.turns.Decision.TheVariants.{Decided, Opened}

@@ -1,8 +1,7 @@
 -- What the machine reads of a single-character repeat.
 -- Definitions for the machine's contracts; what sre_engine makes public does not rest on it.
 use Rattle.std.specs.Prelude.{ℕ, ◌+◌, ◌^◌, ◌<◌}
-use Rattle.sre_machine.specs.Terms.{Ghosts, Request, run_of}
-use Rattle.sre_turns.specs.OperandsOfRuns.{OperandsOfRun}
+use Rattle.sre_machine.specs.Terms.{Ghosts, Request, run_of, OperandsOfRun}
 use Rattle.sre_machine.specs.declared.run_operands.RunOperands.{RunOperands}
 
 -- the operands of the run at a place, to which a word can be added

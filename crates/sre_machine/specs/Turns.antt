@@ -4,24 +4,12 @@ use Rattle.std.specs.Prelude.{⊤, ℕ, ◌≡◌, ◌≢◌, Bool, true, false,
 use Rattle.sre_machine.specs.Terms.{SreOpcode, Ghosts, StringCursor, Marks, no_marks, Refused, Run, BoardValue}
 use Rattle.sre_machine.specs.Terms.{is_inside, spot_at, Counted, Way, IsBack, StandsWithin, spot, RunsOn, Limit, raised}
 use Rattle.sre_machine.specs.Terms.{Next, Point, Instruction, Again, TellsEnd, KeepsOpenEnds, HoldsOpenEnds, Request}
-use Rattle.sre_machine.specs.Terms.{run_of}
-use Rattle.sre_turns.specs.Board.{Trying}
+use Rattle.sre_machine.specs.Terms.{run_of, Trying, MarksAlike, MarksIdle, Hopeless, MarksServe, HasReference, ForksAt}
+use Rattle.sre_machine.specs.Terms.{HasRun, IsAt, Goes, Tries, Arrives, Backs, Advances, Later, EndsAt, Ends, Refuses}
+use Rattle.sre_machine.specs.Terms.{DemandsAny, Continues, SkipsBoth, IsRead, Grants, CodeAt, has_toll, scan_toll}
+use Rattle.sre_machine.specs.Terms.{Known, Failed, Open, NoBit}
 use Rattle.sre_turns.specs.Asked as marks
-use Rattle.sre_turns.specs.Asked.{MarksAlike}
-use Rattle.sre_turns.specs.AskedPlaces.{MarksIdle}
-use Rattle.sre_turns.specs.Hopeless.{Hopeless, MarksServe}
-use Rattle.sre_turns.specs.MovesAtReferences.{HasReference}
-use Rattle.sre_turns.specs.Straight.{ForksAt}
-use Rattle.sre_turns.specs.Machine.{HasRun, IsAt, Goes, Tries, Arrives, Backs, Advances}
-use Rattle.sre_turns.specs.Machine.{Later}
-use Rattle.sre_turns.specs.BodyEnds.{EndsAt}
-use Rattle.sre_turns.specs.Machine.{Ends}
-use Rattle.sre_turns.specs.Machine.{Refuses, DemandsAny, Continues, SkipsBoth, IsRead}
-use Rattle.sre_turns.specs.Limits.{Grants, CodeAt, has_toll}
-use Rattle.sre_turns.specs.Prices.{scan_toll}
 use Rattle.sre_turns.specs.declared.Next.TheVariants as next
-use Rattle.sre_board.specs.declared.failures.Known.{Known}
-use Rattle.sre_board.specs.declared.failures.Known.TheVariants.{Failed, Open, NoBit}
 use Rattle.sre_machine.specs.Memos.{MemoValue, Recalls}
 use Rattle.sre_machine.specs.Paying.{Pays, Within}
 use Rattle.sre_machine.specs.declared.trying.Keeping.{Keeping}

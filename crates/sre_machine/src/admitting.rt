@@ -8,11 +8,8 @@
 //! follows.
 
 ghost use Rattle.std.specs.Prelude.{◌≡◌, ◌+◌, ◌<◌, ◌≤◌, length, true, IfOk};
-ghost use Rattle.sre_machine.specs.Terms.{Opcode, word, skip, contains, Instruction, Alternatives};
-ghost use Rattle.sre_model.specs.Tree.{Order};
-ghost use Rattle.sre_model.specs.Grammar.{until_opcode};
-ghost use Rattle.sre_turns.specs.Admitting.{AdmitsOnly, TestsOnly, HasAll, RepeatsOnly, RunsOnly};
-ghost use Rattle.sre_request.specs.Admitting.{AllAdmitted};
+ghost use Rattle.sre_machine.specs.Terms.{Opcode, word, skip, contains, Instruction, Alternatives, Order, until_opcode};
+ghost use Rattle.sre_machine.specs.Terms.{AdmitsOnly, TestsOnly, HasAll, RepeatsOnly, RunsOnly, AllAdmitted};
 ghost use Rattle.sre_machine.specs.ByPlace.{AllTold};
 
 use crate::set_members::{filled, members_at, set_members, word_at};

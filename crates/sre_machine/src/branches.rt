@@ -10,8 +10,7 @@
 ghost use Rattle.std.specs.Prelude.{◌≡◌, ℕ, ◌+◌, ◌<◌, ◌^◌, true, false, IfOk, IfSome, MatchOption};
 ghost use Rattle.sre_machine.specs.Terms.{Test, word, Instruction, Alternatives, Point, Chooses, Exhausted};
 ghost use Rattle.sre_machine.specs.Terms.{begins_test, end_of, run_of, OpcodeAt, TestAt, TestStandsAt, test_takes};
-ghost use Rattle.sre_machine.specs.Terms.{character_at};
-ghost use Rattle.sre_turns.specs.Strides.{YieldsTo};
+ghost use Rattle.sre_machine.specs.Terms.{character_at, YieldsTo};
 ghost use Rattle.sre_machine.specs.Turns.{At, Turn, AtPoint, ContinuesTo, ReadAt, RefusesAt, TurnAt};
 
 use crate::barring::{bars, bars_alternatives};

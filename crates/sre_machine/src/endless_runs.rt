@@ -5,11 +5,10 @@
 //! later repeat, which is looked up and tried like any instruction. Each end is tried once, wherever the repeat began.
 
 ghost use Rattle.std.specs.Prelude.{None, ◌≡◌, ◌+◌, ◌-◌, ◌^◌, ◌<◌, ◌≤◌, MatchOption, IfOk, true, false};
-ghost use Rattle.sre_machine.specs.Terms.{unlimited, Longer, end_of, OpcodeAt, Standing, TestAt};
+ghost use Rattle.sre_machine.specs.Terms.{unlimited, Longer, end_of, OpcodeAt, Standing, TestAt, WordAt};
 ghost use Rattle.sre_machine.specs.Turns.{At, TurnOnce, AtPoint, TurnAt};
 ghost use Rattle.sre_machine.specs.EndlessRuns.{TakenAt, NotTakenAt, LacksLeast, EndsFirst, BeginsLater, IsEndlessRun};
 ghost use Rattle.sre_machine.specs.EndlessRuns.{HasOtherEnds};
-ghost use Rattle.sre_request.specs.Reads.{WordAt};
 
 use crate::lazy_runs::{longer, one_longer};
 use crate::machine::{opcode, refuses};

@@ -1,9 +1,7 @@
 //! Greedy single-character repeats: the longest count first, then the shorter ones.
 
 ghost use Rattle.std.specs.Prelude.{◌≡◌, ◌≢◌, ◌⊎◌, MatchOption, true, IfOk};
-ghost use Rattle.sre_machine.specs.Terms.{BoardValue, Instruction, run_of, OpcodeAt, TestAt};
-ghost use Rattle.sre_turns.specs.Machine.{Excludes};
-ghost use Rattle.sre_turns.specs.declared.Point.TheVariants.{Shorter};
+ghost use Rattle.sre_machine.specs.Terms.{BoardValue, Instruction, run_of, OpcodeAt, TestAt, Excludes, Shorter};
 ghost use Rattle.sre_machine.specs.Turns.{At, Turn, AtPoint, DemandedAt, SkipsBothAt, TurnAt};
 
 use crate::machine::{choose, first_literal, is_elsewhere, lacks, opcode};

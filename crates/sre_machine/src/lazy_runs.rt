@@ -3,7 +3,7 @@
 //! After the least count each longer one takes one more character. If the words show the tail's first character, the
 //! counts after which it is missing are skipped in one step.
 
-ghost use Rattle.std.specs.Prelude.{◌||◌, nat_eq, nat_lt, ⊤, ◌≡◌, ◌+◌, ◌<◌, IfOk, MatchOption};
+ghost use Rattle.std.specs.Prelude.{⊤, ◌≡◌, ◌+◌, ◌<◌, IfOk, MatchOption, ◌||◌, nat_eq, nat_lt};
 ghost use Rattle.sre_machine.specs.Terms.{unlimited, skip, BoardValue, Instruction, Longer, run_of, OpcodeAt};
 ghost use Rattle.sre_machine.specs.Runs.{AreOperands};
 ghost use Rattle.sre_machine.specs.Turns.{At, Turn, AtPoint, SkipsBothAt, TurnAt};

@@ -6,9 +6,8 @@
 //! nested loops would save the square of their depth.
 
 ghost use Rattle.std.specs.Prelude.{◌≡◌, ◌+◌, IfOk};
-ghost use Rattle.sre_machine.specs.Terms.{Word, Instruction, next_frame, MayRepeat, run_of, OpcodeAt};
-ghost use Rattle.sre_model.specs.Ways.{may_repeat};
-ghost use Rattle.sre_turns.specs.Machine.{with_loop};
+ghost use Rattle.sre_machine.specs.Terms.{Word, Instruction, next_frame, MayRepeat, run_of, OpcodeAt, may_repeat};
+ghost use Rattle.sre_machine.specs.Terms.{with_loop};
 ghost use Rattle.sre_machine.specs.Turns.{Turn, AtOnBoard};
 
 use crate::machine::{ends_in_vain, opcode, refuses};

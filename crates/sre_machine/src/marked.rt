@@ -10,9 +10,8 @@
 ghost use Rattle.std.specs.Prelude.{[], ℕ, ◌≡◌, ◌⊎◌, ◌+◌, ◌-◌, ◌*◌, ◌^◌, ◌<◌, ◌≤◌, IfOk, None, slice_index_or, true};
 ghost use Rattle.std.specs.Prelude.{false};
 ghost use Rattle.sre_machine.specs.Terms.{mark_at, SreOpcode, role, Asks, AreIdle, SaysOf, is_inside, spot_at};
-ghost use Rattle.sre_machine.specs.Terms.{HoldsNone, HoldsNoMore, HoldsOneMore, Tells, items_of};
-ghost use Rattle.sre_chars.specs.Numbers.{opcode_number};
-ghost use Rattle.sre_turns.specs.MovesAtReferences.{Named, asks};
+ghost use Rattle.sre_machine.specs.Terms.{HoldsNone, HoldsNoMore, HoldsOneMore, Tells, items_of, opcode_number, Named};
+ghost use Rattle.sre_machine.specs.Terms.{asks};
 ghost use Rattle.sre_machine.specs.Memos.{MarkedStays};
 
 use crate::asked_places::{AskedPlace, list_idle, says_of};

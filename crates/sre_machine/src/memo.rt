@@ -9,10 +9,8 @@
 ghost use Rattle.std.specs.Prelude.{[], ◌≡◌, ◌⊎◌, ◌+◌, ◌-◌, ◌*◌, ◌≤◌, IfSome, IfNone, true, false};
 ghost use Rattle.sre_machine.specs.Terms.{is_inside, spot_at, Refused, HoldsNone, Tells, Laid, kept_of, TellsEnd};
 ghost use Rattle.sre_machine.specs.Terms.{HoldsOpenMore, KeepsOpenEnds, HoldsOpenEnds, StringCursor, MarklessRegions};
-ghost use Rattle.sre_machine.specs.Terms.{run_of, start_of, end_of};
-ghost use Rattle.sre_board.specs.Failures.{KeepsSpot};
+ghost use Rattle.sre_machine.specs.Terms.{run_of, start_of, end_of, KeepsSpot, repeats};
 ghost use Rattle.sre_machine.specs.Memos.{MakesRoom, RecallsOf, EndsStay, IsBlankMemo, KeepsEndsOf, KeepsFrom};
-ghost use Rattle.sre_turns.specs.Nested.{repeats};
 
 use crate::marked::Marked;
 use sre_board::{Board, Ends, Failures, Known};

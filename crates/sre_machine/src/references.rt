@@ -1,8 +1,7 @@
 //! Back-references and conditionals: `GROUPREF group` and its three case foldings, and `GROUPREF_EXISTS group skip`.
 
-ghost use Rattle.std.specs.Prelude.{nat_le, ◌≡◌, ◌+◌};
-ghost use Rattle.sre_machine.specs.Terms.{Instruction, role, OpcodeAt};
-ghost use Rattle.sre_model.specs.Roles.{ToRefer};
+ghost use Rattle.std.specs.Prelude.{◌≡◌, ◌+◌, nat_le};
+ghost use Rattle.sre_machine.specs.Terms.{Instruction, role, OpcodeAt, ToRefer};
 ghost use Rattle.sre_machine.specs.Turns.{At, Turn, AtOnBoard};
 
 use sre_board::{Board, LOOK_SPEED};

@@ -4,9 +4,8 @@
 //! first outcome of its body counts. So the choices inside are dropped as soon as the body ends.
 
 ghost use Rattle.std.specs.Prelude.{◌≡◌, ◌-◌, [], true, IfOk, MatchOption};
-ghost use Rattle.sre_machine.specs.Terms.{is_inside, run_of, OpcodeAt};
-ghost use Rattle.sre_turns.specs.Board.{from_region};
-ghost use Rattle.sre_turns.specs.Machine.{Closes, after_outcome, without_outcome, without_loop};
+ghost use Rattle.sre_machine.specs.Terms.{is_inside, run_of, OpcodeAt, from_region, Closes, after_outcome};
+ghost use Rattle.sre_machine.specs.Terms.{without_outcome, without_loop};
 ghost use Rattle.sre_machine.specs.Turns.{At, Turn};
 
 use sre_board::Board;

@@ -5,12 +5,7 @@
 //! result for an address holds for each set whose items begin there.
 
 ghost use Rattle.std.specs.Prelude.{◌≡◌, ℕ, ◌+◌, ◌<◌, ◌≤◌, length, slice_range, slice_get, Some, IfOk, IfSome};
-ghost use Rattle.sre_chars.specs.Tables.{Table};
-ghost use Rattle.sre_model.specs.Tree.{Charset};
-ghost use Rattle.sre_model.specs.Characters.{item_holds};
-ghost use Rattle.sre_model.specs.Grammar.{Word, Opcode};
-ghost use Rattle.sre_code.specs.AsciiSet.{contains};
-ghost use Rattle.sre_code.specs.AsciiSets.{HoldsFor, AreTold};
+ghost use Rattle.sre_machine.specs.Terms.{Table, Charset, item_holds, Word, Opcode, contains, HoldsFor, AreTold};
 ghost use Rattle.sre_machine.specs.ByPlace.{AllTold};
 
 use sre_chars::constants::{SreCatCode, SreOpcode};

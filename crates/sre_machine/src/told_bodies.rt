@@ -5,8 +5,7 @@
 
 ghost use Rattle.std.specs.Prelude.{◌≡◌, ◌⊎◌, ◌+◌, ℕ, true, false, IfSome};
 ghost use Rattle.sre_machine.specs.Terms.{Word, Opcode, begins_test, contains, TellsBodies, Alternatives, run_of};
-ghost use Rattle.sre_machine.specs.Terms.{OpcodeAt};
-ghost use Rattle.sre_turns.specs.Strides.{TellsTest};
+ghost use Rattle.sre_machine.specs.Terms.{OpcodeAt, TellsTest};
 ghost use Rattle.sre_machine.specs.Turns.{At, AtPoint};
 
 use crate::machine::opcode;

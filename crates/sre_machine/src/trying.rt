@@ -3,16 +3,14 @@
 
 ghost use Rattle.std.specs.Prelude.{ℕ, ◌≡◌, ◌≢◌, ◌⊎◌, IfOk, true, false};
 ghost use Rattle.sre_machine.specs.Terms.{Marks, no_marks, Instruction, Again, is_inside, spot, run_of, Refused};
+ghost use Rattle.sre_machine.specs.Terms.{MayBeTried, Unmarked, attempt};
 ghost use Rattle.sre_machine.specs.Paying.{HoldsTried};
-ghost use Rattle.sre_turns.specs.Board.{MayBeTried};
-ghost use Rattle.sre_turns.specs.Asked.{Unmarked};
 ghost use Rattle.sre_machine.specs.Memos.{RecallsOf};
 ghost use Rattle.sre_machine.specs.EndlessRuns.{IsEndlessRun};
 ghost use Rattle.sre_machine.specs.Turns.{At, AtPoint, AtOnBoard, Fails, Takes, TriesOn, IsKeeping, LeavesOrStays};
 ghost use Rattle.sre_machine.specs.Turns.{RefersToGroups, UnaskedMarks, AlikeMarks, ForksThere};
 ghost use Rattle.sre_machine.specs.Turns.{ServesThere, IdleThere};
 ghost use Rattle.sre_machine.specs.Turns.{BringsNoTolls, NoEndTold, RunsOnAt, RunsAtOnce, TriesKnown};
-ghost use Rattle.sre_turns.specs.Limits.{attempt};
 
 use crate::body_ends::known_end;
 use crate::endless_runs::{endless_run, is_better_at_once, is_endless_run};

@@ -1,8 +1,7 @@
 //! The machine's loops: steps until the run is decided.
 
 ghost use Rattle.std.specs.Prelude.{◌≡◌, ◌≢◌, ℕ, ◌+◌, ◌-◌, ◌*◌, ◌^◌, ◌<◌, ◌≤◌, [], List, IfOk, IfErr, true, false};
-ghost use Rattle.sre_machine.specs.Terms.{Way, most_each, Decides, asked_of, run_of};
-ghost use Rattle.sre_turns.specs.Machine.{SaysAccepted};
+ghost use Rattle.sre_machine.specs.Terms.{Way, most_each, Decides, asked_of, run_of, SaysAccepted};
 ghost use Rattle.sre_machine.specs.Allowances.{is_limited, left_of};
 ghost use Rattle.sre_machine.specs.Memos.{RecallsOf};
 ghost use Rattle.sre_machine.specs.Paying.{Remembering, each_of, Stops};

@@ -1,7 +1,5 @@
-use Rattle.sre_machine.proofs.Terms.{ap, subst, sym, ◌∙◌, List, ℕ, items_of, no_marks, HoldsOpenEnds, run_of}
-use Rattle.sre_turns.proofs.memoization.BodyEnds.{tried_end}
-use Rattle.sre_board.specs.Ends.{HoldsOpenMore}
-use Rattle.sre_board.proofs.EndsKept.{right_open}
+use Rattle.sre_machine.proofs.Terms.{ap, subst, sym, ◌∙◌, List, ℕ, items_of, no_marks, HoldsOpenEnds, run_of, tried_end}
+use Rattle.sre_machine.proofs.Terms.{HoldsOpenMore, right_open}
 use Rattle.sre_machine.proofs.Recalling.{recalls_ended}
 use Rattle.sre_machine.proofs.body_ends.keep_ends.Goals as goal
 

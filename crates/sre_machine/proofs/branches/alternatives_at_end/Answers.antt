@@ -1,5 +1,4 @@
-use Rattle.sre_machine.proofs.Terms.{run_of, alternatives_there, alternatives_both, positive}
-use Rattle.sre_turns.proofs.semantics.StepsInBranches.{alternatives_none}
+use Rattle.sre_machine.proofs.Terms.{run_of, alternatives_there, alternatives_both, positive, alternatives_none}
 use Rattle.sre_machine.proofs.branches.alternatives_at_end.Goals as goal
 
 pub word-length-requires : goal.word-length-requires

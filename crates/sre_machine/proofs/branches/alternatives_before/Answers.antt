@@ -1,7 +1,6 @@
 use Rattle.sre_machine.proofs.Terms.{◌<◌, ◌+◌, subst, word_of, run_of, alternatives_free, exhausted_back}
 use Rattle.sre_machine.proofs.Terms.{later_continues, both_exhausted, alternatives_run, alternatives_both}
-use Rattle.sre_turns.proofs.semantics.Moving.{continues_goes}
-use Rattle.sre_turns.proofs.semantics.Moving.{both_continue}
+use Rattle.sre_machine.proofs.Terms.{continues_goes, both_continue}
 use Rattle.sre_machine.proofs.branches.alternatives_before.Goals as goal
 
 pub returns-in_default : goal.returns-in_default

@@ -1,6 +1,4 @@
-use Rattle.sre_machine.proofs.Terms.{sym, run_of, reached_within}
-use Rattle.sre_model.proofs.CodesRead.{word_known}
-use Rattle.sre_turns.proofs.semantics.StepsAtItems.{jump_continues}
+use Rattle.sre_machine.proofs.Terms.{sym, run_of, reached_within, word_known, jump_continues}
 use Rattle.sre_machine.proofs.branches.behind_jump.Goals as goal
 
 pub word-requires : goal.word-requires

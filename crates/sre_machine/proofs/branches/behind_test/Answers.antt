@@ -1,5 +1,4 @@
-use Rattle.sre_request.specs.Runs.{run_of}
-use Rattle.sre_turns.proofs.semantics.StepsAtItems.{test_there, test_misses, test_continues}
+use Rattle.sre_machine.proofs.Terms.{run_of, test_there, test_misses, test_continues}
 use Rattle.sre_machine.proofs.branches.behind_test.Goals as goal
 
 pub takes-requires-clause-stands : goal.takes-requires-clause-stands

@@ -1,5 +1,4 @@
-use Rattle.sre_machine.proofs.Terms.{run_of, branch_run, later_again}
-use Rattle.sre_turns.proofs.semantics.StepsInBranches.{branch_step}
+use Rattle.sre_machine.proofs.Terms.{run_of, branch_run, later_again, branch_step}
 use Rattle.sre_machine.proofs.branches.branch.Goals as goal
 
 pub alternatives-requires : goal.alternatives-requires

@@ -1,8 +1,6 @@
-use Rattle.std.proofs.Common.{arith}
-use Rattle.sre_request.specs.Runs.{run_of}
-use Rattle.sre_turns.proofs.semantics.Moving.{continues_exhausted, continues_then, continues_run}
-use Rattle.sre_turns.proofs.semantics.StepsInBranches.{alternatives_there, alternatives_run, alternatives_exhausted}
-use Rattle.sre_turns.proofs.semantics.StepsInBranches.{alternatives_pass, positive}
+use Rattle.sre_machine.proofs.Terms.{arith, run_of, continues_exhausted, continues_then, continues_run}
+use Rattle.sre_machine.proofs.Terms.{alternatives_there, alternatives_run, alternatives_exhausted, alternatives_pass}
+use Rattle.sre_machine.proofs.Terms.{positive}
 use Rattle.sre_machine.proofs.branches.first_alternative.Goals as goal
 
 pub word-length-requires : goal.word-length-requires

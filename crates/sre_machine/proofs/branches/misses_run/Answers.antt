@@ -1,5 +1,4 @@
-use Rattle.sre_machine.proofs.Terms.{not-true, arith, GreedyRun, run_of, run_there, operands_within}
-use Rattle.sre_turns.proofs.semantics.StepsInRuns.{run_misses}
+use Rattle.sre_machine.proofs.Terms.{not-true, arith, GreedyRun, run_of, run_there, operands_within, run_misses}
 use Rattle.sre_machine.proofs.branches.misses_run.Goals as goal
 
 pub operand-least-requires : goal.operand-least-requires

@@ -1,6 +1,5 @@
 use Rattle.sre_machine.proofs.Terms.{◌≡◌, ◌<◌, ◌+◌, subst, arith, Continues, Instruction, word_of, run_of}
-use Rattle.sre_machine.proofs.Terms.{continues_then, continues_run, alternatives_run}
-use Rattle.sre_turns.proofs.semantics.Strides.{only_yields}
+use Rattle.sre_machine.proofs.Terms.{continues_then, continues_run, alternatives_run, only_yields}
 use Rattle.sre_machine.proofs.branches.only_alternative.Goals as goal
 
 pub first_alternative-requires-2-clause-stands : goal.first_alternative-requires-2-clause-stands

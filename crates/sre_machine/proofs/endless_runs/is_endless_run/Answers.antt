@@ -1,6 +1,5 @@
 use Rattle.sre_machine.proofs.Terms.{◌≡◌, ◌+◌, inl, inr, arith, nat_tests, GreedyRun, LazyRun, PossessiveRun, run_of}
-use Rattle.sre_machine.proofs.Terms.{run_there, operands_within}
-use Rattle.sre_model.proofs.Words.{same_word}
+use Rattle.sre_machine.proofs.Terms.{run_there, operands_within, same_word}
 use Rattle.sre_machine.proofs.EndlessRuns.{endless_there}
 use Rattle.sre_machine.proofs.endless_runs.is_endless_run.Goals as goal
 

@@ -1,7 +1,6 @@
 use Rattle.sre_machine.proofs.Terms.{◌-◌, refl, subst, Instruction, Shorter, SkipsBoth, DemandsAny, run_of}
 use Rattle.sre_machine.proofs.Terms.{shorter_free, shorter_none, shorter_past, shorter_skips, positive, both_skips}
-use Rattle.sre_turns.specs.Machine.{Demands}
-use Rattle.sre_turns.proofs.semantics.StepsAtItems.{other_character}
+use Rattle.sre_machine.proofs.Terms.{Demands, other_character}
 use Rattle.sre_machine.proofs.greedy_runs.first_shorter.Goals as goal
 
 pub returns-then-count-eq0 : goal.returns-then-count-eq0

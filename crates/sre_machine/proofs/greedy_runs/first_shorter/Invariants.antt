@@ -1,5 +1,4 @@
-use Rattle.sre_machine.proofs.Terms.{Shorter, HasRun, run_of}
-use Rattle.sre_turns.specs.Machine.{Skips}
+use Rattle.sre_machine.proofs.Terms.{Shorter, HasRun, run_of, Skips}
 use Rattle.sre_machine.proofs.greedy_runs.first_shorter.Given as goal
 
 abbrev pub invariant-count : goal.invariant-count

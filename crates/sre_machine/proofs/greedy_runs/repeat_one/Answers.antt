@@ -1,6 +1,5 @@
 use Rattle.sre_machine.proofs.Terms.{GreedyRun, run_of, shorter_free, run_there, both_pass, both_exhausted}
-use Rattle.sre_machine.proofs.Terms.{exhausted_back}
-use Rattle.sre_turns.proofs.semantics.StepsInRuns.{run_short, run_both, run_runs, run_only, run_refuses}
+use Rattle.sre_machine.proofs.Terms.{exhausted_back, run_short, run_both, run_runs, run_only, run_refuses}
 use Rattle.sre_machine.proofs.greedy_runs.repeat_one.Goals as goal
 
 pub run_operands-operands-requires : goal.run_operands-operands-requires

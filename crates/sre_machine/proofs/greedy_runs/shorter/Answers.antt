@@ -1,5 +1,4 @@
-use Rattle.sre_request.specs.Runs.{run_of}
-use Rattle.sre_turns.proofs.semantics.StepsInRuns.{shorter_last}
+use Rattle.sre_machine.proofs.Terms.{run_of, shorter_last}
 use Rattle.sre_machine.proofs.greedy_runs.shorter.Goals as goal
 
 pub returns-then-found-eq0 : goal.returns-then-found-eq0

@@ -1,6 +1,5 @@
 use Rattle.sre_machine.proofs.Terms.{◌≡◌, ◌+◌, ◌∙◌, sym, subst, Instruction, Longer, HasRun, SkipsBoth, run_of}
-use Rattle.sre_machine.proofs.Terms.{longer_free, both_skips, longer_there}
-use Rattle.sre_turns.proofs.semantics.Moving.{skips_then}
+use Rattle.sre_machine.proofs.Terms.{longer_free, both_skips, longer_there, skips_then}
 use Rattle.sre_machine.proofs.lazy_runs.first_longer.Goals as goal
 
 pub run_operands-operands-requires : goal.run_operands-operands-requires

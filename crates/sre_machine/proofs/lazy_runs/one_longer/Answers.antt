@@ -1,6 +1,5 @@
-use Rattle.sre_machine.proofs.Terms.{◌<◌, ◌≤◌, ◌+◌, sym, ◌∙◌, arith, run_of, stands_at_own, longer_past}
-use Rattle.sre_turns.proofs.semantics.StepsInRuns.{longer_full, longer_end, longer_unlike}
-use Rattle.sre_turns.proofs.semantics.StepsInRuns.{longer_skips, longer_passes}
+use Rattle.sre_machine.proofs.Terms.{◌<◌, ◌≤◌, ◌+◌, sym, ◌∙◌, arith, run_of, stands_at_own, longer_past, longer_full}
+use Rattle.sre_machine.proofs.Terms.{longer_end, longer_unlike, longer_skips, longer_passes}
 use Rattle.sre_machine.proofs.lazy_runs.one_longer.Goals as goal
 
 pub returns-then-not-may_grow-clause-longer : goal.returns-then-not-may_grow-clause-longer

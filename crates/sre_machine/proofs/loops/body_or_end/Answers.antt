@@ -1,7 +1,5 @@
 use Rattle.sre_machine.proofs.Terms.{ap, refl, ◌∙◌, Some, Greedy, next_frame, with_loop, run_of, until_refused}
-use Rattle.sre_machine.proofs.Terms.{until_alone, entered_on, body_reached}
-use Rattle.sre_turns.proofs.semantics.StepsInLoops.{until_greedy, saved_on}
-use Rattle.sre_turns.proofs.semantics.Strides.{in_loop}
+use Rattle.sre_machine.proofs.Terms.{until_alone, entered_on, body_reached, until_greedy, saved_on, in_loop}
 use Rattle.sre_machine.proofs.loops.body_or_end.Goals as goal
 
 pub refuses-requires : goal.refuses-requires

@@ -1,7 +1,6 @@
 use Rattle.sre_machine.proofs.Terms.{sym, refl, arith, Greedy, with_loop, asked_of, run_of, asked_by_stop, until_below}
-use Rattle.sre_machine.proofs.Terms.{until_done, entered_on, until_operands}
+use Rattle.sre_machine.proofs.Terms.{until_done, entered_on, until_operands, later_dropped}
 use Rattle.sre_machine.proofs.LoopCounts.{in_progress, may_go_on}
-use Rattle.sre_turns.proofs.memoization.WaitingTwice.{later_dropped}
 use Rattle.sre_machine.proofs.Failing.{plain_words}
 use Rattle.sre_machine.proofs.loops.further.Goals as goal
 

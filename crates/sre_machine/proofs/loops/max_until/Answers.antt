@@ -1,5 +1,4 @@
-use Rattle.sre_machine.proofs.Terms.{sym, subst, BoardValue, Instruction, IsAt, Goes, run_of}
-use Rattle.sre_turns.proofs.semantics.StepsInLoops.{taken_off}
+use Rattle.sre_machine.proofs.Terms.{sym, subst, BoardValue, Instruction, IsAt, Goes, run_of, taken_off}
 use Rattle.sre_machine.proofs.loops.max_until.Goals as goal
 
 pub further-requires-clause-stands : goal.further-requires-clause-stands

@@ -1,10 +1,7 @@
 use Rattle.sre_machine.proofs.Terms.{sym, ap, ◌∙◌, Some, arith, next_frame, run_of, until_below, until_done}
-use Rattle.sre_machine.proofs.Terms.{until_refused, until_alone, until_operands}
-use Rattle.sre_model.specs.Tree.{Lazy}
+use Rattle.sre_machine.proofs.Terms.{until_refused, until_alone, until_operands, Lazy, until_runs, until_lazy}
+use Rattle.sre_machine.proofs.Terms.{lazy_board, entered_board}
 use Rattle.sre_machine.proofs.LoopCounts.{in_progress}
-use Rattle.sre_turns.proofs.semantics.StepsInLoops.{until_runs}
-use Rattle.sre_turns.proofs.semantics.StepsInLoops.{until_lazy}
-use Rattle.sre_turns.proofs.semantics.StepsInLoops.{lazy_board, entered_board}
 use Rattle.sre_machine.proofs.loops.min_until.Goals as goal
 
 pub returns-then-frame-least : goal.returns-then-frame-least

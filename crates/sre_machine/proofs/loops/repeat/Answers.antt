@@ -1,5 +1,4 @@
-use Rattle.sre_machine.proofs.Terms.{run_of, on_board}
-use Rattle.sre_turns.proofs.semantics.StepsInLoops.{repeat_step, repeat_begun, repeat_further}
+use Rattle.sre_machine.proofs.Terms.{run_of, on_board, repeat_step, repeat_begun, repeat_further}
 use Rattle.sre_machine.proofs.loops.repeat.Goals as goal
 
 pub opcode-requires : goal.opcode-requires

@@ -1,5 +1,4 @@
-use Rattle.sre_request.specs.Runs.{run_of}
-use Rattle.sre_turns.proofs.semantics.Strides.{strides_at, strides_goes}
+use Rattle.sre_machine.proofs.Terms.{run_of, strides_at, strides_goes}
 use Rattle.sre_machine.proofs.loops.strided.Goals as goal
 
 pub body_or_end-requires-clause-stands : goal.body_or_end-requires-clause-stands

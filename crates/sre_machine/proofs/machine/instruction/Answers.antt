@@ -1,5 +1,4 @@
-use Rattle.sre_request.specs.Runs.{run_of}
-use Rattle.sre_turns.proofs.semantics.StepsAtItems.{failure_step, success_step}
+use Rattle.sre_machine.proofs.Terms.{run_of, failure_step, success_step}
 use Rattle.sre_machine.proofs.machine.instruction.Goals as goal
 
 pub returns-in-FAILURE : goal.returns-in-FAILURE

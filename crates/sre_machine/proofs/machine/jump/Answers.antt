@@ -1,5 +1,4 @@
-use Rattle.sre_request.specs.Runs.{run_of}
-use Rattle.sre_turns.proofs.semantics.StepsAtItems.{jump_operand, jump_step}
+use Rattle.sre_machine.proofs.Terms.{run_of, jump_operand, jump_step}
 use Rattle.sre_machine.proofs.machine.jump.Goals as goal
 
 pub operand-skip-requires : goal.operand-skip-requires

@@ -1,5 +1,4 @@
-use Rattle.sre_request.specs.Runs.{run_of}
-use Rattle.sre_turns.proofs.semantics.StepsAtItems.{mark_operand, mark_step}
+use Rattle.sre_machine.proofs.Terms.{run_of, mark_operand, mark_step}
 use Rattle.sre_machine.proofs.machine.mark.Goals as goal
 
 pub operand-n-requires : goal.operand-n-requires

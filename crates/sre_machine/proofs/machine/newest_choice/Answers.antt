@@ -1,8 +1,7 @@
 use Rattle.sre_machine.proofs.Terms.{true≢false, sym, refl, Instruction, Again, run_of, alternatives_free, shorter_free}
-use Rattle.sre_machine.proofs.Terms.{longer_free}
+use Rattle.sre_machine.proofs.Terms.{longer_free, back_none, back_arrives, back_at, back_run, back_region}
+use Rattle.sre_machine.proofs.Terms.{nothing_waits}
 use Rattle.sre_turns.specs.declared.Next.TheVariants as next
-use Rattle.sre_turns.proofs.semantics.GoingBack.{back_none, back_arrives, back_at, back_run, back_region}
-use Rattle.sre_turns.proofs.bound.Faring.{nothing_waits}
 use Rattle.sre_machine.proofs.MarksPassed.{choice_turned, retreats, passed_failed, passed_kept, passed_unkept}
 use Rattle.sre_machine.proofs.machine.newest_choice.Goals as goal
 

@@ -1,5 +1,4 @@
-use Rattle.sre_machine.proofs.Terms.{◌+◌, sym, ◌∙◌, subst, Word, run_of, at_operand}
-use Rattle.sre_turns.proofs.semantics.StepsAtItems.{at_step, at_refused}
+use Rattle.sre_machine.proofs.Terms.{◌+◌, sym, ◌∙◌, subst, Word, run_of, at_operand, at_step, at_refused}
 use Rattle.sre_machine.proofs.machine.position_code.Goals as goal
 
 pub operand-requires : goal.operand-requires

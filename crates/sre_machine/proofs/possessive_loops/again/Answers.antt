@@ -1,8 +1,6 @@
-use Rattle.sre_machine.proofs.Terms.{sym, ap, ◌∙◌, Some, arith, next_frame, run_of}
+use Rattle.sre_machine.proofs.Terms.{sym, ap, ◌∙◌, Some, arith, next_frame, run_of, again_done, again_owed}
+use Rattle.sre_machine.proofs.Terms.{again_further, begun_board, again_operands}
 use Rattle.sre_machine.proofs.LoopCounts.{in_possessive}
-use Rattle.sre_turns.proofs.semantics.StepsInPossessiveLoops.{again_done, again_owed, again_further}
-use Rattle.sre_turns.proofs.semantics.StepsInPossessiveLoops.{begun_board}
-use Rattle.sre_turns.proofs.semantics.StepsInPossessiveLoops.{again_operands}
 use Rattle.sre_machine.proofs.possessive_loops.again.Goals as goal
 
 pub returns-then-frame-least : goal.returns-then-frame-least

@@ -1,5 +1,4 @@
-use Rattle.sre_request.specs.Runs.{run_of}
-use Rattle.sre_turns.proofs.semantics.StepsInPossessiveLoops.{possessive_step}
+use Rattle.sre_machine.proofs.Terms.{run_of, possessive_step}
 use Rattle.sre_machine.proofs.possessive_loops.possessive_repeat.Goals as goal
 
 pub returns : goal.returns

@@ -1,5 +1,4 @@
-use Rattle.sre_machine.proofs.Terms.{PossessiveRun, run_of, run_there}
-use Rattle.sre_turns.proofs.semantics.StepsInPossessiveRuns.{longest_short, longest_step}
+use Rattle.sre_machine.proofs.Terms.{PossessiveRun, run_of, run_there, longest_short, longest_step}
 use Rattle.sre_machine.proofs.possessive_runs.possessive_repeat_one.Goals as goal
 
 pub run_operands-operands-requires : goal.run_operands-operands-requires

@@ -1,5 +1,4 @@
-use Rattle.sre_machine.proofs.Terms.{sym, ◌∙◌, run_of}
-use Rattle.sre_turns.proofs.semantics.StepsAtReferences.{condition_present, condition_absent}
+use Rattle.sre_machine.proofs.Terms.{sym, ◌∙◌, run_of, condition_present, condition_absent}
 use Rattle.sre_machine.proofs.references.condition.Goals as goal
 
 pub returns-in-Some : goal.returns-in-Some

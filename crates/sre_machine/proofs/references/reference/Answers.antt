@@ -1,9 +1,6 @@
-use Rattle.sre_machine.proofs.Terms.{◌≡◌, ◌-◌, true, false, sym, subst, ◌∙◌, run_of, on_board}
-use Rattle.sre_model.specs.Subject.{same_folded}
-use Rattle.sre_turns.proofs.semantics.StepsAtReferences.{reference_there, reference_missing, reference_past}
-use Rattle.sre_turns.proofs.semantics.StepsAtReferences.{reference_unlike}
-use Rattle.sre_turns.proofs.semantics.StepsAtReferences.{reference_step}
-use Rattle.sre_turns.proofs.semantics.StepsAtReferences.{reference_operand}
+use Rattle.sre_machine.proofs.Terms.{◌≡◌, ◌-◌, true, false, sym, subst, ◌∙◌, run_of, on_board, same_folded}
+use Rattle.sre_machine.proofs.Terms.{reference_there, reference_missing, reference_past, reference_unlike}
+use Rattle.sre_machine.proofs.Terms.{reference_step, reference_operand}
 use Rattle.sre_machine.proofs.references.reference.Goals as goal
 
 pub returns-in_default : goal.returns-in_default

@@ -1,6 +1,4 @@
-use Rattle.sre_machine.proofs.Terms.{arith, ◌∙◌, run_of, look_operand, look_step}
-use Rattle.sre_model.specs.Tree.{Positive}
-use Rattle.sre_turns.proofs.semantics.StepsInRegions.{ahead_early}
+use Rattle.sre_machine.proofs.Terms.{arith, ◌∙◌, run_of, look_operand, look_step, Positive, ahead_early}
 use Rattle.sre_machine.proofs.regions.assert.Goals as goal
 
 pub operand-skip-requires : goal.operand-skip-requires

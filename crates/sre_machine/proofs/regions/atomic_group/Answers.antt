@@ -1,5 +1,4 @@
-use Rattle.sre_request.specs.Runs.{run_of}
-use Rattle.sre_turns.proofs.semantics.StepsInRegions.{atomic_operand, atomic_step}
+use Rattle.sre_machine.proofs.Terms.{run_of, atomic_operand, atomic_step}
 use Rattle.sre_machine.proofs.regions.atomic_group.Goals as goal
 
 pub operand-skip-requires : goal.operand-skip-requires

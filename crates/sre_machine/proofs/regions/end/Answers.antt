@@ -1,6 +1,4 @@
-use Rattle.sre_machine.proofs.Terms.{[], ◌∷◌, true, false, sym, ap, subst, run_of}
-use Rattle.sre_turns.specs.Machine.{Closes}
-use Rattle.sre_turns.proofs.semantics.StepsInRegions.{region_closes}
+use Rattle.sre_machine.proofs.Terms.{[], ◌∷◌, true, false, sym, ap, subst, run_of, Closes, region_closes}
 use Rattle.sre_machine.proofs.regions.end.Goals as goal
 
 pub returns : goal.returns

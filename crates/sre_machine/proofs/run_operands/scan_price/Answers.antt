@@ -1,7 +1,5 @@
 use Rattle.sre_machine.proofs.Terms.{◌≤◌, sym, subst, arith, GreedyRun, LazyRun, PossessiveRun, end_of, run_of}
-use Rattle.sre_machine.proofs.Terms.{run_there}
-use Rattle.sre_turns.specs.Prices.{scan_by}
-use Rattle.sre_turns.proofs.bound.Steps.{role_there}
+use Rattle.sre_machine.proofs.Terms.{run_there, scan_by, role_there}
 use Rattle.sre_chars.specs.declared.constants.SreOpcode.TheVariants as opcode
 use Rattle.sre_machine.proofs.run_operands.scan_price.Goals as goal
 

@@ -1,5 +1,4 @@
-use Rattle.sre_machine.proofs.Terms.{◌+◌, sym, subst, Word}
-use Rattle.sre_code.proofs.AsciiMembers.{category_holds}
+use Rattle.sre_machine.proofs.Terms.{◌+◌, sym, subst, Word, category_holds}
 use Rattle.sre_machine.proofs.set_members.category.Goals as goal
 
 pub returns-in-Ok : goal.returns-in-Ok

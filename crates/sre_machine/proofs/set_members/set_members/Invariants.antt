@@ -1,5 +1,4 @@
-use Rattle.std.proofs.Common.{◌≡◌, ◌≤◌, length}
-use Rattle.sre_machine.specs.ByPlace.{AllTold}
+use Rattle.sre_machine.proofs.Terms.{◌≡◌, ◌≤◌, length, AllTold}
 use Rattle.sre_machine.proofs.set_members.set_members.Given as goal
 
 abbrev pub invariant-place : goal.invariant-place

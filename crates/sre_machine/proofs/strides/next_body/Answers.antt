@@ -1,6 +1,5 @@
 use Rattle.sre_machine.proofs.Terms.{◌+◌, ◌<◌, sym, subst, arith, HasRun, Alternatives, run_of, branch_run}
-use Rattle.sre_machine.proofs.Terms.{body_reached}
-use Rattle.sre_turns.proofs.semantics.Strides.{strides_before}
+use Rattle.sre_machine.proofs.Terms.{body_reached, strides_before}
 use Rattle.sre_machine.proofs.strides.next_body.Goals as goal
 
 pub read-character-requires-clause-stands : goal.read-character-requires-clause-stands

@@ -1,5 +1,4 @@
-use Rattle.sre_machine.proofs.Terms.{◌≤◌, ◌-◌, contains, MayRepeat, Strides, end_of, run_of}
-use Rattle.sre_turns.specs.Strides.{TellsBodies}
+use Rattle.sre_machine.proofs.Terms.{◌≤◌, ◌-◌, contains, MayRepeat, Strides, end_of, run_of, TellsBodies}
 use Rattle.sre_machine.proofs.strides.stride.Given as goal
 
 abbrev pub invariant-body : goal.invariant-body

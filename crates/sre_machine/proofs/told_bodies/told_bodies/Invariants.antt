@@ -1,5 +1,4 @@
-use Rattle.sre_machine.proofs.Terms.{length, ◌-◌, contains, HasRun, Alternatives, run_of}
-use Rattle.sre_turns.specs.Strides.{TellsAlternatives}
+use Rattle.sre_machine.proofs.Terms.{length, ◌-◌, contains, HasRun, Alternatives, run_of, TellsAlternatives}
 use Rattle.sre_machine.proofs.told_bodies.told_bodies.Given as goal
 
 abbrev pub invariant-alternative : goal.invariant-alternative

@@ -1,6 +1,6 @@
 use Rattle.sre_machine.proofs.Terms.{Again, inl, arith}
 use Rattle.sre_machine.proofs.Failing.{turn_goes_on, turn_left, turn_ended}
-use Rattle.sre_machine.proofs.AtOnce.{paid_so}
+use Rattle.sre_machine.proofs.Tried.{paid_so}
 use Rattle.sre_machine.proofs.trying.again_or_back.Goals as goal
 
 pub again-requires : goal.again-requires

@@ -1,6 +1,6 @@
 use Rattle.sre_machine.proofs.Terms.{rules, Instruction}
 use Rattle.sre_machine.proofs.Failing.{turn_goes_on, turn_tried, turn_left, turn_ended}
-use Rattle.sre_machine.proofs.AtOnce.{paid_so}
+use Rattle.sre_machine.proofs.Tried.{paid_so}
 use Rattle.sre_machine.proofs.trying.instruction_or_back.Goals as goal
 
 pub instruction-requires : goal.instruction-requires

@@ -1,5 +1,4 @@
-use Rattle.sre_machine.proofs.Terms.{ℕ, List, Option, None, slice_index_or, ap, ◌∙◌, Marks, run_of}
-use Rattle.sre_turns.proofs.memoization.Asked.{from_alike}
+use Rattle.sre_machine.proofs.Terms.{ℕ, List, Option, None, slice_index_or, ap, ◌∙◌, Marks, run_of, from_alike}
 use Rattle.sre_machine.proofs.Failing.{asked_few}
 use Rattle.sre_machine.proofs.trying.is_marked_so.Goals as goal
 

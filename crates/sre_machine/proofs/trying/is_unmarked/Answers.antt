@@ -1,6 +1,5 @@
-use Rattle.sre_machine.proofs.Terms.{ℕ, ◌*◌, ◌≤◌, List, Option, length, ap, ◌∙◌, subst, Marks, run_of}
-use Rattle.std.proofs.lemmas.Bool.{leb-true}
-use Rattle.sre_turns.proofs.memoization.Asked.{few_unmarked}
+use Rattle.sre_machine.proofs.Terms.{ℕ, ◌*◌, ◌≤◌, List, Option, length, ap, ◌∙◌, subst, Marks, run_of, leb-true}
+use Rattle.sre_machine.proofs.Terms.{few_unmarked}
 use Rattle.sre_machine.proofs.Failing.{plain_words, referring_words, asked_few}
 use Rattle.sre_machine.proofs.trying.is_unmarked.Goals as goal
 

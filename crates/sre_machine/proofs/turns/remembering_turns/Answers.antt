@@ -1,7 +1,6 @@
 use Rattle.sre_machine.proofs.Terms.{◌∙◌, inl, inr, refl, arith, ap, raised, run_of, accepted_first, refused_over}
-use Rattle.sre_machine.proofs.Terms.{MemoValue, KeepsBodyEnd}
+use Rattle.sre_machine.proofs.Terms.{MemoValue, KeepsBodyEnd, last_spent}
 use Rattle.sre_turns.specs.declared.Next.TheVariants as next
-use Rattle.sre_model.proofs.TurnBounds.{last_spent}
 use Rattle.sre_machine.proofs.Recalling.{recalls_waited}
 use Rattle.sre_machine.proofs.Paying.{pays_nothing}
 use Rattle.sre_machine.proofs.Following.{turns_on, turns_stop, turns_settle, unscanned, stands_there}

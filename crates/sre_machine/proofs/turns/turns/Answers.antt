@@ -1,6 +1,6 @@
 use Rattle.sre_turns.specs.declared.Next.TheVariants as next
 use Rattle.sre_machine.proofs.Terms.{Instruction, Again, run_of, accepted_first, refused_over}
-use Rattle.sre_machine.proofs.Taken.{point_taken, later_taken}
+use Rattle.sre_machine.proofs.Following.{point_taken, later_taken}
 use Rattle.sre_machine.proofs.turns.turns.Goals as goal
 
 pub returns-then-is_accepted-clause-decides : goal.returns-then-is_accepted-clause-decides

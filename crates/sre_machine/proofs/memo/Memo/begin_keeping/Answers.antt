@@ -1,9 +1,6 @@
-use Rattle.sre_machine.proofs.Terms.{◌≡◌, ◌-◌, Bool, true, false, not, min, ap, ◌∙◌, subst, refl, arith, backs, refers}
-use Rattle.sre_machine.proofs.Terms.{Tree, Whole, tree_of, words_of, items_of, Code, whole_of, whole_items, code_of}
-use Rattle.sre_machine.proofs.Terms.{run_of}
-use Rattle.std.proofs.Common.{◌^◌}
-use Rattle.sre_model.specs.MarksSet.{marks_in_regions}
-use Rattle.sre_turns.proofs.memoization.Bodies.{markless_regions}
+use Rattle.sre_machine.proofs.Terms.{◌≡◌, ◌-◌, false, not, min, ap, ◌∙◌, subst, arith, backs, refers, not-true, Tree}
+use Rattle.sre_machine.proofs.Terms.{Whole, tree_of, words_of, items_of, Code, whole_of, whole_items, code_of, run_of}
+use Rattle.sre_machine.proofs.Terms.{◌^◌, marks_in_regions, markless_regions}
 use Rattle.sre_machine.proofs.memo.Memo.begin_keeping.Goals as goal
 
 pub returns-clause-markless : goal.returns-clause-markless
@@ -13,12 +10,8 @@ returns-clause-markless g c = λ keeps.
     let w = whole_of code in
     let none : marks_in_regions t ≡ false =
     subst (λ (d : Code). (u : Tree) → Whole (words_of d) u → marks_in_regions u ≡ false) c.pattern_codes-code.ensures
-    (c.regions_set_marks.ensures.none (turned c.regions_set_marks.result keeps)) t (whole_items code t w) in
+    (c.regions_set_marks.ensures.none (not-true c.regions_set_marks.result keeps)) t (whole_items code t w) in
     markless_regions (run_of c.args.req.now).words t w none
-  where
-    turned : (b : Bool) → not b ≡ true → b ≡ false
-    turned true never = absurd (cc)
-    turned false e = refl
 
 pub returns-clause-ends : goal.returns-clause-ends
 returns-clause-ends g c = λ t w plain unmarked.

@@ -1,5 +1,4 @@
-use Rattle.sre_machine.proofs.Terms.{IfNone, subst, StringCursor, is_inside, spot_at, TellsEnd, MemoValue}
-use Rattle.sre_board.proofs.EndsKept.{none_told}
+use Rattle.sre_machine.proofs.Terms.{IfNone, subst, StringCursor, is_inside, spot_at, TellsEnd, MemoValue, none_told}
 use Rattle.sre_machine.proofs.memo.Memo.end.Goals as goal
 
 pub returns-clause-none : goal.returns-clause-none

@@ -1,5 +1,4 @@
-use Rattle.sre_machine.proofs.Terms.{◌≡◌, ◌+◌, ◌-◌, ◌∙◌, arith, ap, left_of, decision_of, found_of}
-use Rattle.sre_machine.specs.Runners.{RunnerValue}
+use Rattle.sre_machine.proofs.Terms.{◌≡◌, ◌+◌, ◌-◌, ◌∙◌, arith, ap, left_of, decision_of, found_of, RunnerValue}
 use Rattle.sre_machine.proofs.Following.{again_stops, again_settles, if_ok}
 use Rattle.sre_machine.proofs.runner.Runner.run_from.Goals as goal
 

@@ -1,9 +1,7 @@
 use Rattle.sre_machine.proofs.Terms.{◌≡◌, ◌∙◌, ◌*◌, refl, ap, subst, ℕ, List, arith, items_of, whole_of, no_marks}
 use Rattle.sre_machine.proofs.Terms.{AreWords, behind_items, tree_of, bare, first_limit, run_of, Remembering}
-use Rattle.sre_model.proofs.TreeOf.{whole-read}
-use Rattle.sre_turns.proofs.bound.TreePrices.{steps_behind}
+use Rattle.sre_machine.proofs.Terms.{whole-read, steps_behind, told_of}
 use Rattle.sre_machine.proofs.Following.{begins_run, run_stops, run_settles, if_ok, rested}
-use Rattle.sre_machine.specs.Spending.{told_of}
 use Rattle.sre_machine.proofs.runner.Runner.run_once.Goals as goal
 
 pub turns_from-told-requires-clause-stands : goal.turns_from-told-requires-clause-stands

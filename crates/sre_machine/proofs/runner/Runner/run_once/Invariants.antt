@@ -1,5 +1,4 @@
-use Rattle.sre_machine.proofs.Terms.{no_marks, outcomes, behind_items, run_of, tree_of}
-use Rattle.sre_model.specs.Cost.{cost, ending}
+use Rattle.sre_machine.proofs.Terms.{no_marks, outcomes, behind_items, run_of, tree_of, cost, ending}
 use Rattle.sre_machine.proofs.runner.Runner.run_once.Given as goal
 
 abbrev pub ghosts-turns_from-L-Ledger : goal.ghosts-turns_from-L-Ledger
