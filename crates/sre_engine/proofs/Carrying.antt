@@ -1,9 +1,12 @@
+-- What a search says in one form, said in another.
+use Rattle.sre_engine.proofs.Terms.{ℕ, Bool, List, Result, Ok, Ghosts, items_of, AllAdmitted, carrying, Admitted}
+use Rattle.sre_engine.proofs.Terms.{Request, Allowance, Halt, Shown, Charged, Answered, Bor, AnsweredAtOnce, ◌≡◌, ◌≢◌}
+use Rattle.sre_engine.proofs.Terms.{true, false, Some, None, Err, refl, no_marks, code_of, MayTakeMemory}
+use Rattle.sre_engine.proofs.Terms.{RunsOnceAnchored, BeginsAgain, AnsweredWithin}
+use Rattle.std.specs.declared.alloc.Allocator.{Ghosts as Memory}
+
 -- A request asks the same with and without a list of its code's FIRST sets: what a search says of one holds of the
 -- other.
-use Rattle.sre_engine.proofs.Terms.{ℕ, Bool, List, Result, Ok, Ghosts, items_of, AllAdmitted, carrying, Admitted}
-use Rattle.sre_engine.proofs.Terms.{Request, Allowance, Halt, Shown, SearchCosts, Charged, Answered, Bor}
-use Rattle.sre_engine.proofs.Terms.{AnsweredAtOnce}
-use Rattle.std.specs.declared.alloc.Allocator.{Ghosts as Memory}
 
 module _ {S : Type 0} {text : Ghosts S} (r : Request S text) (list : Bor (List Admitted))
     (all : AllAdmitted (items_of r.pattern_codes) list.now) where
@@ -19,12 +22,6 @@ module _ {S : Type 0} {text : Ghosts S} (r : Request S text) (list : Bor (List A
     up_to_match = x.up_to_match;
   }
 
-  costs_alike : {M : Type 0} (given left runs : ℕ) → SearchCosts M (carrying r list all) given left runs
-      → SearchCosts M r given left runs
-  costs_alike given left runs x = record {
-    cost = λ pl. x.cost (record { plain = pl.plain; unmarked = pl.unmarked; room = pl.room; order = pl.order });
-  }
-
   pub charged_alike : {M : Type 0} {memory : Memory M} (told : Result Bool (Halt M memory)) (started runs : ℕ)
       (a a' : Allowance)
       → Charged (carrying r list all) told started runs a a' → Charged r told started runs a a'
@@ -33,7 +30,11 @@ module _ {S : Type 0} {text : Ghosts S} (r : Request S text) (list : Bor (List A
     fewer = x.fewer;
     spent = x.spent;
     halted = x.halted;
-    cost = λ limited. costs_alike _ _ started (x.cost limited);
+    cost = λ limited. record {
+      cost = λ pl.
+          (x.cost limited).cost
+          (record { plain = pl.plain; unmarked = pl.unmarked; room = pl.room; order = pl.order });
+    };
   }
 
 -- the answer of a search without a run of the machine, which nothing can end early
@@ -48,3 +49,55 @@ at_once r b s x = record {
   counts = x.counts;
   up_to_match = x.up_to_match;
 }
+
+-- What a search says within a budget of steps, by what it says of its answer.
+
+module _ {S E F : Type 0} {text : Ghosts S} (r : Request S text) (s : Shown) (anchored : RunsOnceAnchored r s)
+    (again : BeginsAgain true s) where
+  -- an answer
+  pub within_found : (b : Bool) → Answered {E = E} r (Ok b) s → AnsweredWithin {E = F} r (Ok (Some b)) s
+  within_found b x = record {
+    answer = x.answer;
+    cursor = λ e. x.cursor (cc);
+    span = λ e. x.span (cc);
+    no = no b x.no;
+    err = tt;
+    counts = record { inside = x.counts; up_to_match = x.up_to_match; anchored = anchored };
+    again = again;
+    literal = (tt, λ e. absurd (cc));
+  }
+    where
+      no : (b : Bool) → (b ≡ false → s.marks ≡ no_marks) → Some b ≢ Some true → s.marks ≡ no_marks
+      no true f other = absurd (other refl)
+      no false f other = f refl
+
+  -- an allocation failed
+  pub within_refused : (e : E) (f : F) → Answered {E = E} r (Err e) s → MayTakeMemory (code_of r)
+      → AnsweredWithin {E = F} r (Err f) s
+  within_refused e f x takes = record {
+    answer = λ t whole. tt;
+    cursor = tt;
+    span = tt;
+    no = tt;
+    err = x.err;
+    counts = record { inside = x.counts; up_to_match = λ never. absurd (cc); anchored = anchored };
+    again = again;
+    literal = (takes, tt);
+  }
+
+  -- the step limit was exceeded
+  pub within_exceeded : (e : E) → Answered {E = E} r (Err e) s → MayTakeMemory (code_of r)
+      → AnsweredWithin {E = F} r (Ok None) s
+  within_exceeded e x takes = record {
+    answer = λ t whole. tt;
+    cursor = λ never. absurd (cc);
+    span = λ never. absurd (cc);
+    no = λ other. x.err;
+    err = tt;
+    counts = record { inside = x.counts; up_to_match = λ never. absurd (cc); anchored = anchored };
+    again = again;
+    literal = (tt, λ none. takes);
+  }
+
+-- what `search_within_by` answers
+pub ruleset within_laws = (within_found, within_refused, within_exceeded)

@@ -1,11 +1,17 @@
--- The ASCII characters with which a tree may begin.
+-- The ASCII characters with which a tree may begin, also past repeats that need no character.
 use Rattle.sre_engine.proofs.Terms.{◌≢◌, ◌≡◌, ◌+◌, ◌-◌, ◌≤◌, ◌<◌, ℕ, Bool, true, false, ◌&&◌, ◌||◌, nat_lt, nat_le}
 use Rattle.sre_engine.proofs.Terms.{List, length, refl, sym, ap, ◌∙◌, subst, arith, nat_tests, AsciiSet, contains, Tree}
 use Rattle.sre_engine.proofs.Terms.{Trees, Only, Or, Test, holds, Subject, char_at, passes, Word, word, skip}
 use Rattle.sre_engine.proofs.Terms.{ReadsBranch, NoWay, NoneOf, NotPassed, TreeStands, HasTree, HasAlternatives, Leads}
 use Rattle.sre_engine.proofs.Terms.{TakesAscii, same_word, word_of, opcode_within, stands_up_to, NotAmong, word_within}
-use Rattle.sre_engine.proofs.Terms.{alternative_long, only_none, or_none}
+use Rattle.sre_engine.proofs.Terms.{alternative_long, only_none, or_none, [], true≢false, ◌⊎◌, inl, inr, SreOpcode}
+use Rattle.sre_engine.proofs.Terms.{Empty, Then, RunKind, GreedyRun, LazyRun, PossessiveRun, Marks, Opcode, ToRun, role}
+use Rattle.sre_engine.proofs.Terms.{ways, longest_run, same_opcode, HasRole, role_here, PassesRun, most_from, is_end}
+use Rattle.sre_engine.proofs.Terms.{run_has, is_run, Reads}
+use Rattle.sre_model.specs.Tree.{Run}
 use Rattle.sre_chars.specs.declared.constants.SreOpcode.TheVariants as opcode
+
+-- The ASCII characters with which a tree may begin.
 
 -- a test that takes the ASCII characters of a set alone does not pass where none of them is, and none past ASCII
 among_taken : (s : Subject) (set : AsciiSet) (t : Test) (p : ℕ)
@@ -29,16 +35,15 @@ pub union_lacks : (s : Subject) (a b set : AsciiSet) (p : ℕ)
     → ((c : ℕ) → contains set c ≡ (contains a c || contains b c)) → NotAmong s set p → NotAmong s a p × NotAmong s b p
 union_lacks s a b set p is lacks =
     let both = by_place (nat_lt p s.end) (nat_le 128 (char_at s p)) (contains a (char_at s p))
-    (contains b (char_at s p)) (contains set (char_at s p)) (is (char_at s p)) lacks.none in
+    (contains b (char_at s p)) (rw (is (char_at s p)) at lacks.none) in
     (record { none = both.0 }, record { none = both.1 })
   where
-    by_place : (e f g h c : Bool) → c ≡ (g || h) → (e && (f || c)) ≡ false
+    by_place : (e f g h : Bool) → (e && (f || (g || h))) ≡ false
         → ((e && (f || g)) ≡ false) × ((e && (f || h)) ≡ false)
-    by_place false f g h c same none = (refl, refl)
-    by_place true true g h c same none = absurd (let never : true ≡ false = none in cc never)
-    by_place true false true h c same none = absurd (let never : true ≡ false = sym same ∙ none in cc never)
-    by_place true false false true c same none = absurd (let never : true ≡ false = sym same ∙ none in cc never)
-    by_place true false false false c same none = (refl, refl)
+    by_place false f g h none = (refl, refl)
+    by_place true true g h none = absurd (let never : true ≡ false = none in cc never)
+    by_place true false true h none = absurd (let never : true ≡ false = none in cc never)
+    by_place true false false h none = (refl, none)
 
 pub taken_bars : (ws : List ℕ) (place : ℕ) (set : AsciiSet) → TakesAscii ws place set → (s : Subject) (p : ℕ)
     → NotAmong s set p → NotPassed ws s place p
@@ -78,15 +83,13 @@ branch_within ws q j (Or t ts) r =
     omega (arith, jump, alternative_long ws q j (Or t ts) r)
 
 module _ (ws : List ℕ) (j place : ℕ) where
-  only_tree : (t : Tree) → ReadsBranch ws place j (Only t) → TreeStands ws (place + 1) t
-  only_tree t r = stands_up_to ws (place + 1) (skip ws place - 2) t opcode.JUMP r.0 r.1.0 refl
-
-  or_tree : (t : Tree) (ts : Trees) → ReadsBranch ws place j (Or t ts) → TreeStands ws (place + 1) t
-  or_tree t ts r = stands_up_to ws (place + 1) (skip ws place - 2) t opcode.JUMP r.0 r.1.0 refl
+  alternative_tree : (t : Tree) → Reads ws (place + 1) (skip ws place - 2) t
+      → Opcode ws (skip ws place - 2) opcode.JUMP → TreeStands ws (place + 1) t
+  alternative_tree t r jump = stands_up_to ws (place + 1) (skip ws place - 2) t opcode.JUMP r jump refl
 
   first_tree : (ts : Trees) → ReadsBranch ws place j ts → HasTree ws (place + 1)
-  first_tree (Only t) r = record { tree = t; stands = only_tree t r }
-  first_tree (Or t ts) r = record { tree = t; stands = or_tree t ts r }
+  first_tree (Only t) r = record { tree = t; stands = alternative_tree t r.0 r.1.0 }
+  first_tree (Or t ts) r = record { tree = t; stands = alternative_tree t r.0 r.1.0 }
 
   next_there : (ts : Trees) → ReadsBranch ws place j ts → skip ws place < length ws
   next_there (Only t) r = word_within ws (skip ws place) 0 r.2
@@ -140,7 +143,7 @@ module _ (ws : List ℕ) (j : ℕ) (ts : Trees) (place length_ next after : ℕ)
         reads = subst (λ k. ReadsBranch ws k j us) skipped r.2;
         none = λ s p lacks rest.
             let two = union_lacks s set own union p is lacks in
-            none s p two.0 (or_none s t us p (bars t (or_tree ws j place t us r) s p two.1) rest);
+            none s p two.0 (or_none s t us p (bars t (alternative_tree ws j place t r.0 r.1.0) s p two.1) rest);
       }
 
   pub left_done : after ≡ 0 → (s : Subject) (p : ℕ) → NotAmong s union p → NoneOf s ts p
@@ -151,7 +154,9 @@ module _ (ws : List ℕ) (j : ℕ) (ts : Trees) (place length_ next after : ℕ)
 
       by_trees : (us : Trees) → ReadsBranch ws place j us
           → ((s : Subject) (p : ℕ) → NotAmong s set p → NoneOf s us p → NoneOf s ts p) → NoneOf s ts p
-      by_trees (Only t) r none = none s p two.0 (only_none s t p (bars t (only_tree ws j place t r) s p two.1))
+      by_trees (Only t) r none =
+          let tree = alternative_tree ws j place t r.0 r.1.0 in
+          none s p two.0 (only_none s t p (bars t tree s p two.1))
       by_trees (Or t us) r none =
           let long = alternative_long ws (skip ws place) j us r.2 in
           absurd (omega (arith, long, skipped, none_, word_of ws next after following, ap (word ws) skipped))
@@ -160,3 +165,85 @@ pub left_there : (ws : List ℕ) (start place : ℕ) (set : AsciiSet) → HasAlt
     → ((j : ℕ) (ts : Trees) → ReadsBranch ws start j ts → Left ws j ts place set) → HasAlternatives ws place
 left_there ws start place set x each =
     let left = each x.end x.trees x.reads in record { end = x.end; trees = left.trees; reads = left.reads }
+
+-- Repeats that need no character, where a tree begins with them: it may begin with what follows them, too.
+
+-- a run, by its opcode
+pub run_here : (ws : List ℕ) (i : ℕ) (o : SreOpcode) → Opcode ws i o
+    → (o ≡ opcode.REPEAT_ONE) ⊎ ((o ≡ opcode.MIN_REPEAT_ONE) ⊎ (o ≡ opcode.POSSESSIVE_REPEAT_ONE))
+    → (kind : RunKind) × HasRole ws i (ToRun kind)
+run_here ws i o w (inl e) = (GreedyRun, role_here ws i o (ToRun GreedyRun) w (ap role e))
+run_here ws i o w (inr (inl e)) = (LazyRun, role_here ws i o (ToRun LazyRun) w (ap role e))
+run_here ws i o w (inr (inr e)) = (PossessiveRun, role_here ws i o (ToRun PossessiveRun) w (ap role e))
+
+-- where the test of a run that owes none does not pass, and what is behind it has no way, there is none
+optional_none : (s : Subject) (kind : RunKind) (high : ℕ) (t : Test) (rest : Tree) (p : ℕ) → passes s t p ≡ false
+    → NoWay s rest p → NoWay s (Then (Run kind 0 high t) rest) p
+optional_none s kind high t rest p e w = record { none = λ m. by_kind kind m }
+  where
+    none : longest_run s t high p ≡ 0
+    none =
+        run_has s t (most_from s high p) p 0 (omega arith) (λ c k. absurd (omega (arith, k)))
+        (λ _. let here : p + 0 ≡ p = omega arith in rw here e)
+
+    here : p + 0 ≡ p
+    here = omega arith
+
+    by_kind : (k : RunKind) (m : Marks) → ways s (Then (Run k 0 high t) rest) p m ≡ []
+    by_kind GreedyRun m = rw (none, here, w.none m) refl
+    by_kind LazyRun m = rw (none, here, w.none m) refl
+    by_kind PossessiveRun m = rw (none, here, w.none m) refl
+
+-- so has a tree that begins with such a run
+module _ (ws : List ℕ) (i : ℕ) {kind : RunKind} (h : HasRole ws i (ToRun kind)) (w : Word ws (i + 2) 0) where
+  pub passes_run : (t : Tree) → TreeStands ws i t → PassesRun ws t (i + 4) (skip ws (i + 1))
+  passes_run Empty x =
+      let here : Opcode ws i x.code = subst (λ j. Opcode ws j x.code) (sym x.reads) x.there in
+      let same : h.code ≡ x.code = same_opcode ws i h.code x.code h.there here in
+      absurd (true≢false (sym x.ends ∙ ap is_end (sym (ap role same) ∙ h.begins)))
+  passes_run (Then item rest) x =
+      let r = x.reads in
+      let is = is_run ws i r.0 item h r.1 in
+      let operands = is.4.1 in
+      let low : is.0 ≡ 0 = same_word ws (i + 2) is.0 0 operands.1 w in
+      let item_is : item ≡ Run kind 0 is.1 is.2 = is.3 ∙ ap (λ n. Run kind n is.1 is.2) low in
+      record {
+        tree = rest;
+        stands =
+            subst (λ k. TreeStands ws k rest) operands.0 (stands_up_to ws r.0 x.end rest x.code r.2 x.there x.ends);
+        none = λ s p fails behind.
+            subst (λ x. NoWay s (Then x rest) p) (sym item_is)
+            (optional_none s kind is.1 is.2 rest p
+            (fails.each (r.0 - 1) is.2 (record { code = operands.4; operands = operands.5 })) behind);
+      }
+
+-- a tree at a place; where no character of a set is, and that one has no way, nor has the whole
+pub record Beyond (ws : List ℕ) (whole : Tree) (i : ℕ) (set : AsciiSet) : Type 0 where
+  pub tree : Tree
+  pub stands : TreeStands ws i tree
+  pub none : (s : Subject) (p : ℕ) → NotAmong s set p → NoWay s tree p → NoWay s whole p
+
+-- one run more, and at last a test
+module _ (ws : List ℕ) (t : Tree) (i : ℕ) (set own union : AsciiSet) (b : Beyond ws t i set)
+    (is : (c : ℕ) → contains union c ≡ (contains set c || contains own c)) where
+  pub beyond_more : (at test next back : ℕ) → ((u : Tree) → TreeStands ws i u → Leads ws u at back) → back ≡ 0
+      → ((v : Tree) → TreeStands ws at v → PassesRun ws v test next) → TakesAscii ws test own → Beyond ws t next union
+  beyond_more at test next back leads zero_back passing takes =
+      let l = leads b.tree b.stands in
+      let x = passing l.tree l.stands in
+      record {
+        tree = x.tree;
+        stands = x.stands;
+        none = λ s p lacks w.
+            let each = union_lacks s set own union p is lacks in
+            let here : p - back ≡ p = omega (arith, zero_back) in
+            b.none s p each.0
+            (l.leads s p
+            (subst (λ q. NoWay s l.tree q) (sym here) (x.none s p (taken_bars ws test own takes s p each.1) w)));
+      }
+
+  pub beyond_done : ((u : Tree) → TreeStands ws i u → (s : Subject) (p : ℕ) → NotAmong s own p → NoWay s u p)
+      → (s : Subject) (p : ℕ) → NotAmong s union p → NoWay s t p
+  beyond_done bars s p lacks =
+      let each = union_lacks s set own union p is lacks in
+      b.none s p each.0 (bars b.tree b.stands s p each.1)

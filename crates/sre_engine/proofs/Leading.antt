@@ -7,7 +7,8 @@ use Rattle.sre_engine.proofs.Terms.{begins_test, TreeStands, same_word, same_opc
 use Rattle.sre_engine.proofs.Terms.{whole_stands, LeadsToTest, LeadsToCode, Wants, WantsFirst, First, Item, ReadsItem}
 use Rattle.sre_engine.proofs.Terms.{item_opcode, run_opcode, test_opcode, ToTest, is_test_role, opcode_low, item_role}
 use Rattle.sre_engine.proofs.Terms.{role_same, test_kind, test_role, run_role, first_test, first_code, is_passed}
-use Rattle.sre_engine.proofs.Terms.{IsPast, Ahead, IsTestAt}
+use Rattle.sre_engine.proofs.Terms.{IsPast, Ahead, IsTestAt, HasTree, IsElsewhere, Leads, NoWay, Subject, leads_further}
+use Rattle.sre_engine.proofs.Terms.{leads_tree, length, tree_within, leads_start}
 use Rattle.sre_chars.specs.declared.constants.SreOpcode.TheVariants as opcode
 use Rattle.sre_model.specs.Tree.{Run}
 
@@ -45,12 +46,11 @@ module _ (ws : List ℕ) (i : ℕ) where
       let same = role_at ws i x.reads.0 item o x.reads.1 w in
       true≢false (sym (test_item item rest test e) ∙ ap before_test (sym same) ∙ other)
 
-  no_code : (t : Tree) → TreeStands ws i t → (code : SreAtCode) → first_code t ≡ Some code → (o : SreOpcode)
-      → Opcode ws i o → is_passed (role o) ≡ false → ⊥
-  no_code Empty x code e o w other = absurd (cc e)
-  no_code (Then item rest) x code e o w other =
-      let same = role_at ws i x.reads.0 item o x.reads.1 w in
-      true≢false (sym (code_item item rest code e) ∙ ap is_passed (sym same) ∙ other)
+  no_code : (t : Tree) → TreeStands ws i t → (code : SreAtCode) → first_code t ≡ Some code → IsPast ws i → ⊥
+  no_code Empty x code e past = absurd (cc e)
+  no_code (Then item rest) x code e past =
+      let other = past.other (item_opcode item) x.reads.1.0 in
+      true≢false (sym (code_item item rest code e) ∙ ap is_passed (sym (role_same item)) ∙ other)
 
   -- what is behind an item of two words
   ahead_two : (Holds : Tree → Type 0) (item : Item) (rest : Tree) (x : TreeStands ws i (Then item rest))
@@ -93,30 +93,43 @@ module _ (ws : List ℕ) (i : ℕ) where
 
 -- From the words of a start on
 
-pub test_start : (ws : List ℕ) (start : ℕ) → LeadsToTest ws start start 0
-test_start ws start = record {
-  ahead = λ t x test e. record { tree = t; stands = x; holds = e; near = refl };
-}
+-- what is known of the way from a start to a place
+pub record Followed (ws : List ℕ) (start i back : ℕ) (kept : Option SreAtCode) : Type 0 where
+  pub within : i < length ws
+  pub on : start ≤ i
+  pub leads : (t : Tree) → TreeStands ws start t → Leads ws t i back
+  pub at : (t : Tree) → TreeStands ws start t → (s : Subject) (p : ℕ) → IsElsewhere s kept p → NoWay s t p
+  pub test : LeadsToTest ws start i back
+  pub code : LeadsToCode ws start i back kept
 
-pub code_start : (ws : List ℕ) (start : ℕ) → LeadsToCode ws start start 0 None
-code_start ws start = record {
-  ahead = λ t x code e. inr (refl, record { tree = t; stands = x; holds = e; near = refl });
+pub followed_start : (ws : List ℕ) (start : ℕ) → HasTree ws start → Followed ws start start 0 None
+followed_start ws start there = record {
+  within = tree_within ws start there;
+  on = omega arith;
+  leads = λ t stands. leads_start ws t start stands;
+  at = λ t stands s p e. absurd e;
+  test = record { ahead = λ t x test e. record { tree = t; stands = x; holds = e; near = refl } };
+  code = record { ahead = λ t x code e. inr (refl, record { tree = t; stands = x; holds = e; near = refl }) };
 }
 
 module _ (ws : List ℕ) (start i back : ℕ) (o : SreOpcode) (w : Opcode ws i o) where
   -- to another place, past what begins no first test
-  pub test_stuck : (k far : ℕ) → LeadsToTest ws start i back → before_test (role o) ≡ false → LeadsToTest ws start k far
+  test_stuck : (k far : ℕ) → LeadsToTest ws start i back → before_test (role o) ≡ false → LeadsToTest ws start k far
   test_stuck k far l other = record {
     ahead = λ t x test e.
         let a = l.ahead t x test e in absurd (no_test ws i a.tree a.stands test a.holds o w other);
   }
 
-  pub code_stuck : (k far : ℕ) (at : Option SreAtCode) → LeadsToCode ws start i back at → is_passed (role o) ≡ false
+  code_stuck : (k far : ℕ) (at : Option SreAtCode) → LeadsToCode ws start i back at → is_passed (role o) ≡ false
       → LeadsToCode ws start k far at
   code_stuck k far at l other = record {
     ahead = λ t x code e. elim (l.ahead t x code e) [
       | (inl read) ↦ inl read
-      | (inr a) ↦ absurd (no_code ws i a.1.tree a.1.stands code a.1.holds o w other)
+      | (inr a) ↦
+          let past : IsPast ws i = record {
+            other = λ q v. subst (λ p. is_passed (role p) ≡ false) (same_opcode ws i o q w v) other;
+          } in
+          absurd (no_code ws i a.1.tree a.1.stands code a.1.holds past)
     ];
   }
 
@@ -147,6 +160,31 @@ module _ (ws : List ℕ) (start i back : ℕ) (before : Option SreAtCode) (l : L
       | (inr a) ↦ inl (own a.0 a.1.near code (code_here ws i a.1.tree a.1.stands code a.1.holds w))
     ];
   }
+
+-- on to another place
+module _ (ws : List ℕ) (start i far : ℕ) (kept : Option SreAtCode) (x : Followed ws start i far kept)
+    (there : HasTree ws start) (k more back : ℕ) (leads : (u : Tree) → TreeStands ws i u → Leads ws u k more)
+    (sum : back ≡ far + more) (up : i ≤ k) where
+  pub followed : (next : Option SreAtCode)
+      → ((t : Tree) → TreeStands ws start t → (s : Subject) (p : ℕ) → IsElsewhere s next p → NoWay s t p)
+      → LeadsToTest ws start k back → LeadsToCode ws start k back next → Followed ws start k back next
+  followed next bars test code =
+      let further = leads_further ws start i far x.leads k more back leads sum in
+      record {
+        within = tree_within ws k (leads_tree ws start k back further there);
+        on = omega (arith, x.on, up);
+        leads = further;
+        at = bars;
+        test = test;
+        code = code;
+      }
+
+  -- past what begins neither a first test nor a position code
+  pub follow_stuck : (o : SreOpcode) → Opcode ws i o → before_test (role o) ≡ false → is_passed (role o) ≡ false
+      → Followed ws start k back kept
+  follow_stuck o w no_first no_position =
+      followed kept x.at (test_stuck ws start i far o w k back x.test no_first)
+      (code_stuck ws start i far o w k back kept x.code no_position)
 
 -- a loop
 pub loop_role : (o : SreOpcode) → (o ≡ opcode.REPEAT) ⊎ (o ≡ opcode.POSSESSIVE_REPEAT)
@@ -247,13 +285,6 @@ module _ (ws : List ℕ) (i : ℕ) (t : Tree) (x : TreeStands ws i t) (test : Te
 
 -- Of the whole
 
-code_first : (ws : List ℕ) (i : ℕ) (t : Tree) → TreeStands ws i t → (code : SreAtCode) → first_code t ≡ Some code
-    → IsPast ws i → ⊥
-code_first ws i Empty x code e past = absurd (cc e)
-code_first ws i (Then (Mark n) rest) x code e past = true≢false (past.other opcode.MARK x.reads.1.0)
-code_first ws i (Then (At a) rest) x code e past = true≢false (past.other opcode.AT x.reads.1.0)
-code_first ws i (Then item rest) x code e past = absurd (cc e)
-
 pub wants_first : (ws : List ℕ) (i : ℕ) (f : First) → LeadsToTest ws 0 i f.back → LeadsToCode ws 0 i f.back f.at
     → IsPast ws i
     → ((t : Tree) (test : Test) → TreeStands ws i t → first_test t ≡ Some test → IsPast ws i → Wants ws f.wanted test)
@@ -264,6 +295,6 @@ wants_first ws i f tests codes past wants = record {
       (a.near, wants a.tree test a.stands a.holds past);
   code = λ t whole code e. elim (codes.ahead t (whole_stands ws t whole) code e) [
     | (inl read) ↦ read
-    | (inr a) ↦ absurd (code_first ws i a.1.tree a.1.stands code a.1.holds past)
+    | (inr a) ↦ absurd (no_code ws i a.1.tree a.1.stands code a.1.holds past)
   ];
 }

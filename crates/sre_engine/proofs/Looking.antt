@@ -1,18 +1,87 @@
--- How a search goes from candidate to candidate.
-use Rattle.sre_engine.proofs.Terms.{◌≡◌, ◌≤◌, ◌<◌, ◌+◌, ◌-◌, ℕ, Bool, true, false, Option, Some, None, Result, Ok, Err}
-use Rattle.sre_engine.proofs.Terms.{IfErr, IsErrAnd, refl, sym, ◌∙◌, subst, arith, mul-le-mul_right, Ghosts}
-use Rattle.sre_engine.proofs.Terms.{StringCursor, Tree, no_marks, Whole, found, bare, Decides, outcomes, words_of}
-use Rattle.sre_engine.proofs.Terms.{hints_of, Request, start_of, end_of, code_of, asked_of, stands_in, run_of}
-use Rattle.sre_engine.proofs.Terms.{is_limited, left_of, Halted, Allowance, Halt, code_tree, items_whole, Shown}
-use Rattle.sre_engine.proofs.Terms.{SpentUpTo, IsCandidate, Failed, Charged, SearchCosts, IsLast, FitsAt, NoMatch}
-use Rattle.sre_engine.proofs.Terms.{Answered, CountsInside, Candidate, Recalls, Begins, RunnerValue, IsReady, Began}
+-- How a start becomes a candidate, and how a search goes from candidate to candidate.
+use Rattle.sre_engine.proofs.Terms.{◌≡◌, ◌≤◌, ◌<◌, ℕ, List, length, Bool, refl, arith, inr, Asked, Code, IsPrefix}
+use Rattle.sre_engine.proofs.Terms.{NoPlace, NoMatch, MovesOn, ◌+◌, cond, false, true, Some, Ghosts, StringCursor, Tree}
+use Rattle.sre_engine.proofs.Terms.{Whole, words_of, Request, end_of, code_of, asked_of, run_of, items_whole, MayBegin}
+use Rattle.sre_engine.proofs.Terms.{IsCandidate, Failed, NoneUntil, Candidate, IsBare, bare_candidate, PassesTo, ◌-◌}
+use Rattle.sre_engine.proofs.Terms.{Option, None, Result, Ok, Err, IfErr, IsErrAnd, sym, ◌∙◌, subst, mul-le-mul_right}
+use Rattle.sre_engine.proofs.Terms.{no_marks, found, bare, Decides, outcomes, hints_of, start_of, stands_in, is_limited}
+use Rattle.sre_engine.proofs.Terms.{left_of, Halted, Allowance, Halt, code_tree, Shown, SpentUpTo, Charged, IsLast}
+use Rattle.sre_engine.proofs.Terms.{FitsAt, Answered, CountsInside, Recalls, Begins, RunnerValue, IsReady, Began}
 use Rattle.sre_engine.proofs.Terms.{AttemptDecides, AttemptCosts, ComparesFew}
 use Rattle.std.specs.declared.alloc.Allocator.{Ghosts as Memory}
-use Rattle.sre_engine.proofs.Answering.{NoneBefore, none_joined, none_yet, none_at, some_at, span_at, found_first}
-use Rattle.sre_engine.proofs.Costing.{CostsSince, since_begin, since_run, since_stopped, since_ended}
+use Rattle.sre_engine.proofs.LeadingStarts.{none_joined, none_here, NoneBefore, none_at, some_at, span_at, found_first}
 use Rattle.sre_engine.proofs.LeadingStarts.{found_none_behind}
-use Rattle.sre_engine.proofs.MayStart.{RanBefore, ran_none, ran_later, ran_on, few_ran, counts_ran}
-use Rattle.sre_engine.proofs.Spending.{once_spent, run_spent}
+use Rattle.sre_engine.proofs.PrefixWays.{unplaced_between}
+use Rattle.sre_engine.proofs.Spending.{CostsSince, since_begin, since_run, since_stopped, since_ended, once_spent}
+use Rattle.sre_engine.proofs.Spending.{run_spent}
+use Rattle.sre_engine.proofs.CountLaws.{RanBefore, ran_none, ran_later, ran_on, few_ran, counts_ran}
+
+-- How a start becomes a candidate, and what is skipped after one that failed.
+
+-- Where a scan for a prefix continues, by what is known of starts without a match.
+
+-- the scan stays as it is
+pub stays : (q i : ℕ) → MovesOn q i q i
+stays q i = record { from = omega arith; fewer = inr (refl, refl) }
+
+pub none_passed : (a : Asked) (code : Code) (p : ℕ) → NoMatch a code p p
+none_passed a code p = record { forward = omega arith; none = λ t whole s from to. absurd (omega (arith, from, to)) }
+
+-- behind starts that have no match none has one up to the next place
+pub no_match_unplaced : (a : Asked) (code : Code) (vs : List ℕ) (k : ℕ) (whole : Bool) → IsPrefix code vs k whole
+    → 0 < length vs → (p q r : ℕ) → NoMatch a code p q → NoPlace a.text vs a.end q r → NoMatch a code p r
+no_match_unplaced a code vs k whole is some p q r before x = record {
+  forward = omega (arith, before.forward, x.forward);
+  none = λ t w. none_joined a t p q r (before.none t w) (unplaced_between a code vs k whole is some t w q r x);
+}
+
+module _ {S : Type 0} {text : Ghosts S} (r : Request S text) where
+  -- a cursor from a front on, before which no start has a match
+  pub at_cursor : (front : ℕ) (cursor : StringCursor) (c : Candidate) (compared : ℕ) → c ≡ bare_candidate cursor
+      → (run_of r).stands cursor cursor.position → front ≤ cursor.position → cursor.position ≤ end_of r
+      → ((t : Tree) → Whole (words_of (code_of r)) t → NoneUntil (asked_of r) t front (Some cursor))
+      → MayBegin (asked_of r) (code_of r) cursor.position → compared ≡ 0
+      → IsCandidate (run_of r) (asked_of r) (code_of r) front c compared
+  at_cursor front cursor c compared same stands from inside none may nothing = rw same (record {
+    stands = stands;
+    behind = omega arith;
+    inside = inside;
+    few = omega arith;
+    none = record { forward = from; none = none };
+    may = may;
+    reads = λ t whole. whole.0;
+    decides = λ t whole end m decided. decided;
+    far = λ t whole m e. omega (arith, nothing);
+  })
+
+  -- from a candidate that failed on none has a match up to where it is passed to
+  pub passed_to : (c : Candidate) (further : Bool) (cursor : StringCursor) → IsBare c
+      → Failed (asked_of r) (code_of r) c.start → c.cursor.position ≤ end_of r
+      → PassesTo (run_of r) (asked_of r) c.cursor.position further cursor
+      → NoMatch (asked_of r) (code_of r) c.start (cond further cursor.position (end_of r + 1))
+  passed_to c further cursor is failed inside passes = record {
+    forward = by_end further passes.next;
+    none = λ t whole.
+        let here = rw is.start at passes.none t (items_whole (code_of r) t whole) in
+        here (failed.none t whole);
+  }
+    where
+      by_end : (b : Bool) → (b ≡ true → (c.cursor.position < cursor.position) × (cursor.position ≤ end_of r))
+          → c.start ≤ cond b cursor.position (end_of r + 1)
+      by_end true on = omega (arith, is.start, (on refl).0)
+      by_end false on = omega (arith, is.start, inside)
+
+-- behind a start that failed the words of a prefix stand nowhere up to a position
+pub unplaced_passed : (a : Asked) (code : Code) (vs : List ℕ) (k : ℕ) (whole : Bool) → IsPrefix code vs k whole
+    → 0 < length vs → (p q : ℕ) → Failed a code p → NoPlace a.text vs a.end (p + 1) q → NoMatch a code p q
+unplaced_passed a code vs k whole is some p q failed passed =
+    let alone : NoMatch a code p (p + 1) = record {
+      forward = omega arith;
+      none = λ t w. none_here a t p (failed.none t w);
+    } in
+    no_match_unplaced a code vs k whole is some p (p + 1) q alone passed
+
+-- How a search goes from candidate to candidate.
 
 -- what a search knows from a front on: no start before it has a match, and what was run up to there
 pub record Searching (M : Type 0) {S : Type 0} {text : Ghosts S} (r : Request S text) (n : RunnerValue)
@@ -40,7 +109,7 @@ module _ {S : Type 0} {text : Ghosts S} (r : Request S text) where
     remembers = ready.remembers;
     from = omega (arith, at);
     inside = omega (arith, at, r.in_window.0);
-    none = λ t whole. none_yet (asked_of r) t front at;
+    none = λ t whole s from less. absurd (omega (arith, at, from, less));
     ran = ran_none (asked_of r) (code_of r) n.started front started;
     again = ready.again;
     never = λ e. restarted;
@@ -98,8 +167,7 @@ module _ {M S : Type 0} {memory : Memory M} {text : Ghosts S} (r : Request S tex
     (is_last : IsLast (asked_of r) (code_of r) last) (fits : FitsAt last c.start)
     (began : Began (is_limited a) n n') (costs : AttemptCosts r c.literals c.cursor told n n' a a') where
   ran : RanBefore (asked_of r) (code_of r) n'.started (c.start + 1)
-  ran = ran_on (asked_of r) (code_of r) last _ _ front c.start is_last fits old.from is.none.forward old.ran
-      began.started is.may
+  ran = ran_on _ _ last _ _ front c.start is_last fits old.from is.none.forward old.ran began.started is.may
 
   -- its start is in the window
   inside : c.start ≤ end_of r
@@ -113,11 +181,6 @@ module _ {M S : Type 0} {memory : Memory M} {text : Ghosts S} (r : Request S tex
       (once_spent (asked_of r) (code_of r) c.literals c.cursor.position _ _ _ is.inside
       (λ t whole. costs.spent t (items_whole (code_of r) t whole))) began.started began.restarted
 
-  cost : is_limited given ≡ true → SearchCosts M r (left_of given) (left_of a') n'.started
-  cost limited =
-      since_stopped r n.memo c.cursor _ _ _ n.started n'.started (old.costs limited)
-      (costs.stops (old.limited ∙ limited)) from began.started
-
   -- what is charged, also where it is given up
   pub charged : (result : Result Bool (Halt M memory)) → IfErr result (Halted a')
       → Charged r result n'.started (n'.started + n'.restarted) given a'
@@ -126,13 +189,14 @@ module _ {M S : Type 0} {memory : Memory M} {text : Ghosts S} (r : Request S tex
     fewer = omega (arith, costs.fewer, old.fewer);
     spent = spent;
     halted = halts;
-    cost = cost;
+    cost = λ limited.
+        since_stopped r n.memo c.cursor _ _ _ n.started n'.started (old.costs limited)
+        (costs.stops (old.limited ∙ limited)) from began.started;
   }
 
   -- a state that shows no match
-  answered_without : (result : Result Bool (Halt M memory)) (s : Shown) → s.started ≡ n'.started → s.compared ≡ compared
-      → CountsInside r s
-  answered_without result s started compares =
+  answered_without : (s : Shown) → s.started ≡ n'.started → s.compared ≡ compared → CountsInside r s
+  answered_without s started compares =
       counts_ran (asked_of r) (code_of r) s (c.start + 1) _ _
       (subst (λ m. RanBefore (asked_of r) (code_of r) m (c.start + 1)) (sym started) ran) (omega (arith, inside))
       (omega (arith, compares, few.few)) (λ plain. compares ∙ few.none plain)
@@ -148,7 +212,7 @@ module _ {M S : Type 0} {memory : Memory M} {text : Ghosts S} (r : Request S tex
     span = tt;
     no = tt;
     err = marks;
-    counts = answered_without (Err y) s started compares;
+    counts = answered_without s started compares;
     up_to_match = tt;
   }
 
@@ -195,7 +259,7 @@ module _ {M S : Type 0} {memory : Memory M} {text : Ghosts S} (r : Request S tex
             );
             no = λ never. absurd (cc never);
             err = tt;
-            counts = answered_without (Ok true) _ refl refl;
+            counts = answered_without _ refl refl;
             up_to_match = λ _. counts_ran (asked_of r) (code_of r) _ (c.start + 1) _ _ ran (omega arith)
                 (is.far tree.0 tree.1 _ own.1) few.none;
           }
@@ -241,27 +305,20 @@ module _ {M S : Type 0} {memory : Memory M} {text : Ghosts S} (r : Request S tex
     (started : n.started ≡ 0) (restarted : n.restarted ≡ 0)
     (at : start.position ≡ start_of r) (memo : Begins (start_of r) (end_of r) n.memo)
     (began : Began (is_limited a) n n') (costs : AttemptCosts r literals start told n n' a a') where
-  twice_spent : SpentUpTo (asked_of r) (code_of r) (left_of a) (left_of a') 2
-  twice_spent =
-      let once = once_spent (asked_of r) (code_of r) literals start.position _ _ _ (omega (arith, at, r.in_window.0))
-      (λ t whole. costs.spent t (items_whole (code_of r) t whole)) in
-      record {
-        each = λ t whole most within.
-            let few : 1 + n'.restarted - n.restarted ≤ 2 = omega (arith, began.started, began.again, started) in
-            omega (arith, once.each t whole most within, mul-le-mul_right most few);
-      }
-
-  once_cost : is_limited a ≡ true → SearchCosts M r (left_of a) (left_of a') 1
-  once_cost limited =
-      since_stopped r n.memo start _ _ _ 0 1 (since_begin r n.memo (left_of a) memo.waits memo.closed)
-      (costs.stops limited) (omega (arith, at)) refl
-
   -- what is charged, also where it is given up
   pub once_charged : (result : Result Bool (Halt M memory)) → IfErr result (Halted a') → Charged r result 1 2 a a'
   once_charged result halts = record {
     limited = costs.limited;
     fewer = costs.fewer;
-    spent = twice_spent;
+    spent = record {
+      each = λ t whole most within.
+          let once = once_spent (asked_of r) (code_of r) literals start.position _ _ _
+          (omega (arith, at, r.in_window.0)) (λ t whole. costs.spent t (items_whole (code_of r) t whole)) in
+          let few : 1 + n'.restarted - n.restarted ≤ 2 = omega (arith, began.started, began.again, started) in
+          omega (arith, once.each t whole most within, mul-le-mul_right most few);
+    };
     halted = halts;
-    cost = once_cost;
+    cost = λ limited.
+        since_stopped r n.memo start _ _ _ 0 1 (since_begin r n.memo (left_of a) memo.waits memo.closed)
+        (costs.stops limited) (omega (arith, at)) refl;
   }

@@ -1,11 +1,18 @@
--- Which starts are barred, and what being barred rules out.
+-- Where a match may begin, and which starts are barred.
 use Rattle.sre_engine.proofs.Terms.{◌≡◌, ◌+◌, ◌≢◌, ◌≤◌, ◌<◌, ◌-◌, ℕ, Bool, true, false, nat_eq, List, arith, inl, inr}
 use Rattle.sre_engine.proofs.Terms.{sym, subst, Option, refl, Some, None, cases_lt, nat_tests, Sought, BEGINNING_LINE}
 use Rattle.sre_engine.proofs.Terms.{SreAtCode, StringCursor, Tree, WholeItems, no_marks, Asked, subject_of, at_start}
 use Rattle.sre_engine.proofs.Terms.{Subject, char_at, holds_at, Run, NoWay, TreeStands, Leads, whole_stands, First}
-use Rattle.sre_engine.proofs.Terms.{IsElsewhere, IsLacking, Bars, BarredUpTo, NextStart, NoneBetween, NoneUntil}
+use Rattle.sre_engine.proofs.Terms.{IsElsewhere, IsLacking, Bars, BarredUpTo, NextStart, NoneBetween, NoneUntil, Whole}
+use Rattle.sre_engine.proofs.Terms.{IfSome, IsSomeAnd, ◌∙◌, AsciiSet, behind_block, Test, TakesAscii, has_ascii}
+use Rattle.sre_engine.proofs.Terms.{IsAsciiOf, Wants, WantsFirst, NotAmong}
 use Rattle.sre_engine.specs.Starts.{Barred, AllBarred, HeldFrom, HeldNowhere}
-use Rattle.sre_engine.proofs.Answering.{none_joined}
+use Rattle.sre_engine.specs.Beginnings.{BeginsIn, BeginsAtLines, KnowsTest, KnowsLines, is_line_start}
+use Rattle.sre_engine.specs.declared.engine.first_characters.Wanted.TheVariants as wanted
+use Rattle.sre_engine.proofs.LeadingStarts.{none_joined}
+use Rattle.sre_engine.proofs.FirstSets.{taken_bars}
+
+-- Which starts are barred, and what being barred rules out.
 
 -- a description of what the first words lead to bars
 pub bars_if : (ws : List ℕ) (i : ℕ) (f : First) → ((t : Tree) → TreeStands ws 0 t → Leads ws t i f.back)
@@ -99,3 +106,59 @@ line_sought r cursor next true e at s = record {
       (omega (arith, from, to)));
 }
 line_sought r cursor next false e at s = absurd (cc)
+
+pub no_line_sought : (r : Run) (cursor next : StringCursor) (found : Bool) → found ≡ false
+    → Sought r.subject.text 10 cursor.position r.subject.end found next.position
+    → HeldNowhere r BEGINNING_LINE cursor.position
+no_line_sought r cursor next true e s = absurd (cc)
+no_line_sought r cursor next false e s = record {
+  each = λ q from to. no_line r.subject q (omega (arith, from)) (s.1 (q - 1) (omega (arith, from))
+      (omega (arith, from, to)));
+}
+
+-- Where a match may begin, by what its first code words want.
+
+-- where a test is wanted at the start, and none of the characters that it takes is there, it does not pass
+pub test_lacks : (ws : List ℕ) (first : First) (place : ℕ) (r : Option AsciiSet) → first.back ≡ 0
+    → first.wanted ≡ wanted.Test place → IfSome r (λ set. TakesAscii ws place set)
+    → IfSome r (λ set. (s : Subject) (p : ℕ) → NotAmong s set p → IsLacking ws s first.wanted (p - first.back))
+test_lacks ws first place None near is taken = taken
+test_lacks ws first place (Some set) near is taken = λ s p none.
+    let here : p - first.back ≡ p = omega (arith, near) in
+    subst (λ q. IsLacking ws s first.wanted q) (sym here)
+    (subst (λ w. IsLacking ws s w p) (sym is) (taken_bars ws place set taken s p none))
+
+module _ (ws items : List ℕ) (same : items ≡ behind_block ws) (first : First) where
+  own : (t : Tree) → Whole ws t → WholeItems items t
+  own t w = subst (λ (is : List ℕ). WholeItems is t) (sym same) w.1
+
+  pub begins_in : Bars items first → (r : Option AsciiSet)
+      → IfSome r (λ set. (s : Subject) (p : ℕ) → NotAmong s set p → IsLacking items s first.wanted (p - first.back))
+      → IfSome r (λ set. BeginsIn ws set)
+  begins_in bars None lacks = lacks
+  begins_in bars (Some set) lacks = record {
+    none = λ t w s p none m. (bars.none t (own t w) s p (inr (inr (lacks s p (record { none = none }))))).none m;
+  }
+
+  pub begins_at_lines : Bars items first
+      → ((s : Subject) (p : ℕ) → holds_at s BEGINNING_LINE p ≡ false → IsElsewhere s first.at p)
+      → BeginsAtLines ws
+  begins_at_lines bars elsewhere = record {
+    none = λ t w s p none m. (bars.none t (own t w) s p (inr (inl (elsewhere s p none)))).none m;
+  }
+
+  -- what is known
+  pub knows_test : WantsFirst items first → (r : Option AsciiSet)
+      → ((test : Test) → Wants items first.wanted test → first.back ≡ 0 → has_ascii test ≡ true
+      → IsSomeAnd r (λ set. IsAsciiOf test set))
+      → KnowsTest ws r
+  knows_test wants r known = record {
+    known = λ t w test e has. let here = wants.test t (own t w) test e in known test here.1 here.0 has;
+  }
+
+  pub knows_lines : WantsFirst items first → (r : Bool) → IfSome first.at (λ code. r ≡ is_line_start code)
+      → KnowsLines ws r
+  knows_lines wants r known = record {
+    known = λ t w code e is.
+        subst (λ a. IfSome a (λ c. r ≡ is_line_start c)) (wants.code t (own t w) code e) known ∙ is;
+  }

@@ -44,9 +44,6 @@ has_test_prop ws i x y =
     ap to (keyed (TestAt ws i) (test_once ws i) (λ k. stands_prop ws i k.1 k.0)
     ((x.test, x.end), x.stands) ((y.test, y.end), y.stands))
 
-leads_prop : (t : Tree) (front : Option Test) (test : Test) → IsProp (RunLeads t front test)
-leads_prop t front test = hlevel props
-
 front_once : (ws : List ℕ) (first : Option ℕ) (a b : Option Test) → FrontStands ws first a → FrontStands ws first b
     → a ≡ b
 front_once ws None None None x y = λ _. None
@@ -78,12 +75,7 @@ run_once ws t first place k m x y =
     λ n. (front n, test n)
 
 run_prop : (ws : List ℕ) (t : Tree) (first : Option ℕ) (place : ℕ) (k : Key) → IsProp (RunAt ws t first place k)
-run_prop ws t first place k = hlevel (
-  props,
-  front_prop ws first k.0,
-  stands_prop ws place k.1.1 k.1.0,
-  leads_prop t k.0 k.1.0,
-)
+run_prop ws t first place k = hlevel (props, front_prop ws first k.0, stands_prop ws place k.1.1 k.1.0)
 
 run_stands_prop : (ws : List ℕ) (t : Tree) (first : Option ℕ) (place : ℕ) → IsProp (RunStands ws t first place)
 run_stands_prop ws t first place x y =
@@ -105,20 +97,16 @@ tests_prop ws (wanted.Test place) = has_test_prop ws place
 tests_prop ws (Set place set) = hlevel (props, has_test_prop ws place)
 tests_prop ws (Characters set) = hlevel props
 
-lead_prop : (ws : List ℕ) (t : Tree) (lead : Option LeadingRun)
-    → IsProp (IfSome lead (λ run. RunStands ws t run.first run.test))
-lead_prop ws t None = hlevel props
-lead_prop ws t (Some run) = run_stands_prop ws t run.first run.test
+if_some_prop : {A : Type 0} (P : A → Type 0) → ((x : A) → IsProp (P x)) → (o : Option A) → IsProp (IfSome o P)
+if_some_prop P each None = hlevel props
+if_some_prop P each (Some x) = each x
 
 opens_prop : (ws : List ℕ) (o : Opening) → IsProp (Opens ws o)
 opens_prop ws o =
     let leads : (t : Tree) → IsProp (IfSome o.lead (λ run. RunStands ws t run.first run.test)) =
-    λ t. lead_prop ws t o.lead in
+    λ t. if_some_prop (λ (run : LeadingRun). RunStands ws t run.first run.test)
+    (λ run. run_stands_prop ws t run.first run.test) o.lead in
     hlevel (props, tests_prop ws o.first.wanted, leads)
 
-opening_prop : (ws : List ℕ) (o : Option Opening) → IsProp (IfSome o (Opens ws))
-opening_prop ws None = hlevel props
-opening_prop ws (Some o) = opens_prop ws o
-
 pub one_sets_of : {ws : List ℕ} {sets : Sets} → IsProp (SetsOf ws sets)
-one_sets_of {ws} {sets} = hlevel (props, opening_prop ws sets.opening)
+one_sets_of {ws} {sets} = hlevel (props, if_some_prop (Opens ws) (opens_prop ws) sets.opening)

@@ -198,7 +198,7 @@ fn behind_next<S: StrDrive>(
 // Moves, with no word matched, to where the next sought word would have the prefix begin, and past the first character
 // there.
 #[inline(never)]
-#[tactic(auto, using(crate::proofs::Seeking::sought_laws))]
+#[tactic(auto, using(crate::proofs::Steps::sought_laws))]
 fn behind_sought<S: StrDrive>(
     req: &Request<'_, S>,
     prefix: &Prefix<'_>,
@@ -242,7 +242,7 @@ fn behind_sought<S: StrDrive>(
 
 // Moves, with no word matched, past the next first word; or as `behind_sought` does, if that is not the sought one.
 #[inline(always)]
-#[tactic(auto, using(crate::proofs::Seeking::first_laws))]
+#[tactic(auto, using(crate::proofs::Steps::first_laws))]
 fn behind_none<S: StrDrive>(
     req: &Request<'_, S>,
     prefix: &Prefix<'_>,

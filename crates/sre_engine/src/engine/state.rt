@@ -414,7 +414,7 @@ impl<A: Allocator + Copy> State<A> {
     /// # Errors
     ///
     /// [`SreError::Memory`] if an allocation fails.
-    #[tactic(auto, using(crate::proofs::Limiting::within_laws))]
+    #[tactic(auto, using(crate::proofs::Carrying::within_laws))]
     pub fn search_within_by<S: StrDrive, F: Starts<S>>(
         &mut self,
         req: Request<'_, S>,

@@ -68,7 +68,7 @@ impl<S: StrDrive> Starts<S> for Nobody {
 // scan's cursor. The scan never goes back: it moves to a start from its cursor on, or stays. So it compares nothing
 // again.
 #[inline(always)]
-#[tactic(auto, using(crate::proofs::Telling::stays, crate::proofs::Telling::none_passed))]
+#[tactic(auto, using(crate::proofs::Looking::stays, crate::proofs::Looking::none_passed))]
 fn spot_told<S: StrDrive, F: Starts<S>>(
     req: &Request<'_, S>,
     spot: Spot,
@@ -99,7 +99,7 @@ fn spot_told<S: StrDrive, F: Starts<S>>(
 
 /// Finds the next occurrence of the prefix that the prefilter does not exclude, and moves past it.
 #[inline(always)]
-#[tactic(auto, using(crate::proofs::Telling::here_on))]
+#[tactic(auto, using(crate::proofs::Steps::here_on))]
 pub(crate) fn find_told<S: StrDrive, F: Starts<S>>(
     req: &Request<'_, S>,
     prefix: &Prefix<'_>,

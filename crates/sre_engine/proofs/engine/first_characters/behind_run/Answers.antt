@@ -1,6 +1,6 @@
 use Rattle.sre_engine.proofs.Terms.{◌≡◌, ◌+◌, subst, ap, arith, rules, Opcode, Word, skip, word_of, tree_within}
 use Rattle.sre_engine.proofs.Terms.{run_operand, run_there, PassesRun}
-use Rattle.sre_engine.proofs.OptionalRuns.{run_here, passes_run}
+use Rattle.sre_engine.proofs.FirstSets.{run_here, passes_run}
 use Rattle.sre_engine.proofs.engine.first_characters.behind_run.Goals as goal
 
 pub word-requires : goal.word-requires

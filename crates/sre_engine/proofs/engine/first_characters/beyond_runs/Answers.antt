@@ -1,6 +1,5 @@
-use Rattle.sre_engine.proofs.Terms.{◌+◌, arith, Tree, TreeStands, tree_within, leads_tree}
-use Rattle.sre_engine.proofs.FirstSets.{own_bars}
-use Rattle.sre_engine.proofs.OptionalRuns.{Beyond, beyond_more, beyond_done}
+use Rattle.sre_engine.proofs.Terms.{arith, Tree, TreeStands, tree_within, leads_tree}
+use Rattle.sre_engine.proofs.FirstSets.{own_bars, Beyond, beyond_more, beyond_done}
 use Rattle.sre_engine.proofs.engine.first_characters.beyond_runs.Goals as goal
 
 pub wanted_test-requires : goal.wanted_test-requires
@@ -10,10 +9,9 @@ wanted_test-requires c =
 pub returns-in-Some : goal.returns-in-Some
 returns-in-Some c = λ t stands.
     let ws = c.args.words.now in
-    beyond_done ws t c.run.place c.run.characters c.in_ok-own.own c.union.result (c.run.invariant.beyond t stands)
-    c.union.ensures
-    (own_bars ws c.run.place c.follow-reached.result.place c.follow-reached.result.back c.in-Some.test c.in_ok-own.own
-    c.follow-reached.ensures.leads (omega arith) c.in-Some.ensures.bars c.in_ok-own.ensures.taken)
+    beyond_done ws t _ _ _ _ (c.run.invariant.beyond t stands) c.union.ensures
+    (own_bars ws _ _ _ _ _ c.follow-reached.ensures.leads (omega arith) c.in-Some.ensures.bars
+    c.in_ok-own.ensures.taken)
 
 pub behind_run-requires : goal.behind_run-requires
 behind_run-requires c =
@@ -30,9 +28,7 @@ run-preserved c =
     let more : (t : Tree) → TreeStands ws c.args.start t
     → Beyond ws t c.in_ok-behind.behind c.union-characters.result =
     λ t stands.
-    beyond_more ws t c.run.place c.run.characters c.in_ok-own-2.own c.union-characters.result
-    (c.run.invariant.beyond t stands) c.union-characters.ensures c.follow-reached.result.place
-    (c.follow-reached.result.place + 4) c.in_ok-behind.behind c.follow-reached.result.back
+    beyond_more ws t _ _ _ _ (c.run.invariant.beyond t stands) c.union-characters.ensures _ _ _ _
     c.follow-reached.ensures.leads (omega arith) c.in_ok-behind.ensures.passes c.in_ok-own-2.ensures.taken in
     record {
       there = let b = more c.requires.tree c.requires.stands in record { tree = b.tree; stands = b.stands };

@@ -1,5 +1,5 @@
 use Rattle.sre_engine.proofs.Terms.{◌-◌, length, Tree, TreeStands, HasTree}
-use Rattle.sre_engine.proofs.OptionalRuns.{Beyond}
+use Rattle.sre_engine.proofs.FirstSets.{Beyond}
 use Rattle.sre_engine.proofs.engine.first_characters.beyond_runs.Given as goal
 
 abbrev pub invariant-run : goal.invariant-run

@@ -1,5 +1,5 @@
 use Rattle.sre_engine.proofs.Terms.{arith}
-use Rattle.sre_engine.proofs.Beginnings.{test_lacks}
+use Rattle.sre_engine.proofs.Starting.{test_lacks}
 use Rattle.sre_engine.proofs.engine.first_characters.first_ascii.Goals as goal
 
 pub returns-in-Test-clause-lacks : goal.returns-in-Test-clause-lacks

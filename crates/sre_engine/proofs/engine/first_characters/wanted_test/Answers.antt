@@ -1,6 +1,6 @@
 use Rattle.sre_engine.proofs.Terms.{sym, ◌∙◌, ◌≤◌, rules, Opcode, tree_within, run_operand, run_there}
 use Rattle.sre_model.proofs.FirstCharacters.{test_there, test_bars, run_bars, some_test_here}
-use Rattle.sre_engine.proofs.OptionalRuns.{run_here}
+use Rattle.sre_engine.proofs.FirstSets.{run_here}
 use Rattle.sre_engine.proofs.Leading.{found_here, found_inside, found_some, found_known, found_either}
 use Rattle.sre_engine.proofs.engine.first_characters.wanted_test.Goals as goal
 
@@ -20,8 +20,7 @@ pub returns-then-operand-gt0 : goal.returns-then-operand-gt0
 returns-then-operand-gt0 c =
     let run = (run_here c.args.words.now c.args.place _ (search rules) c.in-REPEAT_ONE.is).1 in
     record {
-      bars = λ t stands s p lacking.
-          run_bars c.args.words.now t _ stands _ run c.operand.ensures.word c.if-operand-gt0.true s p lacking;
+      bars = λ t stands. run_bars c.args.words.now t _ stands _ run c.operand.ensures.word c.if-operand-gt0.true;
       test = run_there c.args.words.now _ _ c.requires.stands run;
       own = λ t test stands first past. found_inside c.args.words.now _ t stands test first past run;
     }

@@ -1,7 +1,7 @@
-use Rattle.sre_engine.proofs.Terms.{ℕ, ◌≡◌, ◌+◌, ◌-◌, ◌<◌, false, length, Option, Some, None, refl, sym, ◌∙◌, subst}
-use Rattle.sre_engine.proofs.Terms.{arith, rules, Tree, Opcode, Whole, WholeItems, words_of, Code, run_of, tree_of}
-use Rattle.sre_engine.proofs.Terms.{RunAhead, whole_of, whole_items, whole_ahead, ahead_within, run_operands}
-use Rattle.sre_engine.proofs.Terms.{run_stands, test_ahead, test_further, behind_test, mark_ahead}
+use Rattle.sre_engine.proofs.Terms.{ℕ, ◌≡◌, ◌-◌, ◌<◌, false, length, Option, Some, None, refl, sym, ◌∙◌, subst, arith}
+use Rattle.sre_engine.proofs.Terms.{rules, Tree, Opcode, Whole, WholeItems, words_of, Code, run_of, tree_of, RunAhead}
+use Rattle.sre_engine.proofs.Terms.{whole_of, whole_items, whole_ahead, ahead_within, run_operands, run_stands}
+use Rattle.sre_engine.proofs.Terms.{test_ahead, test_further, behind_test, mark_ahead}
 use Rattle.std.specs.Option.{is_some}
 use Rattle.sre_chars.specs.declared.constants.SreOpcode.TheVariants as opcode
 use Rattle.sre_engine.proofs.engine.leading_run.leading_run.Goals as goal
@@ -12,10 +12,8 @@ pub item-init : goal.item-init
 item-init g c =
     let words = (run_of c.args.req.now).words in
     record {
-      within =
-          ahead_within words (tree_of words) 0 None
-          (whole_ahead words (tree_of words) (whole_of c.args.req.now.pattern_codes));
-      ahead = λ t whole. whole_ahead words t whole;
+      within = ahead_within _ _ _ _ (whole_ahead words (tree_of words) (whole_of c.args.req.now.pattern_codes));
+      ahead = whole_ahead words;
     }
 
 pub item-preserved-in-MARK : goal.item-preserved-in-MARK
@@ -31,24 +29,21 @@ item-preserved-in-MARK g c =
     let behind = λ (t : Tree) (whole : WholeItems words t).
     mark_ahead words t c.item.place c.item.first (apart t whole) (c.item.invariant.ahead t whole) here in
     record {
-      within =
-          ahead_within words (tree_of words) (c.item.place + 2) c.item.first
-          (behind (tree_of words) (whole_of code));
+      within = ahead_within _ _ _ _ (behind (tree_of words) (whole_of code));
       ahead = behind;
     }
 
 pub operand-requires : goal.operand-requires
 operand-requires g c =
     let words = (run_of c.args.req.now).words in
-    run_operands words (tree_of words) c.item.place c.item.first c.in_ok-opcode.opcode
+    run_operands _ _ _ _ _
     (c.item.invariant.ahead (tree_of words) (whole_of c.args.req.now.pattern_codes)) c.in-REPEAT_ONE.is
     c.in_ok-opcode.ensures.opcode
 
 pub returns-in-REPEAT_ONE : goal.returns-in-REPEAT_ONE
 returns-in-REPEAT_ONE g c = λ t whole.
-    let words = (run_of c.args.req.now).words in
-    run_stands words t c.item.place c.item.first c.in_ok-opcode.opcode (c.item.invariant.ahead t whole)
-    c.in-REPEAT_ONE.is c.in_ok-opcode.ensures.opcode (search rules)
+    run_stands _ _ _ _ _ (c.item.invariant.ahead t whole) c.in-REPEAT_ONE.is c.in_ok-opcode.ensures.opcode
+    (search rules)
 
 -- no test stands in front
 no_front : (first : Option ℕ) → false ≡ is_some first → first ≡ None
@@ -67,20 +62,16 @@ test_end-place-requires g c =
     record {
       code = c.in_ok-opcode.ensures.opcode;
       stands =
-          test_ahead words (tree_of words) c.item.place c.in_ok-opcode.opcode
-          (ahead g c (tree_of words) (whole_of c.args.req.now.pattern_codes))
-          (sym c.is_test.ensures ∙ c.if-not-is_test.false)
-          c.in_ok-opcode.ensures.opcode;
+          test_ahead _ _ _ _ (ahead g c (tree_of words) (whole_of c.args.req.now.pattern_codes))
+          (sym c.is_test.ensures ∙ c.if-not-is_test.false) c.in_ok-opcode.ensures.opcode;
     }
 
 pub item-smaller : goal.item-smaller
 item-smaller g c =
     let words = (run_of c.args.req.now).words in
     let further =
-    test_further words (tree_of words) c.item.place c.in_ok-opcode.opcode
-    (ahead g c.before (tree_of words) (whole_of c.args.req.now.pattern_codes))
-    (sym c.is_test.ensures ∙ c.if-not-is_test.false) c.in_ok-opcode.ensures.opcode c.test_end-place.result
-    c.test_end-place.ensures in
+    test_further _ _ _ _ (ahead g c.before (tree_of words) (whole_of c.args.req.now.pattern_codes))
+    (sym c.is_test.ensures ∙ c.if-not-is_test.false) c.in_ok-opcode.ensures.opcode _ c.test_end-place.ensures in
     let within : c.item.place < length words = c.item.invariant.within in
     let smaller : length words - c.test_end-place.result < length words - c.item.place = omega arith in
     smaller
@@ -89,12 +80,9 @@ pub item-preserved : goal.item-preserved
 item-preserved g c =
     let words = (run_of c.args.req.now).words in
     let behind = λ (t : Tree) (whole : WholeItems words t).
-    behind_test words t c.item.place c.in_ok-opcode.opcode (ahead g c.before t whole)
-    (sym c.is_test.ensures ∙ c.if-not-is_test.false) c.in_ok-opcode.ensures.opcode c.test_end-place.result
-    c.test_end-place.ensures in
+    behind_test _ _ _ _ (ahead g c.before t whole) (sym c.is_test.ensures ∙ c.if-not-is_test.false)
+    c.in_ok-opcode.ensures.opcode _ c.test_end-place.ensures in
     record {
-      within =
-          ahead_within words (tree_of words) c.test_end-place.result (Some c.item.place)
-          (behind (tree_of words) (whole_of c.args.req.now.pattern_codes));
+      within = ahead_within _ _ _ _ (behind (tree_of words) (whole_of c.args.req.now.pattern_codes));
       ahead = behind;
     }

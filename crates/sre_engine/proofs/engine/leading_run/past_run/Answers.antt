@@ -24,16 +24,14 @@ returns-in_default-clause-none g c = λ t whole none.
 pub opcode-requires : goal.opcode-requires
 opcode-requires g c =
     let words = (run_of c.args.req.now).words in
-    front_test words (tree_of words) c.in-Some.first c.args.lead.now.test
-    (subst (λ first. RunStands words (tree_of words) first c.args.lead.now.test) c.in-Some.is
-    (c.requires.lead (tree_of words) (whole_of c.args.req.now.pattern_codes)))
+    let lead = c.requires.lead (tree_of words) (whole_of c.args.req.now.pattern_codes) in
+    front_test _ _ _ _ (subst (λ first. RunStands words (tree_of words) first c.args.lead.now.test) c.in-Some.is lead)
 
 pub takes-requires-clause-stands : goal.takes-requires-clause-stands
 takes-requires-clause-stands g c =
     let words = (run_of c.args.req.now).words in
-    front_test words (tree_of words) c.in-Some.first c.args.lead.now.test
-    (subst (λ first. RunStands words (tree_of words) first c.args.lead.now.test) c.in-Some.is
-    (c.requires.lead (tree_of words) (whole_of c.args.req.now.pattern_codes)))
+    let lead = c.requires.lead (tree_of words) (whole_of c.args.req.now.pattern_codes) in
+    front_test _ _ _ _ (subst (λ first. RunStands words (tree_of words) first c.args.lead.now.test) c.in-Some.is lead)
 
 pub longest_run-run-requires-2-clause-test : goal.longest_run-run-requires-2-clause-test
 longest_run-run-requires-2-clause-test g c =
@@ -66,6 +64,5 @@ returns-clause-none g c = λ t whole none.
     let count = λ (j : ℕ) (x : Test) (stands : TestStands words c.args.lead.now.test j x).
     run.ensures.count j x stands ∙ ap (longest_run (subject_of asked) x unlimited) c.read-character.ensures.position in
     subst (λ q. NoneBetween asked t p q) (sym next)
-    (none_behind_front asked t words c.args.lead.now.test p none c.in-Some.first c.read-character.result.0
-    run.result.count
-    c.takes.result lead inside c.read-character.ensures.character c.takes.ensures c.if-not-takes.false count)
+    (none_behind_front asked t words _ p none _ _ _ _ lead inside c.read-character.ensures.character c.takes.ensures
+    c.if-not-takes.false count)

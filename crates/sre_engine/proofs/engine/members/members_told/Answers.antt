@@ -1,5 +1,5 @@
 use Rattle.sre_engine.proofs.Terms.{◌≡◌, ◌∙◌, ap, subst, sym, List, ℕ, words_of, code_of, HasSet, AreTold, told}
-use Rattle.sre_engine.proofs.AmongMembers.{set_there}
+use Rattle.sre_engine.proofs.FirstMembers.{set_there}
 use Rattle.sre_engine.proofs.engine.members.members_told.Goals as goal
 
 pub ascii_members-requires : goal.ascii_members-requires

@@ -1,6 +1,5 @@
 use Rattle.sre_engine.proofs.Terms.{subst, sym, ◌∙◌, ◌<◌, arith, Bool, IsTrue, slice_index, start_of, run_of, FirstSame}
-use Rattle.sre_engine.proofs.Steps.{Inside}
-use Rattle.sre_engine.proofs.Seeking.{sought_inside, sought_there, sought_other}
+use Rattle.sre_engine.proofs.Steps.{Inside, sought_inside, sought_there, sought_other}
 use Rattle.sre_engine.proofs.engine.prefix.behind_sought.Goals as goal
 use Rattle.sre_engine.proofs.engine.prefix.behind_sought.Goals.{After-is_same}
 use Rattle.sre_engine.proofs.engine.prefix.behind_sought.Given.{Over}
@@ -20,20 +19,22 @@ inside g c =
     subst (λ (b : Bool). FirstSame r (slice_index ws k) ahead b behind) c.if-not-is_there.false
     c.behind_next-is_there.ensures.first in
     let on = (g.met.S.StrDrive.stands_at _ _ _ c.skip.ensures).0 in
-    sought_inside r ws (start_of c.args.req.now) c.args.compared.now c.behind_next-is_there.new.compared k
-    c.back_by.result.position c.args.start ahead behind c.requires.here c.args.prefix.now.among on first
+    sought_inside r ws (start_of c.args.req.now) c.args.compared.now k c.args.start c.requires.here
+    c.args.prefix.now.among c.behind_next-is_there.new.compared ahead behind on c.back_by.result.position first
     c.behind_next-is_there.ensures.counted c.back_by.ensures.position
 
 pub returns-then-is_same-clause-goes : goal.returns-then-is_same-clause-goes
 returns-then-is_same-clause-goes g c =
-    sought_there (run_of c.args.req.now) c.args.prefix.now.words.now (start_of c.args.req.now) _ _ _ c.args.start
+    sought_there _ c.args.prefix.now.words.now (start_of c.args.req.now) _ _ _ _ c.args.start
     c.read-character.result.1 (inside g (goal.at.returns-then-is_same-clause-goes g c).After-is_same)
+    c.read-character.ensures.position
     (sym c.read-character.ensures.character ∙ c.is_same.ensures.same.0 c.if-is_same.true)
-    c.read-character.ensures.position (omega (arith, c.is_same.ensures.counted))
+    (omega (arith, c.is_same.ensures.counted))
 
 pub returns-clause-goes : goal.returns-clause-goes
 returns-clause-goes g c =
-    sought_other (run_of c.args.req.now) c.args.prefix.now.words.now (start_of c.args.req.now) _ _ _ c.args.start
+    sought_other _ c.args.prefix.now.words.now (start_of c.args.req.now) _ _ _ _ c.args.start
     c.read-character.result.1 (inside g (goal.at.returns-clause-goes g c).After-is_same)
+    c.read-character.ensures.position
     (λ e. let h : IsTrue c.is_same.result = c.is_same.ensures.same.1 (c.read-character.ensures.character ∙ e) in cc)
-    c.read-character.ensures.position c.is_same.ensures.counted
+    c.is_same.ensures.counted

@@ -20,12 +20,11 @@ slice_bounds-prefix-end g c = omega (arith, room g (goal.at.slice_bounds-prefix-
 
 pub invariant_of-result : goal.invariant_of-result
 invariant_of-result g c =
-    let code = c.pattern_codes-code.result in
     let e = hint g (goal.at.invariant_of-result g c).After-words-words in
     record {
       confirmed =
           subst (λ (ws : List ℕ). Overlapping (prefix_of ws c.in-Some.length) (overlaps_of ws c.in-Some.length))
-          (sym c.words-words.ensures.same) (prefix_overlaps code c.in-Some.length c.in-Some.literals e);
+          (sym c.words-words.ensures.same) (prefix_overlaps c.pattern_codes-code.result _ _ e);
       among = c.sought.ensures;
     }
 

@@ -3,4 +3,4 @@ use Rattle.sre_engine.proofs.engine.prefix.go_on.Goals as goal
 
 pub returns-clause-passed : goal.returns-clause-passed
 returns-clause-passed g c =
-    onward_skips _ _ c.args.prefix.now.overlaps.now _ _ _ _ _ c.requires.here c.args.prefix.now.confirmed c.requires.all
+    onward_skips _ _ _ _ _ _ _ c.requires.here c.args.prefix.now.overlaps.now c.args.prefix.now.confirmed c.requires.all

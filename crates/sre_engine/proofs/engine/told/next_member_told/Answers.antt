@@ -1,5 +1,5 @@
 use Rattle.sre_engine.proofs.Terms.{refl, code_of, asked_of}
-use Rattle.sre_engine.proofs.AmongMembers.{none_until_member}
+use Rattle.sre_engine.proofs.FirstMembers.{none_until_member}
 use Rattle.sre_engine.proofs.engine.told.next_member_told.Goals as goal
 
 pub returns-clause-none : goal.returns-clause-none

@@ -1,5 +1,5 @@
 use Rattle.sre_engine.proofs.Terms.{◌≡◌, refl, ap, ◌∙◌, Asked, words_of, hints_of, code_of, asked_of, GoesOn, code_tree}
-use Rattle.sre_engine.proofs.Walking.{stands_next, steps_on, falls_on}
+use Rattle.sre_engine.proofs.CountLaws.{stands_next, steps_on, falls_on}
 use Rattle.sre_engine.proofs.engine.walk.step_within.Goals as goal
 use Rattle.sre_engine.proofs.engine.walk.step_within.Goals.{After-set_start}
 use Rattle.sre_engine.proofs.engine.walk.step_within.Given.{Over}
@@ -31,16 +31,14 @@ returns-clause-stepped g c =
     let asked = c.args.req.now in
     let tree = code_tree (words_of (code_of asked)) (hints_of (code_of asked)) (code_of asked).checked in
     let told = c.in_ok-search_admitted.ensures.answers in
+    let b = c.in_ok-search_admitted.field-0 in
+    let s = c.search_admitted.new.state in
     let next = (goes_on g c).asked in
     let yes = c.if-not-branch.false in
     record {
-      ok = λ t whole.
-          steps_on (asked_of asked) t c.in_ok-search_admitted.field-0 c.search_admitted.new.state
-          (told.answer t whole) yes (asked_of c.set_start.new.self) next;
+      ok = λ t whole. steps_on (asked_of asked) t b s (told.answer t whole) yes _ next;
       yes = λ _. goes_on g c;
-      falls = λ _.
-          falls_on (asked_of asked) tree.0 c.in_ok-search_admitted.field-0 c.search_admitted.new.state
-          (told.answer tree.0 tree.1) yes (asked_of c.set_start.new.self) next;
+      falls = λ _. falls_on (asked_of asked) tree.0 b s (told.answer tree.0 tree.1) yes _ next;
       no = λ never. absurd (cc never);
       err = tt;
       counts = told.counts;

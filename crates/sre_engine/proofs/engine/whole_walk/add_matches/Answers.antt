@@ -1,6 +1,6 @@
 use Rattle.sre_engine.proofs.Terms.{[], ◌∷◌, cond, ◌≡◌, ◌+◌, ◌-◌, ◌∙◌, arith, ap, subst, sym, vec_len, Whole, walk}
 use Rattle.sre_engine.proofs.Terms.{words_of, start_of, end_of, code_of, asked_of, match_of, match_shown, StepsCount}
-use Rattle.sre_engine.proofs.WalkCounts.{counts_more, inside_on, match_on, asked_on, list_on}
+use Rattle.sre_engine.proofs.CountLaws.{counts_more, inside_on, match_on, asked_on, list_on}
 use Rattle.sre_engine.proofs.engine.whole_walk.add_matches.Goals as goal
 use Rattle.sre_engine.proofs.engine.whole_walk.add_matches.Goals.{After-counted_step}
 use Rattle.sre_engine.proofs.engine.whole_walk.add_matches.Given.{Over}

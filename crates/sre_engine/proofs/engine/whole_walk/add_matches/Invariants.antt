@@ -1,7 +1,7 @@
 use Rattle.sre_engine.proofs.Terms.{◌≡◌, ◌≤◌, ◌+◌, ◌-◌, ◌++◌, map, vec_len, Tree, Whole, walk, most_matches, items_of}
 use Rattle.sre_engine.proofs.Terms.{words_of, string_of, start_of, end_of, code_of, must_advance_of, asked_of}
 use Rattle.sre_engine.proofs.Terms.{stands_in, StepsCount, SetsOf, match_of}
-use Rattle.sre_engine.proofs.WalkCounts.{step_of}
+use Rattle.sre_engine.proofs.CountLaws.{step_of}
 use Rattle.sre_engine.proofs.engine.whole_walk.add_matches.Given as goal
 
 abbrev pub invariant-step : goal.invariant-step

@@ -1,5 +1,5 @@
-use Rattle.sre_engine.proofs.Terms.{◌≡◌, ℕ, Option, Some, None, sym, ap, ◌∙◌, subst, hints_of, Code, Hints, code_of}
-use Rattle.sre_engine.proofs.Terms.{asked_of, IsLast}
+use Rattle.sre_engine.proofs.Terms.{◌≡◌, ℕ, Option, Some, sym, ap, ◌∙◌, subst, hints_of, Code, Hints, code_of, asked_of}
+use Rattle.sre_engine.proofs.Terms.{IsLast}
 use Rattle.sre_engine.proofs.Hinting.{last_none, last_if}
 use Rattle.sre_engine.proofs.engine.widths.last_start.Goals as goal
 
@@ -13,13 +13,10 @@ returns-in-None g c =
     let asked = c.args.req.now in
     subst (λ n. IsLast (asked_of asked) (code_of asked) (Some n)) (sym c.end.ensures.value)
     (last_none (asked_of asked) (code_of asked)
-    (width_hint c.pattern_codes.result (code_of asked) c.hints.result None c.hints.ensures.same
-    c.pattern_codes.ensures c.in-None.is))
+    (width_hint _ _ _ _ c.hints.ensures.same c.pattern_codes.ensures c.in-None.is))
 
 pub returns-in-Some : goal.returns-in-Some
 returns-in-Some g c =
     let asked = c.args.req.now in
-    last_if (asked_of asked) (code_of asked) c.in-Some.width c.end-in-Some.result c.checked_sub.result
-    c.end-in-Some.ensures.value
-    (width_hint c.pattern_codes.result (code_of asked) c.hints.result (Some c.in-Some.width) c.hints.ensures.same
-    c.pattern_codes.ensures c.in-Some.is) c.checked_sub.ensures
+    last_if (asked_of asked) (code_of asked) _ _ _ c.end-in-Some.ensures.value
+    (width_hint _ _ _ _ c.hints.ensures.same c.pattern_codes.ensures c.in-Some.is) c.checked_sub.ensures

@@ -1,5 +1,5 @@
 use Rattle.sre_engine.proofs.Terms.{words_of, items_of}
-use Rattle.sre_engine.proofs.Beginnings.{begins_in, begins_at_lines, knows_test, knows_lines}
+use Rattle.sre_engine.proofs.Starting.{begins_in, begins_at_lines, knows_test, knows_lines}
 use Rattle.sre_engine.proofs.engine.first_characters.Beginnings.of_code.Goals as goal
 
 pub returns-clause-ascii : goal.returns-clause-ascii

@@ -1,7 +1,7 @@
 use Rattle.sre_engine.proofs.Terms.{◌≡◌, ◌≤◌, Ok, true, false, Some, None, sym, subst, arith, rules, at_start, words_of}
 use Rattle.sre_engine.proofs.Terms.{hints_of, start_of, end_of, code_of, asked_of, stands_in, code_tree, items_whole}
-use Rattle.sre_engine.proofs.Answering.{none_at, some_at, span_at}
-use Rattle.sre_engine.proofs.Costing.{passed_on}
+use Rattle.sre_engine.proofs.LeadingStarts.{none_at, some_at, span_at}
+use Rattle.sre_engine.proofs.Spending.{passed_on}
 use Rattle.sre_engine.proofs.Looking.{once_charged}
 use Rattle.sre_engine.proofs.engine.state.State.match_from.Goals as goal
 

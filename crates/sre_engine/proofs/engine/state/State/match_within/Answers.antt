@@ -1,5 +1,5 @@
 use Rattle.sre_engine.proofs.Terms.{refl, arith}
-use Rattle.sre_engine.proofs.Enough.{keeps_to, used_up}
+use Rattle.sre_engine.proofs.Spending.{keeps_to, used_up}
 use Rattle.sre_engine.proofs.engine.state.State.match_within.Goals as goal
 
 pub returns-in-Ok-clause-steps : goal.returns-in-Ok-clause-steps

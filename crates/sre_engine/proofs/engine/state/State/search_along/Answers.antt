@@ -1,8 +1,7 @@
-use Rattle.sre_engine.proofs.Terms.{Ok, refl, ap, arith, rules, code_of, asked_of}
-use Rattle.sre_engine.proofs.Costing.{passed_on}
+use Rattle.sre_engine.proofs.Terms.{Ok, refl, ap, arith, rules, asked_of}
+use Rattle.sre_engine.proofs.Spending.{passed_on}
 use Rattle.sre_engine.proofs.Hinting.{past_none}
-use Rattle.sre_engine.proofs.Answering.{none_joined}
-use Rattle.sre_engine.proofs.LeadingStarts.{found_none_behind}
+use Rattle.sre_engine.proofs.LeadingStarts.{none_joined, found_none_behind}
 use Rattle.sre_engine.proofs.Looking.{begins, ready, answered_no, charged, charged_then, answered_given_up, failed}
 use Rattle.sre_engine.proofs.Looking.{answered_yes, answered_over, searching_on}
 use Rattle.sre_engine.proofs.engine.state.State.search_along.Goals as goal
@@ -23,8 +22,7 @@ returns-then-is_past-clause-answers g c =
     let inv = c.candidate.invariant.searching in
     let some = c.in-Some.ensures.some in
     answered_no r _ _
-    (λ t whole. past_none (asked_of r) (code_of r) c.last_start-last.result t _ c.last_start-last.ensures whole
-    (c.is_past.ensures.past c.if-is_past.true)
+    (λ t whole. past_none _ _ _ t _ c.last_start-last.ensures whole (c.is_past.ensures.past c.if-is_past.true)
     (none_joined (asked_of r) t _ _ _ (inv.none t whole) (some.none.none t whole)))
     (ap (λ b. b.marks) inv.fresh) inv.ran (omega (arith, inv.inside)) c.in-Some.ensures.few
 

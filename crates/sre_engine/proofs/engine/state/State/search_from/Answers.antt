@@ -1,6 +1,6 @@
 use Rattle.sre_engine.proofs.Terms.{◌≡◌, true, false, refl, sym, ◌∙◌, rules, items_whole, code_of}
-use Rattle.sre_engine.proofs.MayStart.{not_literal, on_error}
-use Rattle.sre_engine.proofs.Searching.{anchored_never}
+use Rattle.sre_engine.proofs.CountLaws.{not_literal, on_error}
+use Rattle.sre_engine.proofs.PrefixWays.{anchored_never}
 use Rattle.sre_engine.proofs.engine.state.State.search_from.Goals as goal
 
 pub returns-in-Some-clause-anchored : goal.returns-in-Some-clause-anchored

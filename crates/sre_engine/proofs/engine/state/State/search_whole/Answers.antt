@@ -1,24 +1,23 @@
 use Rattle.sre_engine.proofs.Terms.{◌≡◌, ◌≤◌, ◌+◌, ◌-◌, ◌||◌, ℕ, true, false, not, nat_eq, Some, None, length, refl}
 use Rattle.sre_engine.proofs.Terms.{sym, ap, ◌∙◌, subst, arith, rules, StringCursor, no_marks, at_start, code_of}
 use Rattle.sre_engine.proofs.Terms.{asked_of, stands_in, Stands, BoardValue}
-use Rattle.sre_engine.proofs.Answering.{NoneBefore, found_first}
+use Rattle.sre_engine.proofs.LeadingStarts.{NoneBefore, found_first, none_joined, none_here}
 use Rattle.sre_engine.proofs.Looking.{answered_no}
 use Rattle.sre_engine.proofs.Steps.{complete}
-use Rattle.sre_engine.proofs.MayStart.{ran_none, counts_ran, has_prefix}
-use Rattle.sre_engine.proofs.Searching.{none_further, none_in_window, none_unplaced, whole_at}
+use Rattle.sre_engine.proofs.CountLaws.{ran_none, counts_ran, has_prefix}
+use Rattle.sre_engine.proofs.PrefixWays.{none_in_window, none_unplaced, whole_at}
 use Rattle.sre_engine.proofs.engine.state.State.search_whole.Goals as goal
 
 pub returns-clause-answers : goal.returns-clause-answers
 returns-clause-answers g c =
     let asked = c.args.req.now in
     let a = asked_of asked in
-    let vs = c.args.prefix.now.words.now in
     let is = c.requires.is in
     let some = c.args.prefix.now.confirmed.some in
     let inv = c.place.invariant in
     let here = c.find.ensures.here in
     answered_no asked _ 0
-    (λ t whole. none_in_window a t (none_unplaced a (code_of asked) vs _ _ is some t whole _ _ (inv.none t whole)
+    (λ t whole. none_in_window a t (none_unplaced a _ _ _ _ is some t whole _ _ (inv.none t whole)
     (c.find.ensures.none c.place-test.false)))
     (ap (λ b. b.marks) inv.fresh) (ran_none a (code_of asked) _ 0 inv.idle) (omega arith)
     (record {
@@ -50,10 +49,8 @@ returns-then-may_end-clause-answers g c =
     record {
       answer = λ t whole.
           let before : NoneBefore a t c.prefix_start.result =
-          subst (NoneBefore a t) at
-          (none_unplaced a (code_of asked) vs _ _ is some t whole _ _ (inv.none t whole) there.1) in
-          let match = whole_at a (code_of asked) vs _ _ is some c.prefix_start.result stands c.requires.all t whole
-          c.find.new.spot.cursor.position ends from in
+          subst (NoneBefore a t) at (none_unplaced a _ _ _ _ is some t whole _ _ (inv.none t whole) there.1) in
+          let match = whole_at a _ _ _ _ is some _ stands c.requires.all t whole _ ends from in
           let found_ : at_start a t c.prefix_start.result
           ≡ Some (record {
             start = c.prefix_start.result;
@@ -97,16 +94,13 @@ place-preserved g c =
       idle = inv.idle;
       calm = inv.calm;
       none = λ t whole.
-          let stands = complete a.text vs a.start a.end _ _ _ here there.0 in
-          let before = none_unplaced a (code_of asked) vs _ _ is some t whole _ _ (inv.none t whole) there.1 in
-          let ends : c.find.new.spot.cursor.position
-          ≡ c.find.new.spot.cursor.position - c.find.new.spot.matched + length vs =
-          omega (arith, there.0, here.front.from) in
-          let match = whole_at a (code_of asked) vs _ _ is some _ stands c.requires.all t whole
-          c.find.new.spot.cursor.position ends (omega (arith, here.front.from)) in
+          let stands = complete _ _ _ _ _ _ _ here there.0 in
+          let before = none_unplaced a _ _ _ _ is some t whole _ _ (inv.none t whole) there.1 in
+          let ends : c.find.new.spot.cursor.position ≡ s + length vs = omega (arith, there.0, here.front.from) in
+          let match = whole_at a _ _ _ _ is some _ stands c.requires.all t whole _ ends
+          (omega (arith, here.front.from)) in
           let left : (not a.match_all || nat_eq c.find.new.spot.cursor.position a.end) ≡ false =
           sym c.may_end.ensures ∙ c.if-may_end.false in
-          let none : at_start a t (c.find.new.spot.cursor.position - c.find.new.spot.matched) ≡ None =
-          match ∙ rw left refl in
-          none_unplaced a (code_of asked) vs _ _ is some t whole _ _ (none_further a t _ before none) on.passed;
+          let none : at_start a t s ≡ None = match ∙ rw left refl in
+          none_unplaced a _ _ _ _ is some t whole _ _ (none_joined a t _ _ _ before (none_here a t _ none)) on.passed;
     }

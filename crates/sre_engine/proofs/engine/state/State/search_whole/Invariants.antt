@@ -1,6 +1,6 @@
 use Rattle.sre_engine.proofs.Terms.{◌≡◌, ◌+◌, ◌-◌, Tree, no_marks, Whole, bare, words_of, start_of, end_of, code_of}
 use Rattle.sre_engine.proofs.Terms.{asked_of, run_of, Here}
-use Rattle.sre_engine.proofs.Answering.{NoneBefore}
+use Rattle.sre_engine.proofs.LeadingStarts.{NoneBefore}
 use Rattle.sre_engine.proofs.engine.state.State.search_whole.Given as goal
 
 abbrev pub invariant-place : goal.invariant-place

@@ -1,6 +1,6 @@
 use Rattle.sre_engine.proofs.Terms.{refl}
 use Rattle.sre_engine.proofs.CountLaws.{once}
-use Rattle.sre_engine.proofs.Enough.{keeps_to, used_up}
+use Rattle.sre_engine.proofs.Spending.{keeps_to, used_up}
 use Rattle.sre_engine.proofs.engine.state.State.search_within_by.Goals as goal
 
 pub returns-in-Ok-clause-steps : goal.returns-in-Ok-clause-steps

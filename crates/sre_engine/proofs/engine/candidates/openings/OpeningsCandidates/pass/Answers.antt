@@ -1,15 +1,13 @@
-use Rattle.sre_engine.proofs.CandidateLaws.{passed_to}
+use Rattle.sre_engine.proofs.Looking.{passed_to}
 use Rattle.sre_engine.proofs.engine.candidates.openings.OpeningsCandidates.pass.Goals as goal
 
 pub returns-clause-passed : goal.returns-clause-passed
 returns-clause-passed g c = λ e.
-    rw e at (passed_to c.args.req.now c.args.candidate _ _ c.requires.is_at.1 c.requires.failed c.requires.inside
-    c.pass_start.ensures)
+    rw e at (passed_to c.args.req.now _ _ _ c.requires.is_at.1 c.requires.failed c.requires.inside c.pass_start.ensures)
 
 pub returns-clause-none : goal.returns-clause-none
 returns-clause-none g c = λ e.
-    rw e at (passed_to c.args.req.now c.args.candidate _ _ c.requires.is_at.1 c.requires.failed c.requires.inside
-    c.pass_start.ensures)
+    rw e at (passed_to c.args.req.now _ _ _ c.requires.is_at.1 c.requires.failed c.requires.inside c.pass_start.ensures)
 
 pub returns-then-not-self-clause-passed : goal.returns-then-not-self-clause-passed
 returns-then-not-self-clause-passed g c = λ e.

@@ -1,8 +1,7 @@
 use Rattle.sre_engine.proofs.Terms.{◌≡◌, ◌+◌, ◌-◌, ◌*◌, refl, subst, arith, length, Reads, behind_items, items_of}
 use Rattle.sre_engine.proofs.Terms.{code_of, asked_of, run_of, whole_items, Stands, NoMatch}
-use Rattle.sre_engine.proofs.MayStart.{may_place}
-use Rattle.sre_engine.proofs.PrefixWays.{reads_behind}
-use Rattle.sre_engine.proofs.Searching.{decided_behind, far_end}
+use Rattle.sre_engine.proofs.CountLaws.{may_place}
+use Rattle.sre_engine.proofs.PrefixWays.{reads_behind, decided_behind, far_end}
 use Rattle.sre_engine.proofs.Steps.{complete}
 use Rattle.sre_engine.proofs.engine.candidates.places.PlacesCandidates.next.Goals as goal
 
@@ -37,8 +36,7 @@ returns-clause-some g c =
           is.few
           w.0);
       decides = λ t whole end m decided.
-          decided_behind a (code_of r) vs _ _ is some c.prefix_start.result stands (run_of r) refl t whole
-          c.behind_literals.result.position behind end m decided;
+          decided_behind a _ _ _ _ is some _ stands (run_of r) refl t whole _ behind end m decided;
       far = λ t whole m e.
           let far = far_end a (code_of r) vs _ _ is some c.prefix_start.result stands t whole m e in
           omega (arith, here.cost, here.front.from, there.0, at, far);
