@@ -85,6 +85,10 @@ wrote_more {M} {a} {b} {c} {xs} {ys} v w = by b.failure refl
     }
     by (Some d) p = wrote_past a b c xs ys ys d p v w
 
+-- what is no word
+pub long_word : (n : ℕ) (xs : List ℕ) → unlimited < n → AreWords (n ∷ xs) → ⊥
+long_word n xs l h = omega (arith, l, h.fits 0 n refl)
+
 -- Lists, from the last element to the first
 
 -- what is left of a list at a place: the element there, and those behind it
