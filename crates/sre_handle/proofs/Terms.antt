@@ -33,7 +33,7 @@ pub use mir.Syntax.{Dict, a_type, dnil, impl, tcons, tnil, ty_ptr}
 pub use mir.Val.{Val}
 pub use prog.Wp.{WpFn}
 pub use types.ByLocal.{alloc_all, free_all, get, get_in, look_at, pass_all, sets}
-pub use types.Kit.{!, await, by, drop, feq_i, fjoin, fsplit, group, join, keep, later, move, pick, qed, raw, rewrite}
+pub use types.Kit.{ !, await, by, drop, feq_i, fjoin, fsplit, group, join, keep, later, move, pick, qed, raw, rewrite}
 pub use types.Kit.{some, split, suffices, use0, use1, ◌$◌, ◌∵◌, ◌⊛◌, ‵}
 pub use types.Part.{agg, sub, whole}
 pub use types.Run.{and_then, enter, fld, no_more, of_opd, returns, stop}
