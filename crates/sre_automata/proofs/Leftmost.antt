@@ -1,23 +1,19 @@
 -- What the ends and the starts of a DFA's matches imply for a pattern's.
-use Rattle.std.proofs.Common.{◌≡◌, ◌≤◌, ◌<◌, ℕ, List, length, All, Option, Some, None, option_map}
-use Rattle.std.proofs.Common.{refl, sym, ap, ◌∙◌, subst, arith, inl, inr, Fits, w8, get_or}
+use Rattle.sre_automata.proofs.Terms.{◌≡◌, ◌≤◌, ◌<◌, ℕ, List, length, Option, Some, None, refl, sym, ap, ◌∙◌, subst}
+use Rattle.sre_automata.proofs.Terms.{arith, Re, Trace, accept, attempt, Accepts, Nfa, Implements, HasPaths, end_from}
+use Rattle.sre_automata.proofs.Terms.{IsLeast, NoneLeft, NoneUpTo, IsBetween, NoneBetween, EndsAt}
+use Rattle.std.proofs.Common.{All, option_map, inl, inr, Fits, w8, get_or}
 use Rattle.std.proofs.Math.Logic.{∥∥₁_elim}
 use Rattle.std.proofs.lemmas.Bool.{cases_lt}
 use Rattle.std.proofs.lemmas.List.Elements.{All-from_get_or}
-use Rattle.regex_hir.specs.Re.{Re, Trace, accept, attempt}
 use Rattle.regex_hir.specs.Find.{Match, find}
 use Rattle.regex_hir.proofs.FindLemmas.{none_of_first_between, first_between_cong, first_between_skip}
 use Rattle.regex_hir.proofs.FindLemmas.{first_between_here}
 use Rattle.regex_nfa.specs.Run.{run, find_in}
-use Rattle.regex_nfa.specs.Paths.{Accepts}
-use Rattle.regex_nfa.specs.declared.nfa.Nfa.{Nfa}
 use Rattle.regex_nfa.proofs.PathsLemmas.{no_path_of_run_none}
 use Rattle.regex_nfa.proofs.SearchLemmas.{run_unanchored, find_in_paths}
 use Rattle.regex_nfa.proofs.StopLemmas.{Accepts_stop, Accepts_wider}
-use Rattle.regex_compile.specs.Implements.{Implements, HasPaths}
-use Rattle.regex_dfa.specs.Search.{end_from, IsLeast}
 use Rattle.regex_dfa.specs.declared.reverse.Start.TheVariants as start
-use Rattle.sre_automata.specs.Told.{NoneLeft, NoneUpTo, IsBetween, NoneBetween, EndsAt}
 
 pub are_bytes : (hay : List ℕ) → ((i : ℕ) → Fits w8 (get_or hay i 0)) → All (λ b. b < 256) hay
 are_bytes hay h = All-from_get_or (λ b. b < 256) hay 0 (λ i _. omega (arith, h i))

@@ -1,2 +1,3 @@
 pub mod Leftmost
 pub mod Needles
+pub mod Terms

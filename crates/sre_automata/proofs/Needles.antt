@@ -1,25 +1,21 @@
 -- Where the bytes that each match contains occur no more, no match is left, and none is found.
-use Rattle.std.proofs.Common.{◌≡◌, ◌≤◌, ◌<◌, ◌+◌, ◌-◌, ℕ, zero, suc, List, [], ◌∷◌, length, drop, take, None, ap}
-use Rattle.std.proofs.Common.{◌∙◌, subst, arith, length-drop, get_or-drop, get_or}
-use Rattle.std.proofs.Common.{map, sym, true, Vec, Global}
+use Rattle.sre_automata.proofs.Terms.{◌≡◌, ◌≤◌, ◌<◌, ◌-◌, ℕ, List, length, None, ap, ◌∙◌, subst, arith, map, sym}
+use Rattle.sre_automata.proofs.Terms.{meaning, cat_all, Re, accept, attempt, NoneLeft, Contains}
+use Rattle.std.proofs.Common.{◌+◌, zero, suc, [], ◌∷◌, drop, take, length-drop, get_or-drop, get_or, true, Vec, Global}
 use Rattle.std.proofs.lemmas.List.{take_all}
 use Rattle.std.proofs.Math.ListN.{get_or-append}
 use Rattle.regex_hir.specs.declared.hir.Hir.{Hir}
 use Rattle.regex_hir.specs.declared.hir.Hir.TheVariants.{Literal, Concat}
-use Rattle.regex_hir.specs.Meaning.{meaning, cat_all}
 use Rattle.regex_hir.specs.Matches.{Matches}
 use Rattle.regex_hir.specs.Text.{has_bytes_at}
 use Rattle.regex_hir.proofs.TextLemmas.{has_bytes_at_parts, has_bytes_at_fits}
 use Rattle.regex_hir.proofs.MatchesLemmas.{Matches-IsSpan}
 use Rattle.regex_hir.proofs.MeaningLemmas.{meaning-Literal, meaning-Concat}
-use Rattle.regex_hir.specs.Re.{Re, accept, attempt}
 use Rattle.regex_hir.specs.Find.{find}
 use Rattle.regex_hir.proofs.OptionLemmas.{none_of_no_value}
 use Rattle.regex_hir.proofs.AttemptLemmas.{attempt_sound}
 use Rattle.regex_hir.proofs.FindLemmas.{first_between_none}
 use Rattle.memchr.specs.Find.{FindsNeedle, OccursAt}
-use Rattle.sre_automata.specs.Told.{NoneLeft}
-use Rattle.sre_automata.specs.Needles.{Contains}
 
 -- bytes that a literal reads stand where it reads them
 occurs_of : (hay bytes : List ℕ) (i : ℕ) → i ≤ length hay → has_bytes_at hay i bytes ≡ true → OccursAt hay bytes i

@@ -1,2 +1,3 @@
 pub mod Told
 pub mod Needles
+pub mod Terms

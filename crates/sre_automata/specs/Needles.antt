@@ -1,11 +1,9 @@
 -- What is known of a pattern that is sought: bytes that each match contains, and its DFAs.
 -- Definitions for the contracts of this crate.
 use Rattle.std.specs.Prelude.{⊤, ℕ, ◌≤◌, List, length, Option, Some, None}
-use Rattle.regex_hir.specs.Re.{Re}
+use Rattle.sre_automata.specs.Terms.{Re, Nfa, Implements, HasPaths}
 use Rattle.regex_hir.specs.Matches.{Matches}
 use Rattle.memchr.specs.Find.{OccursAt}
-use Rattle.regex_nfa.specs.declared.nfa.Nfa.{Nfa}
-use Rattle.regex_compile.specs.Implements.{Implements, HasPaths}
 
 -- bytes stand in a text at a place or behind it
 pub record StandsFrom (hay bytes : List ℕ) (start : ℕ) : Type 0 where

@@ -1,11 +1,10 @@
 -- What DFAs report about the matches of a pattern.
 -- Definitions for the contracts of this crate.
 use Rattle.std.specs.Prelude.{◌≡◌, ⊤, ℕ, ◌≤◌, ◌<◌, List, length, Some, None}
-use Rattle.regex_hir.specs.Re.{Re}
+use Rattle.sre_automata.specs.Terms.{Re, Nfa}
 use Rattle.regex_hir.specs.Matches.{Matches}
 use Rattle.regex_hir.specs.Find.{Match, find}
 use Rattle.regex_nfa.specs.Run.{run}
-use Rattle.regex_nfa.specs.declared.nfa.Nfa.{Nfa}
 use Rattle.regex_dfa.specs.Search.{end_from}
 use Rattle.sre_automata.specs.declared.Told.{Told}
 use Rattle.sre_automata.specs.declared.Told.TheVariants.{Nothing, From}

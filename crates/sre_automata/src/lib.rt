@@ -6,9 +6,7 @@
 #![tactic(auto)]
 
 ghost use Rattle.std.specs.Prelude.{◌≡◌, ◌≤◌, IfSome, length};
-ghost use Rattle.regex_hir.specs.Re.{Re};
-ghost use Rattle.regex_hir.specs.Meaning.{meaning};
-ghost use Rattle.regex_compile.specs.Implements.{Implements, HasPaths};
+ghost use Rattle.sre_automata.specs.Terms.{Re, meaning, Implements, HasPaths};
 ghost use Rattle.sre_automata.specs.Told.{Tells, FindsFirst, NoneBetween, EndsAt};
 
 use regex_compile::compile;

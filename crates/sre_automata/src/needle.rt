@@ -1,8 +1,7 @@
 //! Required literals: bytes that each match of a pattern contains. If they do not occur, no match is left.
 
 ghost use Rattle.std.specs.Prelude.{◌≡◌, ◌≤◌, IfSome, length, map, true};
-ghost use Rattle.regex_hir.specs.Re.{Re};
-ghost use Rattle.regex_hir.specs.Meaning.{meaning, cat_all};
+ghost use Rattle.sre_automata.specs.Terms.{Re, meaning, cat_all};
 ghost use Rattle.sre_automata.specs.Told.{NoneLeft};
 ghost use Rattle.sre_automata.specs.Needles.{Contains, ContainsAny};
 

@@ -1,7 +1,7 @@
 //! The search for a pattern: first for a required literal, then by DFAs, which are built on first use.
 
 ghost use Rattle.std.specs.Prelude.{◌≡◌, ◌≤◌, length, true, IfSome};
-ghost use Rattle.regex_hir.specs.Meaning.{meaning};
+ghost use Rattle.sre_automata.specs.Terms.{meaning};
 ghost use Rattle.sre_automata.specs.Told.{Tells, FindsFirst, NoneLeft};
 
 use crate::needle::{Needle, lacks};

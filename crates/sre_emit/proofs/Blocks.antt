@@ -1,23 +1,19 @@
 -- A block before the code words of a tree: its rows, that they are still the tree's, and that its claims are confirmed.
-use Rattle.std.proofs.Common.{ℕ, zero, suc, ◌+◌, ◌*◌, ◌-◌, ◌/◌, ◌%◌, ◌≡◌, ◌<◌, ◌≤◌, Bool, true, false, cond, nat_eq}
-use Rattle.std.proofs.Common.{nat_lt, nat_le, List, [], ◌∷◌, ◌++◌, length, take, drop, Some, is_some, refl, sym, ◌∙◌}
-use Rattle.std.proofs.Common.{ap, subst, arith, length-append, ◌≢◌}
-use Rattle.std.proofs.Math.Seq.{drop-append_seam, take-append_seam}
-use Rattle.std.proofs.lemmas.List.{append_assoc}
-use Rattle.std.proofs.lemmas.Bool.{and_parts}
-use Rattle.std.proofs.lemmas.Bool.Decides.{nat_tests}
-use Rattle.sre_chars.specs.declared.constants.SreOpcode.TheVariants as opcode
-use Rattle.sre_model.specs.Tree.{Tree, Empty, Then, One, Mark, Branch, Only, Or, Literal, Plain}
+use Rattle.sre_emit.proofs.Terms.{ℕ, zero, suc, ◌+◌, ◌*◌, ◌-◌, ◌/◌, ◌%◌, ◌≡◌, ◌<◌, ◌≤◌, Bool, true, false, cond, nat_eq}
+use Rattle.sre_emit.proofs.Terms.{nat_lt, nat_le, List, [], ◌∷◌, ◌++◌, length, take, drop, Some, is_some, refl, sym}
+use Rattle.sre_emit.proofs.Terms.{◌∙◌, ap, subst, arith, length-append, ◌≢◌, drop-append_seam, take-append_seam}
+use Rattle.sre_emit.proofs.Terms.{append_assoc, and_parts, nat_tests, Tree, Empty, Then, One, Mark, Branch, Only, Or}
+use Rattle.sre_emit.proofs.Terms.{Literal, Plain, width, LawfulTree, leading, spread, has_literals_alone, Wrote}
 use Rattle.sre_model.specs.Shown.{items, a, b, c, d}
 use Rattle.sre_model.specs.Claims.{border_length, has_prefix, prefix_words, overlap_words, behind_spread}
 use Rattle.sre_model.specs.Claims.{behind_literals, is_at_end, behind_prefix, confirmed_width, confirmed_prefix}
 use Rattle.sre_model.proofs.CutOff.{no_block, none_behind, whole_items}
 use Rattle.sre_model.proofs.OneToOne.{code_whole, whole_are}
 use Rattle.sre_emit.specs.Emitting.{opcode_number, unlimited, has_block, behind_block, fits_block, WholeItems, Whole}
-use Rattle.sre_emit.specs.Emitting.{AreWords, width, are_overlaps, LawfulTree, code_words, leading, spread}
-use Rattle.sre_emit.specs.Emitting.{has_literals_alone, is_all_literals, block_prefix, overlaps_from, block}
-use Rattle.sre_emit.specs.Emitting.{prefix_part, prefixed, block_words, is_literal, front, Emits, Held, Wrote}
+use Rattle.sre_emit.specs.Emitting.{AreWords, are_overlaps, code_words, is_all_literals, block_prefix, overlaps_from}
+use Rattle.sre_emit.specs.Emitting.{block, prefix_part, prefixed, block_words, is_literal, front, Emits, Held}
 use Rattle.sre_emit.proofs.Written.{wrote_equal, wrote_more}
+use Rattle.sre_chars.specs.declared.constants.SreOpcode.TheVariants as opcode
 
 letter : block_words (items (a ∷ [])) ≡ 14 ∷ 8 ∷ 3 ∷ 1 ∷ unlimited ∷ 1 ∷ 1 ∷ 97 ∷ 0 ∷ []
 letter = refl

@@ -1,9 +1,8 @@
 -- What a writer returns are the code words of a part, after the block that was requested.
-use Rattle.std.proofs.Common.{ℕ, ◌≡◌, ◌≤◌, Bool, List, [], ◌++◌, reverse, None, Some, sym, ◌∙◌, ap, subst}
-use Rattle.std.proofs.lemmas.List.{reverse-reverse}
+use Rattle.sre_emit.proofs.Terms.{ℕ, ◌≡◌, ◌≤◌, Bool, List, [], ◌++◌, reverse, None, Some, sym, ◌∙◌, ap, subst}
+use Rattle.sre_emit.proofs.Terms.{reverse-reverse, Part, Memory, TooDeep, BadPart, tree_of, HasTree, Wrote}
 use Rattle.sre_model.proofs.OneToOne.{whole_are}
-use Rattle.sre_emit.specs.Emitting.{AreWords, code_words, Part, EmitError, Memory, TooLong, TooDeep, BadPart, tree_of}
-use Rattle.sre_emit.specs.Emitting.{depth, HasTree, Held, Wrote, front, Emitted, Cause}
+use Rattle.sre_emit.specs.Emitting.{AreWords, code_words, EmitError, TooLong, depth, Held, front, Emitted, Cause}
 use Rattle.sre_emit.proofs.Blocks.{emits}
 use Rattle.sre_emit.proofs.Written.{back_words, wrote_more}
 

@@ -1,13 +1,10 @@
 -- What the check of items and parts says, and which widths it returns, by the checks of what is inside.
-use Rattle.std.proofs.Common.{ℕ, ◌+◌, ◌≡◌, ◌<◌, ◌≤◌, min, true, false, nat_eq, List, [], ◌∷◌, map, drop, length}
-use Rattle.std.proofs.Common.{slice_index_or, refl, ap, subst, arith}
-use Rattle.std.proofs.lemmas.Bool.{and_parts}
-use Rattle.std.proofs.lemmas.Bool.Decides.{nat_tests}
-use Rattle.sre_model.specs.Tree.{Tree, Empty, Then}
+use Rattle.sre_emit.proofs.Terms.{ℕ, ◌+◌, ◌≡◌, ◌<◌, ◌≤◌, min, true, false, nat_eq, List, [], ◌∷◌, map, drop, length}
+use Rattle.sre_emit.proofs.Terms.{slice_index_or, refl, ap, subst, arith, and_parts, nat_tests, Tree, Empty, Then}
+use Rattle.sre_emit.proofs.Terms.{LawfulTree, width, Part, Item, Memory, TooDeep, BadPart, tree_of, item_of, in_order}
+use Rattle.sre_emit.proofs.Terms.{has_alternatives, all, HasTree, HaveTrees, HaveAlternatives}
 use Rattle.sre_emit.proofs.Written.{at_place}
-use Rattle.sre_emit.specs.Emitting.{LawfulTree, LawfulTrees, width, least_width, Part, Item, EmitError, Memory, TooLong}
-use Rattle.sre_emit.specs.Emitting.{TooDeep, BadPart, tree_of, item_of, in_order, has_alternatives, alternatives, all}
-use Rattle.sre_emit.specs.Emitting.{HasTree, HasItemTree, Causes, HaveTrees, HaveAlternatives}
+use Rattle.sre_emit.specs.Emitting.{LawfulTrees, least_width, EmitError, TooLong, alternatives, HasItemTree, Causes}
 
 -- a cause of something inside
 pub cause_up : (d n : ℕ) (L M : Type 0) → d ≤ n → (M → L) → (e : EmitError) → Causes d L e → Causes n M e

@@ -1,16 +1,14 @@
 -- What is written of items and parts, by what is written of what is inside.
-use Rattle.std.proofs.Common.{ℕ, suc, zero, ◌-◌, ◌≡◌, ◌<◌, ◌≤◌, Bool, true, List, [], ◌∷◌, map, drop, length}
-use Rattle.std.proofs.Common.{slice_index_or, refl, sym, ◌∙◌, ap, arith}
-use Rattle.std.specs.List.{All}
-use Rattle.std.proofs.lemmas.Bool.{and_parts}
-use Rattle.sre_model.specs.Tree as tree
+use Rattle.sre_emit.proofs.Terms.{ℕ, suc, zero, ◌-◌, ◌≡◌, ◌<◌, ◌≤◌, Bool, true, List, [], ◌∷◌, map, drop, length}
+use Rattle.sre_emit.proofs.Terms.{slice_index_or, refl, sym, ◌∙◌, ap, arith, All, and_parts, Part, Item, tree_of}
+use Rattle.sre_emit.proofs.Terms.{item_of, in_order, has_alternatives, all, Wrote}
 use Rattle.sre_emit.specs.declared.part.Item.{roll-Item}
 use Rattle.sre_emit.specs.declared.part.Item.TheFolds.{map-Item, fold-roll-Item}
-use Rattle.sre_emit.specs.declared.part.Item.TheOpen as layer
-use Rattle.sre_emit.specs.Emitting.{Part, Item, tree_of, item_of, item_step, part_step, in_order, alternatives}
-use Rattle.sre_emit.specs.Emitting.{has_alternatives, all, some_parts, tree_words, item_words, branch_words}
-use Rattle.sre_emit.specs.Emitting.{alternative, Held, Wrote, guarded}
+use Rattle.sre_emit.specs.Emitting.{item_step, part_step, alternatives, some_parts, tree_words, item_words}
+use Rattle.sre_emit.specs.Emitting.{branch_words, alternative, Held, guarded}
 use Rattle.sre_emit.proofs.Written.{wrote_equal, wrote_before, at_place, written_all}
+use Rattle.sre_model.specs.Tree as tree
+use Rattle.sre_emit.specs.declared.part.Item.TheOpen as layer
 
 -- branches inside have parts
 pub each_true : {X : Type 0} (f : X → Bool) (xs : List X) → all (map f xs) ≡ true → All (λ x. f x ≡ true) xs

@@ -3,3 +3,4 @@ pub mod Written
 pub mod ItemsWritten
 pub mod Blocks
 pub mod HandedOut
+pub mod Terms

@@ -1,15 +1,15 @@
 -- What a writer does, step after step.
-use Rattle.std.proofs.Common.{ℕ, zero, suc, ◌+◌, ◌*◌, ◌/◌, ◌-◌, ◌≡◌, ◌<◌, ◌≤◌, List, [], ◌∷◌, ◌++◌, reverse, drop, map}
-use Rattle.std.proofs.Common.{slice_index, slice_index_or, Option, Some, None, refl, sym, ◌∙◌, ap, length, subst, arith}
-use Rattle.std.proofs.Common.{length-append, length-drop}
-use Rattle.std.proofs.Math.Seq.{drop-cons}
-use Rattle.std.proofs.lemmas.List.{reverse-append, append_assoc, append-nil, length-reverse, get_or_default}
-use Rattle.sre_chars.specs.declared.constants.SreOpcode.TheVariants as opcode
+use Rattle.sre_emit.proofs.Terms.{ℕ, zero, suc, ◌+◌, ◌*◌, ◌/◌, ◌-◌, ◌≡◌, ◌<◌, ◌≤◌, List, [], ◌∷◌, ◌++◌, reverse, drop}
+use Rattle.sre_emit.proofs.Terms.{map, slice_index, slice_index_or, Option, Some, None, refl, sym, ◌∙◌, ap, length}
+use Rattle.sre_emit.proofs.Terms.{subst, arith, length-append, length-drop, drop-cons, append_assoc, get_or_default}
+use Rattle.sre_emit.proofs.Terms.{packed, Memory, set_item_of, Wrote}
+use Rattle.std.proofs.lemmas.List.{reverse-append, append-nil, length-reverse}
 use Rattle.sre_model.specs.Tree.{SetItem, BigCharset}
 use Rattle.sre_model.proofs.StandingWords.{in_front, in_back}
+use Rattle.sre_emit.specs.Emitting.{opcode_number, unlimited, Word, AreWords, set_item_words, set_words, EmitError}
+use Rattle.sre_emit.specs.Emitting.{TooLong, Held, Stops, closed, guarded}
+use Rattle.sre_chars.specs.declared.constants.SreOpcode.TheVariants as opcode
 use Rattle.sre_emit.specs.declared.part.SetItem as part
-use Rattle.sre_emit.specs.Emitting.{opcode_number, unlimited, Word, AreWords, packed, set_item_words, set_words}
-use Rattle.sre_emit.specs.Emitting.{EmitError, Memory, TooLong, set_item_of, Held, Stops, Wrote, closed, guarded}
 
 -- words of which all are words
 front_words : (xs ys : List ℕ) → AreWords (xs ++ ys) → AreWords xs

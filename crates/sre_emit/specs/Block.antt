@@ -3,11 +3,11 @@
 use Rattle.std.specs.Prelude.{ℕ, zero, suc, ◌+◌, Bool, true, false, ◌&&◌, cond, nat_lt, List, [], ◌∷◌, ◌++◌, length}
 use Rattle.std.specs.Prelude.{take, Option, Some, None, is_some}
 use Rattle.sre_chars.specs.Numbers.{opcode_number}
-use Rattle.sre_chars.specs.declared.constants.SreOpcode.TheVariants as opcode
 use Rattle.sre_model.specs.Tree.{Tree, Empty, Then, Item, One, Mark, Test, Literal, Plain}
 use Rattle.sre_model.specs.Ways.{unlimited}
 use Rattle.sre_model.specs.Width.{width}
 use Rattle.sre_model.specs.Claims.{border_length}
+use Rattle.sre_chars.specs.declared.constants.SreOpcode.TheVariants as opcode
 
 -- the character of a plain literal
 abbrev pub plain_value : Test → Option ℕ

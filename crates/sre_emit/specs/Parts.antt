@@ -1,20 +1,20 @@
 -- The tree of a part, whether it has one, and how deep parts are nested in it.
 -- Public clauses rest on it.
 use Rattle.std.specs.Prelude.{ℕ, ◌+◌, ◌≡◌, max, Bool, true, false, ◌&&◌, List, [], ◌∷◌, map, Some, None}
-use Rattle.sre_model.specs.Tree as tree
 use Rattle.sre_model.specs.Lawful.{LawfulTree, LawfulItem}
 use Rattle.sre_emit.specs.declared.part.Fold.{Fold}
-use Rattle.sre_emit.specs.declared.part.Fold.TheVariants as fold
 use Rattle.sre_emit.specs.declared.part.RunKind.{RunKind}
-use Rattle.sre_emit.specs.declared.part.RunKind.TheVariants as kind
 use Rattle.sre_emit.specs.declared.part.SetItem.{SetItem}
-use Rattle.sre_emit.specs.declared.part.SetItem.TheVariants as set
 use Rattle.sre_emit.specs.declared.part.OneChar.{OneChar}
+use Rattle.sre_emit.specs.declared.part.Item.TheFolds.{fold-Item, fold-Part}
+use Rattle.sre_model.specs.Tree as tree
+use Rattle.sre_emit.specs.declared.part.Fold.TheVariants as fold
+use Rattle.sre_emit.specs.declared.part.RunKind.TheVariants as kind
+use Rattle.sre_emit.specs.declared.part.SetItem.TheVariants as set
 use Rattle.sre_emit.specs.declared.part.OneChar.TheVariants as test
 pub use Rattle.sre_emit.specs.declared.part.Part.{Part}
 pub use Rattle.sre_emit.specs.declared.part.Item.{Item}
 use Rattle.sre_emit.specs.declared.part.Item.TheOpen as layer
-use Rattle.sre_emit.specs.declared.part.Item.TheFolds.{fold-Item, fold-Part}
 
 abbrev pub fold_of : Fold → tree.Fold
 fold_of fold.Plain = tree.Plain

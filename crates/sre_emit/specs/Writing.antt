@@ -3,9 +3,9 @@
 use Rattle.std.specs.Prelude.{ℕ, ◌+◌, ◌≡◌, ◌≤◌, List, [], ◌∷◌, ◌++◌, length, reverse, Option, Some, None}
 use Rattle.sre_growth.specs.Refusal.{Refused}
 use Rattle.sre_chars.specs.Numbers.{opcode_number}
-use Rattle.sre_chars.specs.declared.constants.SreOpcode.TheVariants as opcode
 use Rattle.sre_model.specs.Standing.{AreWords}
 use Rattle.sre_emit.specs.Errors.{EmitError, Memory, TooLong}
+use Rattle.sre_chars.specs.declared.constants.SreOpcode.TheVariants as opcode
 
 -- what a writer holds: the words so far, the last one first, and why no more are written
 pub record Held : Type 0 where

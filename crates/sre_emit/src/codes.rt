@@ -1,8 +1,8 @@
 //! The opcodes of tests, repeats and back-references, by folding or kind.
 
 ghost use Rattle.std.specs.Prelude.{◌≡◌};
-ghost use Rattle.sre_model.specs.Grammar as grammar;
 ghost use Rattle.sre_emit.specs.Parts.{fold_of, kind_of, order_of, sign_of};
+ghost use Rattle.sre_model.specs.Grammar as grammar;
 
 use crate::part::{Fold, RunKind};
 use sre_chars::constants::SreOpcode;

@@ -3,8 +3,12 @@ use Rattle.sre_finder.proofs.Terms.{◌≡◌, ◌≤◌, ◌<◌, ◌+◌, ℕ,
 use Rattle.sre_finder.proofs.Terms.{arith, Re, meaning, Hir, Tree, WholeItems, no_marks, ways, Asked, subject_of}
 use Rattle.sre_finder.proofs.Terms.{at_start, first_accepted, words_of, uni_of, Code, ExactTree, view_of, Encoding}
 use Rattle.sre_finder.proofs.Terms.{NoneLeft, NoneUpTo, NoneBetween, SeenAs, Covering, Filters, EndStands}
-use Rattle.sre_finder.proofs.Terms.{NoneLeftOfAny, Suits, Option, IfSome, Matches, Table, StringCursor, behind_block}
-use Rattle.sre_finder.proofs.Terms.{CoversStart, SetsOf, CoveringAny, SamePatterns, Kept, Prefilter, ExactlyAny}
+use Rattle.sre_finder.proofs.Terms.{NoneLeftOfAny, Suits, Option, IfSome, Table, StringCursor, behind_block, SetsOf}
+use Rattle.sre_finder.proofs.Terms.{CoveringAny, SamePatterns, ExactlyAny}
+use Rattle.regex_hir.specs.Matches.{Matches}
+use Rattle.sre_patterns.specs.Covers.{CoversStart}
+use Rattle.sre_finder.specs.declared.kept.Kept.{Kept}
+use Rattle.sre_finder.specs.declared.prefilter.Prefilter.{Prefilter}
 use Rattle.sre_code.specs.Codes.{items_of}
 
 module _ (encoding : Encoding) (a : Asked) (t : Tree) (re : Re) (place : ℕ → ℕ) (hay : List ℕ)

@@ -1,9 +1,15 @@
 -- How bytes and UTF-8 are seen, and the order of positions there.
 use Rattle.sre_finder.proofs.Terms.{◌≡◌, ◌≤◌, ◌<◌, ◌+◌, ℕ, List, length, take, refl, sym, ap, ◌∙◌, subst, arith, inl}
-use Rattle.sre_finder.proofs.Terms.{inr, cases_lt, length-take-le, offset_of, SeenAs, ◌-◌, Fits, w8, get_or, chars}
-use Rattle.sre_finder.proofs.Terms.{IsUtf8, begun, place_in, begun_block, ascii_table, Never, Subject, char_at, Bytes}
-use Rattle.sre_finder.proofs.Terms.{Ascii, Utf8, InBytes, InUtf8, read_utf8, bytes-seen, bytes-places, utf8-seen}
-use Rattle.sre_finder.proofs.Terms.{ascii-of-utf8}
+use Rattle.sre_finder.proofs.Terms.{inr, cases_lt, length-take-le, offset_of, SeenAs, chars, IsUtf8, begun, ascii_table}
+use Rattle.std.proofs.Common.{◌-◌, Fits, w8, get_or}
+use Rattle.sre_chars.proofs.Beginnings.{place_in, begun_block}
+use Rattle.sre_chars.specs.declared.constants.EmptyRule.TheVariants.{Never}
+use Rattle.sre_model.specs.Subject.{Subject, char_at}
+use Rattle.sre_patterns.specs.declared.encoding.Encoding.TheVariants.{Bytes, Ascii, Utf8}
+use Rattle.sre_patterns.specs.Covers.{InBytes, InUtf8, read_utf8}
+use Rattle.sre_patterns.proofs.OverBytes.{bytes-seen, bytes-places}
+use Rattle.sre_patterns.proofs.OverUtf8.{utf8-seen}
+use Rattle.sre_patterns.proofs.AsciiSeen.{ascii-of-utf8}
 
 -- bytes up to a position
 pub bytes_seen : (text hay : List ℕ) (end : ℕ) → ((i : ℕ) → Fits w8 (get_or text i 0)) → end ≤ length text

@@ -5,11 +5,18 @@ use Rattle.sre_finder.proofs.Terms.{no_marks, ways, Asked, subject_of, first_acc
 use Rattle.sre_finder.proofs.Terms.{items_of, uni_of, hints_of, code_tree, Code, start_of, code_of, must_advance_of}
 use Rattle.sre_finder.proofs.Terms.{asked_of, answer_of, ExactTree, view_of, Encoding, IsBetween, SeenAs, match_with}
 use Rattle.sre_finder.proofs.Terms.{Exactly, FindsSpan, GoesOnBehind, zero, suc, ◌∷◌, Bool, true, not, ◌||◌, cond}
-use Rattle.sre_finder.proofs.Terms.{AllByRecursion, nat_tests, Ghosts, IsCode, Marks, Way, Match, is_accepted}
-use Rattle.sre_finder.proofs.Terms.{asked_after, walk, most_matches, Between, ways-bounded, either, Either, found-least}
-use Rattle.sre_finder.proofs.Terms.{least-found, walk-next, walk-end, most_matches-falls, Request, stands_in, Shown}
-use Rattle.sre_finder.proofs.Terms.{match_shown, StepsTo, GoesOn, WalksOn, FoundAt, found_by, none-found_by, rises}
-use Rattle.sre_finder.proofs.Terms.{ShowsStep}
+use Rattle.sre_finder.proofs.Terms.{Ghosts, Marks, Way, Match, is_accepted, asked_after, walk, most_matches, Request}
+use Rattle.sre_finder.proofs.Terms.{stands_in, Shown, match_shown, ShowsStep}
+use Rattle.std.specs.List.{AllByRecursion}
+use Rattle.std.proofs.lemmas.Bool.Decides.{nat_tests}
+use Rattle.sre_model.specs.Grammar.{IsCode}
+use Rattle.sre_model.proofs.Bounds.{Between, ways-bounded}
+use Rattle.sre_model.proofs.FoundLaws.{either, Either, found-least, least-found}
+use Rattle.sre_model.proofs.WalkLaws.{walk-next, walk-end, most_matches-falls}
+use Rattle.sre_engine.specs.Walks.{StepsTo, GoesOn}
+use Rattle.sre_engine.specs.Searches.{WalksOn}
+use Rattle.sre_patterns.proofs.FirstFound.{FoundAt, found_by, none-found_by}
+use Rattle.sre_patterns.proofs.SidesSeen.{rises}
 use Rattle.regex_hir.specs.Matches.{IsMinLen}
 use Rattle.regex_hir.specs.Find as bytes
 

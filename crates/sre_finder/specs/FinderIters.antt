@@ -1,5 +1,6 @@
 -- What an iteration with a finder shows.
-use Rattle.sre_finder.specs.Terms.{Ghosts, SearchIter}
+use Rattle.sre_finder.specs.Terms.{Ghosts}
+use Rattle.sre_engine.specs.declared.engine.search_iter.SearchIter.{SearchIter}
 use Rattle.sre_finder.specs.declared.finder_iter.FinderIter.{FinderIter}
 
 -- its walk, which asks the finder

@@ -2,7 +2,8 @@
 -- Definitions for the contracts of this crate.
 use Rattle.std.specs.Prelude.{◌≡◌, ⊤, ℕ, List, Option, Some, None}
 use Rattle.sre_finder.specs.Terms.{Re, meaning, Hir, StringCursor, Tree, WholeItems, items_of, uni_of, Code, view_of}
-use Rattle.sre_finder.specs.Terms.{Encoding, CoversStart, NoneLeft}
+use Rattle.sre_finder.specs.Terms.{Encoding, NoneLeft}
+use Rattle.sre_patterns.specs.Covers.{CoversStart}
 use Rattle.sre_finder.specs.declared.prefilter.Prefilter.{Prefilter}
 
 -- a pattern covers each start of a code's tree

@@ -1,7 +1,9 @@
 -- What is kept of a finder suits a code.
 -- Definitions for the contracts of this crate.
 use Rattle.std.specs.Prelude.{◌≡◌, ℕ, List, IfSome}
-use Rattle.sre_finder.specs.Terms.{Table, behind_block, words_of, uni_of, Code, Encoding, Bytes, Ascii, Utf8, SetsOf}
+use Rattle.sre_finder.specs.Terms.{behind_block, words_of, uni_of, Code, Encoding, SetsOf}
+use Rattle.sre_chars.specs.Tables.{Table}
+use Rattle.sre_patterns.specs.declared.encoding.Encoding.TheVariants.{Bytes, Ascii, Utf8}
 use Rattle.sre_finder.specs.Finders.{CoveringAny}
 use Rattle.sre_finder.specs.Spans.{ExactlyAny}
 use Rattle.sre_finder.specs.declared.kept.Kept.{Kept}

@@ -2,7 +2,8 @@
 -- Definitions for the contracts of this crate.
 use Rattle.std.specs.Prelude.{◌≡◌, ℕ, true, false, List, Option, Some, None, ◌+◌, Bool, cond, [], ◌∷◌, Result, Ok, Err}
 use Rattle.sre_finder.specs.Terms.{Ghosts, Tree, Whole, Marks, Match, found, walk, most_matches, words_of, Request}
-use Rattle.sre_finder.specs.Terms.{code_of, asked_of, Encoding, Refused, Shown, MayTakeMemory, Asked, SreError}
+use Rattle.sre_finder.specs.Terms.{code_of, asked_of, Encoding, Refused, Shown, MayTakeMemory, Asked}
+use Rattle.sre_engine.specs.declared.engine.state.SreError.{SreError}
 use Rattle.sre_finder.specs.declared.span_iter.Span.{Span}
 use Rattle.sre_finder.specs.declared.span_iter.SpanIter.{SpanIter}
 use Rattle.sre_finder.specs.Spans.{match_with, GoesOnBehind}

@@ -3,7 +3,9 @@
 use Rattle.std.specs.Prelude.{◌≡◌, ◌≤◌, ⊤, ℕ, nat_eq, Option, Some, None}
 use Rattle.sre_finder.specs.Terms.{Re, meaning, Hir, Ghosts, StringCursor, Tree, Whole, WholeItems, Marks, Match, found}
 use Rattle.sre_finder.specs.Terms.{words_of, items_of, uni_of, Code, Request, string_of, start_of, end_of, code_of}
-use Rattle.sre_finder.specs.Terms.{asked_of, stands_in, Shown, match_shown, view_of, Encoding, IsMinLen, ExactTree}
+use Rattle.sre_finder.specs.Terms.{asked_of, stands_in, Shown, match_shown, view_of, Encoding}
+use Rattle.regex_hir.specs.Matches.{IsMinLen}
+use Rattle.sre_patterns.specs.Exact.{ExactTree}
 use Rattle.sre_finder.specs.declared.span_finder.Known.{Known}
 use Rattle.sre_finder.specs.declared.span_finder.Known.TheVariants as known
 

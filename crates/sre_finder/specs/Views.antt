@@ -1,7 +1,8 @@
 -- How a text is seen as bytes up to a position.
 -- Definitions for the contracts of this crate.
 use Rattle.std.specs.Prelude.{ℕ, ◌≡◌, ◌≤◌, List, length}
-use Rattle.sre_finder.specs.Terms.{view_of, Encoding, Subject}
+use Rattle.sre_finder.specs.Terms.{view_of, Encoding}
+use Rattle.sre_model.specs.Subject.{Subject}
 
 -- the bytes up to a position of a text, where `place` tells at which byte a position stands
 pub record SeenAs (encoding : Encoding) (text : List ℕ) (place : ℕ → ℕ) (end : ℕ) (hay : List ℕ) : Type 0 where

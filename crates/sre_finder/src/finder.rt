@@ -2,8 +2,11 @@
 
 ghost use Rattle.std.specs.Prelude.{◌≡◌, ◌≤◌, IfOk, OnErr, None, map};
 ghost use Rattle.sre_finder.specs.Terms.{Refused, Tree, Whole, no_marks, walk, most_matches, words_of, start_of};
-ghost use Rattle.sre_finder.specs.Terms.{code_of, asked_of, MayTakeMemory, KeepsToSteps, runs_of, Answered};
-ghost use Rattle.sre_finder.specs.Terms.{AnsweredWithin, vec_len, AreInOrder, CountsOfWalk, RunsOnceAnchored, match_of};
+ghost use Rattle.sre_finder.specs.Terms.{code_of, asked_of, MayTakeMemory, Answered, AnsweredWithin, AreInOrder};
+ghost use Rattle.sre_finder.specs.Terms.{RunsOnceAnchored};
+ghost use Rattle.sre_engine.specs.Counts.{KeepsToSteps, runs_of, CountsOfWalk};
+ghost use Rattle.std.specs.Vec.{vec_len};
+ghost use Rattle.sre_engine.specs.Listed.{match_of};
 ghost use Rattle.sre_finder.specs.Finders.{EndStands};
 
 use crate::haystack::Haystack;

@@ -1,7 +1,8 @@
 //! The iterator over all matches of a code, with a prefilter.
 
 ghost use Rattle.std.specs.Prelude.{◌≡◌, false};
-ghost use Rattle.sre_finder.specs.Terms.{string_of, code_of, request_of};
+ghost use Rattle.sre_finder.specs.Terms.{string_of, code_of};
+ghost use Rattle.sre_engine.specs.Iterators.{request_of};
 ghost use Rattle.sre_finder.specs.Finders.{EndStands};
 
 use crate::finder::Finder;

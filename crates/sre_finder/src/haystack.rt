@@ -1,7 +1,9 @@
 //! Texts whose bytes a DFA can read: bytes and UTF-8.
 
 ghost use Rattle.std.specs.Prelude.{◌≡◌, ◌≤◌, ◌<◌, ℕ, IfSome, length};
-ghost use Rattle.sre_finder.specs.Terms.{Bytes, Ascii, Utf8, chars, StandsInText, offset_of};
+ghost use Rattle.sre_patterns.specs.declared.encoding.Encoding.TheVariants.{Bytes, Ascii, Utf8};
+ghost use Rattle.std.specs.Str.{chars};
+ghost use Rattle.sre_chars.specs.Texts.{StandsInText, offset_of};
 ghost use Rattle.sre_finder.specs.Views.{SeenAs};
 
 use sre_chars::string::{StrDrive, StringCursor, cursor_at};

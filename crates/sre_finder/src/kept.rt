@@ -1,8 +1,8 @@
 //! What a pattern keeps from text to text, without the code that it borrows.
 
 ghost use Rattle.std.specs.Prelude.{◌≡◌, ℕ, List, None, IfSome};
-ghost use Rattle.sre_finder.specs.Terms.{Table, behind_block, words_of, uni_of, SetsOf};
-ghost use Rattle.sre_engine.specs.FirstSets.{no_sets};
+ghost use Rattle.sre_finder.specs.Terms.{behind_block, words_of, uni_of, SetsOf, no_sets};
+ghost use Rattle.sre_chars.specs.Tables.{Table};
 ghost use Rattle.sre_finder.specs.Kepts.{Suits, encoding_beside};
 
 use crate::pace::{Alone, Debt, FEW_CHARACTERS, Reads};

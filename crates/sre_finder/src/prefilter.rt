@@ -4,7 +4,8 @@
 
 ghost use Rattle.std.specs.Prelude.{◌≡◌, ◌≤◌, length, IfSome, true, None};
 ghost use Rattle.sre_finder.specs.Terms.{Tree, Whole, words_of, string_of, end_of, code_of, asked_of, meaning, Tells};
-ghost use Rattle.sre_finder.specs.Terms.{run_of, Standing, NoneUntil, StartFrom};
+ghost use Rattle.sre_request.specs.Runs.{run_of, Standing};
+ghost use Rattle.sre_engine.specs.Starts.{NoneUntil, StartFrom};
 ghost use Rattle.sre_finder.specs.Finders.{EndStands, CoveringAny, Filters, SamePatterns, NoneLeftOfAny};
 
 use crate::haystack::Haystack;

@@ -1,9 +1,10 @@
 //! The search by a finder of spans, and the run of the machine that shows a span's match.
 
-ghost use Rattle.std.specs.Prelude.{◌≡◌, ◌≤◌, ℕ, List, true, false, IfOk, IfSome, OnErr, None};
-ghost use Rattle.sre_finder.specs.Terms.{Table, Refused, Tree, Whole, no_marks, found, items_of, words_of, uni_of};
-ghost use Rattle.sre_finder.specs.Terms.{SetsOf, string_of, start_of, end_of, code_of, asked_of, stands_in, answer_of};
-ghost use Rattle.sre_finder.specs.Terms.{KeepsToSteps, runs_of, Answered, AnsweredWithin};
+ghost use Rattle.std.specs.Prelude.{◌≡◌, ◌≤◌, true, false, IfOk, IfSome, OnErr, None};
+ghost use Rattle.sre_finder.specs.Terms.{Refused, Tree, Whole, no_marks, found, items_of, words_of, uni_of, SetsOf};
+ghost use Rattle.sre_finder.specs.Terms.{string_of, start_of, end_of, code_of, asked_of, stands_in, answer_of};
+ghost use Rattle.sre_finder.specs.Terms.{Answered, AnsweredWithin};
+ghost use Rattle.sre_engine.specs.Counts.{KeepsToSteps, runs_of};
 ghost use Rattle.sre_finder.specs.Finders.{EndStands};
 ghost use Rattle.sre_finder.specs.Kepts.{Suits};
 ghost use Rattle.sre_finder.specs.Spans.{StepsFrom, ShowsStep, FindsNone};

@@ -3,7 +3,8 @@
 ghost use Rattle.std.specs.Prelude.{◌≡◌, ◌≤◌, ◌<◌, nat_eq, true, false, Some, IfOk, IfSome, OnErr, ◌&&◌};
 ghost use Rattle.sre_finder.specs.Terms.{Refused, Tree, Whole, no_marks, found, items_of, words_of, string_of};
 ghost use Rattle.sre_finder.specs.Terms.{start_of, end_of, code_of, asked_of, stands_in, answer_of, match_shown};
-ghost use Rattle.sre_finder.specs.Terms.{SetsOf, one_sets_of};
+ghost use Rattle.sre_finder.specs.Terms.{SetsOf};
+ghost use Rattle.sre_engine.specs.OneSetsOf.{one_sets_of};
 ghost use Rattle.sre_finder.specs.Finders.{EndStands};
 
 use crate::haystack::Haystack;

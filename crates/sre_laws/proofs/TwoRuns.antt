@@ -1,11 +1,8 @@
 -- How many steps suffice for (?:a+a+)+b, over any text of up to 1,000 characters.
+use Rattle.sre_laws.proofs.Terms.{Whole, ReadsItem, Asked, IsRemembered, kept_positions, step_bound, words_of_two_runs}
 use Rattle.std.proofs.Common.{◌≡◌, ℕ, ◌+◌, ◌*◌, ◌/◌, ◌<◌, ◌≤◌, min, refl, arith}
 use Rattle.sre_engine.specs.Tree.{Tree, Empty, Then, Item, One, Loop, Run, Literal, Plain, Greedy, GreedyRun}
 use Rattle.sre_engine.specs.Ways.{unlimited}
-use Rattle.sre_engine.specs.Grammar.{Whole, ReadsItem}
-use Rattle.sre_engine.specs.Found.{Asked}
-use Rattle.sre_engine.specs.Remembered.{IsRemembered, kept_positions, step_bound}
-use Rattle.sre_laws.specs.TwoRuns.{words_of_two_runs}
 
 abbrev letters : Item
 letters = Run GreedyRun 1 unlimited (Literal Plain 97)

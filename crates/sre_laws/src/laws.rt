@@ -1,14 +1,13 @@
 //! Laws over several clauses or calls: requests over texts of two types have equal answers, and emitted bytecode passes
 //! the check. Others say what holds after a search or an iteration that finds no match, fails or has a step limit.
 
-ghost use Rattle.std.specs.Prelude.{◌<◌, ◌+◌, ◌-◌, ◌*◌, ℕ, length};
-ghost use Rattle.std.specs.Prelude.{◌≡◌, ◌≢◌, ◌≤◌, IfOk, IfErr, OnErr, Some, true, false, None, Ok, Err, cond, ◌&&◌};
-ghost use Rattle.std.specs.Prelude.{map};
+ghost use Rattle.std.specs.Prelude.{◌<◌, ◌+◌, ◌-◌, ◌*◌, ℕ, length, ◌≡◌, ◌≢◌, ◌≤◌, IfOk, IfErr, OnErr, Some, true};
+ghost use Rattle.std.specs.Prelude.{false, None, Ok, Err, cond, ◌&&◌, map};
 ghost use Rattle.std.specs.Vec.{vec_len};
 ghost use Rattle.sre_growth.specs.Refusal.{Refused};
 ghost use Rattle.sre_engine.specs.Tree.{Tree};
 ghost use Rattle.sre_engine.specs.Grammar.{Whole, behind_block};
-ghost use Rattle.sre_engine.specs.Codes.{words_of};
+ghost use Rattle.sre_engine.specs.Codes.{words_of, hints_of};
 ghost use Rattle.sre_engine.specs.Requests.{asked_of, code_of, start_of, end_of};
 ghost use Rattle.sre_engine.specs.Answers.{answer_of, Spans};
 ghost use Rattle.sre_engine.specs.Marks.{no_marks};
@@ -18,7 +17,6 @@ ghost use Rattle.sre_engine.specs.Iterators.{request_of};
 ghost use Rattle.sre_engine.specs.WalkBounds.{most_matches, AreInOrder};
 ghost use Rattle.sre_engine.specs.Listed.{match_of};
 ghost use Rattle.sre_engine.specs.Width.{width};
-ghost use Rattle.sre_engine.specs.Codes.{hints_of};
 ghost use Rattle.sre_emit.specs.Parts.{tree_of};
 ghost use Rattle.sre_laws.specs.TwoRuns.{words_of_two_runs};
 ghost use Rattle.sre_emit.specs.Block.{block_prefix, is_all_literals};

@@ -1,5 +1,4 @@
-use Rattle.std.proofs.Common.{◌-◌, ◌≡◌, ◌≤◌, length}
-use Rattle.sre_automata.specs.Told.{NoneBetween}
+use Rattle.sre_automata.proofs.Terms.{◌-◌, ◌≡◌, ◌≤◌, length, NoneBetween}
 use Rattle.sre_automata.proofs.Automata.end_beside.Given as goal
 
 abbrev pub invariant-beside : goal.invariant-beside

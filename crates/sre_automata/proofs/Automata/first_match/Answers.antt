@@ -1,10 +1,7 @@
-use Rattle.std.proofs.Common.{◌∙◌, ◌≡◌, IfSome, Option, None, Some, ℕ, length, subst, refl}
-use Rattle.regex_nfa.specs.Paths.{Accepts}
-use Rattle.regex_nfa.specs.declared.nfa.Nfa.{Nfa}
-use Rattle.regex_dfa.specs.Search.{IsLeast, end_from}
-use Rattle.regex_dfa.specs.declared.reverse.Start.TheVariants as start
-use Rattle.sre_automata.specs.Told.{EndsAt}
+use Rattle.sre_automata.proofs.Terms.{◌∙◌, ◌≡◌, IfSome, Option, None, Some, ℕ, length, subst, refl, Accepts, Nfa}
+use Rattle.sre_automata.proofs.Terms.{IsLeast, end_from, EndsAt}
 use Rattle.sre_automata.proofs.Leftmost.{are_bytes, nothing_found, first_found, find_skips, found_behind, found_here}
+use Rattle.regex_dfa.specs.declared.reverse.Start.TheVariants as start
 use Rattle.sre_automata.proofs.Automata.first_match.Goals as goal
 
 pub returns-in-Some-clause-finds : goal.returns-in-Some-clause-finds

@@ -1,9 +1,6 @@
-use Rattle.std.proofs.Common.{subst, refl}
-use Rattle.regex_nfa.specs.Paths.{Accepts}
-use Rattle.regex_nfa.specs.declared.nfa.Nfa.{Nfa}
-use Rattle.regex_dfa.specs.Search.{IsLeast}
-use Rattle.regex_dfa.specs.declared.reverse.Start.TheVariants as start
+use Rattle.sre_automata.proofs.Terms.{subst, refl, Accepts, Nfa, IsLeast}
 use Rattle.sre_automata.proofs.Leftmost.{are_bytes, none_left, none_below}
+use Rattle.regex_dfa.specs.declared.reverse.Start.TheVariants as start
 use Rattle.sre_automata.proofs.Automata.next_from.Goals as goal
 
 pub returns-in-NoMatch-clause-told : goal.returns-in-NoMatch-clause-told

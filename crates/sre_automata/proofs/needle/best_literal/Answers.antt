@@ -1,6 +1,4 @@
-use Rattle.std.proofs.Common.{◌∙◌, subst, sym, map}
-use Rattle.regex_hir.specs.Meaning.{meaning, cat_all}
-use Rattle.sre_automata.specs.Needles.{Contains}
+use Rattle.sre_automata.proofs.Terms.{◌∙◌, subst, sym, map, meaning, cat_all, Contains}
 use Rattle.sre_automata.proofs.Needles.{part_contains}
 use Rattle.sre_automata.proofs.needle.best_literal.Goals.{in-Literal+then-own-most, in-Literal+else-own-most}
 use Rattle.sre_automata.proofs.needle.best_literal.Goals.{in_default}

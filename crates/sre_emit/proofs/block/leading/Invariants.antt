@@ -1,5 +1,4 @@
-use Rattle.std.proofs.Common.{◌≡◌, ◌+◌, drop, map}
-use Rattle.sre_emit.specs.Emitting.{item_of, in_order, leading, has_literals_alone}
+use Rattle.sre_emit.proofs.Terms.{◌≡◌, ◌+◌, drop, map, item_of, in_order, leading, has_literals_alone}
 use Rattle.sre_emit.proofs.block.leading.Given as goal
 
 abbrev pub invariant-loop-item : goal.invariant-loop-item

@@ -1,8 +1,7 @@
-use Rattle.std.proofs.Common.{◌+◌, ◌≡◌, drop, refl, sym, ◌∙◌, ap, subst, arith}
+use Rattle.sre_emit.proofs.Terms.{◌+◌, ◌≡◌, drop, refl, sym, ◌∙◌, ap, subst, arith, err_from_is_err_and, HasTree}
+use Rattle.sre_emit.proofs.Terms.{HaveTrees, HaveAlternatives, items_depth, parts_depth}
 use Rattle.std.proofs.Math.ListN.{drop_of_length-le}
-use Rattle.std.proofs.lemmas.Result.{err_from_is_err_and}
-use Rattle.sre_emit.specs.Emitting.{depth, item_depth, HasTree, HasItemTree, HaveTrees, HaveAlternatives, items_depth}
-use Rattle.sre_emit.specs.Emitting.{parts_depth}
+use Rattle.sre_emit.specs.Emitting.{depth, item_depth, HasItemTree}
 use Rattle.sre_emit.proofs.ItemsChecked.{cause_up, left_cause, first_item, first_part, HaveAll, some_checked}
 use Rattle.sre_emit.proofs.ItemsChecked.{all_checked, narrowest, narrowest_is}
 use Rattle.sre_emit.proofs.check.+check.Goals as goal

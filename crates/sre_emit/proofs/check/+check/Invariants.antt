@@ -1,5 +1,4 @@
-use Rattle.std.proofs.Common.{◌≡◌, ◌≤◌, ◌+◌, min, drop}
-use Rattle.sre_emit.specs.Emitting.{capped, HaveTrees, items_depth, parts_depth}
+use Rattle.sre_emit.proofs.Terms.{◌≡◌, ◌≤◌, ◌+◌, min, drop, capped, HaveTrees, items_depth, parts_depth}
 use Rattle.sre_emit.proofs.ItemsChecked.{Left, HaveAll, width_from, narrowest}
 use Rattle.sre_emit.proofs.check.+check.Given as goal
 

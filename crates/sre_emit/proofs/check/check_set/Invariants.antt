@@ -1,5 +1,4 @@
-use Rattle.std.proofs.Common.{◌↔◌, drop, map}
-use Rattle.sre_emit.specs.Emitting.{set_item_of, LawfulSet}
+use Rattle.sre_emit.proofs.Terms.{◌↔◌, drop, map, set_item_of, LawfulSet}
 use Rattle.sre_emit.proofs.check.check_set.Given as goal
 
 abbrev pub invariant-loop-item : goal.invariant-loop-item

@@ -1,4 +1,4 @@
-use Rattle.std.proofs.Common.{ℕ, ◌<◌, slice_index}
+use Rattle.sre_emit.proofs.Terms.{ℕ, ◌<◌, slice_index}
 use Rattle.sre_emit.proofs.check.numbers_below.Given as goal
 
 abbrev pub invariant-loop-number : goal.invariant-loop-number

@@ -1,5 +1,4 @@
-use Rattle.std.proofs.Common.{arith}
-use Rattle.std.proofs.lemmas.Result.{IfOk-weaker, IfErr-weaker}
+use Rattle.sre_emit.proofs.Terms.{arith, IfOk-weaker, IfErr-weaker}
 use Rattle.sre_emit.proofs.HandedOut.{code_emitted, code_caused}
 use Rattle.sre_emit.proofs.emission.emit_in.Goals as goal
 

@@ -1,4 +1,4 @@
-use Rattle.std.proofs.Common.{◌∙◌, sym}
+use Rattle.sre_finder.proofs.Terms.{◌∙◌, sym}
 use Rattle.sre_finder.proofs.Places.{ascii_seen}
 use Rattle.sre_finder.proofs.haystack.ascii_up_to.Goals as goal
 

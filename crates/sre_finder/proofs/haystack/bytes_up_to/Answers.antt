@@ -1,4 +1,4 @@
-use Rattle.std.proofs.Common.{refl}
+use Rattle.sre_finder.proofs.Terms.{refl}
 use Rattle.sre_finder.proofs.Places.{bytes_seen}
 use Rattle.sre_finder.proofs.haystack.bytes_up_to.Goals as goal
 

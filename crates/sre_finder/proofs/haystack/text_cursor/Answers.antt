@@ -1,4 +1,5 @@
-use Rattle.sre_finder.proofs.Terms.{◌≤◌, refl, sym, ap, subst, ◌∙◌, arith, offset_of, IsCharBoundary, offset_boundary}
+use Rattle.sre_finder.proofs.Terms.{◌≤◌, refl, sym, ap, subst, ◌∙◌, arith, offset_of, IsCharBoundary}
+use Rattle.sre_chars.proofs.TextPlaces.{offset_boundary}
 use Rattle.sre_finder.proofs.Places.{alike, offset_order, offset_less, offset_inside}
 use Rattle.sre_finder.proofs.haystack.text_cursor.Goals as goal
 

@@ -1,4 +1,5 @@
-use Rattle.sre_finder.proofs.Terms.{meaning, uni_of, view_of, start-covers}
+use Rattle.sre_finder.proofs.Terms.{meaning, uni_of, view_of}
+use Rattle.sre_patterns.proofs.Fronts.{start-covers}
 use Rattle.sre_finder.proofs.Covered.{covering}
 use Rattle.sre_finder.proofs.prefilter.whole_of.Goals as goal
 

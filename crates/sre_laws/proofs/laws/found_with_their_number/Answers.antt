@@ -1,12 +1,8 @@
+use Rattle.sre_laws.proofs.Terms.{Whole, Asked, words_of, items_of, IsStepBound, asked_of, code_of}
 use Rattle.std.proofs.Common.{◌≡◌, ◌≤◌, ◌+◌, ◌-◌, ◌*◌, ℕ, Bool, true, false, cond, length, is_none, Option, Some, None}
 use Rattle.std.proofs.Common.{Result, Ok, IfOk, IfSome, sym, subst, arith}
 use Rattle.std.proofs.Math.Nat.{mul-le-mul_right}
-use Rattle.sre_engine.specs.Grammar.{Whole}
-use Rattle.sre_engine.specs.Found.{Asked}
-use Rattle.sre_engine.specs.Codes.{words_of, items_of}
-use Rattle.sre_engine.specs.StepBounds.{IsStepBound}
 use Rattle.sre_engine.specs.WalkBounds.{most_matches}
-use Rattle.sre_engine.specs.Requests.{asked_of, code_of}
 use Rattle.sre_recipes.specs.Followed.{IsAmple, most_searches}
 use Rattle.sre_laws.proofs.laws.found_with_their_number.Goals as goal
 

@@ -1,8 +1,5 @@
+use Rattle.sre_laws.proofs.Terms.{Whole, words_of, items_of, IsWindow, IsStepBound, asked_of, code_of}
 use Rattle.std.proofs.Common.{◌≡◌, ℕ, Bool, List, length, Option, Some, None, Result, Ok, IfOk, refl, subst, arith}
-use Rattle.sre_engine.specs.Grammar.{Whole}
-use Rattle.sre_engine.specs.Codes.{words_of, items_of}
-use Rattle.sre_engine.specs.StepBounds.{IsWindow, IsStepBound}
-use Rattle.sre_engine.specs.Requests.{asked_of, code_of}
 use Rattle.sre_laws.proofs.laws.searched_with_its_number.Goals as goal
 
 -- what holds of a call whose step limit is exceeded holds of one that was

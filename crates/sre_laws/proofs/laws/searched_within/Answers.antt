@@ -1,9 +1,7 @@
+use Rattle.sre_laws.proofs.Terms.{Whole, words_of, asked_of, code_of, start_of, end_of}
 use Rattle.std.proofs.Common.{◌≡◌, ◌≢◌, ℕ, ◌+◌, ◌-◌, ◌*◌, Bool, List, Option, None, Result, Ok, Err, IfOk, ap, ◌∙◌}
 use Rattle.std.proofs.Common.{subst, arith}
 use Rattle.sre_engine.specs.Counts.{runs_of}
-use Rattle.sre_engine.specs.Grammar.{Whole}
-use Rattle.sre_engine.specs.Codes.{words_of}
-use Rattle.sre_engine.specs.Requests.{asked_of, code_of, start_of, end_of}
 use Rattle.sre_engine.proofs.CountLaws.{once}
 use Rattle.sre_engine.proofs.Spending.{never_used_up}
 use Rattle.sre_laws.proofs.laws.searched_within.Goals as goal

@@ -1,9 +1,7 @@
+use Rattle.sre_laws.proofs.Terms.{Whole, behind_block, words_of, asked_of, code_of, start_of, end_of, IsRemembered}
+use Rattle.sre_laws.proofs.Terms.{words_of_two_runs}
 use Rattle.std.proofs.Common.{◌≡◌, ℕ, ◌≤◌, List, length, sym, ap, ◌∙◌, subst, arith}
-use Rattle.sre_engine.specs.Grammar.{Whole, behind_block}
-use Rattle.sre_engine.specs.Codes.{words_of, items_of}
-use Rattle.sre_engine.specs.Requests.{asked_of, code_of, start_of, end_of}
-use Rattle.sre_engine.specs.Remembered.{IsRemembered}
-use Rattle.sre_laws.specs.TwoRuns.{words_of_two_runs}
+use Rattle.sre_engine.specs.Codes.{items_of}
 use Rattle.sre_laws.proofs.TwoRuns.{two_runs, its_words, two_runs_remembered, steps_suffice}
 use Rattle.sre_laws.proofs.laws.two_runs_searched.Goals as goal
 

@@ -1,4 +1,4 @@
-use Rattle.std.proofs.Common.{refl, rules, ◌≡◌}
+use Rattle.sre_automata.proofs.Terms.{refl, rules, ◌≡◌}
 use Rattle.sre_automata.proofs.Needles.{lacking}
 use Rattle.sre_automata.proofs.needle.Needle.is_absent.Goals as goal
 

@@ -1,4 +1,4 @@
-use Rattle.std.proofs.Common.{ap, ◌∙◌, List, ℕ, Bor}
+use Rattle.sre_automata.proofs.Terms.{ap, ◌∙◌, List, ℕ, Bor}
 use Rattle.sre_automata.proofs.Needles.{literal_contains, sequence_contains, contains_same}
 use Rattle.sre_automata.proofs.needle.Needle.of.Goals.{in-Literal, in-Concat+in_ok-bytes-in-Concat}
 use Rattle.sre_automata.proofs.needle.Needle.of.Goals as goal

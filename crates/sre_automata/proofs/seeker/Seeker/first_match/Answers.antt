@@ -1,4 +1,4 @@
-use Rattle.regex_hir.specs.Meaning.{meaning}
+use Rattle.sre_automata.proofs.Terms.{meaning}
 use Rattle.sre_automata.proofs.Needles.{none_found}
 use Rattle.sre_automata.proofs.seeker.Seeker.first_match.Goals as goal
 

@@ -1,7 +1,4 @@
-use Rattle.std.proofs.Common.{rules, ◌≡◌, subst}
-use Rattle.regex_hir.specs.Meaning.{meaning}
-use Rattle.sre_automata.specs.Told.{NoneLeft}
-use Rattle.sre_automata.specs.Needles.{ContainsAny}
+use Rattle.sre_automata.proofs.Terms.{rules, ◌≡◌, subst, meaning, NoneLeft, ContainsAny}
 use Rattle.sre_automata.proofs.seeker.Seeker.has_none_left.Goals as goal
 
 pub returns-clause-none : goal.returns-clause-none

@@ -1,11 +1,9 @@
-use Rattle.std.proofs.Common.{◌+◌, [], ◌∷◌, None, Some, refl, sym, ◌∙◌, ap}
-use Rattle.std.proofs.Math.Seq.{drop-length}
-use Rattle.sre_emit.specs.declared.part.Item.TheVariants as item
-use Rattle.sre_emit.specs.declared.part.Item.TheOpen as layer
-use Rattle.sre_emit.specs.Emitting.{item_has_alternatives}
+use Rattle.sre_emit.proofs.Terms.{◌+◌, [], ◌∷◌, None, Some, refl, sym, ◌∙◌, ap, drop-length, item_has_alternatives}
 use Rattle.sre_emit.proofs.Written.{wrote_closed, wrote_guarded, wrote_before, wrote_counted, wrote_nothing, wrote_more}
 use Rattle.sre_emit.proofs.Written.{written_more}
 use Rattle.sre_emit.proofs.ItemsWritten.{items_words, parts_more, parts_all, item_written, each_true, all_parts}
+use Rattle.sre_emit.specs.declared.part.Item.TheVariants as item
+use Rattle.sre_emit.specs.declared.part.Item.TheOpen as layer
 use Rattle.sre_emit.proofs.writer.Writer.+put.Goals as goal
 
 pub put_items-loop-at-init : goal.put_items-loop-at-init

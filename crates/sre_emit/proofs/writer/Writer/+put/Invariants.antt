@@ -1,6 +1,4 @@
-use Rattle.std.specs.List.{All}
-use Rattle.std.proofs.Common.{true, ◌≡◌, drop}
-use Rattle.sre_emit.specs.Emitting.{has_alternatives, item_has_alternatives, Wrote}
+use Rattle.sre_emit.proofs.Terms.{All, true, ◌≡◌, drop, has_alternatives, item_has_alternatives, Wrote}
 use Rattle.sre_emit.proofs.ItemsWritten.{items_words, parts_words}
 use Rattle.sre_emit.proofs.writer.Writer.+put.Given as goal
 

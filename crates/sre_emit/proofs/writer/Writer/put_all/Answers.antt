@@ -1,5 +1,4 @@
-use Rattle.std.proofs.Common.{◌-◌, arith, refl}
-use Rattle.std.proofs.lemmas.List.{get_or_default}
+use Rattle.sre_emit.proofs.Terms.{◌-◌, arith, refl, get_or_default}
 use Rattle.sre_emit.proofs.Written.{written_more}
 use Rattle.sre_emit.proofs.writer.Writer.put_all.Goals as goal
 

@@ -1,5 +1,4 @@
-use Rattle.std.proofs.Common.{map, sym, ◌∙◌}
-use Rattle.sre_emit.specs.Emitting.{item_of, in_order}
+use Rattle.sre_emit.proofs.Terms.{map, sym, ◌∙◌, item_of, in_order}
 use Rattle.sre_emit.proofs.Blocks.{full_block}
 use Rattle.sre_emit.proofs.Written.{wrote_equal}
 use Rattle.sre_emit.proofs.writer.Writer.put_block.Goals as goal

@@ -1,4 +1,4 @@
-use Rattle.std.proofs.Common.{◌-◌, arith}
+use Rattle.sre_emit.proofs.Terms.{◌-◌, arith}
 use Rattle.sre_emit.proofs.Written.{no_four, wrote_four}
 use Rattle.sre_emit.proofs.writer.Writer.put_numbers.Goals as goal
 

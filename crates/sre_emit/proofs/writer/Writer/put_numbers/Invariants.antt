@@ -1,5 +1,4 @@
-use Rattle.std.proofs.Common.{◌*◌, drop}
-use Rattle.sre_emit.specs.Emitting.{packed, Wrote}
+use Rattle.sre_emit.proofs.Terms.{◌*◌, drop, packed, Wrote}
 use Rattle.sre_emit.proofs.writer.Writer.put_numbers.Given as goal
 
 abbrev pub invariant-loop-at : goal.invariant-loop-at

@@ -1,4 +1,4 @@
-use Rattle.std.proofs.Common.{arith}
+use Rattle.sre_emit.proofs.Terms.{arith}
 use Rattle.sre_emit.proofs.Blocks.{prefix_written}
 use Rattle.sre_emit.proofs.writer.Writer.put_prefix.Goals as goal
 

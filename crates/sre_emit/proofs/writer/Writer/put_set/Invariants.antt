@@ -1,5 +1,4 @@
-use Rattle.std.proofs.Common.{drop}
-use Rattle.sre_emit.specs.Emitting.{Wrote}
+use Rattle.sre_emit.proofs.Terms.{drop, Wrote}
 use Rattle.sre_emit.proofs.Written.{set_items_words}
 use Rattle.sre_emit.proofs.writer.Writer.put_set.Given as goal
 

@@ -1,4 +1,4 @@
-use Rattle.std.proofs.Common.{ap, ◌+◌, ◌-◌, ◌∷◌}
+use Rattle.sre_emit.proofs.Terms.{ap, ◌+◌, ◌-◌, ◌∷◌}
 use Rattle.sre_emit.proofs.Written.{wrote_more, wrote_equal}
 use Rattle.sre_emit.proofs.writer.Writer.put_skip.Goals as goal
 

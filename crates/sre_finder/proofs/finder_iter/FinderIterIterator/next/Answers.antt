@@ -1,4 +1,5 @@
-use Rattle.sre_finder.proofs.Terms.{∥∥₁_elim, string_of, request_of}
+use Rattle.sre_finder.proofs.Terms.{∥∥₁_elim, string_of}
+use Rattle.sre_engine.specs.Iterators.{request_of}
 use Rattle.sre_finder.proofs.Covered.{end_once}
 use Rattle.sre_finder.proofs.finder_iter.FinderIterIterator.next.Goals as goal
 

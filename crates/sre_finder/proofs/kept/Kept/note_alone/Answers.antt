@@ -1,4 +1,4 @@
-use Rattle.std.proofs.Common.{refl}
+use Rattle.sre_finder.proofs.Terms.{refl}
 use Rattle.sre_finder.proofs.Covered.{suits_same}
 use Rattle.sre_finder.proofs.kept.Kept.note_alone.Goals as goal
 

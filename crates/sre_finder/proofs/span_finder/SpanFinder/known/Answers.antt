@@ -1,6 +1,7 @@
 use Rattle.sre_finder.proofs.Terms.{◌≡◌, ◌≤◌, false, ap, sym, subst, ◌∙◌, arith, rules, meaning, Tree, Whole, words_of}
 use Rattle.sre_finder.proofs.Terms.{items_of, items_whole, string_of, start_of, code_of, asked_of, IsBetween, SeenAs}
-use Rattle.sre_finder.proofs.Terms.{Exactly, tree_of, whole_of, FindsFirst}
+use Rattle.sre_finder.proofs.Terms.{Exactly, whole_of, FindsFirst}
+use Rattle.sre_model.proofs.TreeOf.{tree_of}
 use Rattle.sre_finder.proofs.Spans.{first_reached, span_reached, span_between, nothing_found, exact_same}
 use Rattle.sre_finder.proofs.span_finder.SpanFinder.known.Goals.{in-Nothing, in-Between, in-Unknown}
 use Rattle.sre_finder.proofs.span_finder.SpanFinder.known.Goals as goal

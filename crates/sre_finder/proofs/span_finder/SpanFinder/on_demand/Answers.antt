@@ -1,4 +1,4 @@
-use Rattle.sre_code.specs.Codes.{words_of, uni_of}
+use Rattle.sre_finder.proofs.Terms.{words_of, uni_of}
 use Rattle.sre_finder.proofs.span_finder.SpanFinder.on_demand.Goals as goal
 
 pub into_finder-requires : goal.into_finder-requires
