@@ -1,13 +1,6 @@
-pub mod KnownSets
-pub mod Telling
-pub mod Budgets
-pub mod RowBudgets
-pub mod Rows
-pub mod SpanRows
-pub mod NextRows
-pub mod Walks
+pub mod Codes
 pub mod Finding
+pub mod Rows
+pub mod Walks
 pub mod Matches
-pub mod Knowing
-pub mod Begun
 pub mod Terms

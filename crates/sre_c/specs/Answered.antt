@@ -2,10 +2,8 @@
 -- Public clauses rest on it.
 use Rattle.std.specs.Prelude.{ℕ, ◌≡◌, ◌<◌, ◌-◌, ◌^◌, List, length, slice_index, Bool, true, false, cond, Option, Some}
 use Rattle.std.specs.Prelude.{None, Ok}
-use Rattle.sre_c.specs.Terms.{Global, Tree, Whole, IsCode, mark_at, Asked, Match, Refused}
-use Rattle.sre_c.specs.declared.status.Status.{Status}
-use Rattle.sre_c.specs.declared.status.Status.TheVariants.{No, Yes, StepLimit, Memory, NoCode, NoRoom}
-use Rattle.sre_c.specs.declared.status.Status.TheVariants.{NotUtf8, FaultyTable}
+use Rattle.sre_c.specs.Terms.{Global, Tree, Whole, IsCode, mark_at, Asked, Match, Refused, Status, No, Yes, StepLimit}
+use Rattle.sre_c.specs.Terms.{Memory, NoCode, NoRoom, NotUtf8, FaultyTable}
 use Rattle.sre_c.specs.declared.code.SreCode.{SreCode}
 use Rattle.sre_c.specs.declared.types.SreAsked.{SreAsked}
 use Rattle.sre_c.specs.declared.types.SreFound.{SreFound}

@@ -2,15 +2,9 @@
 -- Public clauses rest on it.
 use Rattle.std.specs.Prelude.{ℕ, ◌≡◌, ◌<◌, ◌||◌, nat_le, Bool, true, false, List, [], length, slice_index_or, Some}
 use Rattle.std.specs.Prelude.{None}
-use Rattle.sre_c.specs.Terms.{Global, Table, Tree, Whole, IsCode, Marks, Refused}
-use Rattle.sre_model.specs.Characters.{holds}
-use Rattle.sre_model.specs.Tree.{Test}
-use Rattle.sre_model.specs.Subject.{Subject, after}
-use Rattle.sre_model.specs.Ways.{ways}
+use Rattle.sre_c.specs.Terms.{Global, Table, Tree, Whole, IsCode, Marks, Refused, holds, Test, Subject, after, ways}
+use Rattle.sre_c.specs.Terms.{Status, No, Yes, StepLimit, Memory, NoCode, NoRoom, NotUtf8, FaultyTable}
 use Rattle.sre_engine.specs.Beginnings.{BeginsAtLines, KnowsTest, KnowsLines, first_test, has_ascii}
-use Rattle.sre_c.specs.declared.status.Status.{Status}
-use Rattle.sre_c.specs.declared.status.Status.TheVariants.{No, Yes, StepLimit, Memory, NoCode, NoRoom}
-use Rattle.sre_c.specs.declared.status.Status.TheVariants.{NotUtf8, FaultyTable}
 use Rattle.sre_c.specs.declared.code.SreCode.{SreCode}
 use Rattle.sre_c.specs.Checked.{IsFaulty}
 

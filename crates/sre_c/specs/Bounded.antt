@@ -1,11 +1,8 @@
 -- What an export says of a step bound.
 -- Public clauses rest on it.
 use Rattle.std.specs.Prelude.{ℕ, ◌≡◌, length}
-use Rattle.sre_c.specs.Terms.{Global, Tree, Whole, IsCode, behind_block, Refused}
-use Rattle.sre_code.specs.StepBounds.{IsStepBound, HasNoStepBound}
-use Rattle.sre_c.specs.declared.status.Status.{Status}
-use Rattle.sre_c.specs.declared.status.Status.TheVariants.{No, Yes, StepLimit, Memory, NoCode, NoRoom}
-use Rattle.sre_c.specs.declared.status.Status.TheVariants.{NotUtf8, FaultyTable}
+use Rattle.sre_c.specs.Terms.{Global, Tree, Whole, IsCode, behind_block, Refused, IsStepBound, HasNoStepBound, Status}
+use Rattle.sre_c.specs.Terms.{No, Yes, StepLimit, Memory, NoCode, NoRoom, NotUtf8, FaultyTable}
 use Rattle.sre_c.specs.declared.code.SreCode.{SreCode}
 use Rattle.sre_c.specs.Checked.{IsFaulty}
 

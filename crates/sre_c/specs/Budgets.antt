@@ -1,8 +1,7 @@
 -- What is left of a call's steps.
 -- Public clauses rest on it.
 use Rattle.std.specs.Prelude.{ℕ, ◌≡◌, ◌≤◌, ◌+◌, ◌-◌, ◌*◌, ◌^◌, List, [], ◌∷◌, Bool, true, Option, Some, Result, Ok}
-use Rattle.sre_c.specs.Terms.{Global, Asked, Match, asked_after, words_of, SreError, KeepsToSteps}
-use Rattle.sre_code.specs.declared.code.Code.{Code}
+use Rattle.sre_c.specs.Terms.{Global, Asked, Match, asked_after, words_of, SreError, KeepsToSteps, Code}
 
 -- the steps of a call without a limit
 abbrev pub no_limit : ℕ

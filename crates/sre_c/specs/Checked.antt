@@ -1,18 +1,13 @@
 -- What a check leaves.
 -- Public clauses rest on it.
 use Rattle.std.specs.Prelude.{◌≡◌, ◌≢◌, ◌≤◌, true, false, length, Some, None}
-use Rattle.sre_c.specs.Terms.{Global, lists_fault, Tree, Whole, IsCode, Refused, place_of}
-use Rattle.sre_chars.specs.declared.table.UniError.{UniError}
-use Rattle.sre_chars.specs.Errors.{uni_error_number}
-use Rattle.sre_code.specs.Refusals.{refusal_number}
-use Rattle.sre_code.specs.declared.code.error.CodeError.{CodeError}
-use Rattle.sre_code.specs.declared.code.error.CodeError.TheVariants as code_error
-use Rattle.sre_c.specs.declared.status.Status.{Status}
-use Rattle.sre_c.specs.declared.status.Status.TheVariants.{No, Yes, StepLimit, Memory, NoCode, NoRoom}
-use Rattle.sre_c.specs.declared.status.Status.TheVariants.{NotUtf8, FaultyTable}
+use Rattle.sre_c.specs.Terms.{Global, lists_fault, Tree, Whole, IsCode, Refused, place_of, UniError, uni_error_number}
+use Rattle.sre_c.specs.Terms.{refusal_number, CodeError, Status, No, Yes, StepLimit, Memory, NoCode, NoRoom, NotUtf8}
+use Rattle.sre_c.specs.Terms.{FaultyTable}
 use Rattle.sre_c.specs.declared.types.SreTable.{SreTable}
 use Rattle.sre_c.specs.declared.code.SreCode.{SreCode}
 use Rattle.sre_c.specs.Known.{table_in, AreHints}
+use Rattle.sre_code.specs.declared.code.error.CodeError.TheVariants as code_error
 
 -- a list of a table has a fault
 abbrev pub IsFaulty : SreTable → Type 0

@@ -1,6 +1,6 @@
 -- The first place of an element in a list.
 use Rattle.std.specs.Prelude.{◌≡◌, ◌≢◌, ◌<◌, ◌≤◌, ℕ, List, Option, length, MatchOption}
-use Rattle.std.specs.List.{AllWithin, HoldsAt}
+use Rattle.sre_c.specs.Terms.{AllWithin, HoldsAt}
 
 -- from one place up to another no element is x
 abbrev pub Lacks : {X : Type 0} → List X → X → ℕ → ℕ → Type 0

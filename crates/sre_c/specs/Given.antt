@@ -1,12 +1,9 @@
 -- What a caller passes, in the terms of the specification.
 -- Public clauses rest on it.
-use Rattle.std.specs.Prelude.{min, ℕ, ◌≡◌, ◌<◌, ◌⊎◌, List, length, cond, Option}
-use Rattle.sre_c.specs.Terms.{Table, Tree, Whole, behind_block, Asked, Match, matched, found}
+use Rattle.std.specs.Prelude.{ℕ, ◌≡◌, ◌<◌, ◌⊎◌, List, length, cond, Option, min}
+use Rattle.sre_c.specs.Terms.{Table, Tree, Whole, behind_block, Asked, Match, matched, found, Never, NonBoundary}
+use Rattle.sre_c.specs.Terms.{IsRemembered, step_bound, Status, NotUtf8}
 use Rattle.std.specs.Str.{chars, IsUtf8}
-use Rattle.sre_chars.specs.declared.constants.EmptyRule.TheVariants.{Never, NonBoundary}
-use Rattle.sre_model.specs.Remembered.{IsRemembered, step_bound}
-use Rattle.sre_c.specs.declared.status.Status.{Status}
-use Rattle.sre_c.specs.declared.status.Status.TheVariants.{NotUtf8}
 use Rattle.sre_c.specs.declared.code.SreCode.{SreCode}
 use Rattle.sre_c.specs.declared.types.SreAsked.{SreAsked}
 use Rattle.sre_c.specs.declared.utf8.Utf8.{Utf8}

@@ -1,11 +1,7 @@
 -- What a check has reported of lists and bytecode.
 -- Public clauses rest on it.
 use Rattle.std.specs.Prelude.{ℕ, ◌≡◌, false, List, cond, Some, None}
-use Rattle.sre_c.specs.Terms.{Table, lent_table, Tree, Whole}
-use Rattle.sre_model.specs.References.{refers, asked_from}
-use Rattle.sre_model.specs.LooksBehind.{longest_lookbehind}
-use Rattle.sre_code.specs.Hinted.{Confirmed}
-use Rattle.sre_code.specs.declared.code.Hints.{Hints}
+use Rattle.sre_c.specs.Terms.{Table, lent_table, Tree, Whole, refers, asked_from, longest_lookbehind, Confirmed, Hints}
 use Rattle.sre_c.specs.declared.types.SreTable.{SreTable}
 use Rattle.sre_c.specs.declared.types.SreHints.{SreHints}
 

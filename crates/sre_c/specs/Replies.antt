@@ -1,12 +1,9 @@
 -- What the engine answers a request, and what a status says of that.
 -- Definitions for the contracts inside this crate; what it makes public does not rest on it.
-use Rattle.std.specs.Prelude.{Err, ℕ, ◌≡◌, ◌<◌, List, Bool, true, false, cond, Option, Some, None, Result, Ok, IfOk}
-use Rattle.std.specs.Prelude.{IfSome, OnErr}
+use Rattle.std.specs.Prelude.{ℕ, ◌≡◌, ◌<◌, List, Bool, true, false, cond, Option, Some, None, Result, Ok, IfOk, IfSome}
+use Rattle.std.specs.Prelude.{OnErr, Err}
 use Rattle.sre_c.specs.Terms.{Global, Tree, Whole, Asked, Match, matched, found, Refused, SreError, Shown, match_shown}
-use Rattle.sre_engine.specs.Answers.{answer_of}
-use Rattle.sre_c.specs.declared.status.Status.{Status}
-use Rattle.sre_c.specs.declared.status.Status.TheVariants.{No, Yes, StepLimit, Memory, NoCode, NoRoom}
-use Rattle.sre_c.specs.declared.status.Status.TheVariants.{NotUtf8, FaultyTable}
+use Rattle.sre_c.specs.Terms.{answer_of, Status, No, Yes, StepLimit, Memory, NoCode, NoRoom, NotUtf8, FaultyTable}
 use Rattle.sre_c.specs.declared.types.SreFound.{SreFound}
 use Rattle.sre_c.specs.Answered.{IsFound, IsTold, last_start}
 use Rattle.sre_c.specs.Budgets.{no_limit, KeepsBudget}

@@ -1,17 +1,11 @@
 -- How far an iteration of a request is written.
 -- Definitions for the contracts inside this crate; what it makes public does not rest on it.
-use Rattle.std.specs.Prelude.{ℕ, ◌≡◌, ◌≤◌, ◌<◌, ◌+◌, ◌*◌, ◌⊎◌, List, [], ◌∷◌, length, take, Bool, false, Option, Some}
-use Rattle.std.specs.Prelude.{None, Result, Ok, OnErr, slice_index}
-use Rattle.sre_c.specs.Terms.{Global, Tree, Whole, Marks, Asked, Match, found, walk, asked_after, Refused, words_of}
-use Rattle.sre_c.specs.Terms.{start_of, end_of, code_of, asked_of, KeepsToSteps, SreError, Shown, match_with}
-use Rattle.sre_chars.specs.declared.string.StrDrive.{Ghosts}
-use Rattle.sre_engine.specs.Counts.{AreEnough, runs_of}
-use Rattle.sre_request.specs.declared.request.Request.{Request}
-use Rattle.sre_engine.specs.Searches.{Stepped, given_up}
-use Rattle.sre_finder.specs.Spans.{GoesOnBehind}
-use Rattle.sre_c.specs.declared.status.Status.{Status}
-use Rattle.sre_c.specs.declared.status.Status.TheVariants.{No, Yes, StepLimit, Memory, NoCode, NoRoom}
-use Rattle.sre_c.specs.declared.status.Status.TheVariants.{NotUtf8, FaultyTable}
+use Rattle.std.specs.Prelude.{ℕ, ◌≡◌, ◌≤◌, ◌<◌, ◌+◌, ◌*◌, ◌⊎◌, List, [], length, take, Bool, false, Option, Some, None}
+use Rattle.std.specs.Prelude.{Result, Ok, OnErr, slice_index}
+use Rattle.sre_c.specs.Terms.{Global, Tree, Whole, Marks, found, walk, Refused, words_of, start_of, end_of, code_of}
+use Rattle.sre_c.specs.Terms.{asked_of, KeepsToSteps, SreError, Shown, match_with, Ghosts, AreEnough, runs_of, Request}
+use Rattle.sre_c.specs.Terms.{Stepped, given_up, GoesOnBehind, Status, No, Yes, StepLimit, Memory, NoCode, NoRoom}
+use Rattle.sre_c.specs.Terms.{NotUtf8, FaultyTable}
 use Rattle.sre_c.specs.declared.types.SreWalked.{SreWalked}
 use Rattle.sre_c.specs.Walked.{IsRow, IsWritten}
 use Rattle.sre_c.specs.Budgets.{no_limit, KeepsBudget, KeepBudget}
@@ -36,15 +30,11 @@ abbrev pub LastKeeps : {S : Type 0} {text : Ghosts S}
 LastKeeps first next w told =
     KeepsBudget (words_of (code_of first)) (asked_of next) (end_of next) (Ok told) w.steps_before w.steps
 
--- what is asked after some matches
-abbrev pub asked_behind : Asked → List Match → Asked
-asked_behind a [] = a
-asked_behind a (m ∷ ms) = asked_behind (asked_after a m) ms
-
--- so many first matches of a request are behind the next one
-pub record IsBehind {S : Type 0} {text : Ghosts S} (first next : Request S text) (count : ℕ) : Type 0 where
-  pub each : (t : Tree) → Whole (words_of (code_of first)) t
-      → asked_of next ≡ asked_behind (asked_of first) (take count (walk (asked_of first) t))
+-- what the searches for more matches leave, the searches for these and for so many first ones leave together
+pub record RowsGoOn {S : Type 0} {text : Ghosts S} (first next : Request S text) (count given left : ℕ) : Type 0 where
+  pub each : (t : Tree) → Whole (words_of (code_of first)) t → (more n : ℕ)
+      → KeepBudget (words_of (code_of first)) (asked_of next) (take more (walk (asked_of next) t)) left n
+      → KeepBudget (words_of (code_of first)) (asked_of first) (take (count + more) (walk (asked_of first) t)) given n
 
 -- what a status says of rows that are written
 abbrev pub WritesRows : {S : Type 0} {text : Ghosts S}
@@ -75,8 +65,7 @@ pub record AreWritten {S : Type 0} {text : Ghosts S} (first next : Request S tex
   pub fewer : w.steps ≤ given
   pub untaken : w.count ≡ 0 → w.steps ≡ given
   pub unlimited : given ≡ no_limit → w.steps ≡ given
-  pub kept : RowsKeep first w.count given w.steps
-  pub behind : IsBehind first next w.count
+  pub kept : RowsGoOn first next w.count given w.steps
 
 -- the same after one more row; or what a status says, for which there is none
 abbrev pub NextIs : {S : Type 0} {text : Ghosts S} → Option Status

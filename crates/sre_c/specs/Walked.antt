@@ -1,11 +1,9 @@
 -- What an export reports of an iteration.
 -- Public clauses rest on it.
-use Rattle.std.specs.Prelude.{◌==◌, if◌then◌else◌, ℤ, pos, negsuc, ◌++◌, ℕ, ◌≡◌, ◌<◌, ◌+◌, ◌-◌, ◌*◌, ◌^◌, ◌⊎◌, List, []}
-use Rattle.std.specs.Prelude.{◌∷◌, length, slice_index, take, Bool, false, Option, Some, None, Ok}
-use Rattle.sre_c.specs.Terms.{Global, Tree, Whole, IsCode, mark_at, Asked, Match, walk, Refused}
-use Rattle.sre_c.specs.declared.status.Status.{Status}
-use Rattle.sre_c.specs.declared.status.Status.TheVariants.{No, Yes, StepLimit, Memory, NoCode, NoRoom}
-use Rattle.sre_c.specs.declared.status.Status.TheVariants.{NotUtf8, FaultyTable}
+use Rattle.std.specs.Prelude.{ℕ, ◌≡◌, ◌<◌, ◌+◌, ◌-◌, ◌*◌, ◌^◌, ◌⊎◌, List, [], ◌∷◌, length, slice_index, take, Bool}
+use Rattle.std.specs.Prelude.{false, Option, Some, None, Ok, ◌==◌, if◌then◌else◌, ℤ, pos, negsuc, ◌++◌}
+use Rattle.sre_c.specs.Terms.{Global, Tree, Whole, IsCode, mark_at, Asked, Match, walk, Refused, Status, No, Yes}
+use Rattle.sre_c.specs.Terms.{StepLimit, Memory, NoCode, NoRoom, NotUtf8, FaultyTable}
 use Rattle.sre_c.specs.declared.code.SreCode.{SreCode}
 use Rattle.sre_c.specs.declared.types.SreAsked.{SreAsked}
 use Rattle.sre_c.specs.declared.types.SreWalked.{SreWalked}

@@ -2,7 +2,7 @@
 
 ghost use Rattle.std.specs.Prelude.{◌≡◌, ◌<◌, ◌≤◌, ℕ, length, slice_index, slice_index_or, None, true, false, OnErr};
 ghost use Rattle.sre_c.specs.Terms.{Refused, behind_block, SetsOf, uni_of, items_of, asked_of, code_of, match_shown};
-ghost use Rattle.sre_engine.specs.Codes.{words_of};
+ghost use Rattle.sre_c.specs.Terms.{words_of};
 ghost use Rattle.sre_c.specs.Known.{table_in};
 ghost use Rattle.sre_c.specs.Given.{asked_in};
 ghost use Rattle.sre_c.specs.Budgets.{no_limit};

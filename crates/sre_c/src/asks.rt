@@ -1,8 +1,7 @@
 //! How a text is searched: by the machine, and with DFAs where the text's type allows it.
 
-ghost use Rattle.std.specs.Prelude.{⊤, ◌≡◌, ◌≤◌, ℕ, List, true, IfSome};
-ghost use Rattle.sre_c.specs.Terms.{Table, uni_of, SetsOf, asked_of, code_of, items_of, behind_block, Suits};
-ghost use Rattle.sre_engine.specs.Codes.{words_of};
+ghost use Rattle.std.specs.Prelude.{◌≡◌, ◌≤◌, ℕ, List, true, IfSome, ⊤};
+ghost use Rattle.sre_c.specs.Terms.{Table, uni_of, SetsOf, asked_of, code_of, items_of, behind_block, Suits, words_of};
 ghost use Rattle.sre_c.specs.Budgets.{no_limit};
 ghost use Rattle.sre_c.specs.Replies.{told_of, Finds};
 ghost use Rattle.sre_c.specs.Rows.{Writes};

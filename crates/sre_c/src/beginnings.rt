@@ -1,7 +1,7 @@
 //! Where a match of a caller's bytecode may begin.
 
 ghost use Rattle.std.specs.Prelude.{◌≡◌, ◌<◌, ◌||◌, ℕ, nat_le, false, length, slice_index_or};
-ghost use Rattle.sre_code.specs.AsciiSet.{contains};
+ghost use Rattle.sre_c.specs.Terms.{contains};
 ghost use Rattle.sre_c.specs.Known.{table_in};
 ghost use Rattle.sre_c.specs.Beginnings.{Begins};
 

@@ -1,8 +1,7 @@
 //! The check of a caller's bytecode.
 
-ghost use Rattle.std.specs.Prelude.{IfErr, OnOk, ◌≡◌, ◌≢◌, IfOk};
-ghost use Rattle.sre_c.specs.Terms.{Tree, Whole, IsCode, Refused, words_of, place_of};
-ghost use Rattle.sre_code.specs.Codes.{uni_of};
+ghost use Rattle.std.specs.Prelude.{◌≡◌, ◌≢◌, IfOk, IfErr, OnOk};
+ghost use Rattle.sre_c.specs.Terms.{Tree, Whole, IsCode, Refused, words_of, place_of, uni_of};
 ghost use Rattle.sre_c.specs.Known.{table_in, hints_told, AreHints};
 ghost use Rattle.sre_c.specs.Checked.{CodeChecked};
 

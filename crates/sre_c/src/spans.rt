@@ -2,9 +2,7 @@
 
 ghost use Rattle.std.specs.Prelude.{◌≡◌, ◌<◌, ◌≤◌, ◌+◌, ℕ, length, slice_index, true, false, IfOk, OnErr};
 ghost use Rattle.sre_c.specs.Terms.{Refused, Marks, items_of, SetsOf, string_of, start_of, code_of, stands_in};
-ghost use Rattle.sre_c.specs.Terms.{match_with};
-ghost use Rattle.sre_finder.specs.Finders.{EndStands};
-ghost use Rattle.sre_finder.specs.Spans.{FindsNone};
+ghost use Rattle.sre_c.specs.Terms.{match_with, EndStands, FindsNone};
 ghost use Rattle.sre_c.specs.Walked.{entry_of, IsRow};
 ghost use Rattle.sre_c.specs.Rows.{Writes, WritesSpan};
 

@@ -2,7 +2,7 @@
 
 ghost use Rattle.std.specs.Prelude.{◌≡◌, ◌<◌, ◌≤◌, ◌+◌, ◌*◌, ℕ, length, slice_index, IfNone};
 ghost use Rattle.sre_c.specs.Terms.{items_of, SetsOf, string_of, start_of, end_of, code_of, stands_in, match_shown};
-ghost use Rattle.sre_engine.specs.Requests.{must_advance_of};
+ghost use Rattle.sre_c.specs.Terms.{must_advance_of};
 ghost use Rattle.sre_c.specs.Known.{table_in};
 ghost use Rattle.sre_c.specs.Walked.{index_number, entry_of, begun_of, IsRow, Walks};
 ghost use Rattle.sre_c.specs.Rows.{Searched, WritesNext, WritesRows};
@@ -133,7 +133,7 @@ fn write_next<S: StrDrive, F: Starts<S>>(
 
 /// Writes the remaining matches, row by row, until there is no room for one more row, or no match. The searches skip
 /// the starts that the prefilter excludes.
-#[tactic(auto, using(crate::proofs::RowBudgets::none_kept, crate::proofs::RowBudgets::none_behind))]
+#[tactic(auto, using(crate::proofs::Rows::none_kept))]
 pub fn write_rows<S: StrDrive, F: Starts<S>>(
     request: &mut Request<'_, S>,
     memory: &mut Memory,

@@ -1,5 +1,4 @@
-use Rattle.std.proofs.Common.{◌≡◌, ◌<◌, ℕ, length, slice_index, slice_index_or, None}
-use Rattle.sre_c.specs.Answered.{mark_number}
+use Rattle.sre_c.proofs.Terms.{◌≡◌, ◌<◌, ℕ, length, slice_index, slice_index_or, None, mark_number}
 use Rattle.sre_c.proofs.answer.copy_marks.Given as goal
 
 abbrev pub invariant-loop-i : goal.invariant-loop-i

@@ -1,4 +1,4 @@
-use Rattle.sre_c.specs.Known.{table_in}
+use Rattle.sre_c.proofs.Terms.{table_in}
 use Rattle.sre_c.proofs.keep.walk_by_pattern.Given as goal
 
 abbrev pub ghost-put : goal.ghost-put

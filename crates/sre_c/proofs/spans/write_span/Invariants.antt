@@ -1,5 +1,4 @@
-use Rattle.sre_c.proofs.Terms.{◌≡◌, ◌<◌, ◌+◌, ℕ, length, slice_index, match_with, entry_of}
-use Rattle.sre_model.specs.Marks.{Marks}
+use Rattle.sre_c.proofs.Terms.{◌≡◌, ◌<◌, ◌+◌, ℕ, length, slice_index, match_with, entry_of, Marks}
 use Rattle.sre_c.proofs.spans.write_span.Given as goal
 
 abbrev pub invariant-loop-place : goal.invariant-loop-place

@@ -1,10 +1,10 @@
 use Rattle.sre_c.proofs.Terms.{◌≡◌, ◌≤◌, ◌-◌, ◌*◌, length, items_of, SetsOf, string_of, start_of, code_of, stands_in}
-use Rattle.sre_c.proofs.Terms.{EndStands, IsSoFar}
+use Rattle.sre_c.proofs.Terms.{EndStands, AreWritten}
 use Rattle.sre_c.proofs.spans.write_spans.Given as goal
 
 abbrev pub invariant-matches : goal.invariant-matches
 invariant-matches g l =
-    IsSoFar l.fn.request l.request l.width l.walked l.rows
+    AreWritten l.fn.request l.request l.width l.fn.walked.steps l.walked l.rows
     × (l.at ≡ l.walked.count * l.width)
     × (l.at ≤ length l.rows)
     × (length l.rows ≡ length l.fn.rows)

@@ -1,4 +1,5 @@
-use Rattle.std.proofs.Common.{◌*◌, ap, arith}
+use Rattle.sre_c.proofs.Terms.{rules, ◌*◌, ap, arith}
+use Rattle.sre_c.proofs.Rows.{rows_keep}
 use Rattle.sre_c.proofs.walk.write_rows.Goals as goal
 
 pub matches-preserved : goal.matches-preserved
@@ -24,3 +25,13 @@ returns-in-Some g c =
       suits = c.in-Some.ensures.suits;
       sets = c.in-Some.ensures.sets;
     }
+
+pub returns-else-width-rows-clause-rows : goal.returns-else-width-rows-clause-rows
+returns-else-width-rows-clause-rows g c =
+    let before = c.matches.invariant.0 in
+    (before.so_far, search rules, rows_keep before)
+
+pub returns-after-matches-clause-rows : goal.returns-after-matches-clause-rows
+returns-after-matches-clause-rows g c =
+    let before = c.matches.invariant.0 in
+    (before.so_far, search rules, rows_keep before)

@@ -1,5 +1,5 @@
 use Rattle.sre_c.proofs.Terms.{◌≡◌, ◌≤◌, ◌-◌, ◌*◌, length, items_of, SetsOf, string_of, start_of, code_of, stands_in}
-use Rattle.sre_c.specs.Rows.{AreWritten}
+use Rattle.sre_c.proofs.Terms.{AreWritten}
 use Rattle.sre_c.proofs.walk.write_rows.Given as goal
 
 abbrev pub invariant-matches : goal.invariant-matches

@@ -1,22 +1,18 @@
-use Rattle.sre_c.proofs.Terms.{rules, ◌≡◌, true, subst, words_of, code_of, asked_of, has_found, Finds}
-use Rattle.sre_c.proofs.Finding.{finds_any, finds_within}
+use Rattle.sre_c.proofs.Terms.{code_of}
+use Rattle.sre_c.proofs.Finding.{search_kept, finds_any}
 use Rattle.sre_c.proofs.asks.MachineAsks.search.Goals as goal
 
 pub returns-then-steps-eq-NO_LIMIT-clause-finds : goal.returns-then-steps-eq-NO_LIMIT-clause-finds
 returns-then-steps-eq-NO_LIMIT-clause-finds g c =
-    let own : c.in-Ok.request ≡ c.args.request.now = search rules in
-    let n = c.args.steps.now in
-    subst (λ r. Finds (words_of (code_of r)) (asked_of r) true c.answered.result c.search.new.self n n) own
-    (finds_any (code_of c.in-Ok.request) (asked_of c.in-Ok.request) true c.search.result c.answered.result
-    c.search.new.self n c.answered.ensures c.search.ensures.answer c.search.ensures.refused)
+    rw (← c.in-Ok.ensures.cases, c.answered.ensures)
+    (finds_any (code_of c.in-Ok.request) c.search.result c.search.ensures.answer c.search.ensures.refused)
 
 pub returns-clause-finds : goal.returns-clause-finds
 returns-clause-finds g c =
-    let own : c.in-Ok.request ≡ c.args.request.now = search rules in
-    let told = c.search_within.result in
-    let s = c.search_within.new.self in
-    let left = c.search_within.new.steps in
-    subst (λ r. Finds (words_of (code_of r)) (asked_of r) true told s c.args.steps.now left) own
-    (finds_within c.in-Ok.request (has_found told) told s c.args.steps.now left c.if-steps-eq-NO_LIMIT.false
-    c.search_within.ensures.answer c.search_within.ensures.counts c.search_within.ensures.again
-    c.search_within.ensures.steps c.search_within.ensures.refused)
+    let said = c.search_within.ensures in
+    rw (← c.in-Ok.ensures.cases) (record {
+      answer = said.answer;
+      steps = search_kept said.counts.inside said.again.few said.steps;
+      unlimited = λ none. absurd (c.if-steps-eq-NO_LIMIT.false none);
+      memory = said.refused;
+    })

@@ -1,15 +1,13 @@
 -- `discard` drops a slot that owns nothing.
-use Rattle.sre_handle.proofs.Terms.{◌≡◌, List, [], ◌∷◌, ◌++◌, refl, sym, subst, Val, SProp, ent, id⊢, WpFn, ‵, raw, ◌⊛◌}
-use Rattle.sre_handle.proofs.Terms.{◌$◌, ◌∵◌, !, qed, by, keep, split, fjoin, feq_i, suffices, of_opd, returns, enter}
-use Rattle.sre_handle.proofs.Terms.{alloc_all, pass_all, free_all, look_at, sets, tables, yes, RattleType, owns}
-use Rattle.sre_handle.proofs.Terms.{types_at, plain, nothing, alive, Stays, stay_dropped, walk_of, Goes-dropped}
-use Rattle.sre_handle.proofs.Terms.{proved_at, leaves}
-use mir.Val.{vunit}
-use types.Run.{unit_lit}
-use Rattle.sre_handle.proofs.Words.{word, word_good, one_word}
+use Rattle.sre_handle.proofs.Terms.{◌≡◌, List, [], ◌∷◌, ◌++◌, refl, Val, SProp, WpFn, of_opd, returns, enter, alloc_all}
+use Rattle.sre_handle.proofs.Terms.{pass_all, free_all, look_at, sets, tables, yes, RattleType, owns, types_at, plain}
+use Rattle.sre_handle.proofs.Terms.{nothing, alive, Stays, stay_dropped, walk_of, Goes-dropped, proved_at, leaves}
+use Rattle.sre_handle.proofs.Terms.{vunit, unit_lit}
+use types.Kit.{‵, raw, ◌⊛◌, ◌$◌, ◌∵◌, !, qed, by, keep, split, fjoin, feq_i, suffices}
+use Rattle.sre_handle.proofs.Words.{word, word_good, one_word, same_run}
+use Rattle.sre_handle.proofs.kept_slot.KeptSlot.discard.Statement.{statement}
 use Rattle.sre_handle.specs.contracts.kept_slot.KeptSlot as slot
 use Rattle.sre_handle.specs.contracts.kept_slot.KeptSlot.discard as f
-use Rattle.sre_handle.proofs.kept_slot.KeptSlot.discard.Statement.{statement}
 use Rattle.sre_handle.proofs.kept_slot.KeptSlot.discard.Code as code
 
 pub discard_spec : {M : Type 1} → statement M
@@ -21,10 +19,9 @@ discard_spec 𝓤 𝓛 𝓜 𝓡 wired =
     (code.unfolded 𝓤 H 𝓜 𝓡 wired) (λ z are.
     let p = z.0.3.0.at in let ws = word p ∷ [] in let e : z.0.4.0 ≡ ws = one_word p z.0.4.0 are.0.0 in
     let Post : Val → SProp 𝓤 = (walk_of 𝓛 En hs c).post z in
-    let Run : List Val → SProp 𝓤 = λ ws. WpFn 𝓤 H 𝓣.C 𝓣.Λ code.function ws Post in
     qed 𝓛 ((raw (alive 𝓛 En.signature z.0.0 z.0.1) ⊛ ‵ (owns (types_at En.signature.params z.0.0) z.0.3 z.0.4)) ∷ raw
     ((c z.0.0 z.0.3).requires z.1) ∷ []) ∵ split ! $ keep ! (0 ∷ []) $
-    suffices ! (Run ws) (subst (λ (us : List Val). ent 𝓤 (Run ws) (Run us)) (sym (λ i. e i ++ [])) (id⊢ 𝓤 (Run ws))) $
+    suffices ! _ (same_run 𝓤 (λ us. WpFn 𝓤 H 𝓣.C 𝓣.Λ code.function us Post) (λ i. e i ++ [])) $
     enter ! 𝓣.C 𝓣.Λ code.function ws Post $ alloc_all ! (λ l. pass_all ! refl (word_good p, tt) $
     sets ! (of_opd ! (unit_lit !)) refl (tt, tt) $ feq_i ! (List Val) (vunit ∷ []) (vunit ∷ []) refl $ nothing ! $
     nothing ! $ nothing ! $ fjoin ! $

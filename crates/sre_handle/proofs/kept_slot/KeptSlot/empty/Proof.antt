@@ -1,12 +1,11 @@
 -- `empty` owns nothing.
-use Rattle.sre_handle.proofs.Terms.{◌≡◌, [], ◌∷◌, refl, Val, SProp, emp, ‵, raw, ◌⊛◌, ◌$◌, ◌∵◌, !, qed, by, keep, split}
-use Rattle.sre_handle.proofs.Terms.{fjoin, use0, no_more, and_then, returns, enter, alloc_all, pass_all, free_all}
-use Rattle.sre_handle.proofs.Terms.{look_at, sets, agg, fact, fact_i, tables, owns, types_at, null_ptr, nothing, alive}
-use Rattle.sre_handle.proofs.Terms.{walk_of, proved_at, leaves, None}
-use types.Run.{lit}
+use Rattle.sre_handle.proofs.Terms.{◌≡◌, [], ◌∷◌, refl, Val, SProp, emp, no_more, and_then, returns, enter, alloc_all}
+use Rattle.sre_handle.proofs.Terms.{pass_all, free_all, look_at, sets, agg, fact, fact_i, tables, owns, types_at}
+use Rattle.sre_handle.proofs.Terms.{null_ptr, nothing, alive, walk_of, proved_at, leaves, None, lit}
+use types.Kit.{‵, raw, ◌⊛◌, ◌$◌, ◌∵◌, !, qed, by, keep, split, fjoin, use0}
 use Rattle.sre_handle.proofs.Words.{word, word_good, Pointed, made}
-use Rattle.sre_handle.specs.contracts.kept_slot.KeptSlot.empty as f
 use Rattle.sre_handle.proofs.kept_slot.KeptSlot.empty.Statement.{statement}
+use Rattle.sre_handle.specs.contracts.kept_slot.KeptSlot.empty as f
 use Rattle.sre_handle.proofs.kept_slot.KeptSlot.empty.Code as code
 
 pub empty_spec : {M : Type 1} → statement M

@@ -1,21 +1,16 @@
 -- `into_raw_box` hands on what the slot owns.
-use Rattle.sre_handle.proofs.Terms.{◌≡◌, T, List, [], ◌∷◌, ◌++◌, refl, sym, subst, ty_ptr, tcons, tnil, Val, SProp, ent}
-use Rattle.sre_handle.proofs.Terms.{emp, id⊢, WpFn, ‵, raw, ◌⊛◌, ◌$◌, ◌∵◌, !, qed, by, move, keep, split, fsplit, fjoin}
-use Rattle.sre_handle.proofs.Terms.{rewrite, suffices, use0, stop, fld, of_opd, no_more, and_then, returns, enter}
-use Rattle.sre_handle.proofs.Terms.{alloc_all, pass_all, free_all, look_at, get, get_in, sets, agg, sub, whole, fact}
-use Rattle.sre_handle.proofs.Terms.{fact_i, tables, yes, RattleType, owns, types_at, plain, nothing, heard, alive}
-use Rattle.sre_handle.proofs.Terms.{Stays, stay_dropped, walk_of, Goes-dropped, proved_at, leaves, None, Some, Suits}
-use Rattle.std.proofs.Common.{ℕ}
-use types.Kit.{fpick}
+use Rattle.sre_handle.proofs.Terms.{◌≡◌, T, List, [], ◌∷◌, ◌++◌, refl, sym, subst, ty_ptr, tcons, tnil, Val, SProp, emp}
+use Rattle.sre_handle.proofs.Terms.{WpFn, stop, fld, of_opd, no_more, and_then, returns, enter, alloc_all, pass_all}
+use Rattle.sre_handle.proofs.Terms.{free_all, look_at, get, get_in, sets, agg, sub, whole, fact, fact_i, tables, yes}
+use Rattle.sre_handle.proofs.Terms.{RattleType, owns, types_at, plain, nothing, heard, alive, Stays, stay_dropped}
+use Rattle.sre_handle.proofs.Terms.{walk_of, Goes-dropped, proved_at, leaves, None, Some, Suits, ℕ, Option, Table, held}
 use Rattle.std.specs.Prelude.{IsSome, IfSome}
-use Rattle.std.specs.declared.option.Option.{Option}
-use Rattle.sre_chars.specs.Tables.{Table}
+use types.Kit.{‵, raw, ◌⊛◌, ◌$◌, ◌∵◌, !, qed, by, move, keep, split, fsplit, fjoin, rewrite, suffices, use0, fpick}
+use Rattle.sre_handle.proofs.Words.{ptr_good, word, word_good, Pointed, made, one_word, same_run}
+use Rattle.sre_handle.proofs.kept_slot.KeptSlot.into_raw_box.Statement.{statement}
 use Rattle.sre_finder.specs.contracts.kept.Kept as kept
-use Rattle.sre_handle.proofs.Words.{ptr_good, word, word_good, Pointed, made, one_word}
-use Rattle.sre_handle.specs.Slots.{held}
 use Rattle.sre_handle.specs.contracts.kept_slot.KeptSlot as slot
 use Rattle.sre_handle.specs.contracts.kept_slot.KeptSlot.into_raw_box as f
-use Rattle.sre_handle.proofs.kept_slot.KeptSlot.into_raw_box.Statement.{statement}
 use Rattle.sre_handle.proofs.kept_slot.KeptSlot.into_raw_box.Code as code
 
 some_of : {X : Type 0} (o : Option X) → IsSome o → (x : X) × (o ≡ Some x)
@@ -31,7 +26,6 @@ into_raw_box_spec 𝓤 𝓛 𝓜 𝓡 wired =
     (code.unfolded 𝓤 H 𝓜 𝓡 wired) (λ z are.
     let v = z.0.3.0 in let p = v.at in let ws = word p ∷ [] in let e : z.0.4.0 ≡ ws = one_word p z.0.4.0 are.0.0 in
     let Post : Val → SProp 𝓤 = (walk_of 𝓛 En hs c).post z in
-    let Run : List Val → SProp 𝓤 = λ ws. WpFn 𝓤 H 𝓣.C 𝓣.Λ code.function ws Post in
     let Says : K.Denot → Type 0 = λ x. IfSome v.code (λ code. Suits code.0 code.1 x) in
     qed 𝓛 ((raw (alive 𝓛 En.signature z.0.0 z.0.1) ⊛ ‵ (owns (types_at En.signature.params z.0.0) z.0.3 z.0.4)) ∷ raw
     (fact 𝓤 (IsSome v.code)) ∷ []) ∵
@@ -40,7 +34,7 @@ into_raw_box_spec 𝓤 𝓛 𝓜 𝓡 wired =
     rewrite ! 0 (λ (o : Option (List ℕ × Table)). ‵ (held p o)) g.1 refl $
     fpick ! (λ x. fpick ! (λ fits. let says : Says x = subst (λ o. IfSome o (λ code. Suits code.0 code.1 x))
     (sym g.1) fits in
-    suffices ! (Run ws) (subst (λ (us : List Val). ent 𝓤 (Run ws) (Run us)) (sym (λ i. e i ++ [])) (id⊢ 𝓤 (Run ws))) $
+    suffices ! _ (same_run 𝓤 (λ us. WpFn 𝓤 H 𝓣.C 𝓣.Λ code.function us Post) (λ i. e i ++ [])) $
     enter ! 𝓣.C 𝓣.Λ code.function ws Post $ alloc_all ! (λ l. pass_all ! refl (word_good p, tt) $
     -- [the box in memory; no tokens]
     sets ! (of_opd ! (get_in ! (fld ! refl (stop !)) (sub ! {τs = tcons ty_ptr tnil} 0 refl (whole !)))) refl

@@ -1,17 +1,15 @@
 -- `of` keeps what the pointer owns.
-use Rattle.sre_handle.proofs.Terms.{◌≡◌, List, [], ◌∷◌, ◌++◌, refl, sym, subst, ty_ptr, tcons, tnil, Val, SProp, ent}
-use Rattle.sre_handle.proofs.Terms.{emp, id⊢, WpFn, ‵, raw, ◌⊛◌, ◌$◌, ◌∵◌, !, qed, by, move, keep, split, fsplit, fjoin}
-use Rattle.sre_handle.proofs.Terms.{suffices, use0, stop, fld, of_opd, no_more, and_then, returns, enter, alloc_all}
-use Rattle.sre_handle.proofs.Terms.{pass_all, free_all, look_at, get, get_in, sets, agg, sub, whole, fact, fact_i}
-use Rattle.sre_handle.proofs.Terms.{tables, yes, RattleType, owns, types_at, plain, nothing, heard, alive, Stays}
-use Rattle.sre_handle.proofs.Terms.{stay_dropped, walk_of, Goes-dropped, proved_at, leaves, Some, Suits, heap_box}
-use base.Fml.{fex}
-use types.Kit.{fpack}
+use Rattle.sre_handle.proofs.Terms.{◌≡◌, [], ◌∷◌, ◌++◌, refl, ty_ptr, tcons, tnil, Val, SProp, emp, WpFn, stop, fld}
+use Rattle.sre_handle.proofs.Terms.{of_opd, no_more, and_then, returns, enter, alloc_all, pass_all, free_all, look_at}
+use Rattle.sre_handle.proofs.Terms.{get, get_in, sets, agg, sub, whole, fact, fact_i, tables, yes, RattleType, owns}
+use Rattle.sre_handle.proofs.Terms.{types_at, plain, nothing, heard, alive, Stays, stay_dropped, walk_of, Goes-dropped}
+use Rattle.sre_handle.proofs.Terms.{proved_at, leaves, Some, Suits, heap_box, fex}
+use types.Kit.{‵, raw, ◌⊛◌, ◌$◌, ◌∵◌, !, qed, by, move, keep, split, fsplit, fjoin, suffices, use0, fpack}
+use Rattle.sre_handle.proofs.Words.{ptr_good, word, word_good, Pointed, made, one_word, same_run}
+use Rattle.sre_handle.proofs.kept_slot.KeptSlot.of.Statement.{statement}
 use Rattle.sre_finder.specs.contracts.kept.Kept as kept
 use Rattle.sre_handle.specs.contracts.raw_box.RawBox as raw_box
-use Rattle.sre_handle.proofs.Words.{ptr_good, word, word_good, Pointed, made, one_word}
 use Rattle.sre_handle.specs.contracts.kept_slot.KeptSlot.of as f
-use Rattle.sre_handle.proofs.kept_slot.KeptSlot.of.Statement.{statement}
 use Rattle.sre_handle.proofs.kept_slot.KeptSlot.of.Code as code
 
 pub of_spec : {M : Type 1} → statement M
@@ -26,14 +24,13 @@ of_spec 𝓤 𝓛 𝓜 𝓡 wired =
     let g = z.1 in
     let Fits = Suits g.0 g.1 in
     let Post : Val → SProp 𝓤 = (walk_of 𝓛 En hs c).post z in
-    let Run : List Val → SProp 𝓤 = λ ws. WpFn 𝓤 H 𝓣.C 𝓣.Λ code.function ws Post in
     qed 𝓛 ((raw (alive 𝓛 En.signature z.0.0 z.0.1) ⊛ ‵ (owns (types_at En.signature.params z.0.0) z.0.3 z.0.4)) ∷ raw
     (fact 𝓤 (Fits v.value)) ∷ []) ∵
     move ! (1 ∷ []) $ heard ! (Fits v.value) (λ fits.
     split ! $ move ! (1 ∷ []) $ fsplit ! $ fsplit ! $ keep ! (1 ∷ 3 ∷ []) $
     fpack ! (Fits v.value) (λ _. heap_box K p v.value) fits $
     fpack ! K.Denot (λ x. fex (Fits x) (λ _. heap_box K p x)) v.value $
-    suffices ! (Run ws) (subst (λ (us : List Val). ent 𝓤 (Run ws) (Run us)) (sym (λ i. e i ++ [])) (id⊢ 𝓤 (Run ws))) $
+    suffices ! _ (same_run 𝓤 (λ us. WpFn 𝓤 H 𝓣.C 𝓣.Λ code.function us Post) (λ i. e i ++ [])) $
     enter ! 𝓣.C 𝓣.Λ code.function ws Post $ alloc_all ! (λ l. pass_all ! refl (word_good p, tt) $
     -- [the box in memory; no tokens]
     sets ! (of_opd ! (get_in ! (fld ! refl (stop !)) (sub ! {τs = tcons ty_ptr tnil} 0 refl (whole !)))) refl

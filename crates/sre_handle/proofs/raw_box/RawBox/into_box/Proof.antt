@@ -1,23 +1,20 @@
 -- `into_box` gives `from_raw` what the pointer owns.
-use Rattle.sre_handle.proofs.Terms.{◌≡◌, List, [], ◌∷◌, ◌++◌, refl, sym, subst, Dict, a_type, impl, tnil, tcons, dnil}
-use Rattle.sre_handle.proofs.Terms.{Val, inst_fn, full_share, SProp, ent, emp, id⊢, ftrue, flft, WpFn, ‵, raw, ◌⊛◌}
-use Rattle.sre_handle.proofs.Terms.{some, later, ◌$◌, ◌∵◌, !, qed, by, move, keep, drop, split, join, group, fsplit}
-use Rattle.sre_handle.proofs.Terms.{pick, suffices, use0, use1, await, rewrite, feq_i, stop, fld, of_opd, no_more}
+use Rattle.sre_handle.proofs.Terms.{◌≡◌, List, [], ◌∷◌, ◌++◌, refl, Dict, a_type, impl, tnil, tcons, dnil, Val, inst_fn}
+use Rattle.sre_handle.proofs.Terms.{full_share, SProp, emp, id⊢, ftrue, flft, WpFn, stop, fld, of_opd, no_more}
 use Rattle.sre_handle.proofs.Terms.{and_then, returns, enter, alloc_all, pass_all, free_all, look_at, get, get_in, sets}
 use Rattle.sre_handle.proofs.Terms.{sub, whole, lft_new, Lfts, fact, fact_i, ◌⊑◌, ⊑_static, tables, yes, no, Is}
 use Rattle.sre_handle.proofs.Terms.{RattleType, owns, types_at, plain, ptr_val, nothing, param, arg, layout, param_laws}
 use Rattle.sre_handle.proofs.Terms.{arg_laws, glues, Lasts, lasts, triple_of, framed, Stays, stay_dropped, walk_of}
-use Rattle.sre_handle.proofs.Terms.{Goes-dropped, Goes-blank, one, proved_at, leaves, ghosts, dict, passed}
-use mir.Raw.{raw as bare}
-use types.Kit.{at_ret}
-use types.Kit.{fsplit3, fjoin3}
-use types.Run.{first, blocks, exec}
-use types.ByLocal.{lands_last, env}
-use denote.Laws.{shows}
-use denote.Steps.{peeks}
-use denote.Param.{layouts}
-use denote.Triple.Call.{calls_at_last}
+use Rattle.sre_handle.proofs.Terms.{Goes-dropped, Goes-blank, one, proved_at, leaves, ghosts, dict, passed, first}
+use Rattle.sre_handle.proofs.Terms.{blocks, exec, lands_last, env, shows, peeks, layouts, calls_at_last}
 use Rattle.std.proofs.VecSteps.Shapes.{after}
+use types.Kit.{‵, raw, ◌⊛◌, some, later, ◌$◌, ◌∵◌, !, qed, by, move, keep, drop, split, join, group, fsplit, pick}
+use types.Kit.{suffices, use0, use1, await, rewrite, feq_i, at_ret, fsplit3, fjoin3}
+use mir.Raw.{raw as bare}
+use Rattle.sre_handle.proofs.Words.{ptr_good, word, word_good, one_word, same_run}
+use Rattle.sre_handle.specs.contracts.raw_box.RawBox.into_box.{ended, clauses}
+use Rattle.sre_handle.specs.contracts.raw_box.RawBox.into_box.Key.{name as #self}
+use Rattle.sre_handle.proofs.raw_box.RawBox.into_box.Statement.{statement}
 use Rattle.std.specs.contracts.alloc.Global as heap
 use Rattle.std.proofs.alloc.Global.TheLaws as heap_laws
 use Rattle.std.specs.contracts.boxed.Box as box
@@ -25,11 +22,7 @@ use Rattle.std.proofs.boxed.Box.TheLaws as box_laws
 use Rattle.std.specs.contracts.boxed.Box.from_raw as callee
 use Rattle.std.proofs.boxed.Box.from_raw.Met.{met}
 use Rattle.sre_handle.proofs.Destruct++none.drop.Code as none
-use Rattle.sre_handle.proofs.Words.{ptr_good, word, word_good, one_word}
 use Rattle.sre_handle.specs.contracts.raw_box.RawBox as raw_box
-use Rattle.sre_handle.specs.contracts.raw_box.RawBox.into_box.{ended, clauses}
-use Rattle.sre_handle.specs.contracts.raw_box.RawBox.into_box.Key.{name as #self}
-use Rattle.sre_handle.proofs.raw_box.RawBox.into_box.Statement.{statement}
 use Rattle.sre_handle.proofs.raw_box.RawBox.into_box.Code as code
 
 pub into_box_spec : {M : Type 1} → statement M
@@ -59,14 +52,12 @@ into_box_spec {M} 𝓤 𝓛 𝓜 𝓡 wired T L =
     𝓤 𝓛 𝓜 𝓡) in
     let κ = z.0.0.0 in let q = z.0.1.0 in let v = z.0.3.0 in let p = v.at in let a = z.0.3.1.0 in
     let Post : Val → SProp 𝓤 = (walk_of 𝓛 En hs c).post z in
-    let Run : List Val → SProp 𝓤 = λ ws. WpFn 𝓤 H 𝓣.C 𝓣.Λ fn ws Post in
     let e : z.0.4.0 ≡ word p ∷ [] = one_word p z.0.4.0 are.0.0 in
     let h = one (layout Z) z.0.4.1.0 ((LZ.lawful 𝓛).typed a z.0.4.1.0 are.1.0) in let ws = word p ∷ h.0 ∷ [] in
     qed 𝓛 (((‵ (flft κ q) ⊛ ‵ ftrue) ⊛ ‵ (owns (types_at En.signature.params z.0.0) z.0.3 z.0.4)) ∷ raw
     ((c z.0.0 z.0.3).requires z.1) ∷ []) ∵ split ! $ move ! (1 ∷ []) $ fsplit3 ! $ fsplit ! $ drop ! $
     rewrite ! 1 (λ (us : List Val). ‵ (Z.own_val a us)) h.1 refl $
-    suffices ! (Run ws) (subst (λ (us : List Val). ent 𝓤 (Run ws) (Run us)) (sym (λ i. e i ++ (h.1 i ++ [])))
-    (id⊢ 𝓤 (Run ws))) $
+    suffices ! _ (same_run 𝓤 (λ us. WpFn 𝓤 H 𝓣.C 𝓣.Λ fn us Post) (λ i. e i ++ (h.1 i ++ []))) $
     enter ! 𝓣.C 𝓣.Λ fn ws Post $ alloc_all ! (λ l. pass_all ! refl (word_good p, (h.2, tt)) $
     let Ev = env fn.locals l in
     sets ! (of_opd ! (get_in ! (fld ! refl (stop !)) (sub ! 0 refl (whole !)))) refl (ptr_good p) $ first ! $ blocks ! $

@@ -1,31 +1,24 @@
 -- `of` keeps what `into_raw` hands out.
-use Rattle.sre_handle.proofs.Terms.{◌≡◌, List, [], ◌∷◌, ◌++◌, refl, sym, subst, Dict, a_type, impl, tnil, tcons, dnil}
-use Rattle.sre_handle.proofs.Terms.{Val, inst_fn, full_share, SProp, ent, emp, id⊢, ftrue, flft, WpFn, ‵, raw, ◌⊛◌}
-use Rattle.sre_handle.proofs.Terms.{some, later, ◌$◌, ◌∵◌, !, qed, by, move, keep, drop, split, join, group, fsplit}
-use Rattle.sre_handle.proofs.Terms.{fjoin, pick, suffices, use0, use1, await, rewrite, of_opd, no_more, and_then}
-use Rattle.sre_handle.proofs.Terms.{returns, enter, alloc_all, pass_all, free_all, look_at, get, sets, agg, lft_new}
-use Rattle.sre_handle.proofs.Terms.{fact, fact_i, ◌⊑◌, ⊑_static, tables, no, RattleType, owns, types_at, plain, Ptr}
-use Rattle.sre_handle.proofs.Terms.{RawPtr, nothing, param, arg, layout, param_laws, arg_laws, glues, Lasts, lasts}
-use Rattle.sre_handle.proofs.Terms.{triple_of, framed, Stays, stay_dropped, walk_of, Goes-blank, one, proved_at, leaves}
-use Rattle.sre_handle.proofs.Terms.{ghosts, dict, passed, heap_box, Lfts}
-use Rattle.std.proofs.Common.{ap}
-use mir.Syntax.{dcons}
+use Rattle.sre_handle.proofs.Terms.{◌≡◌, List, [], ◌∷◌, ◌++◌, refl, Dict, a_type, impl, tnil, tcons, dnil, Val, inst_fn}
+use Rattle.sre_handle.proofs.Terms.{full_share, SProp, emp, id⊢, ftrue, flft, WpFn, of_opd, no_more, and_then, returns}
+use Rattle.sre_handle.proofs.Terms.{enter, alloc_all, pass_all, free_all, look_at, get, sets, agg, lft_new, fact}
+use Rattle.sre_handle.proofs.Terms.{fact_i, ◌⊑◌, ⊑_static, tables, no, RattleType, owns, types_at, plain, Ptr, RawPtr}
+use Rattle.sre_handle.proofs.Terms.{nothing, param, arg, layout, param_laws, arg_laws, glues, Lasts, lasts, triple_of}
+use Rattle.sre_handle.proofs.Terms.{framed, Stays, stay_dropped, walk_of, Goes-blank, one, proved_at, leaves, ghosts}
+use Rattle.sre_handle.proofs.Terms.{dict, passed, heap_box, Lfts, ap, dcons, lands_as, only, bounded, calls_at}
+use types.Kit.{‵, raw, ◌⊛◌, some, later, ◌$◌, ◌∵◌, !, qed, by, move, keep, drop, split, join, group, fsplit, fjoin}
+use types.Kit.{pick, suffices, use0, use1, await, rewrite, feq_l}
 use mir.Raw.{raw as bare}
-use types.Kit.{feq_l}
-use types.ByLocal.{lands_as}
-use denote.Steps.{only}
-use denote.Param.{bounded}
-use denote.Triple.Call.{calls_at}
+use Rattle.sre_handle.proofs.Words.{ptr_good, word, word_good, Pointed, made, same_run}
+use Rattle.sre_handle.specs.contracts.raw_box.RawBox.of.{ended, clauses}
+use Rattle.sre_handle.specs.contracts.raw_box.RawBox.of.Key.{name as #self}
+use Rattle.sre_handle.proofs.raw_box.RawBox.of.Statement.{statement}
 use Rattle.std.specs.contracts.alloc.Global as heap
 use Rattle.std.proofs.alloc.Global.TheLaws as heap_laws
 use Rattle.std.specs.contracts.boxed.Box as box
 use Rattle.std.proofs.boxed.Box.TheLaws as box_laws
 use Rattle.std.specs.contracts.boxed.Box.into_raw as callee
 use Rattle.std.proofs.boxed.Box.into_raw.Met.{met}
-use Rattle.sre_handle.proofs.Words.{ptr_good, word, word_good, Pointed, made}
-use Rattle.sre_handle.specs.contracts.raw_box.RawBox.of.{ended, clauses}
-use Rattle.sre_handle.specs.contracts.raw_box.RawBox.of.Key.{name as #self}
-use Rattle.sre_handle.proofs.raw_box.RawBox.of.Statement.{statement}
 use Rattle.sre_handle.proofs.raw_box.RawBox.of.Code as code
 use Rattle.sre_handle.proofs.Destruct++none.drop.Code as none
 
@@ -52,12 +45,11 @@ of_spec {M} 𝓤 𝓛 𝓜 𝓡 wired T L dx glue =
     𝓤 𝓛 𝓜 𝓡) glue in
     let κ = z.0.0.0 in let q = z.0.1.0 in let v = z.0.3.0 in
     let Post : Val → SProp 𝓤 = (walk_of 𝓛 En hs c).post z in
-    let Run : List Val → SProp 𝓤 = λ ws. WpFn 𝓤 H 𝓣.C 𝓣.Λ fn ws Post in
     let w = one (layout B) z.0.4.0 ((LB.lawful 𝓛).typed v z.0.4.0 are.0) in let ws = w.0 ∷ [] in
     qed 𝓛 (((‵ (flft κ q) ⊛ ‵ ftrue) ⊛ ‵ (owns (types_at En.signature.params z.0.0) z.0.3 z.0.4)) ∷ raw
     ((c z.0.0 z.0.3).requires z.1) ∷ []) ∵ split ! $ move ! (1 ∷ []) $ fsplit ! $
     rewrite ! 0 (λ (us : List Val). ‵ (B.own_val v us)) w.1 refl $ fjoin ! $
-    suffices ! (Run ws) (subst (λ (us : List Val). ent 𝓤 (Run ws) (Run us)) (sym (λ i. w.1 i ++ [])) (id⊢ 𝓤 (Run ws))) $
+    suffices ! _ (same_run 𝓤 (λ us. WpFn 𝓤 H 𝓣.C 𝓣.Λ fn us Post) (λ i. w.1 i ++ [])) $
     enter ! 𝓣.C 𝓣.Λ fn ws Post $ alloc_all ! (λ l. pass_all ! refl (w.2, tt) $ sets ! (of_opd ! (get ! refl)) refl w.2 $
     lft_new ! tt (λ α. move ! (2 ∷ 0 ∷ 1 ∷ []) $ split ! $
     -- [the token of κ; nothing; that of α; the box; what is asked]
