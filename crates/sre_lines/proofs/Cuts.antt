@@ -1,43 +1,59 @@
 -- Lists that are cut at the first element of a kind.
-use Rattle.std.proofs.Common.{◌≡◌, ◌≢◌, ℕ, List, [], ◌∷◌, ◌++◌, suc, arith, refl, true, false, eq-eqb}
+use Rattle.sre_lines.proofs.Terms.{◌≡◌, ◌≢◌, ◌==◌, ◌<◌, ℕ, List, [], ◌∷◌, ◌++◌, true, false, length, get_or, refl, sym}
+use Rattle.sre_lines.proofs.Terms.{ap, ◌∙◌, arith, rules, All, Contains, eqb-true, get_or_default, parts_at}
+use Rattle.sre_lines.proofs.Terms.{length-slice_split, Decides-eqb, append_cancel_left, Contains-append_right}
+use Rattle.std.proofs.lemmas.List.Splits.{slice_split_at, slice_split_none}
+use Rattle.std.proofs.lemmas.Slice.Eq.{slice_eq-Decides}
+use Rattle.std.proofs.lemmas.Bool.{false_from_ne_true}
 use lib.Pointwise.{pointwise}
 use lib.Dec.{eqb}
-use Rattle.std.specs.Prelude.{All, Contains}
 
-pub lacks : (at : ℕ) (xs : List ℕ) → All (λ x. x ≢ at) xs → ¬ (Contains xs at)
-lacks at xs none there = none there.0 at there.1 there.2
+abbrev pub Lacks : List ℕ → ℕ → Type 0
+Lacks xs at = ¬ (Contains xs at)
 
-tail_lacks : (at x : ℕ) (xs : List ℕ) → ¬ (Contains (x ∷ xs) at) → ¬ (Contains xs at)
-tail_lacks at x xs none there = none (suc there.0, omega (arith, there.1), there.2)
+no_byte : (at : ℕ) (xs : List ℕ) → Lacks xs at → All (λ b. (b == at) ≡ false) xs
+no_byte at xs none k d within =
+    false_from_ne_true (get_or xs k d == at)
+    (λ test. none (k, within, get_or_default xs k at d within ∙ eqb-true (get_or xs k d) at test))
 
-head_differs : (at x : ℕ) (xs : List ℕ) → ¬ (Contains (x ∷ xs) at) → x ≢ at
-head_differs at x xs none is = none (0, omega arith, is)
+-- its first part, or the only one
+pub first_part_at : (at : ℕ) (xs first others : List ℕ) → first ++ at ∷ others ≡ xs → Lacks first at
+    → parts_at at xs ≡ first ∷ parts_at at others
+first_part_at at xs first others cut none =
+    rw (sym cut) (slice_split_at (λ b. b == at) first at others (no_byte at first none) (same at))
+  where
+    same : (n : ℕ) → (n == n) ≡ true
+    same n = search rules
+
+pub only_part_at : (at : ℕ) (xs : List ℕ) → Lacks xs at → parts_at at xs ≡ xs ∷ []
+only_part_at at xs none = slice_split_none (λ b. b == at) xs (no_byte at xs none)
+
+-- one before others
+pub parts_on : (at : ℕ) (xs first others : List ℕ) (parts : List (List ℕ)) → first ++ at ∷ others ≡ xs
+    → Lacks first at → parts_at at others ≡ parts → parts_at at xs ≡ first ∷ parts
+parts_on at xs first others parts cut none more =
+    first_part_at at xs first others cut none ∙ ap (λ ps. first ∷ ps) more
+
+pub some_part : (at : ℕ) (xs : List ℕ) → 0 < length (parts_at at xs)
+some_part at xs = omega (arith, length-slice_split (λ b. b == at) xs)
 
 -- the parts before and after the first such element are the same
-pub cut_once : (at : ℕ) (xs ys zs ws : List ℕ) → ¬ (Contains xs at) → ¬ (Contains zs at)
-    → xs ++ at ∷ ys ≡ zs ++ at ∷ ws → (xs ≡ zs) × (ys ≡ ws)
-cut_once at [] ys [] ws none none' is = (refl, cc)
-cut_once at [] ys (z ∷ zs) ws none none' is = absurd (head_differs at z zs none' cc)
-cut_once at (x ∷ xs) ys [] ws none none' is = absurd (head_differs at x xs none cc)
-cut_once at (x ∷ xs) ys (z ∷ zs) ws none none' is =
-    let tails : xs ++ at ∷ ys ≡ zs ++ at ∷ ws = cc in
-    let same = cut_once at xs ys zs ws (tail_lacks at x xs none) (tail_lacks at z zs none') tails in
-    (cc same.0, same.1)
+pub cut_once : (at : ℕ) (xs ys zs ws : List ℕ) → Lacks xs at → Lacks zs at → xs ++ at ∷ ys ≡ zs ++ at ∷ ws
+    → (xs ≡ zs) × (ys ≡ ws)
+cut_once at xs ys zs ws none none' is =
+    let same : xs ≡ zs =
+    cc (
+      first_part_at at (xs ++ at ∷ ys) xs ys refl none,
+      first_part_at at (zs ++ at ∷ ws) zs ws refl none',
+      ap (parts_at at) is,
+    ) in
+    let tails = append_cancel_left xs (at ∷ ys) (at ∷ ws) (is ∙ ap (λ l. l ++ at ∷ ws) (sym same)) in (same, cc tails)
 
 -- a list that lacks the element is not cut
-pub uncut : (at : ℕ) (xs ys zs : List ℕ) → ¬ (Contains zs at) → xs ++ at ∷ ys ≢ zs
-uncut at [] ys [] none is = cc
-uncut at [] ys (z ∷ zs) none is = head_differs at z zs none cc
-uncut at (x ∷ xs) ys [] none is = cc
-uncut at (x ∷ xs) ys (z ∷ zs) none is =
-    let tails : xs ++ at ∷ ys ≡ zs = cc in uncut at xs ys zs (tail_lacks at z zs none) tails
-
-equal_itself : (xs : List ℕ) → pointwise eqb xs xs ≡ true
-equal_itself [] = refl
-equal_itself (x ∷ xs) = rw (eq-eqb x x refl) (equal_itself xs)
+pub uncut : (at : ℕ) (xs ys zs : List ℕ) → Lacks zs at → xs ++ at ∷ ys ≢ zs
+uncut at xs ys zs none is = none (rw is at (Contains-append_right xs (at ∷ ys) at (0, omega arith, refl)))
 
 -- what a test of two lists found unequal
 pub unequal : (xs ys zs : List ℕ) → false ≡ pointwise eqb xs ys → ys ≡ zs → xs ≢ zs
 unequal xs ys zs test is same =
-    let both : false ≡ pointwise eqb zs zs = rw (same, is) at test in
-    let equal : pointwise eqb zs zs ≡ true = equal_itself zs in cc
+    let equal : false ≡ true = (slice_eq-Decides Decides-eqb xs ys false test).1 (same ∙ sym is) in cc

@@ -1,16 +1,11 @@
 pub mod AnswerTexts
 pub mod Cuts
 pub mod FileLines
-pub mod Flushed
 pub mod Numbers
 pub mod Pairs
 pub mod Parts
-pub mod WalkTexts
 pub mod Words
 pub mod Lines
 pub mod Causes
-pub mod Parted
-pub mod LineAt
 pub mod TableFiles
-pub mod TableFaults
 pub mod Terms

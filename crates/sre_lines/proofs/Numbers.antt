@@ -1,19 +1,24 @@
 -- What `parse` reads of digits that begin as a number.
 use Rattle.sre_lines.proofs.Terms.{◌≡◌, ◌≢◌, ℕ, ◌^◌, ◌<◌, List, length, get_or, Result, Ok, Err, arith, refl, sym}
-use Rattle.sre_lines.proofs.Terms.{subst, zero, suc, ◌≤◌, ◌∙◌, Contains, get_or_default, decimal, digits_value}
-use Rattle.sre_lines.proofs.Terms.{IsInRange, decimal-digits_value, decimal_injective, IsNumeralModel}
-use Rattle.sre_lines.proofs.Terms.{numerals_by_value, BeginsAsNumber}
-use Rattle.std.proofs.Common.{lit<}
+use Rattle.sre_lines.proofs.Terms.{subst, zero, suc, inl, inr, ◌≤◌, ◌∙◌, Contains, get_or_default, decimal}
+use Rattle.sre_lines.proofs.Terms.{digits_value, IsInRange, decimal-digits_value, decimal_injective, IsNumeralModel}
+use Rattle.sre_lines.proofs.Terms.{numerals_by_value, IsNumeral, BeginsAsNumber, All, All-nil, All-head, All-tail, lit<}
+use Rattle.sre_lines.proofs.Terms.{ParsesUnsigned, AllDigits, cases_lt, IsAscii-decimal, All-cons}
 use Rattle.std.specs.Str.{IsUtf8}
-use Rattle.std.specs.Str.Parse.{ParsesUnsigned, AllDigits}
-use Rattle.std.proofs.lemmas.Fmt.{decimal_digit, decimal_nonempty, first_decimal, digits_decimal}
-use Rattle.std.proofs.lemmas.Fmt.{parse-decimal, IsAscii-decimal}
-use Rattle.std.proofs.lemmas.Str.Parse.{tells_digits, parse_plain, digit_at}
-use Rattle.std.proofs.lemmas.Str.Parse.{not_in_digits}
+use Rattle.std.proofs.lemmas.Fmt.{decimal_digit, decimal_nonempty, first_decimal, digits_decimal, parse-decimal}
+use Rattle.std.proofs.lemmas.Str.Parse.{tells_digits, parse_plain, digit_at, not_in_digits}
 use Rattle.std.proofs.lemmas.Str.{IsUtf8-from_ascii}
 
-own : IsNumeralModel (AllDigits 10) (digits_value 10)
+pub own : IsNumeralModel (AllDigits 10) (digits_value 10)
 own = numerals_by_value (AllDigits 10) tells_digits
+
+-- the same with an element of a list of digits
+pub digits_model : IsNumeralModel (All (λ c. IsInRange 48 57 c)) (digits_value 10)
+digits_model = numerals_by_value (All (λ c. IsInRange 48 57 c)) (record {
+  empty = All-nil (λ c. IsInRange 48 57 c);
+  parts = λ c cs all. (All-head (λ c. IsInRange 48 57 c) c cs all, All-tail (λ c. IsInRange 48 57 c) c cs all);
+  more = λ c cs is all. All-cons (λ c. IsInRange 48 57 c) c cs is all;
+})
 
 zero_alone : (n : ℕ) → n < 2 ^ 64 → get_or (decimal n) 0 0 ≡ 48 → length (decimal n) ≡ 1
 zero_alone zero fits is = rw (decimal_digit 0 (lit< tt)) refl
@@ -52,14 +57,23 @@ no_text_is_not_written ds no_text n fits is =
 pub no_number_is_not_written : (ds : List ℕ) → ¬ (BeginsAsNumber ds) → (n : ℕ) → n < 2 ^ 64 → decimal n ≢ ds
 no_number_is_not_written ds otherwise n fits is = otherwise (subst BeginsAsNumber is (decimal_begins n fits))
 
--- what is written has digits alone
-pub decimal_lacks : (n c : ℕ) → n < 2 ^ 64 → ¬ (IsInRange 48 57 c) → ¬ (Contains (decimal n) c)
-decimal_lacks n c fits other there =
-    not_in_digits own (decimal n) c (digits_decimal own n fits) other there.0 there.1
-    (get_or_default (decimal n) there.0 0 c there.1 ∙ there.2)
+-- what is written has digits alone, so neither spaces nor commas nor dots
+pub number_lacks : (n at : ℕ) → n < 2 ^ 64 → at < 48 → ¬ (Contains (decimal n) at)
+number_lacks n at fits low there =
+    not_in_digits own (decimal n) at (digits_decimal own n fits) (λ range. omega (arith, range)) there.0 there.1
+    (get_or_default (decimal n) there.0 0 at there.1 ∙ there.2)
 
 -- another number is written otherwise
 pub too_large_is_not_written : (ds : List ℕ) (large n : ℕ) → decimal large ≡ ds → large < 2 ^ 64 → n < 2 ^ 32
     → 2 ^ 32 ≤ large → decimal n ≢ ds
 too_large_is_not_written ds large n is fits small over is' =
     let same : n ≡ large = decimal_injective n large (omega arith) fits (is' ∙ sym is) in omega arith
+
+-- what no number below a bound is written as is a greater number
+pub too_large : (digits : List ℕ) (bound : ℕ) → IsNumeral 10 digits → (get_or digits 0 0 ≡ 48 → length digits ≡ 1)
+    → bound ≤ 2 ^ 64 → ((n : ℕ) → n < bound → decimal n ≢ digits) → bound ≤ digits_value 10 digits
+too_large digits bound numeral zero_alone small none = elim (cases_lt (digits_value 10 digits) bound) [
+  | inl below ↦ absurd (none (digits_value 10 digits) below
+      (decimal-digits_value own digits numeral.1 numeral.0 zero_alone (omega arith)))
+  | inr above ↦ above
+]

@@ -1,40 +1,18 @@
--- A table's file, list by list.
-use Rattle.sre_lines.proofs.Terms.{◌≡◌, ◌≢◌, ◌+◌, ◌*◌, ◌%◌, ◌<◌, ◌^◌, ℕ, suc, List, [], ◌∷◌, ◌++◌, length, get_or, take}
-use Rattle.sre_lines.proofs.Terms.{refl, sym, ap, ◌∙◌, arith, append_assoc, add-one, Option, Some, None, codes, IfSome}
-use Rattle.sre_lines.proofs.Terms.{IfNone, decimal, decimal_injective, All-head, All-tail, take-suc, words_text}
-use Rattle.sre_lines.proofs.Terms.{AreWords, numbers_of}
-use Rattle.std.proofs.Common.{ap₂}
-use Rattle.std.proofs.Common.{Bor}
-use Rattle.std.specs.Option.{MatchOption}
-use Rattle.std.proofs.lemmas.List.{append_cancel_left}
+-- A table's file, list by list, and the faults of its lists.
+use Rattle.sre_lines.proofs.Terms.{◌≡◌, ◌≢◌, ◌+◌, ℕ, List, [], ◌∷◌, ◌++◌, ap, refl, sym, ◌∙◌, arith, rules, Bool, true}
+use Rattle.sre_lines.proofs.Terms.{false, Option, Some, None, Result, Err, IfSome, IfNone, words_text, AreWords}
+use Rattle.sre_lines.proofs.Terms.{numbers_of, table_fault, Table, lists_fault, table_with, Bor, append_cancel_left}
+use Rattle.std.specs.Option.{MatchOption, option_or}
+use Rattle.std.specs.Prelude.{if◌then◌else◌, not, nat_lt, ◌||◌}
+use Rattle.sre_chars.specs.Errors.{entry_fault, list_fault, is_scalar_entry, last_of}
+use Rattle.sre_chars.specs.declared.table.UniError.{UniError}
+use Rattle.sre_chars.specs.declared.table.UniError.TheVariants.{Memory, Unsorted, AsciiEntry, NotScalar}
+use Rattle.sre_lines.specs.declared.table.TableFault.{TableFault}
+use Rattle.sre_lines.specs.declared.table.TableFault.TheVariants.{NoMemory}
 use Rattle.sre_lines.specs.TableFiles.{list_text, LacksList, LeavesList}
-use Rattle.sre_lines.proofs.Cuts.{cut_once, uncut}
-use Rattle.sre_lines.proofs.Words.{numbers_text}
-use Rattle.sre_lines.proofs.Lines.{Lacks, lacks_cons, lacks_nil, number_lacks, words_lack}
-
-numbers_of-append : (ps qs : List (ℕ × ℕ)) → numbers_of (ps ++ qs) ≡ numbers_of ps ++ numbers_of qs
-numbers_of-append [] qs = refl
-numbers_of-append (p ∷ ps) qs = rw (numbers_of-append ps qs) refl
-
--- one pair more
-pub one_pair_more : (pairs : List (ℕ × ℕ)) (numbers : List ℕ) (a b i : ℕ) → numbers_of pairs ≡ take (2 * i) numbers
-    → 2 * i + 1 < length numbers → get_or numbers (2 * i) 0 ≡ a → get_or numbers (2 * i + 1) 0 ≡ b
-    → numbers_of (pairs ++ (a, b) ∷ []) ≡ take (2 * (i + 1)) numbers
-one_pair_more pairs numbers a b i so_far within first second =
-    let two_more : 2 * (i + 1) ≡ suc (suc (2 * i)) = omega arith in
-    let here : 2 * i < length numbers = omega arith in
-    let there : suc (2 * i) < length numbers = omega arith in
-    let second_at : get_or numbers (suc (2 * i)) 0 ≡ b = rw add-one at second in
-    rw (
-      numbers_of-append pairs ((a, b) ∷ []),
-      two_more,
-      take-suc numbers (suc (2 * i)) 0 there,
-      take-suc numbers (2 * i) 0 here,
-      first,
-      second_at,
-      so_far,
-      append_assoc,
-    ) refl
+use Rattle.sre_lines.proofs.Cuts.{Lacks, cut_once, uncut}
+use Rattle.sre_lines.proofs.Lines.{words_lack}
+use Rattle.sre_lines.proofs.Words.{words_once}
 
 -- what follows a front, where a text begins with it
 module _ (file front : List ℕ) where
@@ -50,52 +28,6 @@ module _ (file front : List ℕ) where
   no_front None m = λ rest is. m rest (sym is)
   no_front (Some x) m = tt
 
--- pairs have an even number of numbers
-numbers_even : (pairs : List (ℕ × ℕ)) → length (numbers_of pairs) ≡ 2 * length pairs
-numbers_even [] = refl
-numbers_even (p ∷ ps) = omega (arith, numbers_even ps)
-
-pub odd_is_no_pairs : (numbers : List ℕ) → length numbers % 2 ≢ 0 → (pairs : List (ℕ × ℕ)) → numbers_of pairs ≢ numbers
-odd_is_no_pairs numbers odd pairs is = odd (omega (arith, numbers_even pairs, ap length is))
-
--- words have one text each
-fits_head : (w : ℕ) (ws : List ℕ) → AreWords (w ∷ ws) → w < 2 ^ 64
-fits_head w ws all = let fits = All-head (λ w. w < 2 ^ 32) w ws all in omega (arith, fits)
-
-tail_fits : (w : ℕ) (ws : List ℕ) → AreWords (w ∷ ws) → AreWords ws
-tail_fits w ws all = All-tail (λ w. w < 2 ^ 32) w ws all
-
-no_comma : (w : ℕ) (ws : List ℕ) → AreWords (w ∷ ws) → Lacks (decimal w) 44
-no_comma w ws all = number_lacks w 44 (fits_head w ws all) (omega arith)
-
-numbers_once : (w v : ℕ) (ws vs : List ℕ) → AreWords (w ∷ ws) → AreWords (v ∷ vs)
-    → numbers_text (w ∷ ws) ≡ numbers_text (v ∷ vs) → w ∷ ws ≡ v ∷ vs
-numbers_once w v [] [] all all' is =
-    ap (λ n. n ∷ []) (decimal_injective w v (fits_head w [] all) (fits_head v [] all') is)
-numbers_once w v [] (y ∷ vs) all all' is =
-    absurd (uncut 44 (decimal v) (numbers_text (y ∷ vs)) (decimal w) (no_comma w [] all) (sym is))
-numbers_once w v (x ∷ ws) [] all all' is =
-    absurd (uncut 44 (decimal w) (numbers_text (x ∷ ws)) (decimal v) (no_comma v [] all') is)
-numbers_once w v (x ∷ ws) (y ∷ vs) all all' is =
-    let parts = cut_once 44 (decimal w) (numbers_text (x ∷ ws)) (decimal v) (numbers_text (y ∷ vs))
-    (no_comma w (x ∷ ws) all) (no_comma v (y ∷ vs) all') is in
-    ap₂ (λ n ns. n ∷ ns)
-    (decimal_injective w v (fits_head w (x ∷ ws) all) (fits_head v (y ∷ vs) all') parts.0)
-    (numbers_once x y ws vs (tail_fits w (x ∷ ws) all) (tail_fits v (y ∷ vs) all') parts.1)
-
--- some words are not `-`
-no_dash : (w : ℕ) (ws : List ℕ) → AreWords (w ∷ ws) → numbers_text (w ∷ ws) ≢ codes "-"
-no_dash w [] all is =
-    number_lacks w 45 (fits_head w [] all) (omega arith) (0, omega (arith, ap length is), rw is refl)
-no_dash w (v ∷ ws) all is =
-    uncut 44 (decimal w) (numbers_text (v ∷ ws)) (codes "-") (lacks_cons 44 45 [] (omega arith) (lacks_nil 44)) is
-
-words_once : (ws vs : List ℕ) → AreWords ws → AreWords vs → words_text ws ≡ words_text vs → ws ≡ vs
-words_once [] [] all all' is = refl
-words_once [] (v ∷ vs) all all' is = absurd (no_dash v vs all' (sym is))
-words_once (w ∷ ws) [] all all' is = absurd (no_dash w ws all is)
-words_once (w ∷ ws) (v ∷ vs) all all' is = numbers_once w v ws vs all all' is
-
 -- a field of words that are no pairs
 pub no_pairs : (field words : List ℕ) → words_text words ≡ field → AreWords words
     → ((pairs : List (ℕ × ℕ)) → numbers_of pairs ≢ words) → (pairs : List (ℕ × ℕ)) → AreWords (numbers_of pairs)
@@ -103,33 +35,62 @@ pub no_pairs : (field words : List ℕ) → words_text words ≡ field → AreWo
 no_pairs field words read fit none pairs fit' is =
     none pairs (words_once (numbers_of pairs) words fit' fit (is ∙ sym read))
 
--- the field and the rest of a list with which a text begins
-parts_of : (file list field rest name : List ℕ) → name ++ list ≡ file → field ++ 10 ∷ rest ≡ list → Lacks field 10
-    → (pairs : List (ℕ × ℕ)) (more : List ℕ) → AreWords (numbers_of pairs) → list_text name pairs more ≡ file
-    → (words_text (numbers_of pairs) ≡ field) × (more ≡ rest)
-parts_of file list field rest name begins cut none pairs more fit is =
-    cut_once 10 (words_text (numbers_of pairs)) more field rest (words_lack 10 (omega arith) (numbers_of pairs) fit)
-    none
-    (append_cancel_left name (words_text (numbers_of pairs) ++ 10 ∷ more) list (is ∙ sym begins) ∙ sym cut)
+-- behind the name of a list stands its field, up to the end of the line
+module _ (file list field rest name : List ℕ) (begins : name ++ list ≡ file) (cut : field ++ 10 ∷ rest ≡ list)
+    (none : Lacks field 10) where
+  parts_of : (pairs : List (ℕ × ℕ)) (more : List ℕ) → AreWords (numbers_of pairs) → list_text name pairs more ≡ file
+      → (words_text (numbers_of pairs) ≡ field) × (more ≡ rest)
+  parts_of pairs more fit is =
+      cut_once 10 (words_text (numbers_of pairs)) more field rest (words_lack 10 (omega arith) (numbers_of pairs) fit)
+      none (append_cancel_left name _ list (is ∙ sym begins) ∙ sym cut)
 
-pub list_leaves : (file list field rest name : List ℕ) → name ++ list ≡ file → field ++ 10 ∷ rest ≡ list
-    → Lacks field 10 → LeavesList name file rest
-list_leaves file list field rest name begins cut none = record {
-  left = λ pairs more fit is. (parts_of file list field rest name begins cut none pairs more fit is).1;
-}
+  pub list_leaves : LeavesList name file rest
+  list_leaves = record { left = λ pairs more fit is. (parts_of pairs more fit is).1 }
 
--- a list that has no line, or whose field is none of pairs
+  -- which is none of pairs
+  pub no_field : ((pairs : List (ℕ × ℕ)) → AreWords (numbers_of pairs) → words_text (numbers_of pairs) ≢ field)
+      → LacksList name file
+  no_field other = record { none = λ pairs more fit is. other pairs fit (parts_of pairs more fit is).0 }
+
+-- or there is no end of the line
 pub no_line : (file list name : List ℕ) → name ++ list ≡ file → Lacks list 10 → LacksList name file
 no_line file list name begins none = record {
-  none = λ pairs more fit is.
-      uncut 10 (words_text (numbers_of pairs)) more list none
-      (append_cancel_left name (words_text (numbers_of pairs) ++ 10 ∷ more) list (is ∙ sym begins));
+  none = λ pairs more fit is. uncut 10 _ more list none (append_cancel_left name _ list (is ∙ sym begins));
 }
 
-pub no_field : (file list field rest name : List ℕ) → name ++ list ≡ file → field ++ 10 ∷ rest ≡ list → Lacks field 10
-    → ((pairs : List (ℕ × ℕ)) → AreWords (numbers_of pairs) → words_text (numbers_of pairs) ≢ field)
-    → LacksList name file
-no_field file list field rest name begins cut none other = record {
-  none = λ pairs more fit is.
-      other pairs fit (parts_of file list field rest name begins cut none pairs more fit is).0;
-}
+-- No fault of a table's lists is the want of memory.
+
+one_of_three : (a b c : Bool)
+    → (if a then Some NotScalar else if b then Some AsciiEntry else if c then Some Unsorted else None) ≢ Some Memory
+one_of_three true b c is = cc
+one_of_three false true c is = cc
+one_of_three false false true is = cc
+one_of_three false false false is = cc
+
+either_never : (a b : Option UniError) → a ≢ Some Memory → b ≢ Some Memory → option_or a b ≢ Some Memory
+either_never None b first second = second
+either_never (Some e) b first second = first
+
+pub list_never : (kind : _) (taken : ℕ) (entries : List (ℕ × ℕ)) → list_fault kind taken entries ≢ Some Memory
+list_never kind taken [] is = cc
+list_never kind taken (e ∷ es) is =
+    either_never (entry_fault kind taken e) (list_fault kind (last_of kind e + 1) es)
+    (one_of_three (not (is_scalar_entry kind e)) (nat_lt e.0 128) (nat_lt e.0 taken || nat_lt (last_of kind e) e.0))
+    (list_never kind (last_of kind e + 1) es) is
+
+pub table_never : (t : Table) → table_fault t ≢ Some Memory
+table_never t = search (rules, either_never, list_never)
+
+pub digits_never : (digits : List (ℕ × ℕ)) → lists_fault (table_with [] [] [] digits) ≢ Some Memory
+digits_never digits = search (rules, list_never)
+
+-- so where memory is the error, there is no fault
+pub no_fault : (fault : Option UniError) (error : UniError) → fault ≢ Some Memory
+    → option_or fault (Some Memory) ≡ Some error → error ≡ Memory → fault ≡ None
+no_fault None error never is memory = refl
+no_fault (Some e) error never is memory = absurd (never (is ∙ ap Some memory))
+
+-- the fault of a result
+pub fault_in : {T : Type 0} (fault : TableFault) → ◌≡◌ {A = Result T TableFault} (Err fault) (Err NoMemory)
+    → fault ≡ NoMemory
+fault_in fault is = cc

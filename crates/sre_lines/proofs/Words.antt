@@ -1,105 +1,127 @@
--- Words read one after the other from numbers divided by commas.
-use Rattle.sre_lines.proofs.Terms.{◌≡◌, ◌≢◌, ℕ, ◌<◌, ◌^◌, List, [], ◌∷◌, ◌++◌, map, arith, sym, ◌∙◌, append_assoc}
-use Rattle.sre_lines.proofs.Terms.{Result, Ok, Err, Contains, OnOk, codes, decimal, All-head, All-tail, All-push}
-use Rattle.sre_lines.proofs.Terms.{words_text, AreWords}
-use Rattle.std.specs.List.{join_with_byte}
-use Rattle.sre_lines.proofs.Cuts.{cut_once, uncut}
-use Rattle.sre_lines.proofs.Numbers.{decimal_lacks}
+-- Words as numbers between commas, read one after the other.
+use Rattle.sre_lines.proofs.Terms.{◌≡◌, ◌≢◌, ℕ, ◌<◌, ◌^◌, List, [], ◌∷◌, ◌++◌, map, arith, refl, sym, ap, ◌∙◌, length}
+use Rattle.sre_lines.proofs.Terms.{append_assoc, append-nil, codes, decimal, decimal_injective, All-nil, All-head}
+use Rattle.sre_lines.proofs.Terms.{All-tail, All-push, words_text, AreWords, parts_at, map-append}
+use Rattle.sre_lines.proofs.Terms.{join_with_byte-slice_split, join_with_byte, IsWord, IsWordsFault, IsNumberFault}
+use Rattle.sre_lines.specs.declared.cause.NumberFault.{NumberFault}
+use Rattle.sre_lines.proofs.Cuts.{Lacks, first_part_at, only_part_at, some_part}
+use Rattle.sre_lines.proofs.Numbers.{number_lacks}
 
-abbrev pub numbers_text : List ℕ → List ℕ
-numbers_text ws = join_with_byte 44 (map decimal ws)
+-- the first of some words
+pub fits_head : (w : ℕ) (ws : List ℕ) → AreWords (w ∷ ws) → w < 2 ^ 64
+fits_head w ws all = let fits = All-head (λ w. w < 2 ^ 32) w ws all in omega (arith, fits)
 
--- a word and more of which this is the text
-pub record WordsOf (left : List ℕ) : Type 0 where
-  pub word : ℕ
-  pub more : List ℕ
-  pub fits : word < 2 ^ 32
-  pub all_fit : AreWords more
-  pub text : numbers_text (word ∷ more) ≡ left
+pub tail_fits : (w : ℕ) (ws : List ℕ) → AreWords (w ∷ ws) → AreWords ws
+tail_fits w ws all = All-tail (λ w. w < 2 ^ 32) w ws all
 
--- with these words read, this part of the field is left
-pub record IsLeft (words left field : List ℕ) : Type 0 where
-  pub read : (w : ℕ) (ws : List ℕ) → numbers_text (w ∷ ws) ≡ left → words_text (words ++ w ∷ ws) ≡ field
-  pub whole : (ws : List ℕ) → AreWords ws → words_text ws ≡ field → WordsOf left
+no_comma : (w : ℕ) (ws : List ℕ) → AreWords (w ∷ ws) → Lacks (decimal w) 44
+no_comma w ws all = number_lacks w 44 (fits_head w ws all) (omega arith)
 
-first_words : (field : List ℕ) → field ≢ codes "-" → (ws : List ℕ) → AreWords ws → words_text ws ≡ field → WordsOf field
-first_words field no_dash [] all is = absurd (no_dash (sym is))
-first_words field no_dash (w ∷ ws) all is =
-    record {
-      word = w;
-      more = ws;
-      fits = All-head (λ w. w < 2 ^ 32) w ws all;
-      all_fit = All-tail (λ w. w < 2 ^ 32) w ws all;
-      text = is;
-    }
+-- what they are written as is cut into them
+parts_of_words : (w : ℕ) (ws : List ℕ) → AreWords (w ∷ ws) → parts_at 44 (words_text (w ∷ ws)) ≡ map decimal (w ∷ ws)
+parts_of_words w [] all = only_part_at 44 (decimal w) (no_comma w [] all)
+parts_of_words w (v ∷ ws) all =
+    first_part_at 44 (words_text (w ∷ v ∷ ws)) (decimal w) (words_text (v ∷ ws)) refl (no_comma w (v ∷ ws) all)
+    ∙ ap (λ ps. decimal w ∷ ps) (parts_of_words v ws (tail_fits w (v ∷ ws) all))
 
--- at first the whole field is left
-pub all_left : (field : List ℕ) → field ≢ codes "-" → IsLeft [] field field
-all_left field no_dash = record { read = λ w ws is. is; whole = first_words field no_dash }
+parts_of_field : (ws field : List ℕ) → field ≢ codes "-" → AreWords ws → words_text ws ≡ field
+    → map decimal ws ≡ parts_at 44 field
+parts_of_field [] field not_none all is = absurd (not_none (sym is))
+parts_of_field (w ∷ ws) field not_none all is = sym (parts_of_words w ws all) ∙ ap (parts_at 44) is
 
-no_comma : (w : ℕ) → w < 2 ^ 32 → ¬ (Contains (decimal w) 44)
-no_comma w fits = decimal_lacks w 44 (omega arith) (λ range. omega (arith, range))
+-- and what is cut so is what they are written as
+parts_are : (ws field : List ℕ) → parts_at 44 field ≡ map decimal ws → words_text ws ≡ field
+parts_are [] field is = absurd (omega (arith, some_part 44 field, ap length is))
+parts_are (w ∷ ws) field is = ap (join_with_byte 44) (sym is) ∙ join_with_byte-slice_split 44 field
 
--- what is left up to a comma is the first word, and behind it are the others
-parts_of : (w : ℕ) (more digits others : List ℕ) → w < 2 ^ 32 → AreWords more → ¬ (Contains digits 44)
-    → numbers_text (w ∷ more) ≡ digits ++ 44 ∷ others → (decimal w ≡ digits) × WordsOf others
-parts_of w [] digits others fits all none is = absurd (uncut 44 digits others (decimal w) (no_comma w fits) (sym is))
-parts_of w (v ∷ more) digits others fits all none is =
-    let parts = cut_once 44 (decimal w) (numbers_text (v ∷ more)) digits others (no_comma w fits) none is in (
-      parts.0,
-      record {
-        word = v;
-        more = more;
-        fits = All-head (λ w. w < 2 ^ 32) v more all;
-        all_fit = All-tail (λ w. w < 2 ^ 32) v more all;
-        text = parts.1;
-      },
-    )
+-- so they have one text each
+no_dash : (w : ℕ) (ws : List ℕ) → AreWords (w ∷ ws) → words_text (w ∷ ws) ≢ codes "-"
+no_dash w ws all is =
+    let first : decimal w ≡ codes "-" = cc (parts_of_words w ws all, ap (parts_at 44) is) in
+    number_lacks w 45 (fits_head w ws all) (omega arith) (0, omega (arith, ap length first), rw first refl)
 
-first_part : (left digits others : List ℕ) → digits ++ 44 ∷ others ≡ left → ¬ (Contains digits 44) → (of : WordsOf left)
-    → (decimal of.word ≡ digits) × WordsOf others
-first_part left digits others cut none of =
-    parts_of of.word of.more digits others of.fits of.all_fit none (of.text ∙ sym cut)
+decimals_once : (ws vs : List ℕ) → AreWords ws → AreWords vs → map decimal ws ≡ map decimal vs → ws ≡ vs
+decimals_once [] [] all all' is = refl
+decimals_once [] (v ∷ vs) all all' is = absurd (cc)
+decimals_once (w ∷ ws) [] all all' is = absurd (cc)
+decimals_once (w ∷ ws) (v ∷ vs) all all' is =
+    let first = decimal_injective w v (fits_head w ws all) (fits_head v vs all') (cc) in
+    let others = decimals_once ws vs (tail_fits w ws all) (tail_fits v vs all') (cc) in cc (first, others)
 
--- a word read, and the others left
-pub others_left : (words left field digits others : List ℕ) (n : ℕ) → IsLeft words left field
-    → digits ++ 44 ∷ others ≡ left → ¬ (Contains digits 44)
-    → decimal n ≡ digits → IsLeft (words ++ n ∷ []) others field
-others_left words left field digits others n is_left cut none written = record {
-  read = λ w ws is.
-      let text : numbers_text (n ∷ w ∷ ws) ≡ left = rw (written, is) cut in
-      rw append_assoc (is_left.read n (w ∷ ws) text);
-  whole = λ ws all is. (first_part left digits others cut none (is_left.whole ws all is)).1;
+pub words_once : (ws vs : List ℕ) → AreWords ws → AreWords vs → words_text ws ≡ words_text vs → ws ≡ vs
+words_once [] [] all all' is = refl
+words_once [] (v ∷ vs) all all' is = absurd (no_dash v vs all' (sym is))
+words_once (w ∷ ws) [] all all' is = absurd (no_dash w ws all is)
+words_once (w ∷ ws) (v ∷ vs) all all' is =
+    decimals_once (w ∷ ws) (v ∷ vs) all all'
+    (sym (parts_of_words w ws all) ∙ ap (parts_at 44) is ∙ parts_of_words v vs all')
+
+-- the words in front of what is left are read
+pub record ReadSoFar (words left field : List ℕ) : Type 0 where
+  pub not_none : field ≢ codes "-"
+  pub fit : AreWords words
+  pub split : parts_at 44 field ≡ map decimal words ++ parts_at 44 left
+
+pub none_read : (field : List ℕ) → field ≢ codes "-" → ReadSoFar [] field field
+none_read field not_none = record { not_none = not_none; fit = All-nil (λ w. w < 2 ^ 32); split = refl }
+
+word_at : (ws words digits : List ℕ) (others : List (List ℕ)) → AreWords ws
+    → map decimal ws ≡ map decimal words ++ digits ∷ others → IsWord digits
+word_at [] [] digits others all is = absurd (cc)
+word_at [] (v ∷ words) digits others all is = absurd (cc)
+word_at (w ∷ ws) [] digits others all is = (w, All-head (λ w. w < 2 ^ 32) w ws all, cc)
+word_at (w ∷ ws) (v ∷ words) digits others all is = word_at ws words digits others (tail_fits w ws all) (cc)
+
+-- the part behind them
+module _ (words left field digits : List ℕ) (others : List (List ℕ)) (so_far : ReadSoFar words left field)
+    (next : parts_at 44 left ≡ digits ∷ others) where
+  reached : parts_at 44 field ≡ map decimal words ++ digits ∷ others
+  reached = so_far.split ∙ ap (λ ps. map decimal words ++ ps) next
+
+  -- it is no word
+  pub no_words : ((w : ℕ) → w < 2 ^ 32 → decimal w ≢ digits) → (ws : List ℕ) → AreWords ws → words_text ws ≢ field
+  no_words none ws all is =
+      let (w, fits, written) =
+      word_at ws words digits others all (parts_of_field ws field so_far.not_none all is ∙ reached) in
+      none w fits written
+
+  pub fault_at : (fault : NumberFault) → IsNumberFault (2 ^ 32) digits fault → IsWordsFault field fault
+  fault_at fault is = record {
+    words = words;
+    digits = digits;
+    others = others;
+    not_none = so_far.not_none;
+    fit = so_far.fit;
+    split = reached;
+    is = is;
+  }
+
+  -- or one more
+  more_split : (n : ℕ) → decimal n ≡ digits → parts_at 44 field ≡ map decimal (words ++ n ∷ []) ++ others
+  more_split n written = rw (map-append decimal words (n ∷ []), append_assoc, written) reached
+
+pub one_read : (words left field digits others : List ℕ) (n : ℕ) → ReadSoFar words left field
+    → digits ++ 44 ∷ others ≡ left → Lacks digits 44 → n < 2 ^ 32 → decimal n ≡ digits
+    → ReadSoFar (words ++ n ∷ []) others field
+one_read words left field digits others n so_far cut none fits written = record {
+  not_none = so_far.not_none;
+  fit = All-push (λ w. w < 2 ^ 32) words n so_far.fit fits;
+  split = more_split words left field digits (parts_at 44 others) so_far
+      (first_part_at 44 left digits others cut none) n written;
 }
 
--- a first part that is no word
-pub no_first_word : (words left field digits others : List ℕ) → IsLeft words left field → digits ++ 44 ∷ others ≡ left
-    → ¬ (Contains digits 44)
-    → ((w : ℕ) → w < 2 ^ 32 → decimal w ≢ digits) → (ws : List ℕ) → AreWords ws → words_text ws ≢ field
-no_first_word words left field digits others is_left cut none no_word ws all is =
-    let of = is_left.whole ws all is in
-    no_word of.word of.fits (first_part left digits others cut none of).0
+-- which is the last one
+pub all_read : (words left field : List ℕ) (n : ℕ) → ReadSoFar words left field → Lacks left 44 → n < 2 ^ 32
+    → decimal n ≡ left → AreWords (words ++ n ∷ []) × (words_text (words ++ n ∷ []) ≡ field)
+all_read words left field n so_far none fits written = (
+  All-push (λ w. w < 2 ^ 32) words n so_far.fit fits,
+  parts_are (words ++ n ∷ []) field
+      (more_split words left field left [] so_far (only_part_at 44 left none) n written ∙ append-nil _),
+)
 
-only_word : (left : List ℕ) (w : ℕ) (more : List ℕ) → ¬ (Contains left 44) → numbers_text (w ∷ more) ≡ left
-    → decimal w ≡ left
-only_word left w [] none is = is
-only_word left w (v ∷ more) none is = absurd (uncut 44 (decimal w) (numbers_text (v ∷ more)) left none is)
+module _ {words left field new : List ℕ} (so_far : ReadSoFar words left field) (none : Lacks left 44) where
+  pub last_word : (w : ℕ) × (decimal w ≡ left) × (new ≡ words ++ w ∷ []) × (w < 2 ^ 32) → words_text new ≡ field
+  last_word (w, written, is, fits) = rw is (all_read words left field w so_far none fits written).1
 
--- a last part that is no word
-pub no_last_word : (words left field : List ℕ) → IsLeft words left field → ¬ (Contains left 44)
-    → ((w : ℕ) → w < 2 ^ 32 → decimal w ≢ left) → (ws : List ℕ) → AreWords ws → words_text ws ≢ field
-no_last_word words left field is_left none no_word ws all is =
-    let of = is_left.whole ws all is in
-    no_word of.word of.fits (only_word left of.word of.more none of.text)
-
--- the last number is read
-pub last_word : {T E : Type 0} (r : Result T E) (words new left field : List ℕ) → IsLeft words left field
-    → OnOk r ((w : ℕ) × (decimal w ≡ left) × (new ≡ words ++ w ∷ []) × (w < 2 ^ 32))
-    → OnOk r (words_text new ≡ field)
-last_word (Ok x) words new left field is read = rw read.2 (is.read read.0 [] read.1)
-last_word (Err e) words new left field is read = tt
-
-pub last_fits : {T E : Type 0} (r : Result T E) (words new left : List ℕ) → AreWords words
-    → OnOk r ((w : ℕ) × (decimal w ≡ left) × (new ≡ words ++ w ∷ []) × (w < 2 ^ 32)) → OnOk r (AreWords new)
-last_fits (Ok x) words new left fit read = rw read.2 (All-push (λ w. w < 2 ^ 32) words read.0 fit read.3)
-last_fits (Err e) words new left fit read = tt
+  pub last_fits : (w : ℕ) × (decimal w ≡ left) × (new ≡ words ++ w ∷ []) × (w < 2 ^ 32) → AreWords new
+  last_fits (w, written, is, fits) = rw is (all_read words left field w so_far none fits written).0

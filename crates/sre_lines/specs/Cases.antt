@@ -1,12 +1,9 @@
 -- What a case requests, and how it is answered.
-use Rattle.std.specs.Prelude.{min, ℕ, ◌≡◌, ◌≢◌, ◌≤◌, ◌⊎◌, ◌++◌, Bool, true, false, List, [], ◌∷◌, length, Option, Some}
-use Rattle.std.specs.Prelude.{None, codes}
+use Rattle.std.specs.Prelude.{ℕ, ◌≡◌, ◌≢◌, ◌≤◌, ◌⊎◌, ◌++◌, Bool, true, false, List, [], ◌∷◌, length, Option, Some, None}
+use Rattle.std.specs.Prelude.{codes, min}
 use Rattle.sre_lines.specs.Terms.{decimal, signed_decimal, flat_map, Table, Tree, Whole, found, walk, place_of}
-use Rattle.sre_lines.specs.Terms.{CodeError, Memory}
-use Rattle.std.specs.Str.{chars}
-use Rattle.sre_engine.specs.Grammar.{IsCode}
+use Rattle.sre_lines.specs.Terms.{CodeError, Memory, chars, IsCode, Asked, Match, matched}
 use Rattle.sre_engine.specs.Hinted.{Confirmed}
-use Rattle.sre_engine.specs.Found.{Asked, Match, matched}
 use Rattle.sre_engine.specs.Hints.{Hints}
 use Rattle.sre_lines.specs.declared.cases.Detail.{Detail}
 use Rattle.sre_lines.specs.declared.cases.Detail.TheVariants.{Plain, Explained}

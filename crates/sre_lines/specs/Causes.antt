@@ -1,8 +1,7 @@
 -- Why a line is no case, and how that is reported.
 use Rattle.std.specs.Prelude.{ℕ, ◌≡◌, ◌≢◌, ◌==◌, ◌%◌, ◌^◌, ◌<◌, ◌≤◌, ◌⊎◌, List, [], ◌∷◌, ◌++◌, map, codes, length}
 use Rattle.std.specs.Prelude.{slice_index, All, Contains, false}
-use Rattle.sre_lines.specs.Terms.{decimal, digit_glyph, slice_split, IsUtf8, IsNumeral}
-use Rattle.std.specs.Str.Parse.{digits_value}
+use Rattle.sre_lines.specs.Terms.{decimal, digit_glyph, slice_split, IsUtf8, IsNumeral, digits_value}
 use Rattle.sre_lines.specs.declared.cause.Cause.{Cause}
 use Rattle.sre_lines.specs.declared.cause.Cause.TheVariants.{UnknownCommand, FieldMissing, FieldTooMany, Words, Text}
 use Rattle.sre_lines.specs.declared.cause.Cause.TheVariants.{NotUtf8, Window as At-Window, Flags as At-Flags}

@@ -1,8 +1,7 @@
 -- What the fields of a case are written as.
 use Rattle.std.specs.Prelude.{ℕ, ◌≡◌, ◌≤◌, ◌<◌, ◌/◌, ◌%◌, ◌^◌, Bool, true, false, List, [], ◌∷◌, ◌++◌, map, codes}
 use Rattle.std.specs.Prelude.{length, slice_index, All}
-use Rattle.sre_lines.specs.Terms.{decimal, digit_glyph, IsUtf8}
-use Rattle.std.specs.List.{join_with_byte}
+use Rattle.sre_lines.specs.Terms.{decimal, digit_glyph, IsUtf8, join_with_byte}
 use Rattle.sre_chars.specs.declared.constants.EmptyRule.{EmptyRule}
 use Rattle.sre_chars.specs.declared.constants.EmptyRule.TheVariants.{Never, NonBoundary}
 use Rattle.sre_lines.specs.declared.line.Flags.{Flags}

@@ -1,6 +1,6 @@
 -- What the program is given, and how it ends.
-use Rattle.std.specs.Prelude.{Result, String, Vec, ℕ, ◌≡◌, ◌≢◌, ◌⊎◌, ◌++◌, ◌∷◌, [], List, Option, None, Some, Ok, Err}
-use Rattle.std.specs.Prelude.{string_bytes, codes}
+use Rattle.std.specs.Prelude.{ℕ, ◌≡◌, ◌≢◌, ◌⊎◌, ◌++◌, ◌∷◌, [], List, Option, None, Some, Ok, Err, string_bytes, codes}
+use Rattle.std.specs.Prelude.{Result, String, Vec}
 use Rattle.sre_lines.specs.Terms.{into_iter_items, Appends, Table, ascii_table, lists_fault, UniError, Refused}
 use Rattle.std.specs.Global.{Global}
 use Rattle.std.specs.IoError.{error_kind}

@@ -2,8 +2,7 @@
 
 ghost use Rattle.std.specs.Prelude.{◌≡◌, ◌++◌, codes, OnOk, string_bytes};
 ghost use Rattle.sre_lines.specs.Terms.{decimal, signed_decimal, place_of};
-ghost use Rattle.sre_lines.specs.Answers.{hints_text, marks_text, number_text, yes_no_text};
-ghost use Rattle.sre_lines.specs.Answers.{refusal_name, refusal_text};
+ghost use Rattle.sre_lines.specs.Answers.{hints_text, marks_text, number_text, yes_no_text, refusal_name, refusal_text};
 
 use sre_engine::code::{CodeError, Hints};
 use std::alloc::{AllocError, Allocator};

@@ -3,9 +3,8 @@
 ghost use Rattle.std.specs.Prelude.{◌≡◌, ◌≢◌, ◌≤◌, ◌++◌, ◌∷◌, [], ℕ, List, IfErr, OnErr, OnOk, codes, length};
 ghost use Rattle.std.specs.Prelude.{string_bytes};
 ghost use Rattle.sre_lines.specs.Terms.{decimal, Appends, ascii_table, Tree, Whole, words_of, asked_of, code_of};
-ghost use Rattle.sre_lines.specs.Terms.{place_of};
+ghost use Rattle.sre_lines.specs.Terms.{place_of, uni_of};
 ghost use Rattle.sre_lines.specs.Answers.{fault_text, IsFaultOfCases};
-ghost use Rattle.sre_engine.specs.Codes.{uni_of};
 ghost use Rattle.sre_lines.specs.Cases.{IsAnswer, IsAnswerOf, IsRefusal, asked, found_text};
 ghost use Rattle.sre_lines.specs.Fields.{IsCase};
 ghost use Rattle.sre_lines.specs.Lines.{lines_of, Answered, IsNoCase, IsBegun, StopsAt};

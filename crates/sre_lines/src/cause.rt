@@ -3,15 +3,14 @@
 //! The line is parsed again without allocation. The first fault from the left is reported, with one exception: a text
 //! that is not UTF-8 is reported only if the line has no other fault.
 
-ghost use Rattle.std.specs.Prelude.{IsFalse, ◌≡◌, ◌≢◌, ℕ, ◌+◌, ◌≤◌, ◌++◌, ◌∷◌, List, [], All, IfSome, IfNone, IsTrue};
-ghost use Rattle.std.specs.Prelude.{◌↔◌, ◌^◌, codes};
+ghost use Rattle.std.specs.Prelude.{◌≡◌, ◌≢◌, ℕ, ◌+◌, ◌≤◌, ◌++◌, ◌∷◌, List, [], All, IfSome, IfNone, IsTrue, ◌↔◌, ◌^◌};
+ghost use Rattle.std.specs.Prelude.{codes, IsFalse};
 ghost use Rattle.sre_lines.specs.Terms.{decimal, IsNumeral};
 ghost use Rattle.sre_lines.specs.Fields.{AreWords, IsSubject, words_text, subject_text, verb_text};
 ghost use Rattle.sre_lines.specs.Lines.{IsNoCase, IsLineAt};
 ghost use Rattle.sre_lines.specs.Causes.{IsCause, IsCauseOf, IsNoSubject, fields_of, cause_text, IsWords, IsWordsFault};
 ghost use Rattle.sre_lines.specs.Causes.{IsNumberFault, IsWord, IsPlace, IsBytes, IsTextFault, IsHexDigit, HasOther};
-ghost use Rattle.sre_lines.specs.Causes.{IsWindowField};
-ghost use Rattle.sre_lines.specs.Causes.{IsWindowFault, IsFlagsField, IsFlag, IsFlagsFault};
+ghost use Rattle.sre_lines.specs.Causes.{IsWindowField, IsWindowFault, IsFlagsField, IsFlag, IsFlagsFault};
 ghost use Rattle.sre_lines.specs.declared.line.Finding.{Finding};
 ghost use Rattle.sre_lines.specs.declared.line.Subject.{Subject};
 

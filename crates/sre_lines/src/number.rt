@@ -1,7 +1,7 @@
 //! Numbers and bytes as digits in the fields of a case.
 
-ghost use Rattle.std.specs.Prelude.{◌*◌, ◌≡◌, ◌≢◌, ℕ, ◌+◌, ◌/◌, ◌%◌, ◌^◌, ◌<◌, List, All, IfSome, IfNone, OnOk, false};
-ghost use Rattle.std.specs.Prelude.{IsTrue, ◌↔◌, Err};
+ghost use Rattle.std.specs.Prelude.{◌≡◌, ◌≢◌, ℕ, ◌+◌, ◌/◌, ◌%◌, ◌^◌, ◌<◌, List, All, IfSome, IfNone, OnOk, false};
+ghost use Rattle.std.specs.Prelude.{IsTrue, ◌↔◌, Err, ◌*◌};
 ghost use Rattle.sre_lines.specs.Terms.{decimal, digit_glyph, Refused};
 ghost use Rattle.sre_lines.specs.Fields.{hex_text, BeginsAsNumber};
 

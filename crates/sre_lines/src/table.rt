@@ -5,8 +5,7 @@
 //! its other case, or the first and the last character of a range.
 
 ghost use Rattle.std.specs.Prelude.{◌≡◌, ◌≢◌, ◌++◌, ℕ, List, Err, Some, IfOk, IfSome, IfNone};
-ghost use Rattle.sre_lines.specs.Terms.{Refused, Table, lists_fault};
-ghost use Rattle.sre_chars.specs.Lists.{table_with};
+ghost use Rattle.sre_lines.specs.Terms.{Refused, Table, lists_fault, table_with};
 ghost use Rattle.sre_lines.specs.Fields.{words_text, AreWords};
 ghost use Rattle.sre_lines.specs.TableFiles.{list_text, table_text, numbers_of, IsNoTable, LacksList, LeavesList};
 

@@ -1,9 +1,8 @@
 //! The search of a case, with a prefilter.
 
 ghost use Rattle.std.specs.Prelude.{◌≡◌, true, IfOk};
-ghost use Rattle.sre_lines.specs.Terms.{Tree, Whole, found, words_of, asked_of, code_of};
+ghost use Rattle.sre_lines.specs.Terms.{Tree, Whole, found, words_of, asked_of, code_of, stands_in};
 ghost use Rattle.sre_engine.specs.Answers.{answer_of};
-ghost use Rattle.sre_engine.specs.Requests.{stands_in};
 
 use sre_engine::engine::SreError;
 use sre_engine::{Request, State};

@@ -1,6 +1,4 @@
-use Rattle.std.proofs.Common.{◌≡◌, ◌++◌, ◌∷◌, take, string_bytes}
-use Rattle.std.specs.List.{flat_map}
-use Rattle.sre_lines.specs.Answers.{number_text}
+use Rattle.sre_lines.proofs.Terms.{◌≡◌, ◌++◌, ◌∷◌, take, string_bytes, flat_map, number_text}
 use Rattle.sre_lines.proofs.answer.push_marks.Given as goal
 
 -- the marks so far are appended

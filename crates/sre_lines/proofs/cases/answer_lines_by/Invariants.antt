@@ -1,5 +1,5 @@
 use Rattle.sre_lines.proofs.FileLines.{SoFar}
-use Rattle.std.proofs.Common.{◌≡◌, length}
+use Rattle.sre_lines.proofs.Terms.{◌≡◌, length}
 use Rattle.sre_lines.proofs.cases.answer_lines_by.Given as goal
 
 abbrev pub invariant-lines : goal.invariant-lines

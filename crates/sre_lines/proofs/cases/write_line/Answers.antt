@@ -1,30 +1,24 @@
 -- What is written is the fault's line, or a part of it.
-use Rattle.sre_lines.proofs.Terms.{ℕ, List, ◌++◌, subst, append_assoc, OnOk, OnErr, codes, Appends, AppendsPart}
+use Rattle.sre_lines.proofs.Terms.{append_assoc}
 use Rattle.sre_lines.proofs.cases.write_line.Goals as goal
 
 pub returns-in-CannotRead-clause-line : goal.returns-in-CannotRead-clause-line
-returns-in-CannotRead-clause-line g c = rw (c.in-CannotRead.is, append_assoc)
-    (subst (λ (name : List ℕ). OnOk c.write_three.result (Appends (g.W.Write.contents c.args.out.now)
-    (g.W.Write.contents c.write_three.new.out) (name ++ (codes ": cannot be read" ++ c.args.end.now))))
-    c.as_bytes.ensures.value c.write_three.ensures.whole)
+returns-in-CannotRead-clause-line g c =
+    rw (c.in-CannotRead.is, append_assoc) (simp c.as_bytes.ensures.value at c.write_three.ensures.whole)
 
 pub returns-in-CannotRead-clause-part : goal.returns-in-CannotRead-clause-part
-returns-in-CannotRead-clause-part g c = rw (c.in-CannotRead.is, append_assoc)
-    (subst (λ (name : List ℕ). OnErr c.write_three.result (AppendsPart (g.W.Write.contents c.args.out.now)
-    (g.W.Write.contents c.write_three.new.out) (name ++ (codes ": cannot be read" ++ c.args.end.now))))
-    c.as_bytes.ensures.value c.write_three.ensures.part)
+returns-in-CannotRead-clause-part g c =
+    rw (c.in-CannotRead.is, append_assoc) (simp c.as_bytes.ensures.value at c.write_three.ensures.part)
 
 pub returns-in-NotATable-clause-line : goal.returns-in-NotATable-clause-line
-returns-in-NotATable-clause-line g c = rw (c.in-NotATable.is, append_assoc)
-    (subst (λ (name : List ℕ). OnOk c.write_three-in-NotATable.result (Appends (g.W.Write.contents c.args.out.now)
-    (g.W.Write.contents c.write_three-in-NotATable.new.out) (name ++ (codes ": not a table" ++ c.args.end.now))))
-    c.as_bytes-in-NotATable.ensures.value c.write_three-in-NotATable.ensures.whole)
+returns-in-NotATable-clause-line g c =
+    rw (c.in-NotATable.is, append_assoc)
+    (simp c.as_bytes-in-NotATable.ensures.value at c.write_three-in-NotATable.ensures.whole)
 
 pub returns-in-NotATable-clause-part : goal.returns-in-NotATable-clause-part
-returns-in-NotATable-clause-part g c = rw (c.in-NotATable.is, append_assoc)
-    (subst (λ (name : List ℕ). OnErr c.write_three-in-NotATable.result (AppendsPart (g.W.Write.contents c.args.out.now)
-    (g.W.Write.contents c.write_three-in-NotATable.new.out) (name ++ (codes ": not a table" ++ c.args.end.now))))
-    c.as_bytes-in-NotATable.ensures.value c.write_three-in-NotATable.ensures.part)
+returns-in-NotATable-clause-part g c =
+    rw (c.in-NotATable.is, append_assoc)
+    (simp c.as_bytes-in-NotATable.ensures.value at c.write_three-in-NotATable.ensures.part)
 
 pub returns-in-NotACase-clause-line : goal.returns-in-NotACase-clause-line
 returns-in-NotACase-clause-line g c = rw (c.in-NotACase.is) (simp append_assoc c.write_no_case.ensures.line)

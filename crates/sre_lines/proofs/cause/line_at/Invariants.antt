@@ -1,4 +1,4 @@
-use Rattle.sre_lines.proofs.LineAt.{Reached}
+use Rattle.sre_lines.proofs.FileLines.{Reached}
 use Rattle.sre_lines.proofs.cause.line_at.Given as goal
 
 abbrev pub invariant-loop : goal.invariant-loop

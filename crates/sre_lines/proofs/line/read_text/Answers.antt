@@ -1,16 +1,14 @@
 -- A field that is rejected has no form's letter, or bytes that are no text of the form.
-use Rattle.sre_lines.proofs.Terms.{rules, IsText}
+use Rattle.sre_lines.proofs.Terms.{rules, hex_text}
 use Rattle.sre_lines.proofs.Lines.{no_form, no_text}
 use Rattle.sre_lines.proofs.line.read_text.Goals as goal
 
 pub returns-in_default-form_of-clause-refused : goal.returns-in_default-form_of-clause-refused
 returns-in_default-form_of-clause-refused g c _ form bytes _ _ =
-    no_form c.args.field.now c.in-Some.form.now c.in-Some.digits.now c.in-Some.ensures.parts c.in-Some.ensures.first
-    c.in_default-form_of.ensures.refused form bytes
+    no_form _ _ _ c.in-Some.ensures.parts c.in-Some.ensures.first c.in_default-form_of.ensures.refused form
+    (hex_text bytes)
 
 pub returns-then-not-is_text-clause-refused : goal.returns-then-not-is_text-clause-refused
 returns-then-not-is_text-clause-refused g c _ =
-    let none : ¬ (IsText c.in-Some-form_of.form c.read_hex.new.bytes.items) = search rules in
-    no_text c.args.field.now c.in-Some.form.now c.in-Some.digits.now c.in-Some-form_of.form c.read_hex.new.bytes.items
-    c.in-Some.ensures.parts c.in-Some.ensures.first
-    c.in-Some-form_of.ensures.written c.in_ok-read_hex.ensures.read c.in_ok-read_hex.ensures.fit none
+    no_text _ _ _ c.in-Some.ensures.parts c.in-Some.ensures.first c.in-Some-form_of.form _
+    c.in-Some-form_of.ensures.written c.in_ok-read_hex.ensures.read c.in_ok-read_hex.ensures.fit (search rules)

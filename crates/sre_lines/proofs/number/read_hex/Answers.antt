@@ -1,6 +1,6 @@
 -- A pair that is rejected is not what a byte is written as.
 use Rattle.sre_lines.proofs.Terms.{◌<◌, arith, rules, All-push}
-use Rattle.sre_lines.proofs.Pairs.{no_pair_is_no_text, one_pair_more}
+use Rattle.sre_lines.proofs.Pairs.{no_pair_is_no_text, one_byte_more}
 use Rattle.sre_lines.proofs.number.read_hex.Goals as goal
 
 pub returns-in_default-clause-refused : goal.returns-in_default-clause-refused
@@ -10,8 +10,7 @@ returns-in_default-clause-refused g c _ =
 pub loop-i-preserved : goal.loop-i-preserved
 loop-i-preserved g c =
     rw c.in_ok-push.ensures.items (record {
-      pairs =
-          one_pair_more c.loop-i.bytes.items c.args.digits.now c.in-Some.byte c.loop-i.i c.loop-i.invariant.pairs
-          (omega arith) c.in-Some.ensures.read.0 c.in-Some.ensures.read.1;
-      fit = All-push (λ b. b < 256) c.loop-i.bytes.items c.in-Some.byte c.loop-i.invariant.fit (search rules);
+      pairs = one_byte_more _ _ _ c.loop-i.i c.loop-i.invariant.pairs (omega arith) c.in-Some.ensures.read.0
+          c.in-Some.ensures.read.1;
+      fit = All-push (λ b. b < 256) _ _ c.loop-i.invariant.fit (search rules);
     })

@@ -1,21 +1,16 @@
 -- The other pieces follow the first one; where that one fails, nothing follows a part of it.
-use Rattle.std.proofs.Common.{◌++◌, refl}
+use Rattle.sre_lines.proofs.Terms.{refl}
 use Rattle.sre_lines.proofs.Parts.{front_part, behind_part, behind_whole}
 use Rattle.sre_lines.proofs.output.write_three.Goals as goal
 
 pub returns-in_err-write_whole-clause-part : goal.returns-in_err-write_whole-clause-part
 returns-in_err-write_whole-clause-part g c =
-    front_part _ _ c.args.front.now (c.args.middle.now ++ c.args.end.now) c.from_residual.result
-    c.in_err-write_whole.ensures.part
+    front_part _ _ _ _ c.from_residual.result c.in_err-write_whole.ensures.part
 
 pub returns-clause-whole : goal.returns-clause-whole
 returns-clause-whole g c =
-    behind_whole _ _ _ c.args.front.now (c.args.middle.now ++ c.args.end.now)
-    (c.args.middle.now ++ c.args.end.now) c.write_both.result refl c.in_ok-write_whole.ensures.whole
-    c.write_both.ensures.whole
+    behind_whole _ _ _ _ _ _ c.write_both.result refl c.in_ok-write_whole.ensures.whole c.write_both.ensures.whole
 
 pub returns-clause-part : goal.returns-clause-part
 returns-clause-part g c =
-    behind_part _ _ _ c.args.front.now (c.args.middle.now ++ c.args.end.now)
-    (c.args.middle.now ++ c.args.end.now) c.write_both.result refl c.in_ok-write_whole.ensures.whole
-    c.write_both.ensures.part
+    behind_part _ _ _ _ _ _ c.write_both.result refl c.in_ok-write_whole.ensures.whole c.write_both.ensures.part

@@ -1,6 +1,6 @@
 -- A write appends what it takes, and a failed one nothing.
-use Rattle.std.proofs.Common.{◌≡◌, ◌∙◌, ℕ, List, ◌++◌, take, drop, ap, append_assoc, take-append-drop}
-use Rattle.std.proofs.KnownBytes.{Appends-trans, Appends-kept}
+use Rattle.sre_lines.proofs.Terms.{◌≡◌, ◌∙◌, ℕ, List, ◌++◌, take, ap, append_assoc, Appends-trans, Appends-kept, drop}
+use Rattle.sre_lines.proofs.Terms.{take-append-drop}
 use Rattle.sre_lines.proofs.output.write_whole.Goals.{in-Ok, in-Err+else-ne}
 use Rattle.sre_lines.proofs.output.write_whole.Goals as goal
 

@@ -1,5 +1,5 @@
 -- What is requested follows the program's name.
-use Rattle.std.proofs.Common.{inl}
+use Rattle.sre_lines.proofs.Terms.{inl}
 use Rattle.sre_lines.proofs.program.call_of.Goals as goal
 
 pub returns-in-Some : goal.returns-in-Some

@@ -1,5 +1,5 @@
 -- Where the arguments request nothing, that is reported.
-use Rattle.std.proofs.Common.{refl, codes, [], ◌∷◌, Err}
+use Rattle.sre_lines.proofs.Terms.{refl, Err}
 use Rattle.sre_lines.proofs.Parts.{told}
 use Rattle.sre_lines.proofs.program.run.Goals as goal
 
@@ -10,7 +10,6 @@ returns-in-Err-clause-run g c = record {
   runs = (
     c.tell.ensures.fault,
     refl,
-    told _ _ (codes "FILE") (10 ∷ []) c.in-Err.fault c.tell.result c.tell.ensures.fault c.tell.ensures.line
-        c.tell.ensures.part,
+    told _ _ _ _ _ c.tell.result c.tell.ensures.fault c.tell.ensures.line c.tell.ensures.part,
   );
 }

@@ -1,6 +1,6 @@
 -- One more pair is read. An odd number of numbers is no list of pairs.
-use Rattle.std.proofs.Common.{rules, arith}
-use Rattle.sre_lines.proofs.TableFiles.{one_pair_more, odd_is_no_pairs}
+use Rattle.sre_lines.proofs.Terms.{rules, arith}
+use Rattle.sre_lines.proofs.Pairs.{one_pair_more, odd_is_no_pairs}
 use Rattle.sre_lines.proofs.table.paired.Goals as goal
 
 pub loop-i-preserved : goal.loop-i-preserved
@@ -9,5 +9,4 @@ loop-i-preserved c =
     c.loop-i.invariant (omega arith) (search rules) (search rules))
 
 pub returns-then-numbers-ne0-clause-refused : goal.returns-then-numbers-ne0-clause-refused
-returns-then-numbers-ne0-clause-refused c failed =
-    odd_is_no_pairs c.args.numbers.now (omega (arith, c.if-numbers-ne0.true))
+returns-then-numbers-ne0-clause-refused c failed = odd_is_no_pairs _ (omega (arith, c.if-numbers-ne0.true))

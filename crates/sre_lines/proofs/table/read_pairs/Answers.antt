@@ -4,5 +4,5 @@ use Rattle.sre_lines.proofs.table.read_pairs.Goals as goal
 
 pub returns-in-Ok-clause-refused : goal.returns-in-Ok-clause-refused
 returns-in-Ok-clause-refused c failed =
-    no_pairs c.args.field.now c.read_words.new.words.items c.in-Ok.ensures.read c.in-Ok.ensures.fit
+    no_pairs _ _ c.in-Ok.ensures.read c.in-Ok.ensures.fit
     (rw c.as_slice.ensures.value at c.paired.ensures.refused failed)

@@ -1,5 +1,5 @@
 -- The lists that have a fault are those of the file.
-use Rattle.sre_chars.specs.Lists.{table_with}
+use Rattle.sre_lines.proofs.Terms.{table_with}
 use Rattle.sre_lines.proofs.table.read_table.Goals as goal
 
 pub returns-in-Ok-clause-lists : goal.returns-in-Ok-clause-lists

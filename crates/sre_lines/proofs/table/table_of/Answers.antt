@@ -1,7 +1,7 @@
 -- Lists without a fault fail only where an allocation did.
 use Rattle.sre_lines.proofs.Terms.{[], lists_fault, table_with, table_fault}
 use Rattle.sre_chars.specs.Tables.{table_of}
-use Rattle.sre_lines.proofs.TableFaults.{table_never, digits_never, no_fault, fault_in}
+use Rattle.sre_lines.proofs.TableFiles.{table_never, digits_never, no_fault, fault_in}
 use Rattle.sre_lines.proofs.table.table_of.Goals as goal
 
 pub returns-in-Err-clause-memory : goal.returns-in-Err-clause-memory
