@@ -1,22 +1,14 @@
 -- Where a text is cut: the bytes between the offsets of two positions are the characters between these.
 use Rattle.sre_recipes.proofs.Terms.{◌≡◌, ℕ, ◌+◌, ◌-◌, ◌<◌, ◌≤◌, List, [], ◌++◌, length, take, ap, sym, ◌∙◌, arith, ◌≢◌}
-use Rattle.sre_recipes.proofs.Terms.{inl, inr, slice_range, chars, IsUtf8, offset_of}
-use Rattle.std.proofs.Common.{drop}
-use Rattle.std.proofs.Common.{length-append}
-use Rattle.std.proofs.Math.Seq.{take-add, take-append_seam, take-length, drop-length}
-use Rattle.std.proofs.lemmas.List.{take-append-drop}
-use Rattle.std.proofs.lemmas.Str.{encodes-append, encodes-chars}
-use Rattle.std.proofs.lemmas.Bool.{cases_lt}
+use Rattle.sre_recipes.proofs.Terms.{slice_range, chars, IsUtf8, offset_of, drop, length-append, take-append-drop}
+use Rattle.sre_recipes.proofs.Terms.{encodes-append, encodes-chars, drop_offset, some_after, length-drop, take_all}
+use Rattle.std.proofs.Math.Seq.{take-add, take-append_seam}
 use lib.Utf8.{encodes}
-use Rattle.sre_chars.proofs.TextPlaces.{drop_offset, some_after}
 
 -- the bytes up to a place are those up to an earlier one, and those of the characters between
 offset_between : (bs : List ℕ) (p n : ℕ)
     → offset_of bs (p + n) ≡ offset_of bs p + length (encodes (take n (drop p (chars bs))))
-offset_between bs p n =
-    ap (λ cs. length (encodes cs)) (take-add p n (chars bs))
-    ∙ ap length (encodes-append (take p (chars bs)) (take n (drop p (chars bs))))
-    ∙ length-append (encodes (take p (chars bs))) (encodes (take n (drop p (chars bs))))
+offset_between bs p n = rw (take-add p n (chars bs), encodes-append, length-append)
 
 -- a later place has no lesser offset
 pub offset_order : (bs : List ℕ) (p q : ℕ) → p ≤ q → offset_of bs p ≤ offset_of bs q
@@ -36,34 +28,17 @@ slice_encodes bs p q u h =
     drop_offset bs p u
     ∙ ap encodes (sym (take-append-drop (q - p) (drop p (chars bs))))
     ∙ encodes-append cs (drop (q - p) (drop p (chars bs))) in
-    ap (λ n. take n (drop (offset_of bs p) bs)) long
-    ∙ ap (take (length (encodes cs))) rest
-    ∙ take-append_seam (encodes cs) _
+    rw (long, rest) (take-append_seam (encodes cs) _)
 
 -- no character follows exactly where no byte does
 pub none_after : (bs : List ℕ) (p : ℕ) → IsUtf8 bs → offset_of bs p ≡ length bs → length (chars bs) ≤ p
-none_after bs p u e = elim (cases_lt p (length (chars bs))) [
-  | inl more ↦
-      let left : length (drop (offset_of bs p) bs) ≡ 0 = ap length (ap (λ n. drop n bs) e ∙ drop-length bs) in
-      absurd (omega (arith, some_after bs p u more, left))
-  | inr h ↦ h
-]
+none_after bs p u e = grind (arith, length-drop, some_after bs p u)
 
 pub some_before_end : (bs : List ℕ) (p : ℕ) → IsUtf8 bs → p ≤ length (chars bs) → offset_of bs p ≢ length bs
     → p < length (chars bs)
-some_before_end bs p u h e = elim (cases_lt p (length (chars bs))) [
-  | inl more ↦ more
-  | inr less ↦
-      let all : p ≡ length (chars bs) = omega arith in
-      absurd
-      (e
-      (ap (offset_of bs) all
-      ∙ ap (λ cs. length (encodes cs)) (take-length (chars bs))
-      ∙ ap length (encodes-chars bs u)))
-]
+some_before_end bs p u h e = grind (arith, take_all, encodes-chars bs u)
 
 -- where the end is not behind the start there is nothing between
 pub nothing_between : (cs : List ℕ) (from to : ℕ) → to ≤ from → slice_range cs from to ≡ []
 nothing_between cs from to behind =
-    let none : to - from ≡ 0 = omega arith in
-    ap (λ (n : ℕ). take n (drop from cs)) none
+    let none : to - from ≡ 0 = omega arith in ap (λ (n : ℕ). take n (drop from cs)) none

@@ -1,11 +1,7 @@
-pub mod Finding
 pub mod Cuts
 pub mod Steps
 pub mod Adjoining
 pub mod Written
-pub mod Bounding
-pub mod Outlasting
-pub mod Begun
 pub mod Following
 pub mod Telling
 pub mod Passing

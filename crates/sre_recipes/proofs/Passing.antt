@@ -1,19 +1,17 @@
 -- What stays in an iteration over spans, and what a step over a match leaves to come.
-use Rattle.sre_recipes.proofs.Terms.{◌≡◌, ◌≤◌, ℕ, Bool, false, true, List, [], ◌∷◌, Some, length, cond, refl, ap, sym}
-use Rattle.sre_recipes.proofs.Terms.{◌∙◌, subst, arith, Ok, IfOk, Ghosts, StringCursor, Code, Tree, Whole, Asked, Match}
+use Rattle.sre_recipes.proofs.Terms.{◌≡◌, ◌≤◌, ℕ, Bool, false, true, List, [], ◌∷◌, Some, length, cond, ap, sym, ◌∙◌}
+use Rattle.sre_recipes.proofs.Terms.{subst, arith, Ok, IfOk, Ghosts, StringCursor, Code, Tree, Whole, Asked, Match}
 use Rattle.sre_recipes.proofs.Terms.{found, walk, words_of, hints_of, code_tree, found-is, string_of, start_of, end_of}
 use Rattle.sre_recipes.proofs.Terms.{code_of, asked_of, Shown, match_shown, Span, SpanIter, last_asked, GivesSpan}
-use Rattle.sre_recipes.proofs.Terms.{rest_of, IsSpan, StandsAt}
-use Rattle.std.proofs.Common.{ap₂}
-use Rattle.std.proofs.Common.{Result, Err}
-use Rattle.sre_chars.specs.declared.constants.EmptyRule.{EmptyRule}
+use Rattle.sre_recipes.proofs.Terms.{rest_of, IsSpan, StandsAt, ap₂, Result, Err, answer_of}
 use Rattle.sre_chars.specs.declared.constants.EmptyRule.TheVariants.{Never}
 use Rattle.sre_chars.specs.Tables.{Table}
-use Rattle.sre_engine.specs.Answers.{answer_of}
 use Rattle.sre_finder.specs.SpanIters.{request_of, shown_of, has_ended, left_of}
 use Rattle.sre_finder.specs.Spans.{match_with}
+use Rattle.std.proofs.Math.Logic.{∥∥₁_elim}
+use Rattle.sre_engine.specs.Requests.{stands_in}
 use Rattle.sre_recipes.specs.Nexts.{FindsNext}
-use Rattle.sre_recipes.proofs.Steps.{is_found, is_shown}
+use Rattle.sre_recipes.proofs.Steps.{is_found, is_shown, stands_there}
 
 -- what stays in an iteration over a text
 pub record Stays {S A : Type 0} {text : Ghosts S} (it : SpanIter S A text) (whole : S) (code : Code) (stop : ℕ)
@@ -56,6 +54,17 @@ is_behind {text = text} it next span whole cursor gives same at =
       inside = omega (arith, gives.request.inside, window);
     }
 
+-- a cursor of an iteration over texts stands where its window starts
+pub stands_here : {S A : Type 0} {text : Ghosts S}
+    → ((s : S) (c : StringCursor) (p : ℕ) → text.stands s c p → (c.position ≡ p) × (p ≤ length (text.text s)))
+    → ((s : S) (c : StringCursor) (p : ℕ) → IsProp (text.stands s c p)) → (it : SpanIter S A text)
+    (cursor : StringCursor) → ∥ (stands_in (request_of it) cursor (start_of (request_of it))) ∥₁
+    → StandsAt (text.stands (string_of (request_of it))) cursor (start_of (request_of it))
+stands_here {text = text} at once it cursor here =
+    let r = request_of it in
+    stands_there text at (string_of r) cursor (start_of r)
+    (∥∥₁_elim here (once (string_of r) cursor (start_of r)) (λ h. h))
+
 -- a match is found between two cursors behind it
 pub finds_behind : {S A : Type 0} {text : Ghosts S} (it next : SpanIter S A text) (span : Span) (whole : S)
     (start end : StringCursor)
@@ -85,7 +94,7 @@ finds_behind {text = text} it next span whole start end gives same from to = rec
 }
 
 -- an iteration that has just begun has all matches of its range left
-all_left : {S A : Type 0} {text : Ghosts S} (it : SpanIter S A text) (t : Tree) → has_ended it ≡ false
+pub all_left : {S A : Type 0} {text : Ghosts S} (it : SpanIter S A text) (t : Tree) → has_ended it ≡ false
     → left_of it t ≡ walk (asked_of (request_of it)) t
 all_left it t begun = ap (λ (b : Bool). cond b [] (walk (asked_of (request_of it)) t)) begun
 
@@ -100,49 +109,33 @@ module _ {S A : Type 0} {text : Ghosts S} (it mid next : SpanIter S A text) (spa
     (ended : has_ended next ≡ has_ended mid)
     (answer : (t : Tree) → Whole (words_of (code_of (request_of mid))) t
     → answer_of b (shown_of next) ≡ found (last_asked mid) t) where
-  abbrev Given : Tree → Type 0
-  Given t = (m : Match) × (m.start ≡ span.start) × (m.end ≡ span.end) × (left_of it t ≡ m ∷ left_of next t)
-      × (answer_of b (shown_of next) ≡ Some m)
-
-  given : (t : Tree) → Whole (words_of (code_of (request_of it))) t → Given t
-  given t whole =
+  given : b ≡ true → (t : Tree) → Whole (words_of (code_of (request_of it))) t
+      → ((shown_of next).start ≡ span.start) × ((shown_of next).cursor.position ≡ span.end)
+      × (left_of it t ≡ match_shown (shown_of next) ∷ left_of next t)
+  given some t whole =
       let first = gives.first t whole in
       let mine = subst (λ (d : Code). Whole (words_of d) t) (sym gives.request.pattern_codes) whole in
+      let one = match_with span.start span.end first.0 in
+      let is : match_shown (shown_of next) ≡ one = answered b (shown_of next) one some (answer t mine ∙ first.2) in
       let same : left_of mid t ≡ left_of next t =
       ap₂ (λ (e : Bool) (a : Asked). cond e [] (walk a t)) (sym ended) (ap asked_of (sym request)) in (
-        match_with span.start span.end first.0,
-        refl,
-        refl,
-        first.1 ∙ ap (λ (ms : List Match). match_with span.start span.end first.0 ∷ ms) same,
-        answer t mine ∙ first.2,
+        ap (λ (m : Match). m.start) is,
+        ap (λ (m : Match). m.end) is,
+        first.1 ∙ ap₂ (λ (m : Match) (ms : List Match). m ∷ ms) (sym is) same,
       )
-
-  tree : (t : Tree) × Whole (words_of (code_of (request_of it))) t
-  tree =
-      let own = code_of (request_of it) in
-      let is = code_tree (words_of own) (hints_of own) own.checked in (is.0, is.1)
 
   pub finds_shown : b ≡ true → (start end : StringCursor)
       → IsSpan (text.stands (string_of (request_of it))) (shown_of next) start end → FindsNext true it start end next
   finds_shown some start end shown =
-      let one = given tree.0 tree.1 in
-      let is : match_shown (shown_of next) ≡ one.0 = answered b (shown_of next) one.0 some one.4 in
-      let starts : start.position ≡ span.start = shown.begins ∙ ap (λ (m : Match). m.start) is ∙ one.1 in
-      let ends : end.position ≡ span.end = shown.ends ∙ ap (λ (m : Match). m.end) is ∙ one.2 in
-      let stands = text.stands (string_of (request_of it)) in
-      record {
+      let own = code_of (request_of it) in
+      let tree = code_tree (words_of own) (hints_of own) own.checked in
+      let one = given some tree.0 tree.1 in record {
         after = ended ∙ gives.after;
-        first = λ t whole.
-            let mine = given t whole in (
-              match_shown (shown_of next),
-              is_shown true stands (shown_of next) start end shown,
-              mine.3
-                  ∙ ap (λ (m : Match). m ∷ left_of next t) (sym (answered b (shown_of next) mine.0 some mine.4)),
-            );
-        found = is_found true stands (shown_of next) start end shown;
-        from = omega (arith, starts, gives.request.from);
-        starts = ap start_of request ∙ ap (λ (a : Asked). a.start) gives.request.asked ∙ sym ends;
-        inside = omega (arith, ends, gives.request.inside);
+        first = λ t whole. (_, is_shown _ _ _ _ _ shown, (given some t whole).2);
+        found = is_found _ _ _ _ _ shown;
+        from = omega (arith, shown.begins, one.0, gives.request.from);
+        starts = ap start_of request ∙ ap (λ (a : Asked). a.start) gives.request.asked ∙ sym (shown.ends ∙ one.1);
+        inside = omega (arith, shown.ends, one.1, gives.request.inside);
         ends = ap end_of request ∙ ap (λ (a : Asked). a.end) gives.request.asked;
         string = ap string_of request ∙ gives.request.string;
         code = ap code_of request ∙ gives.request.pattern_codes;
@@ -160,25 +153,8 @@ found_forward a code (Ok b) s answer = λ some.
     (found-is a tree.0 (match_shown s) is).order
 
 -- what a request of a whole text asks
-abbrev asks_by : List ℕ → Table → ℕ → ℕ → Bool → Bool → EmptyRule → Asked
-asks_by text table start end all advance rule = record {
-  text = text;
-  table = table;
-  start = start;
-  end = end;
-  match_all = all;
-  must_advance = advance;
-  empty_rule = rule;
-}
-
 pub whole_asks : (a : Asked) (text : List ℕ) (table : Table) → a.text ≡ text → a.table ≡ table → a.start ≡ 0
     → a.end ≡ length text → a.match_all ≡ false → a.must_advance ≡ false → a.empty_rule ≡ Never
     → a ≡ rest_of text table 0
 whole_asks a text table same uni start end all advance rule =
-    let is : asks_by a.text a.table a.start a.end a.match_all a.must_advance a.empty_rule ≡ rest_of text table 0 = cc in
-    is
-
--- an iteration over it that has just begun has all its matches left
-pub whole_left : {S A : Type 0} {text : Ghosts S} (it : SpanIter S A text) (a : Asked) (t : Tree)
-    → has_ended it ≡ false → asked_of (request_of it) ≡ a → left_of it t ≡ walk a t
-whole_left it a t begun asks = all_left it t begun ∙ ap (λ (b : Asked). walk b t) asks
+    let is : record a { start = a.start } ≡ rest_of text table 0 = cc in is

@@ -2,17 +2,17 @@
 use Rattle.sre_recipes.proofs.Terms.{◌≡◌, ◌≤◌, ℕ, List, ◌∷◌, length, Bool, refl, ap, sym, ◌∙◌, subst, arith, Ghosts}
 use Rattle.sre_recipes.proofs.Terms.{StringCursor, Tree, Whole, words_of, Asked, string_of, start_of, end_of, code_of}
 use Rattle.sre_recipes.proofs.Terms.{Shown, match_shown, request_of, shown_of, left_of, Gives, SearchIter, IsSpan}
-use Rattle.sre_recipes.proofs.Terms.{StandsAt}
-use Rattle.sre_recipes.specs.Spans.{IsFound, Shows}
+use Rattle.sre_recipes.proofs.Terms.{StandsAt, has_ended, false, cond, [], walk, asked_of, IsFound, Shows}
+
+-- an iteration that has just begun has all matches of its window left
+pub all_left : {S A : Type 0} {text : Ghosts S} (it : SearchIter S A text) (t : Tree) → has_ended it ≡ false
+    → left_of it t ≡ walk (asked_of (request_of it)) t
+all_left it t begun = ap (λ (b : Bool). cond b [] (walk (asked_of (request_of it)) t)) begun
 
 -- what is asked behind a match starts at its end, in the same window
 pub next_start : {S A : Type 0} {text : Ghosts S} {it next : SearchIter S A text} → Gives it next
     → start_of (request_of next) ≡ (shown_of next).cursor.position
 next_start gives = ap (λ (a : Asked). a.start) gives.request.asked
-
-next_end : {S A : Type 0} {text : Ghosts S} {it next : SearchIter S A text} → Gives it next
-    → end_of (request_of next) ≡ end_of (request_of it)
-next_end gives = ap (λ (a : Asked). a.end) gives.request.asked
 
 -- a match comes off a walk whose words are still those that were asked for
 pub walk_step : {S A : Type 0} {text : Ghosts S} (it next : SearchIter S A text) (words : List ℕ) (t : Tree)
@@ -44,7 +44,7 @@ kept_on it next whole code stop gives kept =
     record {
       string = gives.request.string ∙ kept.string;
       words = ap words_of gives.request.pattern_codes ∙ kept.words;
-      end = next_end gives ∙ kept.end;
+      end = ap (λ (a : Asked). a.end) gives.request.asked ∙ kept.end;
       inside = rw (next_start gives) inside;
     }
 

@@ -1,6 +1,6 @@
 -- The first matches, where no more than so many are wanted, the steps left, and budgets that outlast an iteration.
 -- Of the specification: what sre_recipes makes public rests on it.
-use Rattle.std.specs.Prelude.{take, ⊤, ℕ, ◌≡◌, ◌≤◌, ◌<◌, ◌+◌, ◌-◌, ◌*◌, List, Option, Some, None}
+use Rattle.std.specs.Prelude.{⊤, ℕ, ◌≡◌, ◌≤◌, ◌<◌, ◌+◌, ◌-◌, ◌*◌, List, Option, Some, None, take}
 use Rattle.sre_recipes.specs.Terms.{Code, words_of, Asked, Match, Whole, Tree}
 use Rattle.sre_model.specs.TurnBounds.{RunsWithin}
 use Rattle.sre_model.specs.WalkBounds.{most_matches}

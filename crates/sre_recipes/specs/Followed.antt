@@ -1,12 +1,10 @@
 -- What an iteration within bounds takes of them.
 -- Of the meaning: what sre_recipes makes public rests on it.
-use Rattle.std.specs.Prelude.{◌⊎◌, ◌≡◌, ◌≤◌, ℕ, ◌+◌, ◌-◌, Bool, true, false, List, [], ◌∷◌, ◌++◌, length, Option, Some}
-use Rattle.std.specs.Prelude.{None, IfSome, IsSome, Ok, min, ◌*◌}
+use Rattle.std.specs.Prelude.{◌≡◌, ◌≤◌, ℕ, ◌+◌, ◌-◌, Bool, true, false, List, [], ◌∷◌, ◌++◌, length, Option, Some, None}
+use Rattle.std.specs.Prelude.{IfSome, IsSome, Ok, min, ◌*◌, ◌⊎◌}
 use Rattle.sre_recipes.specs.Terms.{Refused, Code, Tree, Whole, Asked, Match, walk, words_of, Shown, MayTakeMemory}
-use Rattle.sre_recipes.specs.Terms.{SreError}
+use Rattle.sre_recipes.specs.Terms.{SreError, asked_after, items_of}
 use Rattle.sre_model.specs.Anchors.{is_anchored}
-use Rattle.sre_engine.specs.Found.{asked_after}
-use Rattle.sre_engine.specs.Codes.{items_of}
 use Rattle.sre_engine.specs.StepBounds.{IsWindow, IsStepBound}
 use Rattle.sre_engine.specs.WalkBounds.{most_matches}
 use Rattle.sre_engine.specs.Counts.{CountsUpTo, KeepsToSteps, runs_of}

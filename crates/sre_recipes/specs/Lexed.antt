@@ -1,6 +1,6 @@
 -- The tokens that a text begins with.
 -- Of the specification: what sre_recipes makes public rests on it.
-use Rattle.std.specs.Prelude.{zero, suc, ℤ, ℕ, ◌+◌, ◌-◌, true, List, [], ◌∷◌, Option, Some, None}
+use Rattle.std.specs.Prelude.{ℕ, ◌+◌, ◌-◌, true, List, [], ◌∷◌, Option, Some, None, zero, suc, ℤ}
 use Rattle.sre_recipes.specs.Terms.{Tree, Asked, Match, matched}
 use Rattle.sre_recipes.specs.declared.lexer.TokenOf.{TokenOf}
 use Rattle.sre_recipes.specs.Slices.{slice_of}

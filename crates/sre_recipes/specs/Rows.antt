@@ -1,5 +1,5 @@
 -- Worked rows, by computation: texts of matches, pieces, replacements and tokens.
-use Rattle.std.specs.Prelude.{refl, ◌≡◌, ℕ, List, [], ◌∷◌, map, codes, Some, None, pos}
+use Rattle.std.specs.Prelude.{refl, codes, pos, ◌≡◌, ℕ, List, [], ◌∷◌, map, Some, None}
 use Rattle.sre_model.specs.Tree.{Tree, Empty, Mark, Branch, Run, Only, Or, GreedyRun}
 use Rattle.sre_model.specs.Ways.{unlimited}
 use Rattle.sre_model.specs.Found.{walk}

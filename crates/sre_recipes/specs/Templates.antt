@@ -1,7 +1,7 @@
 -- What a template makes of a match, and a text whose matches are replaced.
 -- Of the specification: what sre_recipes makes public rests on it.
 use Rattle.std.specs.Prelude.{ℕ, List, [], ◌∷◌, ◌++◌, slice_range, unwrap_or}
-use Rattle.std.specs.List.{flat_map}
+use Rattle.sre_recipes.specs.Terms.{flat_map}
 use Rattle.sre_engine.specs.Found as model
 use Rattle.sre_recipes.specs.declared.replace.PieceOf.{PieceOf}
 use Rattle.sre_recipes.specs.declared.replace.PieceOf.TheVariants.{Text, Match, Group}

@@ -1,8 +1,8 @@
 //! Collectors: what gathers something of each match of an iteration. There is one loop over the matches of a
 //! `SearchIter` within bounds here, and one over those of a `SpanIter` in `every`.
 
-ghost use Rattle.std.specs.Prelude.{not, ◌≡◌, ◌≤◌, ◌∷◌, [], ℕ, List, Bool, true, false, None, Some, length, IfOk};
-ghost use Rattle.std.specs.Prelude.{IsSome, OnErr};
+ghost use Rattle.std.specs.Prelude.{◌≡◌, ◌≤◌, ◌∷◌, [], ℕ, List, Bool, true, false, None, Some, length, IfOk, IsSome};
+ghost use Rattle.std.specs.Prelude.{OnErr, not};
 ghost use Rattle.sre_recipes.specs.Terms.{Tree, Whole, Match, walk, words_of, string_of, start_of, end_of, code_of};
 ghost use Rattle.sre_recipes.specs.Terms.{asked_of, Refused};
 ghost use Rattle.sre_recipes.specs.Spans.{IsFound, Shows};

@@ -3,8 +3,7 @@
 ghost use Rattle.std.specs.Prelude.{⊤, ◌≡◌, ◌≤◌, ◌++◌, true, false, None, Some, map, slice_range, is_none, is_some};
 ghost use Rattle.std.specs.Prelude.{IsSome, IfSome, IfOk, OnErr};
 ghost use Rattle.sre_recipes.specs.Terms.{Tree, Whole, no_marks, matched, found, walk, words_of, string_of, start_of};
-ghost use Rattle.sre_recipes.specs.Terms.{end_of, code_of, asked_of, stands_in, answer_of, Refused};
-ghost use Rattle.sre_engine.specs.Answers.{Spans};
+ghost use Rattle.sre_recipes.specs.Terms.{end_of, code_of, asked_of, stands_in, answer_of, Refused, Spans};
 ghost use Rattle.sre_recipes.specs.Slices.{slice_of, to_the_end};
 ghost use Rattle.sre_recipes.specs.Bounded.{first_of, AreLeft, Outlast};
 ghost use Rattle.sre_recipes.specs.Followed.{Followed};

@@ -1,8 +1,8 @@
 //! An iterator over the texts of all matches, with a prefilter.
 
 ghost use Rattle.std.specs.Prelude.{◌≡◌, ◌<◌, ◌≤◌, false, length, slice_range, IfSome};
-ghost use Rattle.sre_engine.specs.Requests.{start_of, code_of, stands_in};
-ghost use Rattle.sre_finder.specs.SpanIters.{request_of, has_ended, most_spans};
+ghost use Rattle.sre_recipes.specs.Terms.{start_of, code_of, stands_in, has_ended, most_spans};
+ghost use Rattle.sre_finder.specs.SpanIters.{request_of};
 
 use crate::span::on_by;
 use crate::texts::Text;
@@ -111,7 +111,7 @@ impl<'c, 'a, S: StrDrive, A: Allocator + Copy> FoundTexts<'c, 'a, S, A> {
 
 impl<'c, 'a, S: Text + Haystack, A: Allocator + Copy> Iterator for FoundTexts<'c, 'a, S, A> {
     ghost use Rattle.std.specs.Iterator.{at_most};
-    ghost use Rattle.sre_finder.specs.SpanIters.{most_spans};
+    ghost use Rattle.sre_recipes.specs.Terms.{most_spans};
     ghost use Rattle.sre_recipes.specs.FoundTexts.{walk_of, NextText};
 
     type Item = Result<S, SreError>;

@@ -1,7 +1,7 @@
 //! Matches with the texts of their groups.
 
-ghost use Rattle.std.specs.Prelude.{◌^◌, slice_index_or, ⊤, ◌≡◌, ◌≤◌, ◌+◌, ◌++◌, true, None, length, map, is_none};
-ghost use Rattle.std.specs.Prelude.{is_some, IfOk, IfSome, OnErr, IsSome};
+ghost use Rattle.std.specs.Prelude.{⊤, ◌≡◌, ◌≤◌, ◌+◌, ◌++◌, true, None, length, map, is_none, is_some, IfOk, IfSome};
+ghost use Rattle.std.specs.Prelude.{OnErr, IsSome, ◌^◌, slice_index_or};
 ghost use Rattle.sre_recipes.specs.Terms.{range_with_len, option_map, Tree, Whole, no_marks, matched, found, walk};
 ghost use Rattle.sre_recipes.specs.Terms.{words_of, string_of, code_of, asked_of, match_shown, answer_of, Refused};
 ghost use Rattle.sre_recipes.specs.Slices.{numbered_group, captured};

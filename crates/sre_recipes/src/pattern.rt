@@ -1,11 +1,9 @@
 //! A compiled pattern that owns all that it needs, for many texts.
 
-ghost use Rattle.std.specs.Prelude.{◌≢◌, IfErr, OnOk, ◌≡◌, ◌≤◌, ◌<◌, ℕ, List, None, length, true, false, is_some, map};
-ghost use Rattle.std.specs.Prelude.{IfOk, OnErr, MatchOption};
+ghost use Rattle.std.specs.Prelude.{◌≡◌, ◌≤◌, ◌<◌, ℕ, List, None, length, true, false, is_some, map, IfOk, OnErr};
+ghost use Rattle.std.specs.Prelude.{MatchOption, ◌≢◌, IfErr, OnOk};
 ghost use Rattle.sre_recipes.specs.Terms.{option_map, Table, Refused, Tree, Whole, no_marks, found, walk, words_of};
-ghost use Rattle.sre_recipes.specs.Terms.{code_of, asked_of, stands_in, answer_of, has_ended};
-ghost use Rattle.sre_engine.specs.Grammar.{IsCode};
-ghost use Rattle.sre_engine.specs.Codes.{uni_of};
+ghost use Rattle.sre_recipes.specs.Terms.{code_of, asked_of, stands_in, answer_of, has_ended, IsCode, uni_of};
 ghost use Rattle.sre_engine.specs.Refusals.{place_of};
 ghost use Rattle.sre_finder.specs.Kepts.{Suits};
 ghost use Rattle.sre_finder.specs.SpanIters.{request_of};

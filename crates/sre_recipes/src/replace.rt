@@ -2,8 +2,7 @@
 
 ghost use Rattle.std.specs.Prelude.{⊤, ◌≡◌, ◌++◌, true, None, Some, is_none, IfOk, IfSome, IsSome, OnErr};
 ghost use Rattle.sre_recipes.specs.Terms.{chars, Tree, Whole, walk, words_of, string_of, start_of, end_of, code_of};
-ghost use Rattle.sre_recipes.specs.Terms.{asked_of, match_shown, Refused};
-ghost use Rattle.std.specs.String.{string_bytes};
+ghost use Rattle.sre_recipes.specs.Terms.{asked_of, match_shown, Refused, string_bytes};
 ghost use Rattle.sre_recipes.specs.Spans.{IsSpan, StandsBy};
 ghost use Rattle.sre_recipes.specs.Templates.{piece_of, written, replaced};
 ghost use Rattle.sre_recipes.specs.Bounded.{first_of, AreLeft, Outlast};

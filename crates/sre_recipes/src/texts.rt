@@ -1,9 +1,8 @@
 //! The texts that recipes work on: bytes and UTF-8.
 
 ghost use Rattle.std.specs.Prelude.{◌≡◌, ◌++◌, ◌≤◌, ℕ, List, [], length, true, false, ◌<◌, slice_range, ⊤, IfOk, OnErr};
-ghost use Rattle.std.specs.Str.{chars, IsUtf8};
+ghost use Rattle.sre_recipes.specs.Terms.{chars, Refused, IsUtf8};
 ghost use Rattle.sre_chars.specs.Texts.{StandsInText};
-ghost use Rattle.sre_growth.specs.Refusal.{Refused};
 
 use sre_engine::{SreError, StrDrive, StringCursor};
 use std::alloc::{Allocator, Global};
@@ -138,7 +137,7 @@ impl<'t> Text for &'t str {
 }
 
 impl<'t> Text for &'t [u8] {
-    ghost use Rattle.std.specs.Prelude.{refl};
+    ghost use Rattle.sre_recipes.specs.Terms.{refl};
 
     ghost IsText = { λ _. ⊤ };
 
@@ -162,7 +161,7 @@ impl<'t> Text for &'t [u8] {
 }
 
 impl<'t> Rewritten for &'t str {
-    ghost use Rattle.std.specs.String.{string_bytes};
+    ghost use Rattle.sre_recipes.specs.Terms.{string_bytes};
 
     type New = String;
 

@@ -1,4 +1,4 @@
-use Rattle.sre_recipes.proofs.Terms.{ℕ, Ok, ap, ◌∙◌, string_of, code_of, last_asked, IsSpan}
+use Rattle.sre_recipes.proofs.Terms.{ℕ, Ok, ap, ◌∙◌, string_of, code_of, last_asked}
 use Rattle.sre_finder.specs.SpanIters.{request_of, shown_of}
 use Rattle.sre_recipes.proofs.Passing.{is_behind, finds_behind, finds_shown, found_forward}
 use Rattle.sre_recipes.proofs.every.next_found.Goals as goal
@@ -7,36 +7,27 @@ pub span_behind-requires : goal.span_behind-requires
 span_behind-requires g c =
     let gives = rw c.in-Some.is at c.in_ok-found.ensures.gives in
     let same = c.string-text.ensures ∙ ap string_of c.req.ensures ∙ gives.request.string in
-    let is = is_behind c.args.walk.now c.next_of.new.walk c.in-Some.found c.string-text.result c.args.last.now gives
-    same c.requires in
-    record { at = is.at; behind = is.behind; forward = is.forward; inside = is.inside }
+    assumption (is_behind _ _ _ _ c.args.last.now gives same c.requires)
 
 pub returns-then-not-captures-clause-gives : goal.returns-then-not-captures-clause-gives
 returns-then-not-captures-clause-gives g c =
     let gives = rw c.in-Some.is at c.in_ok-found.ensures.gives in
     let same = c.string-text.ensures ∙ ap string_of c.req.ensures ∙ gives.request.string in
     rw c.if-not-captures.true
-    (finds_behind c.args.walk.now c.next_of.new.walk c.in-Some.found c.string-text.result c.span_behind.result.start
-    c.span_behind.result.end gives same c.span_behind.ensures.start c.span_behind.ensures.end)
+    (finds_behind _ _ _ _ _ _ gives same c.span_behind.ensures.start c.span_behind.ensures.end)
 
 pub span_of-requires-clause-forward : goal.span_of-requires-clause-forward
 span_of-requires-clause-forward g c =
     let asked = request_of c.next_of.new.walk in
-    let shown = shown_of c.show.new.self in
     rw c.state.ensures
-    (found_forward {E = ℕ} (last_asked c.next_of.new.walk) (code_of asked) (Ok c.in_ok-show.field-0) shown
-    c.in_ok-show.ensures.answer c.if-branch.true)
+    (found_forward {E = ℕ} (last_asked c.next_of.new.walk) (code_of asked) (Ok c.in_ok-show.field-0)
+    (shown_of c.show.new.self) c.in_ok-show.ensures.answer c.if-branch.true)
 
 pub returns-then-branch-clause-gives : goal.returns-then-branch-clause-gives
 returns-then-branch-clause-gives g c =
     let gives = rw c.in-Some.is at c.in_ok-found.ensures.gives in
     let shows = c.in_ok-show.ensures in
-    let start = c.span_of.result.start in
-    let end = c.span_of.result.end in
     let same = c.string.ensures ∙ ap string_of (c.req-then-branch.ensures ∙ shows.req) ∙ gives.request.string in
-    let stands = g.S.StrDrive.stands (string_of (request_of c.args.walk.now)) in
-    let span : IsSpan stands (shown_of c.show.new.self) start end =
-    rw (same, c.state.ensures) at c.span_of.ensures in
     rw c.if-not-captures.false
     (finds_shown c.args.walk.now c.next_of.new.walk c.show.new.self c.in-Some.found c.in_ok-show.field-0 gives shows.req
-    shows.ended shows.answer c.if-branch.true start end span)
+    shows.ended shows.answer c.if-branch.true _ _ (rw (same, c.state.ensures) at c.span_of.ensures))

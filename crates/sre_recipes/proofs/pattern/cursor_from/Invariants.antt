@@ -1,4 +1,4 @@
-use Rattle.std.proofs.Common.{◌<◌, ◌-◌, ℕ, length}
+use Rattle.sre_recipes.proofs.Terms.{◌<◌, ◌-◌, ℕ, length}
 use Rattle.sre_recipes.proofs.pattern.cursor_from.Given as goal
 
 abbrev pub invariant-inside : goal.invariant-inside

@@ -1,4 +1,4 @@
-use Rattle.std.proofs.Common.{[], ap, ◌∙◌, arith, unwrap_or}
+use Rattle.sre_recipes.proofs.Terms.{[], ap, ◌∙◌, arith, unwrap_or}
 use Rattle.sre_recipes.proofs.Cuts.{nothing_between}
 use Rattle.sre_recipes.proofs.replace.piece_text.Goals as goal
 

@@ -1,5 +1,4 @@
-use Rattle.sre_recipes.proofs.Terms.{ap, ◌∙◌, chars}
-use Rattle.std.proofs.lemmas.Str.{chars-nil}
+use Rattle.sre_recipes.proofs.Terms.{ap, ◌∙◌, chars, chars-nil}
 use Rattle.sre_recipes.proofs.replace.replace_bounded.Goals as goal
 
 pub returns-then-branch-clause-ok : goal.returns-then-branch-clause-ok

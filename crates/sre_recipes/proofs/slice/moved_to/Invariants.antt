@@ -1,4 +1,4 @@
-use Rattle.std.proofs.Common.{◌-◌, ◌≤◌}
+use Rattle.sre_recipes.proofs.Terms.{◌-◌, ◌≤◌}
 use Rattle.sre_recipes.proofs.slice.moved_to.Given as goal
 
 abbrev pub invariant-forward : goal.invariant-forward

@@ -1,4 +1,4 @@
-use Rattle.std.proofs.Common.{◌≡◌, ◌++◌, take}
+use Rattle.sre_recipes.proofs.Terms.{◌≡◌, ◌++◌, take}
 use Rattle.sre_recipes.proofs.texts.append_bytes.Given as goal
 
 abbrev pub invariant-loop-byte : goal.invariant-loop-byte

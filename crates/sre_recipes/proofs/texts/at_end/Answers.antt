@@ -6,7 +6,7 @@ pub returns-clause-end : goal.returns-clause-end
 returns-clause-end c = λ same.
     let at : offset_of c.args.text.now c.args.cursor.now.position ≡ length c.args.text.now =
     sym (c.offset.ensures ∙ c.requires.1) ∙ eqb-true _ _ same in
-    omega (arith, none_after c.args.text.now c.args.cursor.now.position c.utf8.text at, c.requires.2)
+    omega (arith, none_after _ _ c.utf8.text at, c.requires.2)
 
 pub returns-clause-before : goal.returns-clause-before
 returns-clause-before c = λ apart.

@@ -1,6 +1,5 @@
-use Rattle.sre_recipes.proofs.Terms.{◌≡◌, ◌++◌, List, refl, slice_range}
+use Rattle.sre_recipes.proofs.Terms.{◌≡◌, ◌++◌, refl, slice_range, captured}
 use Rattle.sre_recipes.specs.Captured.{captures_shown}
-use Rattle.sre_recipes.specs.Slices.{captured}
 use Rattle.sre_recipes.proofs.Written.{two_more}
 use Rattle.sre_recipes.proofs.compute.ReplacingCollectsGlobal.add.Goals as goal
 
@@ -16,12 +15,5 @@ returns-clause-gathers g c = λ m shows stop ms last then.
     rw (shows.shown refl) c.in_ok-captures.ensures.ok in (
       piece ++ (new ++ then.0),
       two_more output _ piece new then.0 _ added then.1,
-      (
-        new,
-        c.compute.new.self,
-        then.0,
-        (_, c.in-Ok.new, shown, c.in-Ok.ensures, refl),
-        rw shows.ends then.2,
-        refl,
-      ),
+      (new, c.compute.new.self, then.0, (_, c.in-Ok.new, shown, c.in-Ok.ensures, refl), rw shows.ends then.2, refl),
     )

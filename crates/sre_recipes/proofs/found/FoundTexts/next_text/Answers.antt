@@ -1,23 +1,17 @@
 use Rattle.sre_recipes.proofs.Terms.{◌≡◌, ◌∙◌, ap, subst, Asked, string_of, start_of, GivesSpan}
 use Rattle.sre_finder.specs.SpanIters.{request_of}
-use Rattle.sre_recipes.proofs.Finding.{reaches}
+use Rattle.sre_recipes.proofs.Passing.{stands_here, is_behind}
 use Rattle.sre_recipes.proofs.found.FoundTexts.next_text.Goals as goal
 
 pub text_behind-requires : goal.text_behind-requires
 text_behind-requires g c =
     let it = c.args.self.now in
-    let span = c.in-Some-Ok.span in
-    let gives : GivesSpan {S = g.row.S.Denot} {A = g.row.A.Denot} {text = g.S.StrDrive} it.walk span c.next.new.self =
+    let gives : GivesSpan {S = g.row.S.Denot} {A = g.row.A.Denot} {text = g.S.StrDrive} c.args.self.now.walk
+    c.in-Some-Ok.span c.next.new.self =
     rw c.in-Some-Ok.field-0-is at c.in-Some-Ok.ensures.steps in
     let same = c.string-text.ensures ∙ ap string_of c.req.ensures ∙ gives.request.string in
-    let reached = reaches g.met.S.StrDrive.stands_at g.met.S.StrDrive.stands_once it.walk c.next.new.self it.cursor span
-    c.string-text.result same it.here gives in
-    record {
-      at = reached.stands;
-      behind = reached.from;
-      forward = reached.forward;
-      inside = reached.inside;
-    }
+    let at = stands_here g.met.S.StrDrive.stands_at g.met.S.StrDrive.stands_once it.walk it.cursor it.here in
+    assumption (is_behind _ _ _ _ it.cursor gives same at)
 
 pub invariant_of-self-in-Some-Ok : goal.invariant_of-self-in-Some-Ok
 invariant_of-self-in-Some-Ok g c =
@@ -36,9 +30,8 @@ invariant_of-self-in-Some-Ok g c =
 
 pub returns-in-Some-Ok-clause-gives : goal.returns-in-Some-Ok-clause-gives
 returns-in-Some-Ok-clause-gives g c =
-    let it = c.args.self.now in
-    let span = c.in-Some-Ok.span in
-    let gives : GivesSpan {S = g.row.S.Denot} {A = g.row.A.Denot} {text = g.S.StrDrive} it.walk span c.next.new.self =
+    let gives : GivesSpan {S = g.row.S.Denot} {A = g.row.A.Denot} {text = g.S.StrDrive} c.args.self.now.walk
+    c.in-Some-Ok.span c.next.new.self =
     rw c.in-Some-Ok.field-0-is at c.in-Some-Ok.ensures.steps in
     let same = c.string-text.ensures ∙ ap string_of c.req.ensures ∙ gives.request.string in
-    record { span = span; gives = gives; text_is = rw same at c.text_behind.ensures.text }
+    record { span = c.in-Some-Ok.span; gives = gives; text_is = rw same at c.text_behind.ensures.text }

@@ -1,9 +1,7 @@
 use Rattle.sre_recipes.proofs.Terms.{◌≡◌, ◌∙◌, ℕ, List, length, IfOk, ap, subst, Whole, Match, words_of, string_of}
-use Rattle.sre_recipes.proofs.Terms.{end_of, code_of, asked_of, rest_of}
-use Rattle.std.proofs.Common.{rules}
-use Rattle.sre_engine.specs.Codes.{uni_of}
+use Rattle.sre_recipes.proofs.Terms.{end_of, code_of, asked_of, walk, Asked, rules, uni_of}
 use Rattle.sre_finder.specs.SpanIters.{request_of, left_of}
-use Rattle.sre_recipes.proofs.Passing.{whole_asks, whole_left}
+use Rattle.sre_recipes.proofs.Passing.{all_left, whole_asks}
 use Rattle.sre_recipes.proofs.pattern.Pattern.collect.Goals as goal
 
 pub returns-clause-ok : goal.returns-clause-ok
@@ -16,8 +14,7 @@ returns-clause-ok g c = λ t whole.
     let asks =
     whole_asks (asked_of c.whole-request.result) (g.S.StrDrive.text c.args.text) c.args.self.now.table
     (ap g.S.StrDrive.text r.string) table r.start r.end r.match_all r.must_advance r.empty_rule in
-    let left = whole_left it (rest_of (g.S.StrDrive.text c.args.text) c.args.self.now.table 0) t
-    c.walk_kept-walk.ensures.open (ap asked_of req ∙ asks) in
+    let left = all_left it t c.walk_kept-walk.ensures.open ∙ ap (λ (a : Asked). walk a t) (ap asked_of req ∙ asks) in
     let text = g.S.StrDrive.text c.args.text in
     let told = c.collect_spans-collected.ensures.ok t (subst (λ ws. Whole ws t) own whole) in
     let Told = λ (s : g.row.S.Denot) (stop : ℕ) (ms : List Match). IfOk c.collect_spans-collected.result
