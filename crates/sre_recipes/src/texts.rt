@@ -137,7 +137,7 @@ impl<'t> Text for &'t str {
 }
 
 impl<'t> Text for &'t [u8] {
-    ghost use Rattle.sre_recipes.specs.Terms.{refl};
+    ghost use Rattle.std.specs.Prelude.{refl};
 
     ghost IsText = { λ _. ⊤ };
 
