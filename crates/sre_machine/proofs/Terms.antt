@@ -1,6 +1,6 @@
 -- The words and the laws from elsewhere, and the words of specs/, which proofs of this crate name.
 pub use Rattle.std.proofs.Common.{Bool, Err, IfNone, IfOk, IfSome, List, None, Ok, Option, Result, Some, [], add-mul}
-pub use Rattle.std.proofs.Common.{ap, arith, cond, drop, false, inl, inr, length, map, max, min, mul-le-mul, nat_eq}
+pub use Rattle.std.proofs.Common.{ap, arith, cond, drop, false, inl, inr, length, map, max, min, mul-le-mul}
 pub use Rattle.std.proofs.Common.{nat_lt, not, one-mul, refl, rules, slice_get, slice_index_or, slice_set, subst, suc}
 pub use Rattle.std.proofs.Common.{sym, true, zero, ◌&&◌, ◌*◌, ◌++◌, ◌+◌, ◌-◌, ◌/◌, ◌<◌, ◌^◌, ◌||◌, ◌∙◌, ◌∷◌, ◌≡◌, ◌≢◌}
 pub use Rattle.std.proofs.Common.{◌≤◌, ◌⊎◌, ℕ}
@@ -26,7 +26,6 @@ pub use Rattle.sre_board.specs.declared.failures.Known.TheVariants.{Failed, NoBi
 pub use Rattle.sre_board.specs.declared.failures.Row.{Row}
 pub use Rattle.sre_chars.specs.Numbers.{at_number, category_number, opcode_number}
 pub use Rattle.sre_chars.specs.Tables.{Table}
-pub use Rattle.sre_chars.specs.Texts.{NoneIs, Sought}
 pub use Rattle.sre_chars.specs.declared.constants.SreAtCode.{SreAtCode}
 pub use Rattle.sre_chars.specs.declared.constants.SreCatCode.{SreCatCode}
 pub use Rattle.sre_code.proofs.AsciiMembers.{category_holds}
@@ -38,7 +37,7 @@ pub use Rattle.sre_code.specs.declared.code.Code.{Code}
 pub use Rattle.sre_model.proofs.CodesRead.{word_known}
 pub use Rattle.sre_model.proofs.Longest.{run_at_most, run_inside}
 pub use Rattle.sre_model.proofs.Members.{negated, nothing_left}
-pub use Rattle.sre_model.proofs.Passing.{past_end, read_passes, stands_at_own}
+pub use Rattle.sre_model.proofs.Passing.{stands_at_own}
 pub use Rattle.sre_model.proofs.TreeOf.{tree_of, whole-read}
 pub use Rattle.sre_model.proofs.TurnBounds.{last_spent, turn_spent}
 pub use Rattle.sre_model.proofs.Words.{are_words, opcode_within, same_number, same_opcode, same_word, word_of}
@@ -53,7 +52,7 @@ pub use Rattle.sre_model.specs.References.{asked_from, asked_to, no_group, refer
 pub use Rattle.sre_model.specs.Regions.{has_forked_region}
 pub use Rattle.sre_model.specs.Roles.{ToCheckPosition}
 pub use Rattle.sre_model.specs.Standing.{AreWords, HasTest, TestStands}
-pub use Rattle.sre_model.specs.Subject.{Subject, char_at, holds_at, passes, same_folded}
+pub use Rattle.sre_model.specs.Subject.{char_at, holds_at, passes, same_folded}
 pub use Rattle.sre_model.specs.Tree.{Any, AnyAll, Ascii, BigCharset, Category, Charset, Greedy, GreedyRun, In}
 pub use Rattle.sre_model.specs.Tree.{InCategory, Lazy, LazyRun, Literal, Locale, Negate, Negative, NotLiteral, Order}
 pub use Rattle.sre_model.specs.Tree.{Plain, Positive, PossessiveRun, Range, RangeUniIgnore, RunKind, SetItem, Single}
@@ -131,7 +130,7 @@ pub use Rattle.sre_turns.proofs.semantics.Strides.{strides_goes, tells_test}
 pub use Rattle.sre_turns.specs.Admitting.{AdmitsOnly, IsOutside, LeadsOnly, RepeatsOnly, RunsOnly, TestsOnly}
 pub use Rattle.sre_turns.specs.Alike.{Alike}
 pub use Rattle.sre_turns.specs.AskedPlaces.{AlternativesAsk, AsksAt, GroupAsked, GroupLies, Lies, MarkLeads, MarkRange}
-pub use Rattle.sre_turns.specs.AskedPlaces.{PlacesAsk, TestLeads, Within}
+pub use Rattle.sre_turns.specs.AskedPlaces.{PlacesAsk, Within}
 pub use Rattle.sre_turns.specs.Attempts.{Attempt}
 pub use Rattle.sre_turns.specs.Board.{Else, Trying, choice}
 pub use Rattle.sre_turns.specs.Bodies.{MarklessRegions}

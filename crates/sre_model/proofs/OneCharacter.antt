@@ -47,23 +47,6 @@ set_test_end ws i j v o t w e r s = go t e (same_opcode ws i o (test_opcode t) w
     go (In f set) x y h = omega (arith, word_of ws (i + 1) v r)
     go u x y h = grind arith
 
-pub short_test_end : (ws : List ℕ) (i j : ℕ) (o : SreOpcode) (t : Test) → Opcode ws i o → o ≢ opcode.ANY
-    → o ≢ opcode.ANY_ALL → o ≢ opcode.IN → o ≢ opcode.IN_IGNORE → o ≢ opcode.IN_LOC_IGNORE → o ≢ opcode.IN_UNI_IGNORE
-    → TestStands ws i j t → i + 2 ≡ j
-short_test_end ws i j o t w any any_all plain ascii locale unicode s =
-    go t (same_opcode ws i o (test_opcode t) w s.code) s.operands
-  where
-    go : (u : Test) → o ≡ test_opcode u → TestOperands ws i j u → i + 2 ≡ j
-    go Any e h = absurd (any e)
-    go AnyAll e h = absurd (any_all e)
-    go (In Plain set) e h = absurd (plain e)
-    go (In Ascii set) e h = absurd (ascii e)
-    go (In Locale set) e h = absurd (locale e)
-    go (In Unicode set) e h = absurd (unicode e)
-    go (InCategory c) e h = sym h.1
-    go (Literal fold v) e h = sym h.1
-    go (NotLiteral fold v) e h = sym h.1
-
 -- an IN whose set is one item takes what the item holds for, in words that are read of a request
 pub one_item_takes : (ws read : List ℕ) (table : Table) (i j c skip n : ℕ) (b : Bool) (t : Test) → read ≡ ws
     → Opcode ws i opcode.IN → Word read (i + 1) skip → n ≡ i + skip → ItemSays read table (i + 2) c b n

@@ -31,7 +31,7 @@ pub use mathlib.Core.HLevel.{is_prop→PathP}
 pub use Rattle.sre_model.specs.Characters.{holds, is_member, item_holds, verdict}
 pub use Rattle.sre_model.specs.Claims.{EachTestIn, FirstIn, HasFirstSet, TestIn, behind_marks, border_length}
 pub use Rattle.sre_model.specs.Claims.{confirmed_prefix, confirmed_width, has_flag, is_literal}
-pub use Rattle.sre_model.specs.CountedRuns.{Counted, Ended}
+pub use Rattle.sre_model.specs.CountedRuns.{Ended}
 pub use Rattle.sre_model.specs.FirstCharacters.{TreeStands, is_end}
 pub use Rattle.sre_model.specs.Folding.{Folding, of_branch, of_item, of_parts, of_tree}
 pub use Rattle.sre_model.specs.Found.{Asked, Match, asked_after, at_start, first_accepted, found, found_from}

@@ -5,7 +5,7 @@ use Rattle.std.specs.List.{flat_map}
 use Rattle.sre_model.specs.Tree.{Order}
 use Rattle.sre_model.specs.Marks.{Marks}
 use Rattle.sre_model.specs.Subject.{Subject}
-use Rattle.sre_model.specs.Ways.{Way, Body, first, here, within, least, more, possessive_more}
+use Rattle.sre_model.specs.Ways.{Way, Body, first, here, within, least, more}
 
 -- what follows each way of a body, in order
 abbrev pub followed : Subject → Body → Body → Body
@@ -24,9 +24,3 @@ or_here rest p m (w ∷ ws) = rest w.stop w.marks
 abbrev pub loop_from : Subject → Order → ℕ → ℕ → Body → ℕ → Option ℕ → Body
 loop_from s o low high body count last =
     least s body (λ p m. more s o high body (s.end + 1 - p) (max low count) last p m) (low - count)
-
--- the same of a possessive loop
-abbrev pub possessive_from : Subject → ℕ → ℕ → Body → ℕ → Option ℕ → Body
-possessive_from s low high body count last =
-    least s (first_of_body s body)
-    (λ p m. possessive_more s high body (s.end + 1 - p) (max low count) last p m) (low - count)

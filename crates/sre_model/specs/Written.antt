@@ -50,10 +50,6 @@ test_operands (In fold set) =
 abbrev pub test_words : Test → List ℕ
 test_words t = opcode_number (test_opcode t) ∷ test_operands t
 
--- a run's test, and the SUCCESS behind it
-abbrev pub closed_test : Test → List ℕ
-closed_test t = test_words t ++ opcode_number opcode.SUCCESS ∷ []
-
 -- a repeat's operands, its body and what ends it; the skip leads over extra words more than the body's
 abbrev pub repeated : ℕ → ℕ → ℕ → List ℕ → ℕ → List ℕ
 repeated extra low high body end = (length body + extra) ∷ low ∷ high ∷ (body ++ end ∷ [])
