@@ -4,7 +4,7 @@ use Rattle.sre_chars.proofs.Terms.{length, get_or, map, refl, arith, nat_le, IsN
 use Rattle.sre_chars.proofs.Terms.{is_scalar, is_alphanumeric, last_of, entry_fault, list_fault, Listing, Map, Ranges}
 use Rattle.sre_chars.proofs.Terms.{◌==◌, Bool, ◌&&◌, ◌||◌, if◌then◌else◌, unwrap_or, nat_lt, option_or, length-map}
 use Rattle.sre_chars.proofs.Terms.{get_or-map, is_between, is_in_ranges, mapped, last_up_to, is_scalar_entry}
-use Rattle.sre_chars.proofs.Terms.{table_fault}
+use Rattle.sre_chars.proofs.Terms.{table_fault, sym, take}
 
 -- two searches that both find nothing
 pub both_none : {T : Type 0} (a b : Option T) → option_or a b ≡ None → (a ≡ None) × (b ≡ None)
@@ -158,3 +158,15 @@ pub is_alphanumeric-past_ascii : (t : Table) (c : ℕ) → table_fault t ≡ Non
 is_alphanumeric-past_ascii t c h l =
     let past : nat_lt c 128 ≡ false = grind (arith, nat_tests) in
     rw past (is_scalar-in_ranges 0 t.alnum c (lawful_lists t h).alnum)
+
+-- where an entry of a rising list begins above c, those before it decide
+pub last_up_to-take : {X : Type 0} (pair : X → ℕ × ℕ) (es : List X) (c k : ℕ) (d : X)
+    → IsNonDecreasingBy (λ e. (pair e).0) es → k < length es → c < (pair (get_or es k d)).0
+    → last_up_to (map pair (take k es)) c ≡ last_up_to (map pair es) c
+last_up_to-take pair [] c k d rises l above = absurd (omega arith)
+last_up_to-take pair (e ∷ es) c zero d rises l above =
+    sym (last_up_to-none pair (e ∷ es) c
+    (λ k x m. let at = rises 0 k x (omega arith) m in grind (arith, nat_tests)))
+last_up_to-take pair (e ∷ es) c (suc k) d rises l above =
+    rw (last_up_to-take pair es c k d (λ i j x le m. rises (suc i) (suc j) x (omega arith) (omega arith)) (omega arith)
+    above) refl

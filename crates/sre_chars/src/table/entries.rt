@@ -62,11 +62,28 @@ impl<'t> Entries<'t> {
     }
 }
 
+// Most characters of texts come before the entry at this place of a long list.
+const NEAR: usize = 32;
+
+// The entries before that place, if the one there begins above `ch`; else all.
+#[inline(always)]
+fn near<E: Entry>(entries: &[E], ch: u32) -> &[E]
+    requires { IsNonDecreasingBy (λ e. (E.pair e).0) entries.now }
+    ensures rises { IsNonDecreasingBy (λ e. (E.pair e).0) result.now }
+    ensures same { last_up_to (map E.pair result.now) ch ≡ last_up_to (map E.pair entries.now) ch }
+{
+    if entries.len() > NEAR && ch < entries[NEAR].pair().0 {
+        return entries.split_at(NEAR).0;
+    }
+    entries
+}
+
 // The last entry whose first number is at most `ch`.
 fn last_up_to<E: Entry>(entries: &[E], ch: u32) -> Option<(u32, u32)>
     requires { IsNonDecreasingBy (λ e. (E.pair e).0) entries.now }
     ensures { result ≡ last_up_to (map E.pair entries.now) ch }
 {
+    let entries = near(entries, ch);
     let count = entries.partition_point(
         |entry: &E| -> bool
             ensures { result ≡ nat_le (E.pair entry.now).0 ch }
