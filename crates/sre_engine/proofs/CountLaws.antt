@@ -109,7 +109,7 @@ ran_on a code last n m p q is fits from l ran one begin = record {
 
 module _ (a : Asked) (code : Code) (q : ℕ) where
   -- no prefix is confirmed
-  unprefixed : (hints_of code).prefix ≡ None
+  pub unprefixed : (hints_of code).prefix ≡ None
       → ((set : List SetItem) → IsOwnSet code set → (hints_of code).first_set ≡ true → is_among a set q ≡ true)
       → MayBegin a code q
   unprefixed plain member = record {

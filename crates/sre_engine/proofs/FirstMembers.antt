@@ -77,7 +77,7 @@ module _ (code : Code) (is : (hints_of code).first_set ≡ true) where
   some_set = (there.set, (there.items, there.ends))
 
   -- a start whose character is no member has no match
-  unmembered_at : (a : Asked) (t : Tree) (p : ℕ) → a.table ≡ uni_of code → Whole (words_of code) t
+  pub unmembered_at : (a : Asked) (t : Tree) (p : ℕ) → a.table ≡ uni_of code → Whole (words_of code) t
       → ((set : List SetItem) → IsFirstSet (words_of code) set → is_among a set p ≡ false) → at_start a t p ≡ None
   unmembered_at a t p table w outside =
       let set = first_set t w in

@@ -8,6 +8,7 @@ pub mod PrefixWays
 pub mod Looking
 pub mod Carrying
 pub mod FirstMembers
+pub mod Doubled
 pub mod Hinting
 pub mod Spending
 pub mod CountLaws

@@ -41,7 +41,7 @@ pub use Rattle.sre_model.proofs.WideWays.{EachFar, Far, narrow_none, on-far, sho
 pub use Rattle.sre_model.proofs.Words.{opcode_low, opcode_within, same_opcode, same_word, word_of, word_within}
 pub use Rattle.sre_model.specs.Claims.{EachTestIn, FirstIn, HasFirstSet, TestIn, are_overlaps, behind_adjacent}
 pub use Rattle.sre_model.specs.Claims.{behind_literals, behind_marks, behind_prefix, behind_spread, confirmed_prefix}
-pub use Rattle.sre_model.specs.Claims.{confirmed_width, has_flag, has_prefix, is_at_end, is_literal, overlap_words}
+pub use Rattle.sre_model.specs.Claims.{has_flag, has_prefix, is_at_end, is_literal, overlap_words}
 pub use Rattle.sre_model.specs.Claims.{prefix_length, prefix_skip, prefix_words, then_spread}
 pub use Rattle.sre_model.specs.FirstCharacters.{is_end}
 pub use Rattle.sre_model.specs.Found.{first_accepted}

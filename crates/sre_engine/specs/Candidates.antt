@@ -7,12 +7,14 @@ use Rattle.sre_engine.specs.Terms.{RunStands, is_anchored, behind_items, Run, De
 use Rattle.sre_engine.specs.Terms.{hints_of, Code, ReadsBehind}
 use Rattle.sre_engine.specs.Counts.{width_fits, may_start}
 use Rattle.sre_engine.specs.Members.{IsFirstSet}
+use Rattle.sre_engine.specs.Doubled.{IsDoubled}
 use Rattle.sre_engine.specs.Prefixed.{IsPrefix}
 use Rattle.sre_engine.specs.Scans.{Here, NoMatch}
 use Rattle.sre_engine.specs.Starts.{Bars, TestsThere}
 use Rattle.sre_engine.specs.declared.engine.candidates.Candidate.{Candidate}
 use Rattle.sre_engine.specs.declared.engine.candidates.places.Places.{Places}
 use Rattle.sre_engine.specs.declared.engine.candidates.members.Members.{Members}
+use Rattle.sre_engine.specs.declared.engine.candidates.doubles.Doubles.{Doubles}
 use Rattle.sre_engine.specs.declared.engine.candidates.openings.Openings.{Openings}
 
 -- at a start a run may begin, if a confirmed width fits there
@@ -79,6 +81,15 @@ pub record ScansBehind (s : Places) (r : Run) (a : Asked) (code : Code) (c : Can
 pub record Seeks (s : Members) (r : Run) (code : Code) (compared : ℕ) : Type 0 where
   pub set : (hints_of code).first_set ≡ true
   pub told : AreTold (words_of code) 5 s.told
+  pub stands : r.stands s.start s.start.position
+  pub none : compared ≡ 0
+
+-- Along the starts at which a character comes twice
+
+-- a match begins only at one of them, and the cursor stands
+pub record SeeksDoubles (s : Doubles) (r : Run) (code : Code) (compared : ℕ) : Type 0 where
+  pub doubled : IsDoubled r.words
+  pub prefix : (hints_of code).prefix ≡ None
   pub stands : r.stands s.start s.start.position
   pub none : compared ≡ 0
 

@@ -41,6 +41,7 @@ pub mod Starts
 pub mod Leading
 pub mod Scans
 pub mod Members
+pub mod Doubled
 pub mod Counts
 pub mod Costs
 pub mod Searches

@@ -2,6 +2,7 @@
 
 mod anchors;
 mod candidates;
+mod doubled;
 mod first_characters;
 mod first_sets;
 mod leading_run;

@@ -15,6 +15,7 @@ use crate::engine::told::Starts;
 use sre_chars::string::{StrDrive, StringCursor};
 use sre_request::Request;
 
+pub(crate) mod doubles;
 pub(crate) mod members;
 pub(crate) mod only_start;
 pub(crate) mod openings;

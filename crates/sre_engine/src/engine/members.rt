@@ -23,7 +23,11 @@ fn members_told<S: StrDrive>(req: &Request<'_, S>) -> Option<AsciiSet>
 
 // Whether a character is a member of the first set.
 #[inline(always)]
-fn takes<S: StrDrive>(req: &Request<'_, S>, told: Option<AsciiSet>, character: u32) -> bool
+pub(crate) fn takes<S: StrDrive>(
+    req: &Request<'_, S>,
+    told: Option<AsciiSet>,
+    character: u32,
+) -> bool
     requires set { (hints_of (code_of req.now)).first_set ≡ true }
     requires told { AreTold (words_of (code_of req.now)) 5 told }
     ensures { (set : List SetItem) → IsFirstSet (words_of (code_of req.now)) set

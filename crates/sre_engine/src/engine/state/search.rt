@@ -13,10 +13,12 @@ ghost use Rattle.sre_engine.specs.Searches.{Answered, AnsweredAtOnce, RunsOnceAn
 
 use crate::engine::anchors::is_anchored;
 use crate::engine::candidates::Candidates;
+use crate::engine::candidates::doubles::Doubles;
 use crate::engine::candidates::members::Members;
 use crate::engine::candidates::only_start::OnlyStart;
 use crate::engine::candidates::openings::Openings;
 use crate::engine::candidates::places::Places;
+use crate::engine::doubled::is_doubled;
 use crate::engine::first_sets::FirstSets;
 use crate::engine::prefix::{Prefix, Spot, confirmed_prefix, find, go_on, may_end, prefix_start};
 use crate::engine::state::State;
@@ -85,6 +87,9 @@ impl<A: Allocator + Copy> State<A> {
                 return Ok(self.search_whole(req, &prefix, from));
             }
             return self.search_along(req, &mut Places::new(&prefix, from), allowed, starts);
+        }
+        if is_doubled(req) {
+            return self.search_along(req, &mut Doubles { start: from }, allowed, starts);
         }
         if req.pattern_codes().hints().first_set {
             return self.search_along(req, &mut Members::new(from), allowed, starts);
