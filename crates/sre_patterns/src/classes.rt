@@ -1,8 +1,9 @@
 //! Single-character tests, as classes of bytes or characters.
 
-ghost use Rattle.std.specs.Prelude.{encode_utf8, ◌≡◌, ◌<◌, ℕ, IfOk, Some, [], ◌∷◌};
+ghost use Rattle.std.specs.Prelude.{encode_utf8, ◌≡◌, ◌<◌, ℕ, IfOk, IfSome, Some, [], ◌∷◌};
 ghost use Rattle.sre_patterns.specs.Terms.{literal, meaning, Test, Opcode, TestStands, HasTest, items_of, uni_of};
 ghost use Rattle.sre_patterns.specs.Terms.{holds, Table, AnyAll, Literal, Plain};
+ghost use Rattle.sre_request.specs.AsciiSets.{TakesAscii};
 ghost use Rattle.sre_patterns.specs.Covers.{CoversTest};
 ghost use Rattle.sre_patterns.specs.Patterns.{view_of, AtTest, HasBelow, HasJust};
 ghost use Rattle.sre_patterns.specs.Purposes.{ServesTest, HasFor};
@@ -17,7 +18,9 @@ use regex_class::Class;
 use regex_hir::Hir;
 use sre_chars::constants::SreOpcode;
 use sre_code::Code;
+use sre_code::ascii_set::AsciiSet;
 use sre_request::Request;
+use sre_request::ascii::ascii_taken;
 use sre_request::one_character::{takes, test_end};
 use std::alloc::{AllocError, Global};
 
@@ -131,7 +134,7 @@ fn ranges_of(task: &Task<'_>, place: usize, opcode: SreOpcode) -> Result<Ranges,
     if from > FAR {
         return Err(Fault::OutOfOrder);
     }
-    Ok(taken_and_on(task, place, opcode, from)?)
+    Ok(taken_and_on(task, place, opcode, from, CHARACTERS)?)
 }
 
 // The characters that the test at an address accepts, as ranges. From `NEAR` on it may be all characters.
@@ -143,7 +146,7 @@ fn characters_of(task: &Task<'_>, place: usize, opcode: SreOpcode) -> Result<Ran
 {
     if let Some(from) = settled_from(&task.code, place, opcode) {
         if from <= NEAR {
-            return Ok(taken_and_on(task, place, opcode, from)?);
+            return Ok(taken_and_on(task, place, opcode, from, CHARACTERS)?);
         }
     }
     let mut ranges = taken_below(task, place, opcode, NEAR)?;
@@ -151,34 +154,48 @@ fn characters_of(task: &Task<'_>, place: usize, opcode: SreOpcode) -> Result<Ran
     Ok(ranges)
 }
 
-// Whether the test at an address accepts a character.
-fn is_taken(code: &Code<'_>, place: usize, opcode: SreOpcode, character: u32) -> bool
+// Whether the test at an address accepts a character. `told` are the ASCII characters that it accepts, if these are
+// known.
+fn is_taken(
+    code: &Code<'_>,
+    told: Option<AsciiSet>,
+    place: usize,
+    opcode: SreOpcode,
+    character: u32,
+) -> bool
     requires code { Opcode (items_of code.now) place opcode }
     requires stands { HasTest (items_of code.now) place }
+    requires told { IfSome told (λ set. TakesAscii (items_of code.now) place set) }
     ensures { (j : ℕ) (t : Test) → TestStands (items_of code.now) place j t
         → result ≡ holds (uni_of code.now) t character }
 {
+    if let Some(set) = told {
+        if character < 128 {
+            return set.contains(character);
+        }
+    }
     let req = Request::new(b"".as_slice(), 0, 0, *code, false);
     takes(&req, place, opcode, character)
 }
 
-// The characters that the test at an address accepts. Its results are constant from the character `from` on.
+// The numbers below a bound that the test at an address accepts. Its results are constant from `from` on.
 fn taken_and_on(
     task: &Task<'_>,
     place: usize,
     opcode: SreOpcode,
     from: u32,
+    bound: u32,
 ) -> Result<Ranges, AllocError>
     requires code { Opcode (items_of task.now.code) place opcode }
     requires stands { HasTest (items_of task.now.code) place }
-    requires inside { from < 1114112 }
+    requires inside { from < bound }
     requires settled { AtTest (items_of task.now.code) place (λ t. SettledFrom from (holds (uni_of task.now.code) t)) }
     ensures { IfOk result (λ r. AtTest (items_of task.now.code) place
-        (λ t. HasJust 1114112 (holds (uni_of task.now.code) t) r.items)) }
+        (λ t. HasJust bound (holds (uni_of task.now.code) t) r.items)) }
 {
     let mut ranges = taken_below(task, place, opcode, from)?;
-    if is_taken(&task.code, place, opcode, from) {
-        ranges.push((from, CHARACTERS - 1))?;
+    if is_taken(&task.code, None, place, opcode, from) {
+        ranges.push((from, bound - 1))?;
     }
     Ok(ranges)
 }
@@ -196,7 +213,10 @@ fn taken_at(
         (λ t. HasJust bound (holds (uni_of task.now.code) t) r.items)) }
 {
     let SreOpcode::LITERAL = opcode else {
-        return taken_below(task, place, opcode, bound);
+        return match settled_from(&task.code, place, opcode) {
+            Some(from) if from < bound => taken_and_on(task, place, opcode, from, bound),
+            _ => taken_below(task, place, opcode, bound),
+        };
     };
     let value = operand(&task.code, place, 1);
     let mut ranges: Ranges = Vec::new(task.alloc);
@@ -218,10 +238,10 @@ fn taken_below(
     ensures { IfOk result (λ r. AtTest (items_of task.now.code) place
         (λ t. HasJust bound (holds (uni_of task.now.code) t) r.items)) }
 {
-    let req = Request::new(b"".as_slice(), 0, 0, task.code, false);
+    let told = ascii_taken(task.code.items(), place);
     let mut ranges: Ranges = Vec::new(task.alloc);
     for character in 0..bound {
-        if takes(&req, place, opcode, character) {
+        if is_taken(&task.code, told, place, opcode, character) {
             ranges.push((character, character))?;
         }
     }

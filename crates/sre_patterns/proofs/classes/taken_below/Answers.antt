@@ -1,19 +1,20 @@
 use Rattle.sre_patterns.proofs.Terms.{◌∙◌, ◌≡◌, ◌+◌, refl, sym, true, false, arith, holds, uni_of}
 use Rattle.sre_patterns.proofs.Tests.{just-begun, just-on, just-off, at-one}
-use Rattle.sre_patterns.proofs.classes.taken_below.Goals.{then-takes+in_ok-push, else-takes}
+use Rattle.sre_patterns.proofs.classes.taken_below.Goals.{then-is_taken+in_ok-push, else-is_taken}
 use Rattle.sre_patterns.proofs.classes.taken_below.Goals as goal
 
 pub loop-character-preserved : goal.loop-character-preserved
 loop-character-preserved c j t s =
     let i = c.loop-character.character in
     let before = c.loop-character.invariant j t s in
-    let taken = (rw c.new-req.ensures.pattern_codes at c.takes.ensures) j t s in
-    elim c.if-takes.branch [
-      | then-takes+in_ok-push w ↦
+    let taken = c.is_taken.ensures j t s in
+    elim c.if-is_taken.branch [
+      | then-is_taken+in_ok-push w ↦
           rw (w.ranges-is, w.in_ok-push.ensures.items)
-          (just-on _ _ i (i + 1) before (omega arith) i refl (at-one _ i true (sym taken ∙ w.if-takes.true)))
-      | else-takes w ↦
-          rw w.ranges-is (just-off _ _ i (i + 1) before (omega arith) (at-one _ i false (sym taken ∙ w.if-takes.false)))
+          (just-on _ _ i (i + 1) before (omega arith) i refl (at-one _ i true (sym taken ∙ w.if-is_taken.true)))
+      | else-is_taken w ↦
+          rw w.ranges-is
+          (just-off _ _ i (i + 1) before (omega arith) (at-one _ i false (sym taken ∙ w.if-is_taken.false)))
     ]
 
 pub loop-character-init : goal.loop-character-init
