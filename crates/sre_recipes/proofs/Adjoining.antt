@@ -3,7 +3,7 @@ use Rattle.sre_recipes.proofs.Terms.{either, ◌≡◌, ◌≢◌, ◌<◌, ◌�
 use Rattle.sre_recipes.proofs.Terms.{true, false, not, Some, None, refl, sym, ap, ◌∙◌, subst, arith, inl, inr, eq-eqb}
 use Rattle.sre_recipes.proofs.Terms.{Tree, Asked, Match, found, walk, found-least, found-is, walk-end, walk-next}
 use Rattle.sre_recipes.proofs.Terms.{Ghosts, start_of, request_of, shown_of, Gives, SearchIter, token_matches, reached}
-use Rattle.sre_recipes.proofs.Terms.{adjoining, unless_empty, Option, nat_eq, IfSome, and_parts, cases_eq, eqb-false}
+use Rattle.sre_recipes.proofs.Terms.{adjoining, unless_empty, Option, nat_eq, IfSome, and_parts, cases_eq}
 use Rattle.sre_recipes.proofs.Terms.{ne_eqb, first_accepted, at_start, found-none, least-found, none-found, IsOver}
 use Rattle.sre_recipes.proofs.Terms.{tokens_from, NoneAdjoins, match_shown, left_of}
 use Rattle.std.proofs.lemmas.Bool.Decides.{nat_tests}
@@ -136,11 +136,10 @@ walk_tokens b t inside =
 
 -- nothing adjoins behind a gap, and nothing at a walk's end
 pub gap_none : {S A : Type 0} {text : Ghosts S} (it next : SearchIter S A text) → Gives it next
-    → nat_eq (shown_of next).start (start_of (request_of it)) ≡ false → NoneAdjoins it
-gap_none it next gives test = record {
+    → (shown_of next).start ≢ start_of (request_of it) → NoneAdjoins it
+gap_none it next gives apart = record {
   none = λ t tree.
       let from = gives.request.from in
-      let apart = eqb-false (shown_of next).start (start_of (request_of it)) test in
       ap (adjoining (start_of (request_of it))) (gives.first t tree)
       ∙ adjoining_gap (match_shown (shown_of next)) (left_of next t) (start_of (request_of it)) (omega arith);
 }

@@ -5,11 +5,9 @@ use Rattle.sre_recipes.proofs.Terms.{found, asked_after, walk, most_matches, eit
 use Rattle.sre_recipes.proofs.Terms.{most_matches-falls, words_of, hints_of, code_tree, code_of, asked_of, match_shown}
 use Rattle.sre_recipes.proofs.Terms.{request_of, shown_of, left_of, most_items, Gives, SearchIter, Bounds, first_of}
 use Rattle.sre_recipes.proofs.Terms.{AreLeft, is_spent, one_less, Takes, Goes, SpendsOn, length, true, ◌*◌, ◌≤◌, ◌⊎◌}
-use Rattle.sre_recipes.proofs.Terms.{Ok, add-mul, mul-le-mul_right, Code, Whole, runs_of, has_ended, Spends, Followed}
-use Rattle.sre_recipes.proofs.Terms.{FollowedRest, IfSome, one-mul, MayTakeMemory, CountsUpTo, KeepsToSteps, Counted}
-use Rattle.sre_recipes.proofs.Terms.{less_by, SearchSpends, most_searches, IsAmple, Stops}
+use Rattle.sre_recipes.proofs.Terms.{add-mul, mul-le-mul_right, Code, Whole, has_ended, Spends, Followed, FollowedRest}
+use Rattle.sre_recipes.proofs.Terms.{IfSome, one-mul, less_by, most_searches, IsAmple, Stops}
 use Rattle.sre_growth.specs.Refusal.{Refused}
-use Rattle.sre_engine.specs.declared.engine.state.SreError.{SreError}
 use Rattle.sre_recipes.proofs.Steps.{all_left}
 
 -- where no step is taken, all are left
@@ -94,43 +92,20 @@ takes_one it next before between after wanted goes most used steps = record {
   spends = subst (SpendsOn it next before.steps) (sym steps) goes.spends;
 }
 
--- what a search did with a budget
-pub search_spends : {S A : Type 0} {text : Ghosts S} (it next : SearchIter S A text) (to seen : ℕ) (told : Option Bool)
-    (given left : ℕ) → CountsUpTo (asked_of (request_of it)) (code_of (request_of it)) to seen (shown_of next)
-    → Counted it next
-    → KeepsToSteps A {E = SreError} (asked_of (request_of it)) (code_of (request_of it)) (Ok told)
-    (runs_of (shown_of next)) given left
-    → (told ≡ None → MayTakeMemory (code_of (request_of it)))
-    → SearchSpends A (asked_of (request_of it)) (code_of (request_of it)) to seen told given left
-search_spends it next to seen told given left counts counted keeps literal = record {
-  shown = shown_of next;
-  counts = counts;
-  anchored = counted.anchored;
-  again = counted.again;
-  keeps = keeps;
-  literal = literal;
-}
-
 -- the limit on matches after one more, and after none
 less_more : (most : Option ℕ) (n : ℕ) → less_by (one_less most) n ≡ less_by most (suc n)
-less_more None n = refl
-less_more (Some k) n = ap Some (omega arith)
+less_more most n = grind arith
 
 less_none : (most : Option ℕ) → less_by most 0 ≡ most
-less_none None = refl
-less_none (Some k) = ap Some (omega arith)
+less_none most = grind arith
 
 -- a limit on matches that is not used up wants at least one search, and one less is wanted behind a match
 some_search : (most : Option ℕ) (a : Asked) → is_spent most ≡ false → 1 ≤ most_searches most a
-some_search None a wanted = omega arith
-some_search (Some zero) a wanted = absurd (cc)
-some_search (Some (suc n)) a wanted = omega arith
+some_search most a wanted = grind arith
 
 fewer_searches : (most : Option ℕ) (a b : Asked) → is_spent most ≡ false → most_matches b < most_matches a
     → most_searches (one_less most) b + 1 ≤ most_searches most a
-fewer_searches None a b wanted falls = omega (arith, falls)
-fewer_searches (Some zero) a b wanted falls = absurd (cc)
-fewer_searches (Some (suc n)) a b wanted falls = omega (arith, falls)
+fewer_searches most a b wanted falls = grind arith
 
 -- the last search of an ample budget exceeds it only if an allocation failed
 last_ample : (M : Type 0) (a : Asked) (code : Code) (most steps left : Option ℕ) → is_spent most ≡ false

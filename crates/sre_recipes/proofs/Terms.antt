@@ -4,7 +4,7 @@ pub use Rattle.std.proofs.Common.{append_assoc, ap₂, arith, cond, drop, false,
 pub use Rattle.std.proofs.Common.{nat_eq, not, one-mul, refl, rules, subst, suc, sym, take, true, unwrap_or, zero}
 pub use Rattle.std.proofs.Common.{zero-add, ℕ, ◌*◌, ◌++◌, ◌+◌, ◌-◌, ◌/◌, ◌<◌, ◌∙◌, ◌∷◌, ◌≡◌, ◌≢◌, ◌≤◌, ◌⊎◌}
 pub use Rattle.std.proofs.Math.Nat.{mul-le-mul_right}
-pub use Rattle.std.proofs.lemmas.Bool.{and_parts, cases_eq, eq-eqb, eqb-false, eqb-true, false_from_ne_true, ne_eqb}
+pub use Rattle.std.proofs.lemmas.Bool.{and_parts, cases_eq, eq-eqb, eqb-true, false_from_ne_true, ne_eqb}
 pub use Rattle.std.proofs.lemmas.Bool.{not-false, not-true}
 pub use Rattle.std.proofs.lemmas.List.{append-nil, length-drop, map-append, take-append-drop, take_all}
 pub use Rattle.std.proofs.lemmas.Str.{IsUtf8-append, chars-append, chars-nil, chars_from_encodes, encodes-append}
@@ -17,16 +17,16 @@ pub use Rattle.sre_model.proofs.FoundLaws.{either, found-is, found-least, found-
 pub use Rattle.sre_model.proofs.WalkLaws.{most_matches-falls, walk-end, walk-next}
 pub use Rattle.sre_model.specs.WalkBounds.{most_matches}
 pub use Rattle.sre_code.proofs.Checked.{code_tree}
-pub use Rattle.sre_engine.specs.Answers.{MayTakeMemory, answer_of}
+pub use Rattle.sre_engine.specs.Answers.{answer_of}
 pub use Rattle.sre_engine.specs.Codes.{hints_of, uni_of}
-pub use Rattle.sre_engine.specs.Counts.{CountsUpTo, KeepsToSteps, SpentUpTo, runs_of}
+pub use Rattle.sre_engine.specs.Counts.{SpentUpTo, runs_of}
 pub use Rattle.sre_engine.specs.Found.{asked_after, at_start, first_accepted, subject_of}
-pub use Rattle.sre_engine.specs.Iterators.{Counted, IsOver, has_ended}
+pub use Rattle.sre_engine.specs.Iterators.{IsOver, has_ended}
 pub use Rattle.sre_finder.specs.SpanIters.{last_asked}
 pub use Rattle.sre_finder.specs.declared.span_iter.Span.{Span}
 pub use Rattle.sre_recipes.specs.Adjoining.{NoneAdjoins, adjoining, unless_empty}
 pub use Rattle.sre_recipes.specs.Bounded.{AreLeft, Outlast, OutlastWalk, first_of, most_runs}
-pub use Rattle.sre_recipes.specs.Followed.{AllSpend, Followed, IsAmple, SearchSpends, Spends, less_by, most_searches}
+pub use Rattle.sre_recipes.specs.Followed.{AllSpend, Followed, IsAmple, Spends, less_by, most_searches}
 pub use Rattle.sre_recipes.specs.Lexed.{Lexeme, lexeme_of, lexeme_shown, reached, token_matches, tokens_from}
 pub use Rattle.sre_recipes.specs.Limits.{FollowedRest, Goes, SpendsOn, Stops, Takes, is_spent, one_less}
 pub use Rattle.sre_recipes.specs.Matches.{match_seen, placed_group}

@@ -1,7 +1,7 @@
 -- How far an iteration is followed within bounds: definitions for private functions' contracts.
 use Rattle.std.specs.Prelude.{◌≡◌, ℕ, ◌+◌, ◌-◌, nat_eq, Bool, true, false, [], Option, Some, None}
 use Rattle.sre_recipes.specs.Terms.{Ghosts, Tree, Whole, words_of, code_of, asked_of, match_shown, request_of, shown_of}
-use Rattle.sre_recipes.specs.Terms.{left_of, IsOver, SearchIter}
+use Rattle.sre_recipes.specs.Terms.{left_of, IsOver, SearchIter, option_eq}
 use Rattle.sre_engine.specs.Iterators.{has_ended}
 use Rattle.sre_recipes.specs.declared.bounds.Bounds.{Bounds}
 use Rattle.sre_recipes.specs.Bounded.{first_of}
@@ -9,8 +9,7 @@ use Rattle.sre_recipes.specs.Followed.{Spends, AllSpend, Followed}
 
 -- whether no match is wanted any more, and how many are once one was taken
 abbrev pub is_spent : Option ℕ → Bool
-is_spent None = false
-is_spent (Some n) = nat_eq n 0
+is_spent most = option_eq nat_eq most (Some 0)
 
 abbrev pub one_less : Option ℕ → Option ℕ
 one_less None = None
@@ -27,13 +26,6 @@ SpendsOn {A = A} it next given left =
 abbrev pub SpendsLast : {S A : Type 0} {text : Ghosts S} → SearchIter S A text → Bool → Option ℕ → Option ℕ → Type 0
 SpendsLast {A = A} it exceeded given left =
     has_ended it ≡ false → AllSpend A (asked_of (request_of it)) (code_of (request_of it)) [] exceeded given left
-
--- what a search within a budget spends: it exceeds the step limit, finds no match, or one
-abbrev pub SpendsWithin : {S A X : Type 0} {text : Ghosts S} → SearchIter S A text → SearchIter S A text
-    → Option (Option X) → ℕ → ℕ → Type 0
-SpendsWithin it next None given left = SpendsLast it true (Some given) (Some left)
-SpendsWithin it next (Some None) given left = SpendsLast it false (Some given) (Some left)
-SpendsWithin it next (Some (Some _)) given left = SpendsOn it next (Some given) (Some left)
 
 -- what is left of a walk is followed within bounds
 abbrev pub FollowedRest : {S A : Type 0} {text : Ghosts S} → SearchIter S A text → Bounds → Bounds → Type 0

@@ -1,6 +1,6 @@
 -- The words from elsewhere which contracts and definitions of this crate name.
 pub use Rattle.std.specs.List.{flat_map, range_with_len}
-pub use Rattle.std.specs.Option.{option_map}
+pub use Rattle.std.specs.Option.{option_eq, option_map}
 pub use Rattle.std.specs.Str.{IsUtf8, chars}
 pub use Rattle.std.specs.String.{string_bytes}
 pub use Rattle.sre_chars.specs.Tables.{Table}

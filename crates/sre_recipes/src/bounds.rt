@@ -1,9 +1,9 @@
 //! Limits of a recipe: a number of matches, or a number of steps.
 
-ghost use Rattle.std.specs.Prelude.{◌≡◌, ◌<◌, false, None, Some, IfOk, IfSome, OnErr, MatchOption, IsSome};
-ghost use Rattle.sre_recipes.specs.Terms.{string_of, request_of, shown_of, Gives, IsOver, most_items, Refused};
+ghost use Rattle.std.specs.Prelude.{◌≡◌, ◌<◌, false, None, Some, IfOk, OnErr, MatchOption, IsSome};
+ghost use Rattle.sre_recipes.specs.Terms.{string_of, request_of, shown_of, Gives, most_items, Refused};
 ghost use Rattle.sre_recipes.specs.Spans.{IsSpan};
-ghost use Rattle.sre_recipes.specs.Limits.{is_spent, one_less, Takes, Stops, Goes, Ends, SpendsWithin};
+ghost use Rattle.sre_recipes.specs.Limits.{one_less, Takes, Stops, Goes, Ends};
 
 use crate::span::{Span, next_span, span_of};
 use sre_engine::{SearchIter, SreError, StrDrive};
@@ -62,25 +62,6 @@ impl Bounds {
     }
 }
 
-// The span of the next match within a step limit. The outer `None` means that the limit was exceeded.
-fn next_span_within<S: StrDrive, A: Allocator + Copy>(
-    walk: &mut SearchIter<'_, S, A>,
-    steps: &mut u64,
-) -> Result<Option<Option<Span>>, SreError>
-    ensures gives { IfOk result (λ told. IfSome told (λ next. MatchOption next (IsOver walk.old) (λ span.
-        Gives walk.old walk.new
-        × IsSpan (S.stands (string_of (request_of walk.old))) (shown_of walk.new) span.start span.end))) }
-    ensures spends { IfOk result (λ told. SpendsWithin walk.old walk.new told steps.old steps.new) }
-    ensures refused { OnErr result (Refused A) }
-{
-    match walk.next_within(steps) {
-        Err(error) => Err(error),
-        Ok(None) => Ok(None),
-        Ok(Some(false)) => Ok(Some(None)),
-        Ok(Some(true)) => Ok(Some(Some(span_of(walk.req().string(), walk.state())))),
-    }
-}
-
 // The span of the next match, within the step limit if there is one.
 fn next_limited<S: StrDrive, A: Allocator + Copy>(
     walk: &mut SearchIter<'_, S, A>,
@@ -97,24 +78,15 @@ fn next_limited<S: StrDrive, A: Allocator + Copy>(
         return next_span(walk);
     };
     let mut left = steps;
-    let told = next_span_within(walk, &mut left)?;
+    let found = walk.next_within(&mut left)?;
     bounds.steps = Some(left);
-    match told {
-        Some(next) => Ok(next),
+    match found {
+        Some(true) => Ok(Some(span_of(walk.req().string(), walk.state()))),
+        Some(false) => Ok(None),
         None => {
             bounds.limit_exceeded = true;
             Ok(None)
         }
-    }
-}
-
-// Whether the limit on matches is used up.
-fn is_spent(most: Option<usize>) -> bool
-    ensures { result ≡ is_spent most }
-{
-    match most {
-        None => false,
-        Some(more) => more == 0,
     }
 }
 
@@ -141,7 +113,7 @@ pub(crate) fn next_bounded<S: StrDrive, A: Allocator + Copy>(
     ensures falls { IfOk result (λ next. IsSome next → most_items walk.new < most_items walk.old) }
     ensures refused { OnErr result (Refused A) }
 {
-    if is_spent(bounds.most) {
+    if bounds.most == Some(0) {
         return Ok(None);
     }
     let Some(span) = next_limited(walk, bounds)? else {

@@ -1,7 +1,7 @@
 //! Collectors: what gathers something of each match of an iteration. There is one loop over the matches of a
 //! `SearchIter` within bounds here, and one over those of a `SpanIter` in `every`.
 
-ghost use Rattle.std.specs.Prelude.{◌≡◌, ◌≤◌, ◌∷◌, [], ℕ, List, Bool, true, false, None, Some, length, IfOk, IsSome};
+ghost use Rattle.std.specs.Prelude.{⊤, ◌≡◌, ◌≤◌, ◌∷◌, [], ℕ, List, Bool, true, false, None, Some, length, IfOk, IsSome};
 ghost use Rattle.std.specs.Prelude.{OnErr, not};
 ghost use Rattle.sre_recipes.specs.Terms.{Tree, Whole, Match, walk, words_of, string_of, start_of, end_of, code_of};
 ghost use Rattle.sre_recipes.specs.Terms.{asked_of, Refused};
@@ -19,20 +19,16 @@ use std::alloc::Allocator;
 /// What gathers something of each match of an iteration, and of the end of its range.
 pub(crate) trait Collects<S: Text, A: Allocator + Copy> {
     // Whether it reads captures, which the state then shows.
-    ghost captures: { Bool };
+    ghost captures: { Bool } = { false };
 
     // Whether it can go on from a position of a text.
-    ghost waits: { S → ℕ → Self → Type 0 };
+    ghost waits: { S → ℕ → Self → Type 0 } = { λ _ _ _. ⊤ };
 
     // Whether some matches of a text, and the end of the range behind them, lead from what it has to what it has then.
     ghost gathers: { S → ℕ → Self → List Match → Self → Type 0 };
 
     // What has to hold so that it fails only if an allocation failed.
-    ghost trusts: { Type 0 };
-
-    /// Whether it reads captures.
-    fn reads_captures(&self) -> bool
-        ensures { result ≡ captures };
+    ghost trusts: { Type 0 } = { ⊤ };
 
     /// Adds a match.
     fn add(&mut self, text: S, state: &State<A>, span: &Span) -> Result<(), SreError>

@@ -44,10 +44,6 @@ where
 
     ghost trusts = { (f : _) (c : _) (e : _) (g : _) → F.step f c (Err e) g → Refused Global };
 
-    fn reads_captures(&self) -> bool {
-        true
-    }
-
     fn add(&mut self, text: S, state: &State<Global>, span: &Span) -> Result<(), SreError> {
         let captures = shown_captures(self.alloc, text, state)?;
         let Ok(new) = (self.compute)(&captures) else {
@@ -99,8 +95,7 @@ where
     ensures refused { ((f : _) (c : _) (e : _) (g : _) → F.step f c (Err e) g → Refused Global)
         → OnErr result (Refused Global) }
 {
-    let mut bounds = Bounds::none();
-    Ok(complete(replace_with_bounded(alloc, req, &mut bounds, compute)?))
+    Ok(complete(replace_with_bounded(alloc, req, &mut Bounds::none(), compute)?))
 }
 
 /// `replace_with` within bounds: replaces only the first `bounds.most` matches. Returns `None` if the step limit is

@@ -1,6 +1,6 @@
 //! Splitting: the pieces of text between matches.
 
-ghost use Rattle.std.specs.Prelude.{⊤, ◌≡◌, ◌++◌, true, false, None, Some, map, is_none, IfOk, IfSome, IsSome, OnErr};
+ghost use Rattle.std.specs.Prelude.{◌≡◌, ◌++◌, true, None, Some, map, is_none, IfOk, IfSome, IsSome, OnErr};
 ghost use Rattle.sre_recipes.specs.Terms.{option_map, Tree, Whole, walk, words_of, string_of, start_of, end_of};
 ghost use Rattle.sre_recipes.specs.Terms.{code_of, asked_of, Refused};
 ghost use Rattle.sre_recipes.specs.Spans.{StandsBy};
@@ -25,18 +25,10 @@ pub(crate) struct Pieces<S, A: Allocator> {
 }
 
 impl<S: Text, A: Allocator + Copy> Collects<S, A> for Pieces<S, A> {
-    ghost captures = { false };
-
     ghost waits = { λ text p c. StandsBy (S.stands text) c.last p };
 
     ghost gathers = { λ text stop before ms after. map S.text after.pieces.items
         ≡ map S.text before.pieces.items ++ pieces_between (S.text text) before.last.position stop ms };
-
-    ghost trusts = { ⊤ };
-
-    fn reads_captures(&self) -> bool {
-        false
-    }
 
     fn add(&mut self, text: S, _state: &State<A>, span: &Span) -> Result<(), SreError> {
         sre_growth::push(&mut self.pieces, text.between(&self.last, &span.start))?;
@@ -45,8 +37,7 @@ impl<S: Text, A: Allocator + Copy> Collects<S, A> for Pieces<S, A> {
     }
 
     fn finish(&mut self, text: S, stop: usize) -> Result<(), SreError> {
-        sre_growth::push(&mut self.pieces, up_to(text, &self.last, stop))?;
-        Ok(())
+        Ok(sre_growth::push(&mut self.pieces, up_to(text, &self.last, stop))?)
     }
 }
 
@@ -73,8 +64,7 @@ pub fn split<S: Text, A: Allocator + Copy>(
         (walk (asked_of req.now) t)) }
     ensures refused { OnErr result (Refused A) }
 {
-    let mut bounds = Bounds::none();
-    Ok(complete(split_bounded(alloc, req, &mut bounds)?))
+    Ok(complete(split_bounded(alloc, req, &mut Bounds::none())?))
 }
 
 /// `split` within bounds: splits only at the first `bounds.most` matches, as Python's `split` does with `maxsplit`. The
@@ -114,11 +104,7 @@ pub fn split_bounded<S: Text, A: Allocator + Copy>(
         pieces: Vec::new(alloc),
         last: req.string().create_cursor(req.start()),
     };
-    if collect(alloc, req, bounds, &mut all)? {
-        Ok(Some(all.pieces))
-    } else {
-        Ok(None)
-    }
+    Ok(collect(alloc, req, bounds, &mut all)?.then_some(all.pieces))
 }
 
 // The same pieces, each but the last followed by so many groups of the match behind it.
@@ -138,12 +124,6 @@ impl<S: Text, A: Allocator + Copy> Collects<S, A> for PiecesAndGroups<S, A> {
         ≡ map (option_map S.text) before.pieces.items
         ++ pieces_and_groups (S.text text) before.groups before.last.position stop ms };
 
-    ghost trusts = { ⊤ };
-
-    fn reads_captures(&self) -> bool {
-        true
-    }
-
     fn add(&mut self, text: S, state: &State<A>, span: &Span) -> Result<(), SreError> {
         sre_growth::push(
             &mut self.pieces,
@@ -155,8 +135,7 @@ impl<S: Text, A: Allocator + Copy> Collects<S, A> for PiecesAndGroups<S, A> {
     }
 
     fn finish(&mut self, text: S, stop: usize) -> Result<(), SreError> {
-        sre_growth::push(&mut self.pieces, Some(up_to(text, &self.last, stop)))?;
-        Ok(())
+        Ok(sre_growth::push(&mut self.pieces, Some(up_to(text, &self.last, stop)))?)
     }
 }
 
@@ -186,8 +165,7 @@ pub fn split_groups<S: Text, A: Allocator + Copy>(
         (walk (asked_of req.now) t)) }
     ensures refused { OnErr result (Refused A) }
 {
-    let mut bounds = Bounds::none();
-    Ok(complete(split_groups_bounded(alloc, req, groups, &mut bounds)?))
+    Ok(complete(split_groups_bounded(alloc, req, groups, &mut Bounds::none())?))
 }
 
 /// `split_groups` within bounds: splits only at the first `bounds.most` matches. Returns `None` if the step limit is
@@ -220,9 +198,5 @@ pub fn split_groups_bounded<S: Text, A: Allocator + Copy>(
         last: req.string().create_cursor(req.start()),
         groups,
     };
-    if collect(alloc, req, bounds, &mut all)? {
-        Ok(Some(all.pieces))
-    } else {
-        Ok(None)
-    }
+    Ok(collect(alloc, req, bounds, &mut all)?.then_some(all.pieces))
 }

@@ -1,8 +1,8 @@
 //! All matches of a text, by an iteration over the spans that DFAs find.
 
-ghost use Rattle.std.specs.Prelude.{⊤, ◌≡◌, ◌<◌, ◌≤◌, ◌++◌, ℕ, true, false, map, IfOk, IsSome, MatchOption, OnErr};
+ghost use Rattle.std.specs.Prelude.{◌≡◌, ◌<◌, ◌≤◌, ◌++◌, ℕ, true, false, map, IfOk, IsSome, MatchOption, OnErr};
 ghost use Rattle.sre_recipes.specs.Terms.{Refused, Tree, Whole, words_of, string_of, start_of, end_of, code_of};
-ghost use Rattle.sre_recipes.specs.Terms.{has_ended, most_spans, GivesSpan};
+ghost use Rattle.sre_recipes.specs.Terms.{has_ended, most_spans};
 ghost use Rattle.sre_finder.specs.SpanIters.{request_of, left_of, IsOver};
 ghost use Rattle.sre_recipes.specs.Matches.{match_seen, placed_match, placed_groups, groups_seen};
 ghost use Rattle.sre_recipes.specs.Spans.{StandsAt};
@@ -16,23 +16,6 @@ use crate::texts::Text;
 use sre_engine::{SreError, State, StrDrive, StringCursor};
 use sre_finder::{Haystack, SpanIter};
 use std::alloc::Global;
-
-// The positions of the next match, or `None` at the end of the iteration.
-fn next_of<S: Haystack>(
-    walk: &mut SpanIter<'_, '_, S, Global>,
-) -> Result<Option<sre_finder::Span>, SreError>
-    ensures gives { IfOk result (λ next. MatchOption next (IsOver walk.old) (λ span.
-        GivesSpan walk.old span walk.new)) }
-    ensures falls { IfOk result (λ next. IsSome next → most_spans walk.new < most_spans walk.old) }
-    ensures code { code_of (request_of walk.new) ≡ code_of (request_of walk.old) }
-    ensures refused { OnErr result (Refused Global) }
-{
-    match walk.next() {
-        None => Ok(None),
-        Some(Err(error)) => Err(error),
-        Some(Ok(span)) => Ok(Some(span)),
-    }
-}
 
 // The span of the next match, or `None` at the end of the iteration. The state shows the match if `captures`, and else
 // the span is reached from the cursor at the end of the last match.
@@ -48,8 +31,10 @@ fn next_found<S: Haystack>(
     ensures code { code_of (request_of walk.new) ≡ code_of (request_of walk.old) }
     ensures refused { OnErr result (Refused Global) }
 {
-    let Some(found) = next_of(walk)? else {
-        return Ok(None);
+    let found = match walk.next() {
+        None => return Ok(None),
+        Some(Err(error)) => return Err(error),
+        Some(Ok(found)) => found,
     };
     if !captures {
         let text = walk.req().string();
@@ -62,11 +47,13 @@ fn next_found<S: Haystack>(
     }
 }
 
-// Gathers something of each remaining match of an iteration.
+// Gathers something of each remaining match of an iteration, by what reads captures or not.
 pub(crate) fn collect_spans<S: Text + Haystack, C: Collects<S, Global>>(
     walk: &mut SpanIter<'_, '_, S, Global>,
+    captures: bool,
     all: &mut C,
 ) -> Result<(), SreError>
+    requires captures { captures ≡ C.captures }
     requires begun { has_ended walk.old ≡ false }
     requires waits { (p : ℕ) → start_of (request_of walk.old) ≤ p
         → C.waits (string_of (request_of walk.old)) p all.old }
@@ -80,7 +67,7 @@ pub(crate) fn collect_spans<S: Text + Haystack, C: Collects<S, Global>>(
 {
     let (text, stop) = (walk.req().string(), walk.req().end());
     let mut last = text.create_cursor(walk.req().start());
-    'walk: while let Some(span) = next_found(walk, &last, all.reads_captures())? {
+    'walk: while let Some(span) = next_found(walk, &last, captures)? {
         all.add(text, walk.state(), &span)?;
         last = span.end;
     }
@@ -94,22 +81,11 @@ pub(crate) struct Matched<S> {
 }
 
 impl<S: Text + Haystack> Collects<S, Global> for Matched<S> {
-    ghost captures = { false };
-
-    ghost waits = { λ text p c. ⊤ };
-
     ghost gathers = { λ text stop before ms after. map (match_seen S.text) after.all.items
         ≡ map (match_seen S.text) before.all.items ++ map (placed_match (S.text text) (S.place text)) ms };
 
-    ghost trusts = { ⊤ };
-
-    fn reads_captures(&self) -> bool {
-        false
-    }
-
     fn add(&mut self, text: S, _state: &State<Global>, span: &Span) -> Result<(), SreError> {
-        sre_growth::push(&mut self.all, match_between(text, &span.start, &span.end))?;
-        Ok(())
+        Ok(sre_growth::push(&mut self.all, match_between(text, &span.start, &span.end))?)
     }
 
     fn finish(&mut self, _text: S, _stop: usize) -> Result<(), SreError> {
@@ -127,21 +103,12 @@ pub(crate) struct Grouped<S> {
 impl<S: Text + Haystack> Collects<S, Global> for Grouped<S> {
     ghost captures = { true };
 
-    ghost waits = { λ text p c. ⊤ };
-
     ghost gathers = { λ text stop before ms after. map (groups_seen S.text) after.all.items
         ≡ map (groups_seen S.text) before.all.items ++ map (placed_groups (S.text text) (S.place text)) ms };
 
-    ghost trusts = { ⊤ };
-
-    fn reads_captures(&self) -> bool {
-        true
-    }
-
     fn add(&mut self, text: S, state: &State<Global>, span: &Span) -> Result<(), SreError> {
         let captures = match_groups(self.alloc, text, state, span)?;
-        sre_growth::push(&mut self.all, captures)?;
-        Ok(())
+        Ok(sre_growth::push(&mut self.all, captures)?)
     }
 
     fn finish(&mut self, _text: S, _stop: usize) -> Result<(), SreError> {

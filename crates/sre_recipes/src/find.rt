@@ -1,6 +1,6 @@
 //! The text of one match, and the texts of all matches.
 
-ghost use Rattle.std.specs.Prelude.{⊤, ◌≡◌, ◌≤◌, ◌++◌, true, false, None, Some, map, slice_range, is_none, is_some};
+ghost use Rattle.std.specs.Prelude.{◌≡◌, ◌≤◌, ◌++◌, true, false, None, Some, map, slice_range, is_none, is_some};
 ghost use Rattle.std.specs.Prelude.{IsSome, IfSome, IfOk, OnErr};
 ghost use Rattle.sre_recipes.specs.Terms.{Tree, Whole, no_marks, matched, found, walk, words_of, string_of, start_of};
 ghost use Rattle.sre_recipes.specs.Terms.{end_of, code_of, asked_of, stands_in, answer_of, Refused, Spans};
@@ -33,22 +33,11 @@ struct Texts<S, A: Allocator> {
 }
 
 impl<S: Text, A: Allocator + Copy> Collects<S, A> for Texts<S, A> {
-    ghost captures = { false };
-
-    ghost waits = { λ text p texts. ⊤ };
-
     ghost gathers = { λ text stop before ms after. map S.text after.all.items
         ≡ map S.text before.all.items ++ map (slice_of (S.text text)) ms };
 
-    ghost trusts = { ⊤ };
-
-    fn reads_captures(&self) -> bool {
-        false
-    }
-
     fn add(&mut self, text: S, _state: &State<A>, span: &Span) -> Result<(), SreError> {
-        sre_growth::push(&mut self.all, text.between(&span.start, &span.end))?;
-        Ok(())
+        Ok(sre_growth::push(&mut self.all, text.between(&span.start, &span.end))?)
     }
 
     fn finish(&mut self, _text: S, _stop: usize) -> Result<(), SreError> {
@@ -77,8 +66,7 @@ pub fn find_all<S: Text, A: Allocator + Copy>(
         ≡ map (slice_of (S.text (string_of req.now))) (walk (asked_of req.now) t)) }
     ensures refused { OnErr result (Refused A) }
 {
-    let mut bounds = Bounds::none();
-    Ok(complete(find_bounded(alloc, req, &mut bounds)?))
+    Ok(complete(find_bounded(alloc, req, &mut Bounds::none())?))
 }
 
 /// `find_all` within bounds: returns the texts of the first `bounds.most` matches, or `None` if the step limit is
@@ -116,26 +104,7 @@ pub fn find_bounded<S: Text, A: Allocator + Copy>(
     let mut texts = Texts {
         all: Vec::new(alloc),
     };
-    if collect(alloc, req, bounds, &mut texts)? {
-        Ok(Some(texts.all))
-    } else {
-        Ok(None)
-    }
-}
-
-// The text of the state's match if one was found.
-fn text_if<S: Text, A: Allocator + Copy>(found: bool, text: S, state: &State<A>) -> Option<S>
-    requires stands { found ≡ true → S.stands text state.now.cursor state.now.cursor.position }
-    requires forward { found ≡ true → state.now.start ≤ state.now.cursor.position }
-    ensures some { is_some result ≡ found }
-    ensures text { IfSome result (λ s. S.text s
-        ≡ slice_range (S.text text) state.now.start state.now.cursor.position) }
-{
-    if found {
-        Some(matched_text(text, state))
-    } else {
-        None
-    }
+    Ok(collect(alloc, req, bounds, &mut texts)?.then_some(texts.all))
 }
 
 /// Matches at the start of the range, as `State::pymatch` does. Returns the text of the match, which the state then
@@ -160,8 +129,10 @@ pub fn match_text<S: Text, A: Allocator + Copy>(
     ensures refused { OnErr result (Refused A) }
 {
     let _words = req.pattern_codes().words(); // has a tree
-    let found = state.pymatch(req)?;
-    Ok(text_if(found, req.string(), state))
+    if !state.pymatch(req)? {
+        return Ok(None);
+    }
+    Ok(Some(matched_text(req.string(), state)))
 }
 
 /// Searches the range, as `State::search` does. Returns the text of the match with the least start, which the state
@@ -186,9 +157,10 @@ pub fn search_text<S: Text, A: Allocator + Copy>(
     ensures refused { OnErr result (Refused A) }
 {
     let _words = req.pattern_codes().words(); // has a tree
-    let text = req.string();
-    let found = state.search(copied(req))?;
-    Ok(text_if(found, text, state))
+    if !state.search(copied(req))? {
+        return Ok(None);
+    }
+    Ok(Some(matched_text(req.string(), state)))
 }
 
 /// Returns whether the range has a match, for a text of any type.

@@ -1,10 +1,10 @@
 //! An iterator over the texts of all matches, with a prefilter.
 
-ghost use Rattle.std.specs.Prelude.{◌≡◌, ◌<◌, ◌≤◌, false, length, slice_range, IfSome};
+ghost use Rattle.std.specs.Prelude.{◌≡◌, ◌<◌, false, IfSome};
 ghost use Rattle.sre_recipes.specs.Terms.{start_of, code_of, stands_in, has_ended, most_spans};
 ghost use Rattle.sre_finder.specs.SpanIters.{request_of};
 
-use crate::span::on_by;
+use crate::span::{Span, span_behind};
 use crate::texts::Text;
 use sre_engine::{Request, SreError, State, StrDrive, StringCursor};
 use sre_finder::{Haystack, SpanFinder, SpanIter};
@@ -27,21 +27,6 @@ impl<'c, 'a, S: StrDrive, A: Allocator + Copy> Drop for FoundTexts<'c, 'a, S, A>
         let FoundTexts { walk, cursor: _ } = self;
         drop(walk);
     }
-}
-
-// The text between two positions at or behind a cursor, which moves to the second one.
-fn text_behind<S: Text>(text: S, cursor: &mut StringCursor, from: usize, to: usize) -> S
-    requires at { S.stands text cursor.old cursor.old.position }
-    requires behind { cursor.old.position ≤ from }
-    requires forward { from ≤ to }
-    requires inside { to ≤ length (S.text text) }
-    ensures text { S.text result ≡ slice_range (S.text text) from to }
-    ensures stands { S.stands text cursor.new cursor.new.position }
-    ensures position { cursor.new.position ≡ to }
-{
-    let start = on_by(text, cursor, from - cursor.position());
-    *cursor = on_by(text, &start, to - from);
-    text.between(&start, cursor)
 }
 
 impl<'c, 'a, S: Text + Haystack, A: Allocator + Copy> FoundTexts<'c, 'a, S, A> {
@@ -83,7 +68,9 @@ impl<'c, 'a, S: Text + Haystack, A: Allocator + Copy> FoundTexts<'c, 'a, S, A> {
             Some(Err(error)) => Some(Err(error)),
             Some(Ok(span)) => {
                 let text = self.walk.req().string();
-                Some(Ok(text_behind(text, &mut self.cursor, span.start, span.end)))
+                let Span { start, end } = span_behind(text, &self.cursor, span.start, span.end);
+                self.cursor = end;
+                Some(Ok(text.between(&start, &end)))
             }
         }
     }

@@ -1,6 +1,6 @@
 //! Matches with the texts of their groups.
 
-ghost use Rattle.std.specs.Prelude.{⊤, ◌≡◌, ◌≤◌, ◌+◌, ◌++◌, true, None, length, map, is_none, is_some, IfOk, IfSome};
+ghost use Rattle.std.specs.Prelude.{◌≡◌, ◌≤◌, ◌+◌, ◌++◌, true, None, length, map, is_none, is_some, IfOk, IfSome};
 ghost use Rattle.std.specs.Prelude.{OnErr, IsSome, ◌^◌, slice_index_or};
 ghost use Rattle.sre_recipes.specs.Terms.{range_with_len, option_map, Tree, Whole, no_marks, matched, found, walk};
 ghost use Rattle.sre_recipes.specs.Terms.{words_of, string_of, code_of, asked_of, match_shown, answer_of, Refused};
@@ -90,26 +90,6 @@ pub(crate) fn shown_captures<S: Text, A: Allocator + Copy>(
     Ok(CapturesOf { groups })
 }
 
-// The state's match with its groups if one was found.
-fn captures_if<S: Text, A: Allocator + Copy>(
-    alloc: A,
-    found: bool,
-    text: S,
-    state: &State<A>,
-) -> Result<Option<CapturesOf<S, A>>, SreError>
-    requires { found ≡ true → S.stands text state.now.cursor state.now.cursor.position }
-    ensures ok { IfOk result (λ all. option_map (captures_shown S.text) all
-        ≡ option_map (captured (S.text text)) (answer_of found state.now)) }
-    ensures some { IfOk result (λ all. is_some all ≡ found) }
-    ensures refused { OnErr result (Refused A) }
-{
-    if found {
-        Ok(Some(shown_captures(alloc, text, state)?))
-    } else {
-        Ok(None)
-    }
-}
-
 /// Searches the range, as `State::search` does. Returns the match with the least start and its groups. The state then
 /// shows the match, so `group_text` can follow. Returns `None` if there is none, and the state then has no captures.
 ///
@@ -132,8 +112,10 @@ pub fn search_captures<S: Text, A: Allocator + Copy>(
     ensures no { IfOk result (λ all. all ≡ None → state.new.marks ≡ no_marks) }
     ensures refused { OnErr result (Refused A) }
 {
-    let found = search_text(req, state)?;
-    captures_if(alloc, found.is_some(), req.string(), state)
+    if search_text(req, state)?.is_none() {
+        return Ok(None);
+    }
+    Ok(Some(shown_captures(alloc, req.string(), state)?))
 }
 
 /// Matches at the start of the range, as `State::pymatch` does. Returns the match and its groups. The state then shows
@@ -158,8 +140,10 @@ pub fn match_captures<S: Text, A: Allocator + Copy>(
     ensures no { IfOk result (λ all. all ≡ None → state.new.marks ≡ no_marks) }
     ensures refused { OnErr result (Refused A) }
 {
-    let found = match_text(req, state)?;
-    captures_if(alloc, found.is_some(), req.string(), state)
+    if match_text(req, state)?.is_none() {
+        return Ok(None);
+    }
+    Ok(Some(shown_captures(alloc, req.string(), state)?))
 }
 
 // Matches with their groups.
@@ -172,21 +156,12 @@ struct AllCaptures<S, A: Allocator> {
 impl<S: Text, A: Allocator + Copy> Collects<S, A> for AllCaptures<S, A> {
     ghost captures = { true };
 
-    ghost waits = { λ text p c. ⊤ };
-
     ghost gathers = { λ text stop before ms after. map (captures_shown S.text) after.all.items
         ≡ map (captures_shown S.text) before.all.items ++ map (captured (S.text text)) ms };
 
-    ghost trusts = { ⊤ };
-
-    fn reads_captures(&self) -> bool {
-        true
-    }
-
     fn add(&mut self, text: S, state: &State<A>, _span: &Span) -> Result<(), SreError> {
         let captures = shown_captures(self.alloc, text, state)?;
-        sre_growth::push(&mut self.all, captures)?;
-        Ok(())
+        Ok(sre_growth::push(&mut self.all, captures)?)
     }
 
     fn finish(&mut self, _text: S, _stop: usize) -> Result<(), SreError> {
@@ -217,8 +192,7 @@ pub fn all_captures<S: Text, A: Allocator + Copy>(
         ≡ map (captured (S.text (string_of req.now))) (walk (asked_of req.now) t)) }
     ensures refused { OnErr result (Refused A) }
 {
-    let mut bounds = Bounds::none();
-    Ok(complete(captures_bounded(alloc, req, &mut bounds)?))
+    Ok(complete(captures_bounded(alloc, req, &mut Bounds::none())?))
 }
 
 /// `all_captures` within bounds: returns the first `bounds.most` matches, or `None` if the step limit is exceeded.
@@ -247,9 +221,5 @@ pub fn captures_bounded<S: Text, A: Allocator + Copy>(
         alloc,
         all: Vec::new(alloc),
     };
-    if collect(alloc, req, bounds, &mut captures)? {
-        Ok(Some(captures.all))
-    } else {
-        Ok(None)
-    }
+    Ok(collect(alloc, req, bounds, &mut captures)?.then_some(captures.all))
 }

@@ -1,6 +1,6 @@
 //! Tokens: matches each of which begins where the previous one ends.
 
-ghost use Rattle.std.specs.Prelude.{◌≡◌, ◌<◌, ◌++◌, map, nat_eq, IfOk, OnErr, MatchOption, IsSome};
+ghost use Rattle.std.specs.Prelude.{◌≡◌, ◌<◌, ◌++◌, map, IfOk, OnErr, MatchOption, IsSome};
 ghost use Rattle.sre_recipes.specs.Terms.{Tree, Whole, words_of, string_of, start_of, code_of, asked_of, match_shown};
 ghost use Rattle.sre_recipes.specs.Terms.{request_of, shown_of, most_items, Refused};
 ghost use Rattle.sre_recipes.specs.Lexed.{token_matches, reached, lexeme_of, lexeme_shown};
@@ -35,24 +35,6 @@ pub struct TokensOf<S, A: Allocator> {
 /// The tokens of a `&str`.
 pub type Tokens<'t, A> = TokensOf<&'t str, A>;
 
-// Converts a match to a token.
-fn token_of<S: Text, A: Allocator + Copy>(text: S, state: &State<A>, span: &Span) -> TokenOf<S>
-    requires { IsSpan (S.stands text) state.now span.now.start span.now.end }
-    ensures { lexeme_shown S.text result ≡ lexeme_of (S.text text) (match_shown state.now) }
-{
-    TokenOf {
-        kind: state.marks().last_index(),
-        text: text.between(&span.start, &span.end),
-    }
-}
-
-// Whether a match begins at a cursor.
-fn begins_at(span: &Span, end: &StringCursor) -> bool
-    ensures { result ≡ nat_eq span.now.start.position end.now.position }
-{
-    span.start.position() == end.position()
-}
-
 // The next match if it begins at the cursor `end`, else `None`.
 fn next_adjoining<S: Text, A: Allocator + Copy>(
     walk: &mut SearchIter<'_, S, A>,
@@ -67,7 +49,7 @@ fn next_adjoining<S: Text, A: Allocator + Copy>(
     let Some(span) = next_span(walk)? else {
         return Ok(None);
     };
-    if !begins_at(&span, end) {
+    if span.start.position() != end.position() {
         return Ok(None);
     }
     Ok(Some(span))
@@ -88,10 +70,14 @@ fn add_token<S: Text, A: Allocator + Copy>(
     ensures end { IfOk result (λ _. StandsAt (S.stands text) all.new.end state.now.cursor.position) }
     ensures refused { OnErr result (Refused A) }
 {
-    if begins_at(span, &span.end) {
+    if span.start.position() == span.end.position() {
         return Ok(());
     }
-    sre_growth::push(&mut all.tokens, token_of(text, state, span))?;
+    let token = TokenOf {
+        kind: state.marks().last_index(),
+        text: text.between(&span.start, &span.end),
+    };
+    sre_growth::push(&mut all.tokens, token)?;
     all.end = span.end;
     Ok(())
 }

@@ -2,8 +2,7 @@
 
 ghost use Rattle.std.specs.Prelude.{◌≡◌, ◌≤◌, ◌+◌, ◌++◌, true, map, IfOk, OnErr};
 ghost use Rattle.sre_recipes.specs.Terms.{range_with_len, option_map, match_shown, answer_of, Refused};
-ghost use Rattle.sre_recipes.specs.Matches.{match_seen, placed, placed_match, placed_marks, placed_group};
-ghost use Rattle.sre_recipes.specs.Matches.{placed_groups, groups_seen};
+ghost use Rattle.sre_recipes.specs.Matches.{match_seen, placed, placed_match, placed_group, placed_groups, groups_seen};
 ghost use Rattle.sre_recipes.specs.Spans.{IsSpan};
 
 use crate::groups::CapturesOf;
@@ -75,16 +74,6 @@ pub(crate) fn match_between<S: Text + Haystack>(
     }
 }
 
-// The state's match.
-fn whole_match<S: Text + Haystack>(text: S, state: &State<Global>) -> Match<S>
-    requires stands { S.stands text state.now.cursor state.now.cursor.position }
-    requires forward { state.now.start ≤ state.now.cursor.position }
-    ensures { match_seen S.text result ≡ placed_match (S.text text) (S.place text) (match_shown state.now) }
-{
-    let span = span_of(text, state);
-    match_between(text, &span.start, &span.end)
-}
-
 // The state's match if one was found.
 pub(crate) fn match_if<S: Text + Haystack>(
     found: bool,
@@ -97,35 +86,15 @@ pub(crate) fn match_if<S: Text + Haystack>(
         ≡ option_map (placed_match (S.text text) (S.place text)) (answer_of found state.now) }
 {
     if found {
-        Some(whole_match(text, state))
+        let span = span_of(text, state);
+        Some(match_between(text, &span.start, &span.end))
     } else {
         None
     }
 }
 
-// The group with capture slots 2 `group` and 2 `group` + 1. `None` if one of them is not set, they are out of order, or
-// the second is beyond the text's end.
-fn marked_match<S: Text + Haystack>(
-    text: S,
-    state: &State<Global>,
-    group: usize,
-) -> Option<Match<S>>
-    requires { S.stands text state.now.cursor state.now.cursor.position }
-    ensures { option_map (match_seen S.text) result
-        ≡ placed_marks (S.text text) (S.place text) state.now.marks group }
-{
-    let (Some(from), Some(to)) = state.marks().get(group) else {
-        return None;
-    };
-    if to < from {
-        return None;
-    }
-    let end = moved_to(text, &state.cursor(), to)?;
-    let start = back_to(text, &end, from);
-    Some(match_between(text, &start, &end))
-}
-
-// A group of the state's match, whose number 0 is the match.
+// A group of the state's match, whose number 0 is the match. `None` if one of a group's capture slots is not set, they
+// are out of order, or the second is beyond the text's end.
 fn group_match<S: Text + Haystack>(
     text: S,
     state: &State<Global>,
@@ -137,10 +106,17 @@ fn group_match<S: Text + Haystack>(
         ≡ placed_group (S.text text) (S.place text) (match_shown state.now) number }
 {
     if number == 0 {
-        Some(match_between(text, &span.start, &span.end))
-    } else {
-        marked_match(text, state, number - 1)
+        return Some(match_between(text, &span.start, &span.end));
     }
+    let (Some(from), Some(to)) = state.marks().get(number - 1) else {
+        return None;
+    };
+    if to < from {
+        return None;
+    }
+    let end = moved_to(text, &state.cursor(), to)?;
+    let start = back_to(text, &end, from);
+    Some(match_between(text, &start, &end))
 }
 
 // Appends the first `several` groups of the state's match, from the match itself on.

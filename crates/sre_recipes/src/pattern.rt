@@ -1,12 +1,11 @@
 //! A compiled pattern that owns all that it needs, for many texts.
 
-ghost use Rattle.std.specs.Prelude.{◌≡◌, ◌≤◌, ◌<◌, ℕ, List, None, length, true, false, is_some, map, IfOk, OnErr};
+ghost use Rattle.std.specs.Prelude.{◌≡◌, ◌≤◌, ◌<◌, ℕ, None, length, true, false, is_some, map, IfOk, OnErr};
 ghost use Rattle.std.specs.Prelude.{MatchOption, ◌≢◌, IfErr, OnOk};
-ghost use Rattle.sre_recipes.specs.Terms.{option_map, Table, Refused, Tree, Whole, no_marks, found, walk, words_of};
-ghost use Rattle.sre_recipes.specs.Terms.{code_of, asked_of, stands_in, answer_of, has_ended, IsCode, uni_of};
+ghost use Rattle.sre_recipes.specs.Terms.{option_map, Refused, Tree, Whole, no_marks, found, walk, words_of, answer_of};
+ghost use Rattle.sre_recipes.specs.Terms.{IsCode, uni_of};
 ghost use Rattle.sre_engine.specs.Refusals.{place_of};
 ghost use Rattle.sre_finder.specs.Kepts.{Suits};
-ghost use Rattle.sre_finder.specs.SpanIters.{request_of};
 ghost use Rattle.sre_recipes.specs.Pieces.{pieces_between};
 ghost use Rattle.sre_recipes.specs.Templates.{written, replaced};
 ghost use Rattle.sre_recipes.specs.Matches.{match_seen, placed_match, placed_groups, groups_seen};
@@ -23,7 +22,7 @@ use crate::texts::{Rewritten, Text};
 use sre_engine::{
     Code, CodeError, OwnedCode, Request, SreError, State, StrDrive, StringCursor, UniTable,
 };
-use sre_finder::{Encoding, Haystack, Kept, SpanIter};
+use sre_finder::{Encoding, Haystack, Kept};
 use std::alloc::Global;
 use std::marker::Model;
 
@@ -133,7 +132,7 @@ impl Pattern {
         ensures uni { self.new.table ≡ self.old.table }
     {
         let request = Request::new(text, start, end, self.code.code(), false);
-        search_kept(self.alloc, request, &mut self.kept, &mut self.state)
+        self.kept.search(self.alloc, request, &mut self.state)
     }
 
     /// Returns whether a text has a match.
@@ -245,7 +244,7 @@ impl Pattern {
         let mut matches = Matched {
             all: Vec::new(self.alloc),
         };
-        self.collect(text, &mut matches)?;
+        self.collect(text, false, &mut matches)?;
         Ok(matches.all)
     }
 
@@ -269,7 +268,7 @@ impl Pattern {
             alloc: self.alloc,
             all: Vec::new(self.alloc),
         };
-        self.collect(text, &mut captures)?;
+        self.collect(text, true, &mut captures)?;
         Ok(captures.all)
     }
 
@@ -297,7 +296,7 @@ impl Pattern {
             pieces: Vec::new(self.alloc),
             last: text.create_cursor(0),
         };
-        self.collect(text, &mut all)?;
+        self.collect(text, false, &mut all)?;
         Ok(all.pieces)
     }
 
@@ -331,17 +330,19 @@ impl Pattern {
             last: text.create_cursor(0),
             output: Vec::new(self.alloc),
         };
-        self.collect(text, &mut new)?;
+        self.collect(text, true, &mut new)?;
         Ok(S::from_output(new.output))
     }
 
-    // Gathers something of each match of a text.
+    // Gathers something of each match of a text, by what reads captures or not.
     fn collect<S: Text + Haystack, C: Collects<S, Global>>(
         &mut self,
         text: S,
+        captures: bool,
         all: &mut C,
     ) -> Result<(), SreError>
-        requires { (p : ℕ) → C.waits text p all.old }
+        requires captures { captures ≡ C.captures }
+        requires waits { (p : ℕ) → C.waits text p all.old }
         ensures ok { (t : Tree) → Whole self.old.words t → IfOk result (λ _. C.gathers text (length (S.text text))
             all.old (walk (rest_of (S.text text) self.old.table 0) t) all.new) }
         ensures waits { IfOk result (λ _. C.waits text (length (S.text text)) all.new) }
@@ -350,8 +351,12 @@ impl Pattern {
         ensures uni { self.new.table ≡ self.old.table }
     {
         let request = Request::whole(text, self.code.code());
-        let mut walk = walk_kept(self.alloc, request, &mut self.kept);
-        let collected = collect_spans(&mut walk, all);
+        let encoding = text.encoding(request.end());
+        let finder = self
+            .kept
+            .take(self.alloc, request.pattern_codes(), encoding);
+        let mut walk = finder.walk(request, State::new(self.alloc));
+        let collected = collect_spans(&mut walk, captures, all);
         self.kept = walk.into_finder().into_kept();
         collected
     }
@@ -370,45 +375,8 @@ impl Pattern {
     {
         let mut request = Request::whole(text, self.code.code());
         request.set_start(start);
-        search_kept(self.alloc, request, &mut self.kept, &mut self.state)
+        self.kept.search(self.alloc, request, &mut self.state)
     }
-}
-
-// Searches the range of a request of the code to which the DFAs belong.
-fn search_kept<S: Haystack>(
-    alloc: Global,
-    request: Request<'_, S>,
-    kept: &mut Kept,
-    state: &mut State<Global>,
-) -> Result<bool, SreError>
-    requires { Suits (words_of (code_of request)) (uni_of (code_of request)) kept.old }
-    ensures answer { (t : Tree) → Whole (words_of (code_of request.entry)) t
-        → IfOk result (λ b. answer_of b state.new ≡ found (asked_of request.entry) t) }
-    ensures cursor { IfOk result
-        (λ b. b ≡ true → stands_in request.entry state.new.cursor state.new.cursor.position) }
-    ensures forward { IfOk result (λ b. b ≡ true → state.new.start ≤ state.new.cursor.position) }
-    ensures no { IfOk result (λ b. b ≡ false → state.new.marks ≡ no_marks) }
-    ensures err { OnErr result (state.new.marks ≡ no_marks) }
-    ensures refused { OnErr result (Refused Global) }
-    ensures suits { Suits (words_of (code_of request.entry)) (uni_of (code_of request.entry)) kept.new }
-{
-    kept.search(alloc, request, state)
-}
-
-// An iteration over a request's matches, with the DFAs of its code. They are taken out.
-fn walk_kept<'a, S: Haystack>(
-    alloc: Global,
-    request: Request<'a, S>,
-    kept: &mut Kept,
-) -> SpanIter<'a, 'a, S, Global>
-    requires { Suits (words_of (code_of request)) (uni_of (code_of request)) kept.old }
-    ensures req { request_of result ≡ request.entry }
-    ensures open { has_ended result ≡ false }
-    ensures suits { (ws : List ℕ) (uni : Table) → Suits ws uni kept.new }
-{
-    let encoding = request.string().encoding(request.end());
-    let finder = kept.take(alloc, request.pattern_codes(), encoding);
-    finder.walk(request, State::new(alloc))
 }
 
 // The cursor at the first character that begins at a byte offset or after it. `None` if the text has fewer bytes.

@@ -1,6 +1,6 @@
 //! Replacement of all matches by a template.
 
-ghost use Rattle.std.specs.Prelude.{⊤, ◌≡◌, ◌++◌, true, None, Some, is_none, IfOk, IfSome, IsSome, OnErr};
+ghost use Rattle.std.specs.Prelude.{◌≡◌, ◌++◌, true, None, Some, is_none, IfOk, IfSome, IsSome, OnErr};
 ghost use Rattle.sre_recipes.specs.Terms.{chars, Tree, Whole, walk, words_of, string_of, start_of, end_of, code_of};
 ghost use Rattle.sre_recipes.specs.Terms.{asked_of, match_shown, Refused, string_bytes};
 ghost use Rattle.sre_recipes.specs.Spans.{IsSpan, StandsBy};
@@ -109,12 +109,6 @@ impl<'t, S: Text, A: Allocator + Copy> Collects<S, A> for Expanded<'t, S, A> {
         ≡ S.characters before.output.items ++ replaced (S.text text)
         (written S.text (S.text text) before.template.now) before.last.position stop ms };
 
-    ghost trusts = { ⊤ };
-
-    fn reads_captures(&self) -> bool {
-        true
-    }
-
     fn add(&mut self, text: S, state: &State<A>, span: &Span) -> Result<(), SreError> {
         text.between(&self.last, &span.start)
             .append_to(&mut self.output)?;
@@ -154,8 +148,7 @@ pub fn replace_all<A: Allocator + Copy>(
         (start_of req.now) (end_of req.now) (walk (asked_of req.now) t)) }
     ensures refused { OnErr result (Refused A) }
 {
-    let mut bounds = Bounds::none();
-    Ok(complete(replace_bounded(alloc, req, &mut bounds, template)?))
+    Ok(complete(replace_bounded(alloc, req, &mut Bounds::none(), template)?))
 }
 
 /// `replace_all` within bounds: replaces only the first `bounds.most` matches, as Python's `sub` does with `count`.
@@ -230,8 +223,7 @@ pub fn replace_all_bytes<A: Allocator + Copy>(
         (start_of req.now) (end_of req.now) (walk (asked_of req.now) t)) }
     ensures refused { OnErr result (Refused A) }
 {
-    let mut bounds = Bounds::none();
-    Ok(complete(replace_bounded_bytes(alloc, req, &mut bounds, template)?))
+    Ok(complete(replace_bounded_bytes(alloc, req, &mut Bounds::none(), template)?))
 }
 
 /// `replace_bounded` for bytes.
@@ -263,9 +255,5 @@ pub fn replace_bounded_bytes<A: Allocator + Copy>(
         last: req.string().create_cursor(req.start()),
         output: Vec::new(alloc),
     };
-    if collect(alloc, req, bounds, &mut new)? {
-        Ok(Some(new.output))
-    } else {
-        Ok(None)
-    }
+    Ok(collect(alloc, req, bounds, &mut new)?.then_some(new.output))
 }

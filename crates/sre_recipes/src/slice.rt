@@ -67,10 +67,7 @@ pub fn match_start<S: StrDrive, A: Allocator + Copy>(text: S, state: &State<A>) 
     requires forward { state.now.start ≤ state.now.cursor.position }
     ensures stands { S.stands text result state.now.start }
 {
-    let mut start = state.cursor();
-    let several = start.position() - state.start();
-    text.back_skip(&mut start, several);
-    start
+    back_to(text, &state.cursor(), state.start())
 }
 
 // The text of the group with capture slots 2 `group` and 2 `group` + 1. `None` if one of them is not set, they are out

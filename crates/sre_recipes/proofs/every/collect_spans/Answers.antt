@@ -8,7 +8,7 @@ next_found-requires g c = rw c.walk.invariant.stays.string c.walk.invariant.at
 
 pub add-requires : goal.add-requires
 add-requires g c =
-    let finds = rw (c.in-Some.is, c.reads_captures.ensures) at c.in_ok-span.ensures.gives in
+    let finds = rw (c.in-Some.is, c.requires.captures) at c.in_ok-span.ensures.gives in
     let same = c.string-text.ensures ∙ ap string_of c.req.ensures in
     record {
       waits = rw same (c.walk.invariant.waits _ finds.from);
@@ -17,7 +17,7 @@ add-requires g c =
 
 pub walk-preserved : goal.walk-preserved
 walk-preserved g c =
-    let finds = rw (c.in-Some.is, c.reads_captures.ensures) at c.in_ok-span.ensures.gives in
+    let finds = rw (c.in-Some.is, c.requires.captures) at c.in_ok-span.ensures.gives in
     let stays = c.walk.invariant.stays in
     let same = c.string-text.ensures ∙ ap string_of c.req.ensures in
     let waits = rw same at c.in_ok-add.ensures.waits in
