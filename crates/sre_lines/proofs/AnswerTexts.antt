@@ -1,20 +1,10 @@
 -- Answers that are written part by part, and the spans of a walk one after the other.
-use Rattle.sre_lines.proofs.Terms.{ℕ, ◌≡◌, List, ◌++◌, Result, Ok, Err, append_assoc, OnOk, codes, ◌∷◌, Bool, true}
+use Rattle.sre_lines.proofs.Terms.{ℕ, ◌≡◌, List, ◌++◌, append_assoc, ◌∷◌, Bool, true}
 use Rattle.sre_lines.proofs.Terms.{false, refl, Tree, Whole}
 use Rattle.sre_engine.specs.Marks.{Marks, no_marks}
 use Rattle.sre_engine.specs.Found.{Match}
 use Rattle.sre_finder.specs.Spans.{match_with}
 use Rattle.sre_lines.specs.Cases.{span_text, gap_text, others_text, walk_text}
-
--- a match: its span, its last index and its marks
-pub match_written : {T E : Type 0} (r : Result T E) (old start end last marks one two three all : List ℕ)
-    → one ≡ old ++ codes "yes " → two ≡ one ++ (start ++ codes ".." ++ end)
-    → three ≡ two ++ (codes " last " ++ last ++ codes " marks ") → OnOk r (all ≡ three ++ marks)
-    → OnOk r (all ≡ old ++ (codes "yes " ++ start ++ codes ".." ++ end ++ codes " last " ++ last ++ codes " marks "
-    ++ marks))
-match_written (Err e) old start end last marks one two three all first second third fourth = tt
-match_written (Ok x) old start end last marks one two three all first second third fourth =
-    rw (fourth, third, second, first) (simp append_assoc)
 
 -- Of a walk what is there and what is still to come make the whole.
 

@@ -33,6 +33,8 @@ behind_part old mid new front bytes said (Err e) same a (part, rest, split, b) =
   Appends-trans old mid new front part a b,
 )
 
+pub ruleset in_parts = (front_part, behind_part, behind_whole)
+
 which : (fault : CaseFault) (ending : Ending) → end_of ending ≡ Err fault
     → (ending ≡ Told fault) ⊎ (ending ≡ Untold fault)
 which fault AllAnswered is = absurd (cc)

@@ -77,7 +77,6 @@ pub fn push_span<A: Allocator>(
 }
 
 /// Appends a match from `start` to `end`, with its last index and its capture slots. Positions count characters.
-#[tactic(auto, using(crate::proofs::AnswerTexts::match_written))]
 pub fn push_match<A: Allocator>(
     answer: &mut String<A>,
     start: usize,
@@ -89,18 +88,8 @@ pub fn push_match<A: Allocator>(
         (string_bytes answer.new ≡ string_bytes answer.old ++ (codes "yes " ++ decimal start ++ codes ".."
         ++ decimal end ++ codes " last " ++ signed_decimal last_index ++ codes " marks " ++ marks_text marks.now)) }
 {
-    answer.push_str("yes ")?;
-    push_span(answer, start, end)?;
-    push_last(answer, last_index)?;
+    write!(answer, "yes {start}..{end} last {last_index} marks ")?;
     push_marks(answer, marks)
-}
-
-// Appends the last index, up to the capture slots.
-fn push_last<A: Allocator>(answer: &mut String<A>, last_index: isize) -> Result<(), AllocError>
-    ensures { OnOk result (string_bytes answer.new
-        ≡ string_bytes answer.old ++ (codes " last " ++ signed_decimal last_index ++ codes " marks ")) }
-{
-    write!(answer, " last {last_index} marks ")
 }
 
 // Appends capture slots separated by commas, or `none` if there are none.

@@ -1,11 +1,9 @@
 //! Answers the cases of a file.
 
-ghost use Rattle.std.specs.Prelude.{◌≡◌, ◌≢◌, ◌≤◌, ◌++◌, ◌∷◌, [], ℕ, List, IfErr, OnErr, OnOk, codes, length};
-ghost use Rattle.std.specs.Prelude.{string_bytes};
-ghost use Rattle.sre_lines.specs.Terms.{decimal, Appends, ascii_table, Tree, Whole, words_of, asked_of, code_of};
-ghost use Rattle.sre_lines.specs.Terms.{place_of, uni_of};
+ghost use Rattle.std.specs.Prelude.{◌≡◌, ◌≤◌, ◌++◌, ◌∷◌, [], ℕ, List, IfErr, OnErr, OnOk, string_bytes};
+ghost use Rattle.sre_lines.specs.Terms.{Appends, ascii_table, Tree, Whole, words_of, asked_of, code_of, uni_of};
 ghost use Rattle.sre_lines.specs.Answers.{fault_text, IsFaultOfCases};
-ghost use Rattle.sre_lines.specs.Cases.{IsAnswer, IsAnswerOf, IsRefusal, asked, found_text};
+ghost use Rattle.sre_lines.specs.Cases.{IsAnswer, IsAnswerOf, asked, found_text};
 ghost use Rattle.sre_lines.specs.Fields.{IsCase};
 ghost use Rattle.sre_lines.specs.Lines.{lines_of, Answered, IsNoCase, IsBegun, StopsAt};
 ghost use Rattle.sre_lines.specs.Output.{AppendsPart};
@@ -19,7 +17,7 @@ use crate::cases::walked::push_matches;
 use crate::line::{
     Case, Finding, LineFault, Operands, Subject, TextForm, Window, read_case, split_once,
 };
-use crate::output::{write_both, write_three, write_whole};
+use crate::output::{write_both, write_whole};
 use itoa::Buffer;
 use sre_engine::code::CodeError;
 use sre_engine::engine::{SreError, State};
@@ -265,24 +263,11 @@ fn push_verdict<A: Allocator + Copy>(
             push_code_answer(alloc, heap, code, case, text, state, answer)
         }
         Err(CodeError::Memory) => Err(AllocError),
-        Err(error) => push_cause(detail, case, error, answer),
-    }
-}
-
-// Appends that bytecode is rejected, for `check` with the cause if that is wanted.
-fn push_cause<A: Allocator>(
-    detail: Detail,
-    case: Case,
-    error: CodeError,
-    answer: &mut String<A>,
-) -> Result<(), AllocError>
-    requires { error ≢ CodeError.Memory }
-    ensures { (words : List ℕ) → place_of error ≤ length words → OnOk result ((said : List ℕ)
-        × IsRefusal detail case words said × (string_bytes answer.new ≡ string_bytes answer.old ++ said)) }
-{
-    match (detail, case) {
-        (Detail::Explained, Case::Check) => push_refusal(answer, error),
-        _ => answer.push_str("refused"),
+        // `check` tells the cause if that is wanted.
+        Err(error) => match (detail, case) {
+            (Detail::Explained, Case::Check) => push_refusal(answer, error),
+            _ => answer.push_str("refused"),
+        },
     }
 }
 
@@ -378,6 +363,7 @@ pub fn write_fault<W: Write>(fault: &CaseFault, name: &str, out: &mut W) -> Resu
 }
 
 /// Writes the text of a fault followed by `end`, with `name` as the file's name.
+#[tactic(auto, using(crate::proofs::Parts::in_parts))]
 pub(crate) fn write_line<W: Write>(
     fault: &CaseFault,
     name: &str,
@@ -389,24 +375,25 @@ pub(crate) fn write_line<W: Write>(
     ensures part { OnErr result (AppendsPart (W.contents out.old) (W.contents out.new)
         (fault_text fault.now name.now ++ end.now)) }
 {
-    match fault {
-        CaseFault::Usage => write_both(b"usage: sre_cases FILE", end, out),
-        CaseFault::CannotRead => write_three(name.as_bytes(), b": cannot be read", end, out),
-        CaseFault::NotATable => write_three(name.as_bytes(), b": not a table", end, out),
-        CaseFault::NotACase(line) => write_no_case(*line, end, out),
-        CaseFault::NoMemory => write_both(b"no memory", end, out),
-        CaseFault::OutputFailed => write_both(b"output failed", end, out),
-    }
+    write_text(*fault, name, out)?;
+    write_whole(end, out)
 }
 
-// Writes that a line is no case.
-fn write_no_case<W: Write>(line: u64, end: &[u8], out: &mut W) -> io::Result<()>
-    ensures line { OnOk result (Appends (W.contents out.old) (W.contents out.new)
-        (codes "line " ++ (decimal line ++ (codes ": not a case" ++ end.now)))) }
-    ensures part { OnErr result (AppendsPart (W.contents out.old) (W.contents out.new)
-        (codes "line " ++ (decimal line ++ (codes ": not a case" ++ end.now)))) }
+// Writes the text of a fault.
+fn write_text<W: Write>(fault: CaseFault, name: &str, out: &mut W) -> io::Result<()>
+    ensures text { OnOk result (Appends (W.contents out.old) (W.contents out.new) (fault_text fault name.now)) }
+    ensures part { OnErr result (AppendsPart (W.contents out.old) (W.contents out.new) (fault_text fault name.now)) }
 {
-    let mut digits = Buffer::new();
-    write_whole(b"line ", out)?;
-    write_three(digits.format(line).as_bytes(), b": not a case", end, out)
+    match fault {
+        CaseFault::Usage => write_whole(b"usage: sre_cases FILE", out),
+        CaseFault::CannotRead => write_both(name.as_bytes(), b": cannot be read", out),
+        CaseFault::NotATable => write_both(name.as_bytes(), b": not a table", out),
+        CaseFault::NotACase(line) => {
+            let mut digits = Buffer::new();
+            write_whole(b"line ", out)?;
+            write_both(digits.format(line).as_bytes(), b": not a case", out)
+        }
+        CaseFault::NoMemory => write_whole(b"no memory", out),
+        CaseFault::OutputFailed => write_whole(b"output failed", out),
+    }
 }

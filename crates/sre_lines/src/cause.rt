@@ -3,14 +3,14 @@
 //! The line is parsed again without allocation. The first fault from the left is reported, with one exception: a text
 //! that is not UTF-8 is reported only if the line has no other fault.
 
-ghost use Rattle.std.specs.Prelude.{◌≡◌, ◌≢◌, ℕ, ◌+◌, ◌≤◌, ◌++◌, ◌∷◌, List, [], All, IfSome, IfNone, IsTrue, ◌↔◌, ◌^◌};
+ghost use Rattle.std.specs.Prelude.{◌≡◌, ◌≢◌, ℕ, ◌+◌, ◌<◌, ◌++◌, ◌∷◌, List, [], All, IfSome, IfNone, IsTrue, ◌↔◌};
 ghost use Rattle.std.specs.Prelude.{codes, IsFalse};
 ghost use Rattle.sre_lines.specs.Terms.{decimal, IsNumeral};
 ghost use Rattle.sre_lines.specs.Fields.{AreWords, IsSubject, words_text, subject_text, verb_text};
 ghost use Rattle.sre_lines.specs.Lines.{IsNoCase, IsLineAt};
 ghost use Rattle.sre_lines.specs.Causes.{IsCause, IsCauseOf, IsNoSubject, fields_of, cause_text, IsWords, IsWordsFault};
-ghost use Rattle.sre_lines.specs.Causes.{IsNumberFault, IsWord, IsPlace, IsBytes, IsTextFault, IsHexDigit, HasOther};
-ghost use Rattle.sre_lines.specs.Causes.{IsWindowField, IsWindowFault, IsFlagsField, IsFlag, IsFlagsFault};
+ghost use Rattle.sre_lines.specs.Causes.{IsNumberFault, IsBytes, IsTextFault, IsHexDigit, HasOther, IsWindowField};
+ghost use Rattle.sre_lines.specs.Causes.{IsWindowFault, IsFlagsField, IsFlag, IsFlagsFault};
 ghost use Rattle.sre_lines.specs.declared.line.Finding.{Finding};
 ghost use Rattle.sre_lines.specs.declared.line.Subject.{Subject};
 
@@ -96,24 +96,16 @@ impl Cause {
             Cause::Text(TextFault::OddDigits) => ": TEXT: an odd number of digits\n",
             Cause::Text(TextFault::NoHexDigit) => ": TEXT: no hexadecimal digit\n",
             Cause::NotUtf8 => ": TEXT: no UTF-8\n",
-            Cause::Window(fault) => window_told(fault),
+            Cause::Window(WindowFault::NoWindow) => ": WINDOW: neither all nor START..END\n",
+            Cause::Window(WindowFault::Number(NumberFault::NoNumber)) => ": WINDOW: no number\n",
+            Cause::Window(WindowFault::Number(NumberFault::LeadingZero)) =>
+                ": WINDOW: a leading zero\n",
+            Cause::Window(WindowFault::Number(NumberFault::TooLarge)) => {
+                ": WINDOW: a number above 18446744073709551615\n"
+            }
             Cause::Flags(FlagsFault::NoFlag) => ": FLAGS: neither - nor flags\n",
             Cause::Flags(FlagsFault::UnknownFlag) => ": FLAGS: an unknown flag\n",
             Cause::Flags(FlagsFault::OutOfOrder) => ": FLAGS: flags out of order or twice\n",
-        }
-    }
-}
-
-// The same for a range.
-fn window_told(fault: WindowFault) -> &'static str
-    ensures { result.now ≡ codes ": " ++ cause_text (Cause.Window fault) ++ 10 ∷ [] }
-{
-    match fault {
-        WindowFault::NoWindow => ": WINDOW: neither all nor START..END\n",
-        WindowFault::Number(NumberFault::NoNumber) => ": WINDOW: no number\n",
-        WindowFault::Number(NumberFault::LeadingZero) => ": WINDOW: a leading zero\n",
-        WindowFault::Number(NumberFault::TooLarge) => {
-            ": WINDOW: a number above 18446744073709551615\n"
         }
     }
 }
@@ -228,34 +220,18 @@ fn words_fault(field: &[u8]) -> Option<NumberFault>
     let mut left = field;
     'words: loop {
         let Some((digits, others)) = split_once(left, b',') else {
-            return word_fault(left);
+            return number_fault(left, 4294967295);
         };
-        if let Some(fault) = word_fault(digits) {
+        if let Some(fault) = number_fault(digits, 4294967295) {
             return Some(fault);
         }
         left = others;
     }
 }
 
-// The fault of digits that denote no code word.
-fn word_fault(digits: &[u8]) -> Option<NumberFault>
-    ensures none { IfNone result (IsWord digits.now) }
-    ensures fault { IfSome result (IsNumberFault (2 ^ 32) digits.now) }
-{
-    number_fault(digits, 4294967295)
-}
-
-// The fault of digits that denote no position of a range.
-fn place_fault(digits: &[u8]) -> Option<NumberFault>
-    ensures none { IfNone result (IsPlace digits.now) }
-    ensures fault { IfSome result (IsNumberFault (2 ^ 64) digits.now) }
-{
-    number_fault(digits, u64::MAX)
-}
-
 // The fault of digits that denote no number up to `most`.
 fn number_fault(digits: &[u8], most: u64) -> Option<NumberFault>
-    ensures none { IfNone result ((n : ℕ) × (n ≤ most) × (decimal n ≡ digits.now)) }
+    ensures none { IfNone result ((n : ℕ) × (n < most + 1) × (decimal n ≡ digits.now)) }
     ensures fault { IfSome result (IsNumberFault (most + 1) digits.now) }
 {
     if !is_numeral(digits) {
@@ -335,10 +311,10 @@ fn window_fault(field: &[u8]) -> Option<WindowFault>
     if !between.is_empty() {
         return Some(WindowFault::NoWindow);
     }
-    if let Some(fault) = place_fault(start) {
+    if let Some(fault) = number_fault(start, u64::MAX) {
         return Some(WindowFault::Number(fault));
     }
-    match place_fault(end) {
+    match number_fault(end, u64::MAX) {
         Some(fault) => Some(WindowFault::Number(fault)),
         None => None,
     }

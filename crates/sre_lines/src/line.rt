@@ -4,7 +4,7 @@
 //! space. The whole line is read before its bytecode is checked, and any other line is rejected.
 
 ghost use Rattle.std.specs.Prelude.{◌≡◌, ◌≢◌, ℕ, ◌^◌, ◌<◌, ◌++◌, ◌∷◌, List, All, Contains, IfSome, IfNone, IfOk, OnOk};
-ghost use Rattle.std.specs.Prelude.{[], IsTrue, ◌↔◌};
+ghost use Rattle.std.specs.Prelude.{[]};
 ghost use Rattle.sre_lines.specs.Terms.{decimal, Refused};
 ghost use Rattle.sre_lines.specs.Fields.{verb_text, words_text, window_text, IsWindow, flags_text, form_text};
 ghost use Rattle.sre_lines.specs.Fields.{bytes_text, subject_text, case_text, IsText, AreWords, IsSubject, IsCase};
@@ -202,30 +202,20 @@ pub(crate) fn read_words<A: Allocator>(
 }
 
 // Reads one more code word.
+#[tactic(auto, using(crate::proofs::Numbers::too_large_is_not_written))]
 fn push_word<A: Allocator>(digits: &[u8], words: &mut Vec<u32, A>) -> Result<(), LineFault>
     ensures read { OnOk result
         ((w : ℕ) × (decimal w ≡ digits.now) × (words.new.items ≡ words.old.items ++ w ∷ []) × (w < 2 ^ 32)) }
     ensures refused { result ≡ Err LineFault.NotACase → (w : ℕ) → w < 2 ^ 32 → decimal w ≢ digits.now }
     ensures memory { result ≡ Err LineFault.NoMemory → Refused A }
 {
-    let Some(word) = word_of(digits) else {
-        return Err(LineFault::NotACase);
-    };
-    sre_growth::push(words, word)?;
-    Ok(())
-}
-
-// The code word that a field denotes.
-#[tactic(auto, using(crate::proofs::Numbers::too_large_is_not_written))]
-fn word_of(digits: &[u8]) -> Option<u32>
-    ensures written { IfSome result (λ n. decimal n ≡ digits.now) }
-    ensures refused { IfNone result ((n : ℕ) → n < 2 ^ 32 → decimal n ≢ digits.now) }
-{
-    let number = decimal_number(digits)?;
-    if number > u64::from(u32::MAX) {
-        return None;
+    match decimal_number(digits) {
+        Some(number) if number <= u64::from(u32::MAX) => {
+            sre_growth::push(words, number as u32)?;
+            Ok(())
+        }
+        _ => Err(LineFault::NotACase),
     }
-    Some(number as u32)
 }
 
 // Reads the form of a text and its bytes.
@@ -244,10 +234,10 @@ fn read_text<A: Allocator>(field: &[u8], text: &mut Vec<u8, A>) -> Result<TextFo
         return Err(LineFault::NotACase);
     };
     read_hex(digits, text)?;
-    if !is_text(form, text.as_slice()) {
-        return Err(LineFault::NotACase);
+    match form {
+        TextForm::Utf8 if str::from_utf8(text.as_slice()).is_err() => Err(LineFault::NotACase),
+        _ => Ok(form),
     }
-    Ok(form)
 }
 
 /// The form of a text that a letter denotes.
@@ -259,16 +249,6 @@ pub(crate) fn form_of(letter: &[u8]) -> Option<TextForm>
         b"b" => Some(TextForm::Bytes),
         b"s" => Some(TextForm::Utf8),
         _ => None,
-    }
-}
-
-// Whether bytes are a text of this form.
-fn is_text(form: TextForm, bytes: &[u8]) -> bool
-    ensures { IsTrue result ↔ IsText form bytes.now }
-{
-    match form {
-        TextForm::Bytes => true,
-        TextForm::Utf8 => str::from_utf8(bytes).is_ok(),
     }
 }
 

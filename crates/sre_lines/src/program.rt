@@ -1,15 +1,15 @@
 //! The program: arguments, files, outputs and status.
 
-ghost use Rattle.std.specs.Prelude.{◌≡◌, ◌≢◌, ◌++◌, ◌∷◌, [], ℕ, List, Some, Ok, Err, IfOk, IfErr, OnOk, codes};
+ghost use Rattle.std.specs.Prelude.{◌≡◌, ◌≢◌, ◌++◌, ◌∷◌, [], ℕ, List, Some, Ok, Err, IfOk, IfErr, OnOk};
 ghost use Rattle.sre_lines.specs.Terms.{into_iter_items, Appends, Table, lists_fault};
 ghost use Rattle.std.specs.Fn.{FnReturnsAt};
 ghost use Rattle.std.specs.Io.Buffered.{writer_contents, writer_buffer};
 ghost use Rattle.std.specs.Process.{exit_status};
-ghost use Rattle.sre_lines.specs.Answers.{fault_text, uni_text, IsFaultOfCases};
+ghost use Rattle.sre_lines.specs.Answers.{fault_text, IsFaultOfCases};
 ghost use Rattle.sre_lines.specs.Lines.{lines_of, Answered, StopsAt, IsNoCaseAt};
 ghost use Rattle.sre_lines.specs.Output.{AppendsPart};
-ghost use Rattle.sre_lines.specs.Program.{IsFaultOf, IsCall, IsCallOf, IsEnd, IsUnreadEnd, IsEndOf, FileRun};
-ghost use Rattle.sre_lines.specs.Program.{TellsFault, IsTableEnd, IsTableless, CallRun, end_of, status_of, ProgramRun};
+ghost use Rattle.sre_lines.specs.Program.{IsFaultOf, IsCall, IsCallOf, IsEnd, IsEndOf, FileRun, TellsFault, IsTableEnd};
+ghost use Rattle.sre_lines.specs.Program.{IsTableless, CallRun, end_of, status_of, ProgramRun};
 ghost use Rattle.sre_lines.specs.TableFiles.{table_text, IsNoTable};
 
 use crate::cases::{CaseFault, Detail, answer_lines_by, write_line};
@@ -127,33 +127,27 @@ fn call_of(args: io::Result<Args>) -> Result<Call, CaseFault>
 fn asked(mut args: Args) -> Result<Call, CaseFault>
     ensures { IsCallOf (into_iter_items args) result }
 {
-    match (args.next(), args.next(), args.next()) {
-        (Some(file), None, _) => Ok(Call {
-            detail: Detail::Plain,
-            table: None,
-            file,
-        }),
-        (Some(flag), Some(file), None) => explained(flag, file),
-        (Some(first), Some(second), Some(third)) => asked_by_table(first, second, third, args),
-        _ => Err(CaseFault::Usage),
-    }
+    let (detail, file) = match (args.next(), args.next(), args.next()) {
+        (Some(file), None, _) => (Detail::Plain, file),
+        (Some(flag), Some(file), None) => {
+            if flag.as_str() != "--explain" {
+                return Err(CaseFault::Usage);
+            }
+            (Detail::Explained, file)
+        }
+        (Some(first), Some(second), Some(third)) => {
+            return asked_by_table(first, second, third, args);
+        }
+        _ => return Err(CaseFault::Usage),
+    };
+    Ok(Call {
+        detail,
+        table: None,
+        file,
+    })
 }
 
-// The call that a flag and a file describe.
-fn explained(flag: String, file: String) -> Result<Call, CaseFault>
-    ensures { IsCallOf (flag ∷ file ∷ []) result }
-{
-    if flag.as_str() == "--explain" {
-        return Ok(Call {
-            detail: Detail::Explained,
-            table: None,
-            file,
-        });
-    }
-    Err(CaseFault::Usage)
-}
-
-// The call that three or more arguments describe.
+// The call that three or more arguments describe: with a table, or with both flags in either order.
 fn asked_by_table(
     first: String,
     second: String,
@@ -162,51 +156,24 @@ fn asked_by_table(
 ) -> Result<Call, CaseFault>
     ensures { IsCallOf (first ∷ second ∷ third ∷ into_iter_items args) result }
 {
-    match (args.next(), args.next()) {
-        (None, _) => by_table(first, second, third),
-        (Some(file), None) => explained_by_table(first, second, third, file),
-        _ => Err(CaseFault::Usage),
-    }
-}
-
-// The call that a flag, a table and a file describe.
-fn by_table(flag: String, table: String, file: String) -> Result<Call, CaseFault>
-    ensures { IsCallOf (flag ∷ table ∷ file ∷ []) result }
-{
-    if flag.as_str() == "--table" {
-        return Ok(Call {
-            detail: Detail::Plain,
-            table: Some(table),
-            file,
-        });
-    }
-    Err(CaseFault::Usage)
-}
-
-// The call with both flags, in either order.
-fn explained_by_table(
-    first: String,
-    second: String,
-    third: String,
-    file: String,
-) -> Result<Call, CaseFault>
-    ensures { IsCallOf (first ∷ second ∷ third ∷ file ∷ []) result }
-{
-    if first.as_str() == "--explain" && second.as_str() == "--table" {
-        return Ok(Call {
-            detail: Detail::Explained,
-            table: Some(third),
-            file,
-        });
-    }
-    if first.as_str() == "--table" && third.as_str() == "--explain" {
-        return Ok(Call {
-            detail: Detail::Explained,
-            table: Some(second),
-            file,
-        });
-    }
-    Err(CaseFault::Usage)
+    let (detail, table, file) = match (args.next(), args.next()) {
+        (None, _) if first.as_str() == "--table" => (Detail::Plain, second, third),
+        (Some(file), None) => {
+            if first.as_str() == "--explain" && second.as_str() == "--table" {
+                (Detail::Explained, third, file)
+            } else if first.as_str() == "--table" && third.as_str() == "--explain" {
+                (Detail::Explained, second, file)
+            } else {
+                return Err(CaseFault::Usage);
+            }
+        }
+        _ => return Err(CaseFault::Usage),
+    };
+    Ok(Call {
+        detail,
+        table: Some(table),
+        file,
+    })
 }
 
 // The fault of an I/O error: `NoMemory` if an allocation failed, else `usual`.
@@ -315,21 +282,12 @@ fn lists_end(detail: Detail, error: UniError) -> &'static str
     ensures { (file : List ℕ) (table : Table) → table_text table ≡ file → lists_fault table ≡ Some error
         → IsTableEnd detail file result.now }
 {
-    match detail {
-        Detail::Plain => "\n",
-        Detail::Explained => uni_end(error),
-    }
-}
-
-// The same, with the cause.
-fn uni_end(error: UniError) -> &'static str
-    ensures { result.now ≡ codes ": " ++ uni_text error ++ 10 ∷ [] }
-{
-    match error {
-        UniError::Memory => ": no memory\n",
-        UniError::Unsorted => ": an entry is not above the one before\n",
-        UniError::AsciiEntry => ": an entry is below 128\n",
-        UniError::NotScalar => ": a number is no character's\n",
+    match (detail, error) {
+        (Detail::Plain, _) => "\n",
+        (_, UniError::Memory) => ": no memory\n",
+        (_, UniError::Unsorted) => ": an entry is not above the one before\n",
+        (_, UniError::AsciiEntry) => ": an entry is below 128\n",
+        (_, UniError::NotScalar) => ": a number is no character's\n",
     }
 }
 
@@ -374,20 +332,10 @@ fn tell_unread<E: Write>(detail: Detail, error: io::Error, name: &str, faults: &
 fn unread_end(detail: Detail, error: &io::Error) -> &'static str
     ensures { (fault : CaseFault) → IsEndOf detail (Err error.now) fault result.now }
 {
-    match detail {
-        Detail::Plain => "\n",
-        Detail::Explained => kind_end(error),
-    }
-}
-
-// The same, with the cause.
-fn kind_end(error: &io::Error) -> &'static str
-    ensures { IsUnreadEnd error.now result.now }
-{
-    match error.kind() {
-        ErrorKind::NotFound => ": no such file\n",
-        ErrorKind::PermissionDenied => ": no permission\n",
-        ErrorKind::IsADirectory => ": a folder\n",
+    match (detail, error.kind()) {
+        (Detail::Explained, ErrorKind::NotFound) => ": no such file\n",
+        (Detail::Explained, ErrorKind::PermissionDenied) => ": no permission\n",
+        (Detail::Explained, ErrorKind::IsADirectory) => ": a folder\n",
         _ => "\n",
     }
 }

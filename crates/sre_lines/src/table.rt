@@ -32,48 +32,20 @@ pub fn read_table(alloc: Global, file: &[u8]) -> Result<UniTable, TableFault>
     ensures form { result ≡ Err TableFault.Form → IsNoTable file.now }
     ensures memory { result ≡ Err TableFault.NoMemory → Refused Global }
 {
-    match read_lists(alloc, file) {
-        Ok(lists) => table_of(
-            alloc,
-            lists.lower.as_slice(),
-            lists.upper.as_slice(),
-            lists.alnum.as_slice(),
-            lists.digits.as_slice(),
-        ),
-        Err(LineFault::NotACase) => Err(TableFault::Form),
-        Err(LineFault::NoMemory) => Err(TableFault::NoMemory),
-    }
-}
-
-// The four lists of a table.
-#[derive(Drop)]
-struct Lists {
-    lower: Vec<(u32, u32)>,
-    upper: Vec<(u32, u32)>,
-    alnum: Vec<(u32, u32)>,
-    digits: Vec<(u32, u32)>,
-}
-
-// Reads the four lists.
-fn read_lists(alloc: Global, file: &[u8]) -> Result<Lists, LineFault>
-    ensures read { IfOk result (λ lists. table_text
-        (table_with lists.lower.items lists.upper.items lists.alnum.items lists.digits.items) ≡ file.now) }
-    ensures refused { result ≡ Err LineFault.NotACase → IsNoTable file.now }
-    ensures memory { result ≡ Err LineFault.NoMemory → Refused Global }
-{
     let (lower, rest) = read_list(alloc, file, b"lower ")?;
     let (upper, rest) = read_list(alloc, rest, b"upper ")?;
     let (alnum, rest) = read_list(alloc, rest, b"alnum ")?;
     let (digits, rest) = read_list(alloc, rest, b"digits ")?;
     if !rest.is_empty() {
-        return Err(LineFault::NotACase);
+        return Err(TableFault::Form);
     }
-    Ok(Lists {
-        lower,
-        upper,
-        alnum,
-        digits,
-    })
+    table_of(
+        alloc,
+        lower.as_slice(),
+        upper.as_slice(),
+        alnum.as_slice(),
+        digits.as_slice(),
+    )
 }
 
 // The table of four lists.
@@ -118,21 +90,23 @@ fn read_list<'f>(
     alloc: Global,
     file: &'f [u8],
     name: &[u8],
-) -> Result<(Vec<(u32, u32)>, &'f [u8]), LineFault>
+) -> Result<(Vec<(u32, u32)>, &'f [u8]), TableFault>
     ensures read { IfOk result (λ found. list_text name.now found.0.items found.1.now ≡ file.now) }
     ensures left { IfOk result (λ found. LeavesList name.now file.now found.1.now) }
-    ensures refused { result ≡ Err LineFault.NotACase → LacksList name.now file.now }
-    ensures memory { result ≡ Err LineFault.NoMemory → Refused Global }
+    ensures form { result ≡ Err TableFault.Form → LacksList name.now file.now }
+    ensures memory { result ≡ Err TableFault.NoMemory → Refused Global }
+    ensures only { (error : UniError) → result ≢ Err (TableFault.Lists error) }
 {
     let Some(list) = after(file, name) else {
-        return Err(LineFault::NotACase);
+        return Err(TableFault::Form);
     };
     let Some((field, rest)) = split_once(list, b'\n') else {
-        return Err(LineFault::NotACase);
+        return Err(TableFault::Form);
     };
     match read_pairs(alloc, field) {
         Ok(pairs) => Ok((pairs, rest)),
-        Err(fault) => Err(fault),
+        Err(LineFault::NotACase) => Err(TableFault::Form),
+        Err(LineFault::NoMemory) => Err(TableFault::NoMemory),
     }
 }
 
@@ -151,19 +125,9 @@ fn read_pairs(alloc: Global, field: &[u8]) -> Result<Vec<(u32, u32)>, LineFault>
         → words_text (numbers_of pairs) ≢ field.now }
     ensures memory { result ≡ Err LineFault.NoMemory → Refused Global }
 {
-    let mut numbers = Vec::new(alloc);
-    match read_words(field, &mut numbers) {
-        Ok(()) => paired(alloc, numbers.as_slice()),
-        Err(fault) => Err(fault),
-    }
-}
-
-// Groups numbers into pairs.
-fn paired(alloc: Global, numbers: &[u32]) -> Result<Vec<(u32, u32)>, LineFault>
-    ensures read { IfOk result (λ pairs. numbers_of pairs.items ≡ numbers.now) }
-    ensures refused { result ≡ Err LineFault.NotACase → (pairs : List (ℕ × ℕ)) → numbers_of pairs ≢ numbers.now }
-    ensures memory { result ≡ Err LineFault.NoMemory → Refused Global }
-{
+    let mut words = Vec::new(alloc);
+    read_words(field, &mut words)?;
+    let numbers = words.as_slice();
     if numbers.len() % 2 != 0 {
         return Err(LineFault::NotACase);
     }

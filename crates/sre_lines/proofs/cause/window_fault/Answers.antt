@@ -26,22 +26,22 @@ returns-then-not-is_empty-clause-fault c = (
       let is : false ≡ true = rw dot.0 at c.if-not-is_empty.ensures in cc,
 )
 
-pub returns-in-Some-place_fault-clause-fault : goal.returns-in-Some-place_fault-clause-fault
-returns-in-Some-place_fault-clause-fault c = (
+pub returns-in-Some-number_fault-clause-fault : goal.returns-in-Some-number_fault-clause-fault
+returns-in-Some-number_fault-clause-fault c = (
   _,
   _,
   ends_of _ _ _ _ _ c.in-Some.ensures.parts c.in-Some.ensures.first c.in-Some-split_once.ensures.parts
       (nothing _ c.if-not-is_empty.ensures),
-  inl c.in-Some-place_fault.ensures.fault,
+  inl c.in-Some-number_fault.ensures.fault,
 )
 
-pub returns-in-Some-place_fault-2-clause-fault : goal.returns-in-Some-place_fault-2-clause-fault
-returns-in-Some-place_fault-2-clause-fault c = (
+pub returns-in-Some-number_fault-2-clause-fault : goal.returns-in-Some-number_fault-2-clause-fault
+returns-in-Some-number_fault-2-clause-fault c = (
   _,
   _,
   ends_of _ _ _ _ _ c.in-Some.ensures.parts c.in-Some.ensures.first c.in-Some-split_once.ensures.parts
       (nothing _ c.if-not-is_empty.ensures),
-  inr (search rules, c.in-Some-place_fault-2.ensures.fault),
+  inr (search rules, c.in-Some-number_fault-2.ensures.fault),
 )
 
 pub returns-in-None-clause-none : goal.returns-in-None-clause-none

@@ -14,17 +14,17 @@ returns-in_default-clause-none c =
     let last : IsWord c.words.left.now → IsWords c.args.field.now = λ word.
     let read = all_read _ _ _ word.0 c.words.invariant.1 c.in_default.ensures.none word.1 word.2 in
     (_, read.0, read.1) in
-    where_none c.word_fault.result last c.word_fault.ensures.none
+    where_none c.number_fault.result last c.number_fault.ensures.none
 
 pub returns-in_default-clause-fault : goal.returns-in_default-clause-fault
 returns-in_default-clause-fault c =
-    IfSome_then c.word_fault.result c.word_fault.ensures.fault
+    IfSome_then c.number_fault.result c.number_fault.ensures.fault
     (fault_at _ _ _ _ _ c.words.invariant.1 (only_part_at 44 _ c.in_default.ensures.none))
 
-pub returns-in-Some-word_fault-clause-fault : goal.returns-in-Some-word_fault-clause-fault
-returns-in-Some-word_fault-clause-fault c =
+pub returns-in-Some-number_fault-clause-fault : goal.returns-in-Some-number_fault-clause-fault
+returns-in-Some-number_fault-clause-fault c =
     fault_at _ _ _ _ _ c.words.invariant.1 (first_part_at 44 _ _ _ c.in-Some.ensures.parts c.in-Some.ensures.first) _
-    c.in-Some-word_fault.ensures.fault
+    c.in-Some-number_fault.ensures.fault
 
 pub words-preserved : goal.words-preserved
 words-preserved c =

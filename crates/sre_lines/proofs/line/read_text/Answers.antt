@@ -8,7 +8,7 @@ returns-in_default-form_of-clause-refused g c _ form bytes _ _ =
     no_form _ _ _ c.in-Some.ensures.parts c.in-Some.ensures.first c.in_default-form_of.ensures.refused form
     (hex_text bytes)
 
-pub returns-then-not-is_text-clause-refused : goal.returns-then-not-is_text-clause-refused
-returns-then-not-is_text-clause-refused g c _ =
+pub returns-in-Utf8-clause-refused : goal.returns-in-Utf8-clause-refused
+returns-in-Utf8-clause-refused g c _ =
     no_text _ _ _ c.in-Some.ensures.parts c.in-Some.ensures.first c.in-Some-form_of.form _
     c.in-Some-form_of.ensures.written c.in_ok-read_hex.ensures.read c.in_ok-read_hex.ensures.fit (search rules)
