@@ -37,8 +37,9 @@ ITEMS = {
     "conditional": r"Exists|ExistsElse|GROUPREF_EXISTS|ToCheckGroup|is_exists",
 }
 NAMED = {item: re.compile(rf"(?<![\w-])(?:{names})(?![\w-])") for item, names in ITEMS.items()}
-# The kit's patterns have a `Look` of their own, which is no item.
-KITS_LOOK = re.compile(r"regex_hir\S*\bLook\b")
+# The kit's patterns have a `Look` of their own: in the crates over these it is an item where it comes from Tree.
+OVER_PATTERNS = ("sre_patterns/", "sre_finder/")
+ITEMS_LOOK = re.compile(r"specs\.Tree\.\{[^}]*\bLook\b")
 
 
 def files():
@@ -60,7 +61,8 @@ def heads():
 def items():
     """The files that name items, with these."""
     for name, text in files():
-        text = re.sub(r"\bLook\b", "", text) if KITS_LOOK.search(text) else text
+        is_kits = name.startswith(OVER_PATTERNS) and not ITEMS_LOOK.search(text)
+        text = re.sub(r"\bLook\b", "", text) if is_kits else text
         named = [item for item, names in NAMED.items() if names.search(text)]
         if named:
             yield name, ", ".join(named)

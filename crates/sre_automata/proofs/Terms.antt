@@ -4,6 +4,5 @@ pub use Rattle.std.proofs.Common.{sym, ◌-◌, ◌<◌, ◌∙◌, ◌≡◌, �
 pub use Rattle.regex_dfa.specs.Search.{IsLeast, end_from}
 pub use Rattle.regex_hir.specs.Re.{Trace, accept, attempt}
 pub use Rattle.regex_nfa.specs.Paths.{Accepts}
-pub use Rattle.sre_automata.specs.Needles.{Contains, ContainsAny}
+pub use Rattle.sre_automata.specs.Told.{Contains, ContainsAny, EndsAt, IsBetween, NoneBetween, NoneLeft, NoneUpTo}
 pub use Rattle.sre_automata.specs.Terms.{HasPaths, Implements, Nfa, Re, cat_all, meaning}
-pub use Rattle.sre_automata.specs.Told.{EndsAt, IsBetween, NoneBetween, NoneLeft, NoneUpTo}

@@ -1,3 +1,2 @@
 pub mod Told
-pub mod Needles
 pub mod Terms

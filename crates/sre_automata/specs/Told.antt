@@ -1,7 +1,6 @@
--- What DFAs report about the matches of a pattern.
--- Definitions for the contracts of this crate.
-use Rattle.std.specs.Prelude.{◌≡◌, ⊤, ℕ, ◌≤◌, ◌<◌, List, length, Some, None}
-use Rattle.sre_automata.specs.Terms.{Re, Nfa}
+-- What DFAs report about the matches of a pattern, and what is known of a pattern that is sought.
+use Rattle.std.specs.Prelude.{◌≡◌, ⊤, ℕ, ◌≤◌, ◌<◌, List, length, Some, None, Option}
+use Rattle.sre_automata.specs.Terms.{Re, Nfa, Implements, HasPaths}
 use Rattle.regex_hir.specs.Matches.{Matches}
 use Rattle.regex_hir.specs.Find.{Match, find}
 use Rattle.regex_nfa.specs.Run.{run}
@@ -10,6 +9,7 @@ use Rattle.sre_automata.specs.declared.Told.{Told}
 use Rattle.sre_automata.specs.declared.Told.TheVariants.{Nothing, From}
 use Rattle.sre_automata.specs.declared.FirstMatch.{FirstMatch}
 use Rattle.sre_automata.specs.declared.FirstMatch.TheVariants as first_match
+use Rattle.memchr.specs.Find.{OccursAt}
 
 -- no match begins at a place or behind it
 pub record NoneLeft (hay : List ℕ) (re : Re) (start : ℕ) : Type 0 where
@@ -52,3 +52,23 @@ abbrev pub FindsFirst : List ℕ → Re → ℕ → FirstMatch → Type 0
 FindsFirst hay re start first_match.Nothing = find re hay start ≡ None
 FindsFirst hay re start (first_match.Between from end) = IsBetween hay re start from end
 FindsFirst hay re start first_match.Unknown = ⊤
+
+-- bytes stand in a text at a place or behind it
+pub record StandsFrom (hay bytes : List ℕ) (start : ℕ) : Type 0 where
+  pub place : ℕ
+  pub behind : start ≤ place
+  pub occurs : OccursAt hay bytes place
+
+-- each match of a pattern contains these bytes
+abbrev pub Contains : Re → List ℕ → Type 0
+Contains re bytes =
+    (hay : List ℕ) (i j : ℕ) → i ≤ length hay → Matches hay re i j → StandsFrom hay bytes i
+
+-- the same of bytes that there may be
+abbrev pub ContainsAny : Re → Option (List ℕ) → Type 0
+ContainsAny re None = ⊤
+ContainsAny re (Some bytes) = Contains re bytes
+
+-- automata have the matches of a pattern, and the first of them
+abbrev pub Seeks : Re → Nfa → Type 0
+Seeks re nfa = HasPaths nfa re × Implements nfa re

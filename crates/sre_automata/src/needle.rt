@@ -2,8 +2,7 @@
 
 ghost use Rattle.std.specs.Prelude.{◌≡◌, ◌≤◌, IfSome, length, map, true};
 ghost use Rattle.sre_automata.specs.Terms.{Re, meaning, cat_all};
-ghost use Rattle.sre_automata.specs.Told.{NoneLeft};
-ghost use Rattle.sre_automata.specs.Needles.{Contains, ContainsAny};
+ghost use Rattle.sre_automata.specs.Told.{NoneLeft, Contains, ContainsAny};
 
 use memchr::memmem;
 use regex_hir::Hir;

@@ -53,7 +53,7 @@ impl Model for Seeker {
     ghost use Rattle.regex_hir.specs.declared.hir.Hir.{Hir};
     ghost use Rattle.std.specs.Prelude.{IfSome};
     ghost use Rattle.regex_hir.specs.Meaning.{meaning};
-    ghost use Rattle.sre_automata.specs.Needles.{ContainsAny, Seeks};
+    ghost use Rattle.sre_automata.specs.Told.{ContainsAny, Seeks};
 
     ghost Value = { Hir };
 

@@ -4,9 +4,9 @@ use Rattle.sre_board.proofs.Terms.{slice_index_or, slice_get, refl, sym, ap, ◌
 use Rattle.sre_board.proofs.Terms.{inl, inr, length-take-le, append-nil, get_or_past, take-append_seam}
 use Rattle.sre_board.proofs.Terms.{get_or-append_seam, get_or-append, slice_get-get_or, slice_get_read, Frame, add-zero}
 use Rattle.sre_board.proofs.Terms.{take-append-drop, cases_lt, slice_get_cases}
-use Rattle.sre_board.specs.Chains.{frame_of, grown, table, Based}
+use Rattle.sre_board.specs.Choices.{frame_of, grown, table, Based}
 use Rattle.sre_board.specs.declared.chains.Node.{Node}
-use Rattle.sre_board.proofs.Listed.{got_more}
+use Rattle.sre_board.proofs.CounterStates.{got_more}
 
 abbrev Table : Type 0
 Table = List (List Frame)

@@ -6,7 +6,7 @@ use Rattle.sre_board.proofs.Terms.{bit_at_set_same, bit_at_set_other, same_Some,
 use Rattle.sre_board.proofs.Terms.{repeats, place_of, is_again, placed_from, Kept, kept_of, Entry, HoldsOneMore}
 use Rattle.sre_board.proofs.Terms.{BitsStay, BitsKept, Sets, HasSlot, Laid, ones_below, Row, same_point, HoldsStill}
 use Rattle.std.proofs.lemmas.Bool.{cases_order}
-use Rattle.sre_board.proofs.AlikeBySlot.{one_if, same_pair, loops_alike}
+use Rattle.sre_board.proofs.CounterStates.{one_if, same_pair, loops_alike}
 use Rattle.sre_board.proofs.CountingBits.{one_set, sum_set}
 use Rattle.sre_board.proofs.OneEntry.{entry_at}
 

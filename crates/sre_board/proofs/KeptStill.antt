@@ -6,10 +6,9 @@ use Rattle.sre_board.proofs.Terms.{slice_get_within, Frame, Kept, kept_of, Holds
 use Rattle.sre_board.proofs.Terms.{HasSlot, Laid, ones_below, radix, digit, HasNoRow, Row, get_or_append_left}
 use Rattle.sre_board.proofs.Terms.{get_or-append_right, length-replicate, Grows}
 use Rattle.std.proofs.Common.{sum_by}
-use Rattle.sre_board.proofs.AlikeBySlot.{slot_length}
+use Rattle.sre_board.proofs.CounterStates.{slot_length, got_before, got_still, got_more}
 use Rattle.sre_board.proofs.CountingBits.{sum_filled, none_in_zero}
 use Rattle.sre_board.proofs.KeptSpots.{still_kept}
-use Rattle.sre_board.proofs.Listed.{got_before, got_still, got_more}
 use Rattle.sre_board.proofs.OneEntry.{entry_at}
 
 -- a bit that is set is set in a longer list

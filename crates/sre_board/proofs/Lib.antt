@@ -1,22 +1,15 @@
-pub mod Listed
+pub mod CounterStates
 pub mod Undo
 pub mod ChainLaws
 pub mod Choosing
 pub mod InnermostRegion
-pub mod AlikeBySlot
 pub mod Remembering
 pub mod KeptSpots
 mod OpenSpots
 pub mod CountingBits
 pub mod KeptStill
-pub mod RowNumbers
+pub mod Rows
 pub mod OneEntry
-pub mod NoSlot
-pub mod RowsThere
-pub mod ShapesAdded
-pub mod RowsAdded
-pub mod FewRows
-pub mod LoopsRead
 pub mod OwnedBits
 pub mod AccountLaws
 pub mod Prepared

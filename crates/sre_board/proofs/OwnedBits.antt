@@ -10,8 +10,8 @@ use Rattle.std.proofs.lemmas.List.Sums.{sum_by-cons}
 use Rattle.sre_model.specs.Remembered.{sides}
 use Rattle.sre_model.specs.TreePrices.{cost_of}
 use Rattle.sre_turns.proofs.bound.TreeCosts.{Distinct, whole_costs}
-use Rattle.sre_board.proofs.AlikeBySlot.{digit_below}
-use Rattle.sre_board.proofs.RowsThere.{placed_below, within_lines}
+use Rattle.sre_board.proofs.CounterStates.{digit_below}
+use Rattle.sre_board.proofs.Rows.{placed_below, within_lines}
 
 -- a slot of some loops is below the number of their states
 pub slot_below : (ws shapes : List ℕ) (p j i before slot : ℕ) (fs : List Frame) → HasSlot ws p shapes j i before fs slot

@@ -6,12 +6,10 @@ use Rattle.sre_board.proofs.Terms.{slice_get_within, mul-le-mul_left, mul-le-mul
 use Rattle.sre_board.proofs.Terms.{slots, place_of, is_again, Counted, placed_from, Account, RowLies, EndsTable, Kept}
 use Rattle.sre_board.proofs.Terms.{HasRow, HasNoRow, NewRow, Capacity, BitsStay, BitsKept, Laid, Roomy, HasBit}
 use Rattle.sre_board.proofs.Terms.{most_words, Row, most_slots, SettledIn, same_station, same_number, Room, HasSlots}
-use Rattle.sre_turns.proofs.bound.NestedSlots.{slots_within}
+use Rattle.sre_turns.proofs.bound.NestedPlaces.{slots_within}
 use Rattle.sre_board.proofs.AccountLaws.{account_grows, lies_still}
-use Rattle.sre_board.proofs.FewRows.{fewer_rows}
-use Rattle.sre_board.proofs.LoopsRead.{lies_words}
-use Rattle.sre_board.proofs.RowsAdded.{more_words}
-use Rattle.sre_board.proofs.RowsThere.{bit_there}
+use Rattle.sre_board.proofs.Rows.{fewer_rows, more_words, bit_there}
+use Rattle.sre_board.proofs.CounterStates.{lies_words}
 
 abbrev NoneIn : List Row → ℕ → Type 0
 NoneIn rs place = (n : ℕ) (r : Row) → slice_get rs n ≡ Some r → r.place ≡ place → ⊥

@@ -31,8 +31,8 @@ pub use Rattle.sre_turns.specs.Settled.{Counted, SettledIn}
 pub use Rattle.sre_turns.specs.declared.Region.{Region}
 pub use Rattle.sre_board.specs.Accounts.{Account, BitOf, BitsOf, IsEnded, IsOwned, IsRoomy, IsSet, Room, RowLies}
 pub use Rattle.sre_board.specs.Accounts.{StaysEnded, charge, most_paid, positions_of, toll_at}
-pub use Rattle.sre_board.specs.Apart.{Apart, IsIn}
-pub use Rattle.sre_board.specs.Choices.{Fits, board_of, choice_of, down_to_region, is_tried, regions_in, regions_of}
+pub use Rattle.sre_board.specs.Choices.{Apart, IsIn, Fits, board_of, choice_of, down_to_region, is_tried, regions_in}
+pub use Rattle.sre_board.specs.Choices.{regions_of, SameUpTo, SetsMark, Trail, past_of, states, trail_of, undo, undone}
 pub use Rattle.sre_board.specs.Ends.{EndRight, EndsRight, EndsTable, HasEnd, HoldsEnd, HoldsNoEnd, HoldsOpenEnds}
 pub use Rattle.sre_board.specs.Ends.{HoldsOpenMore, HoldsSpotMore, IsOpenSpot, KeepsOpenEnds, KeepsSpotEnds, NumberOf}
 pub use Rattle.sre_board.specs.Ends.{TellsEnd, end_at, page_at, table_of}
@@ -45,6 +45,5 @@ pub use Rattle.sre_board.specs.Terms.{AllByRecursion, BoardValue, Choice, Frame,
 pub use Rattle.sre_board.specs.Terms.{Point, Run, Spot, StringCursor, Tried, TriedAgain, Trying, bit_at, choice}
 pub use Rattle.sre_board.specs.Terms.{is_again, lengthened, mark_at, most_slots, no_marks, place_of, place_under}
 pub use Rattle.sre_board.specs.Terms.{repeats, set_mark, slots, spot_at, sum_by}
-pub use Rattle.sre_board.specs.Trail.{SameUpTo, SetsMark, Trail, past_of, states, trail_of, undo, undone}
 pub use Rattle.sre_board.specs.declared.failures.Row.{Row}
 pub use Rattle.sre_board.specs.declared.saved.Saved.{Saved}

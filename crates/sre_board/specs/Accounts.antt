@@ -11,7 +11,7 @@ use Rattle.sre_turns.specs.Attempts.{Attempt}
 use Rattle.sre_turns.specs.Prices.{bit_toll}
 use Rattle.sre_model.specs.TreePrices.{cost_of}
 use Rattle.sre_turns.specs.Settled.{Counted}
-use Rattle.sre_board.specs.Apart.{Apart}
+use Rattle.sre_board.specs.Choices.{Apart}
 use Rattle.sre_board.specs.Ends.{EndsTable, HoldsEnd, NumberOf}
 use Rattle.sre_board.specs.Failures.{Kept, RowFor, Roomy, Laid, most_words}
 use Rattle.sre_board.specs.declared.failures.Row.{Row}

@@ -3,7 +3,7 @@
 //! A chain has a number, so a choice stores its loops as one number.
 
 ghost use Rattle.std.specs.Prelude.{true, false, ◌≡◌, ◌+◌, ◌<◌, ◌≤◌, ◌++◌, ◌∷◌, [], length, take, IfOk, slice_index_or};
-ghost use Rattle.sre_board.specs.Chains.{frame_of};
+ghost use Rattle.sre_board.specs.Choices.{frame_of};
 
 use sre_growth::Refusal;
 use sre_turns::Frame;
@@ -68,7 +68,7 @@ pub(crate) struct Chains<A: Allocator> {
 
 impl<A: Allocator> Model for Chains<A> {
     ghost use Rattle.std.specs.Prelude.{List};
-    ghost use Rattle.sre_board.specs.Chains.{table, Based};
+    ghost use Rattle.sre_board.specs.Choices.{table, Based};
     ghost use Rattle.sre_turns.specs.declared.Frame.{Frame};
 
     ghost Value = { List (List Frame) };

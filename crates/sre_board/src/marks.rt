@@ -3,7 +3,7 @@
 ghost use Rattle.std.specs.Prelude.{◌≡◌, ℕ, ◌+◌, ◌*◌, ◌^◌, ◌<◌, ◌≤◌, length, Option, None, Some, IfOk, true};
 ghost use Rattle.std.specs.Prelude.{slice_index_or, slice_set};
 ghost use Rattle.sre_board.specs.Terms.{no_marks, set_mark, mark_at, lengthened};
-ghost use Rattle.sre_board.specs.Trail.{restored, undo};
+ghost use Rattle.sre_board.specs.Choices.{restored, undo};
 
 use sre_growth::Refusal;
 use std::alloc::Allocator;

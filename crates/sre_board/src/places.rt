@@ -4,7 +4,7 @@
 
 ghost use Rattle.std.specs.Prelude.{◌≡◌, ℕ, ◌+◌, ◌<◌, [], length, MatchOption, Some, true, slice_get, slice_index_or};
 ghost use Rattle.sre_board.specs.Terms.{repeats, place_under, is_again, Again};
-ghost use Rattle.sre_turns.specs.AskedPlaces.{SaysOfBodies};
+ghost use Rattle.sre_turns.specs.Asked.{SaysOfBodies};
 ghost use Rattle.sre_board.specs.Failures.{AreRead};
 
 use crate::board::Board;

@@ -5,7 +5,7 @@
 
 ghost use Rattle.std.specs.Prelude.{◌≡◌, ◌+◌, ◌<◌, ◌≤◌, [], length, take, IfOk};
 ghost use Rattle.sre_board.specs.Terms.{no_marks, set_mark};
-ghost use Rattle.sre_board.specs.Trail.{states, SetsMark};
+ghost use Rattle.sre_board.specs.Choices.{states, SetsMark};
 
 use crate::marks::{Change, Marks};
 use sre_growth::Refusal;
@@ -20,7 +20,7 @@ pub(crate) struct Trail<A: Allocator> {
 }
 
 impl<A: Allocator> Model for Trail<A> {
-    ghost use Rattle.sre_board.specs.Trail.{Trail, trail_of};
+    ghost use Rattle.sre_board.specs.Choices.{Trail, trail_of};
 
     ghost Value = { Trail };
 

@@ -1,6 +1,5 @@
 pub mod Codes
-pub mod Finding
+pub mod Matches
 pub mod Rows
 pub mod Walks
-pub mod Matches
 pub mod Terms

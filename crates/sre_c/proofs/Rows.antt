@@ -7,7 +7,7 @@ use Rattle.sre_c.proofs.Terms.{asked_of, must_advance_of, Shown, match_shown, ma
 use Rattle.sre_c.proofs.Terms.{IsRow, IsWritten, KeepsBudget, IsSoFar, RowsKeep, WritesRows, Searched, suc, walk-next}
 use Rattle.sre_c.proofs.Terms.{first_found, steps_span, AreRows, no_limit, RowsGoOn, AreWritten, WritesNext, WritesSpan}
 use Rattle.sre_c.proofs.Terms.{Err, Memory, SreError}
-use Rattle.sre_c.proofs.Finding.{search_kept, own_kept}
+use Rattle.sre_c.proofs.Matches.{search_kept, own_kept}
 
 -- before the first match
 pub none_kept : {S : Type 0} {text : Ghosts S} (first : Request S text) (count n : ℕ) → count ≡ 0

@@ -12,13 +12,12 @@ pub use Rattle.sre_engine.proofs.CountLaws.{once}
 pub use Rattle.sre_engine.specs.Beginnings.{KnowsTest}
 pub use Rattle.sre_finder.proofs.Spans.{first_found, steps_span}
 pub use Rattle.sre_model.proofs.Props.{kept_tree}
-pub use Rattle.sre_model.proofs.Unique.{whole_same}
+pub use Rattle.sre_model.proofs.TreeOf.{whole_same}
 pub use Rattle.sre_model.proofs.WalkLaws.{walk-end, walk-next}
-pub use Rattle.sre_c.specs.Answered.{Answers, HasMatch, IsFound, IsTold, LeavesSteps, mark_number}
+pub use Rattle.sre_c.specs.Answered.{Answers, HasMatch, IsFound, IsTold, LeavesSteps, mark_number, KeepBudget}
+pub use Rattle.sre_c.specs.Answered.{KeepsBudget, no_limit}
 pub use Rattle.sre_c.specs.Beginnings.{KnowsFlags}
-pub use Rattle.sre_c.specs.Budgets.{KeepBudget, KeepsBudget, no_limit}
-pub use Rattle.sre_c.specs.Firsts.{Lacks}
-pub use Rattle.sre_c.specs.Given.{IsEnough, OfTree, asked_in, model_of}
+pub use Rattle.sre_c.specs.Given.{Lacks, IsEnough, OfTree, asked_in, model_of}
 pub use Rattle.sre_c.specs.Known.{IsKnown, hints_told, table_in}
 pub use Rattle.sre_c.specs.Replies.{Finds, Replies, told_of}
 pub use Rattle.sre_c.specs.Rows.{AreWritten, IsSoFar, RowsGoOn, RowsKeep, Searched, WritesNext, WritesRows, WritesSpan}

@@ -1,16 +1,52 @@
--- What an export reports of a match.
--- Public clauses rest on it.
-use Rattle.std.specs.Prelude.{ℕ, ◌≡◌, ◌<◌, ◌-◌, ◌^◌, List, length, slice_index, Bool, true, false, cond, Option, Some}
-use Rattle.std.specs.Prelude.{None, Ok}
-use Rattle.sre_c.specs.Terms.{Global, Tree, Whole, IsCode, mark_at, Asked, Match, Refused, Status, No, Yes, StepLimit}
-use Rattle.sre_c.specs.Terms.{Memory, NoCode, NoRoom, NotUtf8, FaultyTable}
+-- What an export reports of a match: a status, the match, and what is left of the call's steps.
+use Rattle.std.specs.Prelude.{ℕ, ◌≡◌, ◌≤◌, ◌+◌, ◌-◌, ◌*◌, ◌^◌, List, [], ◌∷◌, Bool, true, Option, Some, Result, Ok, ◌<◌}
+use Rattle.std.specs.Prelude.{length, slice_index, false, cond, None}
+use Rattle.sre_c.specs.Terms.{Status, No, Yes, StepLimit, Memory, NoCode, NoRoom, NotUtf8, FaultyTable, Global, Asked}
+use Rattle.sre_c.specs.Terms.{Match, asked_after, words_of, SreError, KeepsToSteps, Code, Tree, Whole, IsCode, mark_at}
+use Rattle.sre_c.specs.Terms.{Refused}
 use Rattle.sre_c.specs.declared.code.SreCode.{SreCode}
 use Rattle.sre_c.specs.declared.types.SreAsked.{SreAsked}
 use Rattle.sre_c.specs.declared.types.SreFound.{SreFound}
 use Rattle.sre_c.specs.Known.{table_in}
-use Rattle.sre_c.specs.Given.{asked_in, model_of, OfTree, IsEnough}
 use Rattle.sre_c.specs.Checked.{IsFaulty}
-use Rattle.sre_c.specs.Budgets.{KeepsBudget}
+use Rattle.sre_c.specs.Given.{asked_in, model_of, OfTree, IsEnough}
+
+-- the number of a status
+abbrev pub status_number : Status → ℕ
+status_number No = 0
+status_number Yes = 1
+status_number StepLimit = 2
+status_number Memory = 3
+status_number NoCode = 4
+status_number NoRoom = 5
+status_number NotUtf8 = 6
+status_number FaultyTable = 7
+
+-- a number is that of a status, which says so much
+pub record Tells (number : ℕ) (says : Status → Type 0) : Type 0 where
+  pub status : Status
+  pub numbered : status_number status ≡ number
+  pub said : says status
+
+-- the steps of a call without a limit
+abbrev pub no_limit : ℕ
+no_limit = 2 ^ 64 - 1
+
+-- of a budget a search leaves what the engine says. It runs the machine at most twice from each start up to the last
+pub record KeepsBudget (words : List ℕ) (a : Asked) (last : ℕ) (told : Result (Option Bool) SreError) (given left : ℕ)
+    : Type 0 where
+  pub code : Code
+  pub own : words_of code ≡ words
+  pub runs : ℕ
+  pub few : runs ≤ 2 * (last + 1 - a.start)
+  pub kept : KeepsToSteps Global a code told runs given left
+
+-- of a budget the searches for the next matches leave what the engine says, one after the other, each up to its match
+abbrev pub KeepBudget : List ℕ → Asked → List Match → ℕ → ℕ → Type 0
+KeepBudget words a [] given left = left ≡ given
+KeepBudget words a (m ∷ ms) given left =
+    (between : ℕ) × KeepsBudget words a m.start (Ok (Some true)) given between
+    × KeepBudget words (asked_after a m) ms between left
 
 -- a mark as a number: the greatest of 64 bits where it is not set
 abbrev pub mark_number : Option ℕ → ℕ

@@ -1,14 +1,22 @@
 -- What a caller passes, in the terms of the specification.
--- Public clauses rest on it.
-use Rattle.std.specs.Prelude.{ℕ, ◌≡◌, ◌<◌, ◌⊎◌, List, length, cond, Option, min}
-use Rattle.sre_c.specs.Terms.{Table, Tree, Whole, behind_block, Asked, Match, matched, found, Never, NonBoundary}
-use Rattle.sre_c.specs.Terms.{IsRemembered, step_bound, Status, NotUtf8}
+use Rattle.std.specs.Prelude.{◌≡◌, ◌≢◌, ◌<◌, ◌≤◌, ℕ, List, Option, length, MatchOption, ◌⊎◌, cond, min}
+use Rattle.sre_c.specs.Terms.{AllWithin, HoldsAt, Table, Tree, Whole, behind_block, Asked, Match, matched, found, Never}
+use Rattle.sre_c.specs.Terms.{NonBoundary, IsRemembered, step_bound, Status, NotUtf8}
 use Rattle.std.specs.Str.{chars, IsUtf8}
 use Rattle.sre_c.specs.declared.code.SreCode.{SreCode}
 use Rattle.sre_c.specs.declared.types.SreAsked.{SreAsked}
 use Rattle.sre_c.specs.declared.utf8.Utf8.{Utf8}
 use Rattle.sre_c.specs.declared.utf8.Utf8.TheVariants.{Ascii, Text, Invalid}
 use Rattle.sre_c.specs.Known.{table_in}
+
+-- from one place up to another no element is x
+abbrev pub Lacks : {X : Type 0} → List X → X → ℕ → ℕ → Type 0
+Lacks xs x from to = AllWithin (λ y. y ≢ x) xs from to
+
+-- the first place of x from a place on, if there is one
+abbrev pub IsFirstFrom : {X : Type 0} → List X → X → ℕ → Option ℕ → Type 0
+IsFirstFrom xs x from first = MatchOption first (Lacks xs x from (length xs))
+    (λ at. (from ≤ at) × (at < length xs) × HoldsAt (λ y. y ≡ x) xs at × Lacks xs x from at)
 
 -- what is asked of a table and the characters of a text
 abbrev pub asked_in : SreAsked → Table → List ℕ → Asked

@@ -1,13 +1,10 @@
-pub mod Statuses
-pub mod Given
-pub mod Known
-pub mod Checked
-pub mod Budgets
 pub mod Answered
+pub mod Given
+pub mod Checked
 pub mod Replies
 pub mod Walked
 pub mod Rows
 pub mod Bounded
 pub mod Beginnings
-pub mod Firsts
 pub mod Terms
+pub mod Known

@@ -5,8 +5,7 @@ use Rattle.std.specs.Prelude.{OnErr, Err}
 use Rattle.sre_c.specs.Terms.{Global, Tree, Whole, Asked, Match, matched, found, Refused, SreError, Shown, match_shown}
 use Rattle.sre_c.specs.Terms.{answer_of, Status, No, Yes, StepLimit, Memory, NoCode, NoRoom, NotUtf8, FaultyTable}
 use Rattle.sre_c.specs.declared.types.SreFound.{SreFound}
-use Rattle.sre_c.specs.Answered.{IsFound, IsTold, last_start}
-use Rattle.sre_c.specs.Budgets.{no_limit, KeepsBudget}
+use Rattle.sre_c.specs.Answered.{IsFound, IsTold, last_start, no_limit, KeepsBudget}
 
 -- the answer of a call without a step limit, which cannot exceed it
 abbrev pub told_of : {E : Type 0} → Result Bool E → Result (Option Bool) E

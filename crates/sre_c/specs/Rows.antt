@@ -8,7 +8,7 @@ use Rattle.sre_c.specs.Terms.{Stepped, given_up, GoesOnBehind, Status, No, Yes, 
 use Rattle.sre_c.specs.Terms.{NotUtf8, FaultyTable}
 use Rattle.sre_c.specs.declared.types.SreWalked.{SreWalked}
 use Rattle.sre_c.specs.Walked.{IsRow, IsWritten}
-use Rattle.sre_c.specs.Budgets.{no_limit, KeepsBudget, KeepBudget}
+use Rattle.sre_c.specs.Answered.{no_limit, KeepsBudget, KeepBudget}
 
 -- the matches of a request are those that are written, and those of the one that is asked next
 pub record IsSoFar {S : Type 0} {text : Ghosts S} (first next : Request S text) (width : ℕ) (w : SreWalked)

@@ -8,10 +8,9 @@ use Rattle.sre_c.specs.declared.code.SreCode.{SreCode}
 use Rattle.sre_c.specs.declared.types.SreAsked.{SreAsked}
 use Rattle.sre_c.specs.declared.types.SreWalked.{SreWalked}
 use Rattle.sre_c.specs.Known.{table_in}
-use Rattle.sre_c.specs.Given.{asked_in, OfTree, IsEnough}
 use Rattle.sre_c.specs.Checked.{IsFaulty}
-use Rattle.sre_c.specs.Answered.{mark_number}
-use Rattle.sre_c.specs.Budgets.{KeepsBudget, KeepBudget}
+use Rattle.sre_c.specs.Given.{asked_in, OfTree, IsEnough}
+use Rattle.sre_c.specs.Answered.{mark_number, KeepsBudget, KeepBudget}
 
 -- a last index as a number: the greatest of 64 bits where there is none
 abbrev pub index_number : ℤ → ℕ

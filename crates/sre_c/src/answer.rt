@@ -5,8 +5,7 @@ ghost use Rattle.sre_c.specs.Terms.{Refused, behind_block, SetsOf, uni_of, items
 ghost use Rattle.sre_c.specs.Terms.{words_of};
 ghost use Rattle.sre_c.specs.Known.{table_in};
 ghost use Rattle.sre_c.specs.Given.{asked_in};
-ghost use Rattle.sre_c.specs.Budgets.{no_limit};
-ghost use Rattle.sre_c.specs.Answered.{mark_number, IsFound, IsTold, Answers};
+ghost use Rattle.sre_c.specs.Answered.{no_limit, mark_number, IsFound, IsTold, Answers};
 ghost use Rattle.sre_c.specs.Replies.{Finds, IsReply, Replies};
 
 use crate::asks::{Asks, NO_LIMIT, answered};
@@ -59,7 +58,7 @@ fn copy_marks(from: &[Option<usize>], marks: &mut [usize]) -> bool
 }
 
 // Whether there is a match at the start of the range, or with `search` at any start in it.
-#[tactic(auto, using(crate::proofs::Finding::searched))]
+#[tactic(auto, using(crate::proofs::Matches::searched))]
 fn ask<S: StrDrive, H: Asks<S>>(
     alloc: Global,
     how: &mut H,

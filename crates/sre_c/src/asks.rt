@@ -2,7 +2,7 @@
 
 ghost use Rattle.std.specs.Prelude.{◌≡◌, ◌≤◌, ℕ, List, true, IfSome, ⊤};
 ghost use Rattle.sre_c.specs.Terms.{Table, uni_of, SetsOf, asked_of, code_of, items_of, behind_block, Suits, words_of};
-ghost use Rattle.sre_c.specs.Budgets.{no_limit};
+ghost use Rattle.sre_c.specs.Answered.{no_limit};
 ghost use Rattle.sre_c.specs.Replies.{told_of, Finds};
 ghost use Rattle.sre_c.specs.Rows.{Writes};
 

@@ -3,9 +3,8 @@
 ghost use Rattle.std.specs.Prelude.{◌≡◌, ◌≤◌, ℕ, List, length, IfSome, None};
 ghost use Rattle.sre_c.specs.Terms.{Table, Suits};
 ghost use Rattle.sre_c.specs.Known.{table_in};
-ghost use Rattle.sre_c.specs.Answered.{Answers};
+ghost use Rattle.sre_c.specs.Answered.{Answers, no_limit};
 ghost use Rattle.sre_c.specs.Walked.{Walks};
-ghost use Rattle.sre_c.specs.Budgets.{no_limit};
 
 use crate::answer::{answer, answer_in};
 use crate::asks::{Once, memory_in};

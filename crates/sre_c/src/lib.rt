@@ -7,13 +7,11 @@
 #![tactic(auto)]
 
 ghost use Rattle.std.specs.Prelude.{◌≡◌, ◌≤◌, length, None};
-ghost use Rattle.sre_c.specs.Statuses.{Tells};
+ghost use Rattle.sre_c.specs.Answered.{Tells, Answers, no_limit};
 ghost use Rattle.sre_c.specs.Known.{table_in};
-ghost use Rattle.sre_c.specs.Given.{InUtf8};
 ghost use Rattle.sre_c.specs.Checked.{TableChecked, CodeChecked};
-ghost use Rattle.sre_c.specs.Answered.{Answers};
+ghost use Rattle.sre_c.specs.Given.{InUtf8};
 ghost use Rattle.sre_c.specs.Walked.{begun_of, Walks};
-ghost use Rattle.sre_c.specs.Budgets.{no_limit};
 ghost use Rattle.sre_c.specs.Bounded.{Bounds};
 ghost use Rattle.sre_c.specs.Beginnings.{Begins};
 

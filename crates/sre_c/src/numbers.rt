@@ -3,7 +3,7 @@
 ghost use Rattle.std.specs.Prelude.{◌≡◌, ◌↔◌, ◌+◌, ◌<◌, ◌≤◌, IsTrue, true, false, length, IfSome, MatchOption};
 ghost use Rattle.std.proofs.Props.{props};
 ghost use Rattle.sre_chars.specs.Texts.{StandsInBytes};
-ghost use Rattle.sre_c.specs.Firsts.{Lacks, IsFirstFrom};
+ghost use Rattle.sre_c.specs.Given.{Lacks, IsFirstFrom};
 
 use sre_engine::{StrDrive, StringCursor};
 

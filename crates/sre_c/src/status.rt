@@ -23,7 +23,7 @@ pub enum Status {
 
 impl Status {
     ghost use Rattle.std.specs.Prelude.{◌≡◌};
-    ghost use Rattle.sre_c.specs.Statuses.{status_number};
+    ghost use Rattle.sre_c.specs.Answered.{status_number};
 
     /// The number of this status.
     pub fn number(self) -> u32

@@ -6,7 +6,7 @@ ghost use Rattle.sre_c.specs.Terms.{must_advance_of};
 ghost use Rattle.sre_c.specs.Known.{table_in};
 ghost use Rattle.sre_c.specs.Walked.{index_number, entry_of, begun_of, IsRow, Walks};
 ghost use Rattle.sre_c.specs.Rows.{Searched, WritesNext, WritesRows};
-ghost use Rattle.sre_c.specs.Budgets.{no_limit};
+ghost use Rattle.sre_c.specs.Answered.{no_limit};
 
 use crate::answer::{mark_number, request};
 use crate::asks::{Asks, NO_LIMIT, answered};

@@ -4,7 +4,7 @@ use Rattle.sre_code.proofs.Terms.{Hints, words_of, kept_tree, whole_same, ∥∥
 use Rattle.std.proofs.Props.{props}
 use Rattle.sre_code.specs.declared.code.Code.{Code}
 use Rattle.sre_code.specs.Codes.{items_of, uni_of, hints_of}
-use Rattle.sre_model.proofs.ClaimProps.{first_set_prop}
+use Rattle.sre_model.proofs.Props.{first_set_prop}
 use Rattle.sre_model.proofs.TreeOf.{tree_of, whole-read}
 
 -- the one tree of a code

@@ -9,8 +9,7 @@ pub mod Claimed
 pub mod FirstSets
 pub mod Walking
 pub mod Summaries
-pub mod MarksOutside
-pub mod ScanningLoops
+pub mod Scanning
 pub mod PricedItems
 pub mod PriceScans
 pub mod CodeBounds

@@ -13,7 +13,7 @@ use Rattle.sre_model.specs.Nesting.{by_nesting}
 use Rattle.sre_code.specs.Prices.{with_alternative, ArePriced, InsidePriced, LoopPriced, PossessivePriced, BranchPriced}
 use Rattle.sre_code.proofs.PricedItems.{held_same, joined_steps, joined_cost, loop_priced, possessive_priced}
 use Rattle.sre_code.proofs.PricedItems.{held_straight, item_priced}
-use Rattle.sre_code.proofs.ScanningLoops.{same_slots}
+use Rattle.sre_code.proofs.Scanning.{same_slots}
 
 -- items of which some are passed, whose prices are these; the tree of the rest
 pub record Left (e : ℕ) (ws : List ℕ) (i j : ℕ) (t : Tree) (p : Prices) (rest : Tree) : Type 0 where

@@ -8,7 +8,7 @@ use Rattle.sre_code.proofs.Terms.{Positive, Negative, look_opcode, ToRepeatPosse
 use Rattle.sre_code.proofs.Terms.{opcode_within, reads_within, IsUntil, LookAt}
 use Rattle.sre_model.specs.Tree.{Greedy, Lazy}
 use Rattle.sre_code.specs.declared.code.step.Part.TheVariants.{Body, Region}
-use Rattle.sre_model.proofs.Families.{is_loop, is_possessive, is_atomic, is_look, look_role}
+use Rattle.sre_model.proofs.Opcodes.{is_loop, is_possessive, is_atomic, is_look, look_role}
 use Rattle.sre_code.proofs.ReadBranches.{unclosed}
 use Rattle.sre_code.proofs.ReadItems.{fail_exactly, only_tests, no_opcode, info_nowhere, folded_at, greedy_there}
 use Rattle.sre_code.proofs.ReadItems.{lazy_there, possessive_there}

@@ -9,10 +9,10 @@ use Rattle.sre_code.proofs.Terms.{reads_within, alternative_long, reads_nothing,
 use Rattle.sre_code.proofs.Terms.{⊎_elim, Exists, ExistsElse, ReadsItem, ToCheckGroup, word_there, reads_moved}
 use Rattle.sre_code.proofs.Terms.{EndGives, MoreAt, More, TreesAt, BoundsExactly, NoTrees, Else}
 use Rattle.sre_code.specs.declared.code.step.Part.TheVariants.{Whole, Alternative, There, Absent}
-use Rattle.sre_model.proofs.Families.{is_item_role, is_exists}
+use Rattle.sre_model.proofs.Opcodes.{is_item_role, is_exists}
 use Rattle.sre_model.specs.Width.{least_width}
 use Rattle.sre_code.specs.declared.code.step.Bounds.{Bounds}
-use Rattle.sre_model.proofs.Widths.{least_held}
+use Rattle.sre_model.proofs.WideWays.{least_held}
 use Rattle.sre_chars.specs.declared.constants.SreOpcode.TheVariants as opcode
 
 -- What closes parts is what the grammar says.

@@ -14,8 +14,8 @@ use Rattle.sre_code.proofs.Terms.{at_low, category_low, literal_opcode, not_lite
 use Rattle.sre_code.proofs.Terms.{reference_opcode, run_opcode, TestOperands, TestEnds, HasTest, BadItem, set_moved}
 use Rattle.sre_code.proofs.Terms.{OfCategory, item_role, OnlyTests, RunAt}
 use Rattle.sre_model.specs.Tree.{Any, AnyAll, InCategory, NotLiteral}
-use Rattle.sre_model.proofs.Families.{is_category, is_literal, is_not_literal, is_set, is_at, is_mark, is_reference}
-use Rattle.sre_model.proofs.Families.{reference_role, role_at, run_role}
+use Rattle.sre_model.proofs.Opcodes.{is_category, is_literal, is_not_literal, is_set, is_at, is_mark, is_reference}
+use Rattle.sre_model.proofs.Opcodes.{reference_role, role_at, run_role}
 use Rattle.sre_chars.specs.declared.constants.SreOpcode.TheVariants as opcode
 
 -- What reading a single word returns.

@@ -15,19 +15,19 @@ pub use Rattle.sre_chars.specs.Numbers.{at_number, opcode_number}
 pub use Rattle.sre_chars.specs.declared.constants.SreAtCode.{SreAtCode}
 pub use Rattle.sre_chars.specs.declared.constants.SreCatCode.{SreCatCode}
 pub use Rattle.sre_chars.specs.declared.constants.SreOpcode.TheVariants.{NEGATE}
-pub use Rattle.sre_model.proofs.CodesRead.{category_unlike, category_within, opcode_unlike, word_known}
-pub use Rattle.sre_model.proofs.Families.{HasRole, is_branch, item_here, item_role, no_item, role_here, test_here}
+pub use Rattle.sre_model.proofs.Opcodes.{category_unlike, category_within, opcode_unlike, word_known, HasRole}
+pub use Rattle.sre_model.proofs.Opcodes.{is_branch, item_here, item_role, no_item, role_here, test_here, are_words}
+pub use Rattle.sre_model.proofs.Opcodes.{at_low, category_low, opcode_low, opcode_moved, opcode_within, same_opcode}
+pub use Rattle.sre_model.proofs.Opcodes.{word_at, word_moved, word_of, word_past, word_there, word_within}
 pub use Rattle.sre_model.proofs.Members.{big_charset_says, big_charset_there, category_says, category_there}
 pub use Rattle.sre_model.proofs.Members.{charset_room, charset_says, folded_range_room, folded_range_says, left_all}
 pub use Rattle.sre_model.proofs.Members.{left_nothing, left_past, left_there, left_turned, negated, nothing_left}
 pub use Rattle.sre_model.proofs.Members.{only_items, range_room, range_says, set_begins, single_room, single_says}
-pub use Rattle.sre_model.proofs.Places.{alternative_long, branch_past, operands_past, reads_moved, reads_nothing}
-pub use Rattle.sre_model.proofs.Places.{reads_within, set_moved, set_within, test_past}
+pub use Rattle.sre_model.proofs.TreeOf.{alternative_long, branch_past, operands_past, reads_moved, reads_nothing}
+pub use Rattle.sre_model.proofs.TreeOf.{reads_within, set_moved, set_within, test_past, item_same, test_same}
+pub use Rattle.sre_model.proofs.TreeOf.{whole_same}
 pub use Rattle.sre_model.proofs.Props.{kept_tree}
-pub use Rattle.sre_model.proofs.Unique.{item_same, test_same, whole_same}
-pub use Rattle.sre_model.proofs.Widths.{width_held}
-pub use Rattle.sre_model.proofs.Words.{are_words, at_low, category_low, opcode_low, opcode_moved, opcode_within}
-pub use Rattle.sre_model.proofs.Words.{same_opcode, word_at, word_moved, word_of, word_past, word_there, word_within}
+pub use Rattle.sre_model.proofs.WideWays.{width_held}
 pub use Rattle.sre_model.specs.Claims.{are_overlaps, behind_adjacent, behind_literals, behind_spread, has_flag}
 pub use Rattle.sre_model.specs.Folding.{Folding, of_branch, of_item, of_parts, of_tree}
 pub use Rattle.sre_model.specs.Grammar.{AreItems, BlocksBelow, BytesBelow, JumpsTo, ReadsItem, ReadsSet, TestOperands}
@@ -45,25 +45,21 @@ pub use Rattle.sre_model.specs.TreePrices.{scan_price, steps_of}
 pub use Rattle.sre_model.specs.Width.{item_width}
 pub use Rattle.sre_code.specs.AsciiSet.{contains}
 pub use Rattle.sre_code.specs.AsciiSets.{AsciiLeft}
-pub use Rattle.sre_code.specs.Borders.{Border, Longest, Right, RightUpTo}
+pub use Rattle.sre_code.specs.Hints.{Border, Longest, Right, RightUpTo, Fronts, HasBlock, Ends, IsLiteralAt, LeftAt}
+pub use Rattle.sre_code.specs.Hints.{LeftBehind, MarksPassed, NoneLeft, Tells, TellsEach, IsSetUpTo}
 pub use Rattle.sre_code.specs.Bounds.{CountedTold, room_by}
 pub use Rattle.sre_code.specs.Codes.{words_of}
 pub use Rattle.sre_code.specs.Descent.{Fails, HasWhole, Same, StackRest, WholeFrom, work}
-pub use Rattle.sre_code.specs.Fronts.{Fronts, HasBlock}
 pub use Rattle.sre_code.specs.Hinted.{Confirmed}
-pub use Rattle.sre_code.specs.Instructions.{Behind, NoneBehind, own_words}
-pub use Rattle.sre_code.specs.Prefixes.{Ends, IsLiteralAt, LeftAt, LeftBehind, MarksPassed, NoneLeft}
+pub use Rattle.sre_code.specs.Scans.{Behind, NoneBehind, own_words, AreTold, ToldAt, IsSummary, forking, noted}
 pub use Rattle.sre_code.specs.Prices.{AreHeld, BodyPriced, IsHeld, IsItemPrice, IsPrice, ItemPriced, PricedAt, PricedBy}
 pub use Rattle.sre_code.specs.Prices.{TreePriced, closed_price, cost_at, joined, kind_of, loop_price, passed}
-pub use Rattle.sre_code.specs.Prices.{possessive_price, run_price, steps_at, straight_price}
+pub use Rattle.sre_code.specs.Prices.{possessive_price, run_price, steps_at, straight_price, Held}
 pub use Rattle.sre_code.specs.Reading.{FoldedAt, IsFault, IsSet, NoCode, NoSet, NoSetItem, NoTest, ReadsTest, SameSets}
 pub use Rattle.sre_code.specs.Reading.{SetAt, SetItemEnds, SetItemExactly, TestEnds, TestExactly}
-pub use Rattle.sre_code.specs.Saturating.{Held}
-pub use Rattle.sre_code.specs.SlotScans.{AreTold, ToldAt}
 pub use Rattle.sre_code.specs.Steps.{BoundsExactly, Closes, Closing, Else, EndGives, Exactly, IsEnd, IsInside, IsUntil}
 pub use Rattle.sre_code.specs.Steps.{ItemAt, Leaves, LookAt, More, MoreAt, NoTrees, Nowhere, OnlyTests, Remains, RunAt}
 pub use Rattle.sre_code.specs.Steps.{TreesAt, Unclosed, next}
-pub use Rattle.sre_code.specs.Summaries.{IsSummary, forking, noted}
 pub use Rattle.sre_code.specs.Terms.{Charset, Decides, HasFirstSet, HasSet, IsCode, Item, Loop, Opcode, Operands, Order}
 pub use Rattle.sre_code.specs.Terms.{Reads, ReadsBranch, Role, SetItem, SetStands, SreOpcode, Table, Test, ToBranch}
 pub use Rattle.sre_code.specs.Terms.{ToGroupAtomically, ToLook, ToMark, ToRefer, ToRepeat, ToRepeatPossessively, ToRun}
@@ -83,7 +79,6 @@ pub use Rattle.sre_code.specs.declared.code.step.Step.{Step}
 pub use Rattle.sre_code.specs.declared.code.step.Step.TheVariants.{Opens, Past}
 pub use Rattle.sre_code.specs.declared.code.summary.Summary.{Summary}
 pub use Rattle.sre_chars.specs.Tables.{is_between, ascii_table}
-pub use Rattle.sre_code.specs.FirstSets.{Tells, TellsEach, IsSetUpTo}
 pub use Rattle.sre_model.specs.LooksBehind.{by_backs, by_longest, backs, longest_lookbehind}
 pub use Rattle.sre_model.specs.Standing.{HasTest, ItemSays, AreWords, VerdictLeft}
 pub use Rattle.std.proofs.Math.Bool.{or-true, or-false, or_assoc, and_comm}

@@ -9,7 +9,7 @@ use Rattle.sre_code.proofs.Terms.{ToBranch, ToRun, ToRepeat, ToRepeatPossessivel
 use Rattle.sre_code.proofs.Terms.{role_here, item_here, Word, skip, until_opcode, Operands, Reads, ReadsItem}
 use Rattle.sre_code.proofs.Terms.{ReadsBranch, test_past, reads_within, operands_past, alternative_long, ToFail, ToEnd}
 use Rattle.sre_code.proofs.Terms.{ToJump, ToLoop}
-use Rattle.sre_model.proofs.Families.{test_kind, test_role, until_role}
+use Rattle.sre_model.proofs.Opcodes.{test_kind, test_role, until_role}
 use Rattle.sre_chars.specs.declared.constants.SreOpcode.TheVariants as opcode
 
 -- The address of the next instruction, by what the instruction before it is.

@@ -1,20 +1,22 @@
--- Prices of items as they are computed: the steps and costs they come to, whatever follows and whatever loops are
--- around them.
--- Definitions for the check's contracts; what sre_engine makes public does not rest on it.
-use Rattle.std.specs.Prelude.{ℕ, ◌+◌, ◌-◌, ◌*◌, ◌^◌, ◌≡◌, ◌<◌, ◌≤◌, Bool, true, false, ◌&&◌, cond, max, List, Option}
-use Rattle.std.specs.Prelude.{Some, None}
+-- Prices of items as they are computed, by numbers that saturate at 64 bits: the steps and costs they come to, whatever
+-- follows and whatever loops are around them.
+use Rattle.std.specs.Prelude.{ℕ, ◌-◌, ◌^◌, ◌≡◌, min, ◌+◌, ◌*◌, ◌<◌, ◌≤◌, Bool, true, false, ◌&&◌, cond, max, List}
+use Rattle.std.specs.Prelude.{Option, Some, None}
 use Rattle.sre_code.specs.Terms.{SreOpcode, Tree, Item, Loop, Trees, Order, Word, skip, Opcode, Operands, Reads}
 use Rattle.sre_code.specs.Terms.{ReadsBranch, Role, ToFail, ToRun, ToBranch, ToRepeat, ToRepeatPossessively}
 use Rattle.sre_code.specs.Terms.{ToGroupAtomically, ToLook, role, refers, nesting, scan_price, Branch, PossessiveLoop}
 use Rattle.sre_code.specs.Terms.{Atomic, PossessiveRun, by_references, of_item, by_nesting, steps_of, item_steps}
 use Rattle.sre_code.specs.Terms.{other_ends, cost_of, item_cost, most_steps}
-use Rattle.sre_code.specs.Saturating.{Held}
-use Rattle.sre_code.specs.Instructions.{Behind, NoneBehind}
+use Rattle.sre_code.specs.Scans.{Behind, NoneBehind}
 use Rattle.sre_code.specs.declared.code.prices.Price.{Price}
 use Rattle.sre_code.specs.declared.code.prices.Prices.{Prices}
 use Rattle.sre_code.specs.declared.code.prices.PricedItem.{PricedItem}
 use Rattle.sre_code.specs.declared.code.prices.Kind.{Kind}
 use Rattle.sre_code.specs.declared.code.prices.Kind.TheVariants as kind
+
+-- x, or the greatest number of 64 bits where x is above it
+pub record Held (x r : ℕ) : Type 0 where
+  pub is : r ≡ min x (2 ^ 64 - 1)
 
 -- what a price comes to, where b steps follow, under loops of one state
 abbrev pub steps_at : Price → ℕ → ℕ

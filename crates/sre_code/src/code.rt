@@ -12,7 +12,7 @@ ghost use Rattle.sre_code.specs.Terms.{Tree, Whole, marks_in_regions, IsCode, be
 ghost use Rattle.sre_model.specs.References as references;
 ghost use Rattle.sre_model.specs.LooksBehind as looks_behind;
 ghost use Rattle.sre_code.specs.Hinted.{Confirmed};
-ghost use Rattle.sre_code.specs.Summaries.{IsSummary};
+ghost use Rattle.sre_code.specs.Scans.{IsSummary};
 ghost use Rattle.sre_model.specs.Grammar.{AreItems, HasOneTree};
 ghost use Rattle.sre_code.specs.Refusals.{place_of};
 ghost use Rattle.sre_code.specs.StepBounds.{IsStepBound, HasNoStepBound};

@@ -1,7 +1,7 @@
 -- What the check of a part says.
 -- Definitions for the check's contracts; the public clauses rest on parts.
 use Rattle.std.specs.Prelude.{ℕ, ◌+◌, ◌≤◌, ◌<◌, ◌≡◌, true, List, map, Result, Ok, Err}
-use Rattle.sre_model.specs.Lawful.{LawfulTree, LawfulTrees}
+use Rattle.sre_model.specs.Written.{LawfulTree, LawfulTrees}
 use Rattle.sre_emit.specs.Parts.{Part, Item, tree_of, item_of, in_order, alternatives, has_alternatives}
 use Rattle.sre_emit.specs.Parts.{item_has_alternatives, all, some_parts, most, depth, item_depth}
 use Rattle.sre_emit.specs.Errors.{EmitError, TooDeep, BadPart}

@@ -5,7 +5,7 @@ pub use Rattle.sre_model.specs.Ways.{unlimited}
 pub use Rattle.sre_model.specs.Grammar.{Whole, WholeItems, Word, behind_block, fits_block, has_block}
 pub use Rattle.sre_model.specs.Standing.{AreWords}
 pub use Rattle.sre_model.specs.Width.{capped, item_width, least_width, width}
-pub use Rattle.sre_model.specs.Lawful.{LawfulSet, LawfulSetItem, LawfulTest, LawfulTree, LawfulTrees, NumbersBelow}
+pub use Rattle.sre_model.specs.Written.{LawfulSet, LawfulSetItem, LawfulTest, LawfulTree, LawfulTrees, NumbersBelow}
 pub use Rattle.sre_model.specs.Written.{alternative, branch_words, code_words, item_words, packed, repeated}
 pub use Rattle.sre_model.specs.Written.{set_item_words, set_words, test_words, tree_words}
 pub use Rattle.sre_model.specs.Claims.{are_overlaps, is_literal}

@@ -1,7 +1,7 @@
 -- The tree of a part, whether it has one, and how deep parts are nested in it.
 -- Public clauses rest on it.
 use Rattle.std.specs.Prelude.{ℕ, ◌+◌, ◌≡◌, max, Bool, true, false, ◌&&◌, List, [], ◌∷◌, map, Some, None}
-use Rattle.sre_model.specs.Lawful.{LawfulTree, LawfulItem}
+use Rattle.sre_model.specs.Written.{LawfulTree, LawfulItem}
 use Rattle.sre_emit.specs.declared.part.Fold.{Fold}
 use Rattle.sre_emit.specs.declared.part.RunKind.{RunKind}
 use Rattle.sre_emit.specs.declared.part.SetItem.{SetItem}

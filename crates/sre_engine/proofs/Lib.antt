@@ -1,15 +1,13 @@
 mod Terms
-pub mod LeadingStarts
+pub mod Leading
 pub mod Starting
 pub mod FirstSets
-pub mod Leading
 pub mod Steps
 pub mod PrefixWays
 pub mod Looking
 pub mod Carrying
-pub mod FirstMembers
 pub mod Doubled
 pub mod Hinting
 pub mod Spending
 pub mod CountLaws
-pub mod CountRows
+pub mod LeadingStarts

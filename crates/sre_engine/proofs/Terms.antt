@@ -16,14 +16,15 @@ pub use Rattle.sre_board.proofs.AccountLaws.{account_few}
 pub use Rattle.sre_code.proofs.AsciiMembers.{told}
 pub use Rattle.sre_code.proofs.Borders.{overlaps_right}
 pub use Rattle.sre_code.proofs.Checked.{code_confirmed, code_tree, items_whole, whole_items, whole_of}
-pub use Rattle.sre_code.specs.Borders.{Right}
+pub use Rattle.sre_code.specs.Hints.{Right}
 pub use Rattle.sre_machine.specs.Memos.{Begins, Recalls}
 pub use Rattle.sre_machine.specs.Paying.{HoldsBits, RunSettles, RunStops, run_cost}
 pub use Rattle.sre_machine.specs.Runners.{AttemptCosts, AttemptDecides, Began, IsReady, RunnerValue}
 pub use Rattle.sre_model.proofs.Bounds.{longest_run-fits}
 pub use Rattle.sre_model.proofs.Each.{each-cond}
-pub use Rattle.sre_model.proofs.Families.{HasRole, is_run, item_role, role_here, role_same, run_role, test_kind}
-pub use Rattle.sre_model.proofs.Families.{test_role}
+pub use Rattle.sre_model.proofs.Opcodes.{HasRole, is_run, item_role, role_here, role_same, run_role, test_kind}
+pub use Rattle.sre_model.proofs.Opcodes.{test_role, opcode_low, opcode_within, same_opcode, same_word, word_of}
+pub use Rattle.sre_model.proofs.Opcodes.{word_within}
 pub use Rattle.sre_model.proofs.FirstCharacters.{at_bars_there, at_leads, at_operand, atomic_leads, body_leads}
 pub use Rattle.sre_model.proofs.FirstCharacters.{body_operand, branch_bars, branch_there, leads_further, leads_start}
 pub use Rattle.sre_model.proofs.FirstCharacters.{leads_tree, look_leads, look_operand, mark_leads, only_none, or_none}
@@ -34,15 +35,13 @@ pub use Rattle.sre_model.proofs.LeadingWords.{RunAhead, ahead_within, behind_tes
 pub use Rattle.sre_model.proofs.LeadingWords.{run_stands, run_test, test_ahead, test_further, whole_ahead}
 pub use Rattle.sre_model.proofs.Longest.{run_has}
 pub use Rattle.sre_model.proofs.Passing.{read_passes}
-pub use Rattle.sre_model.proofs.Places.{alternative_long}
-pub use Rattle.sre_model.proofs.TreeOf.{tree_of}
+pub use Rattle.sre_model.proofs.TreeOf.{alternative_long, tree_of}
 pub use Rattle.sre_model.proofs.WalkLaws.{most_matches-falls, walk-bound, walk-in_order, walk-next}
 pub use Rattle.sre_model.proofs.WideWays.{EachFar, Far, narrow_none, on-far, shorter, ways-far}
-pub use Rattle.sre_model.proofs.Words.{opcode_low, opcode_within, same_opcode, same_word, word_of, word_within}
 pub use Rattle.sre_model.specs.Claims.{EachTestIn, FirstIn, HasFirstSet, TestIn, are_overlaps, behind_adjacent}
 pub use Rattle.sre_model.specs.Claims.{behind_literals, behind_marks, behind_prefix, behind_spread, confirmed_prefix}
-pub use Rattle.sre_model.specs.Claims.{has_flag, has_prefix, is_at_end, is_literal, overlap_words}
-pub use Rattle.sre_model.specs.Claims.{prefix_length, prefix_skip, prefix_words, then_spread}
+pub use Rattle.sre_model.specs.Claims.{has_flag, has_prefix, is_at_end, is_literal, overlap_words, prefix_length}
+pub use Rattle.sre_model.specs.Claims.{prefix_skip, prefix_words, then_spread}
 pub use Rattle.sre_model.specs.FirstCharacters.{is_end}
 pub use Rattle.sre_model.specs.Found.{first_accepted}
 pub use Rattle.sre_model.specs.Grammar.{ReadsItem, has_block, item_opcode, run_opcode, test_opcode}

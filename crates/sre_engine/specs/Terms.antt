@@ -20,13 +20,13 @@ pub use Rattle.sre_code.specs.declared.ascii_set.AsciiSet.{AsciiSet}
 pub use Rattle.sre_code.specs.declared.code.Code.{Code}
 pub use Rattle.sre_code.specs.declared.code.Hints.{Hints}
 pub use Rattle.sre_growth.specs.Refusal.{Refused}
-pub use Rattle.sre_machine.specs.Allowances.{Halted, is_limited, left_of}
+pub use Rattle.sre_machine.specs.Spending.{Halted, is_limited, left_of}
 pub use Rattle.sre_machine.specs.Memos.{MemoValue}
 pub use Rattle.sre_machine.specs.Paying.{Remembering, each_of, rows_from, window_of}
 pub use Rattle.sre_machine.specs.declared.allowance.Allowance.{Allowance}
 pub use Rattle.sre_machine.specs.declared.turns.Halt.{Halt}
 pub use Rattle.sre_model.proofs.Props.{set_prop}
-pub use Rattle.sre_model.proofs.Unique.{test_same}
+pub use Rattle.sre_model.proofs.TreeOf.{test_same}
 pub use Rattle.sre_model.specs.Anchors.{is_anchored}
 pub use Rattle.sre_model.specs.Characters.{holds, is_member}
 pub use Rattle.sre_model.specs.FirstCharacters.{HasAlternatives, HasTree, Leads, NoWay, NoneOf, NotPassed, TreeStands}

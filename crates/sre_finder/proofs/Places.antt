@@ -9,7 +9,7 @@ use Rattle.sre_patterns.specs.declared.encoding.Encoding.TheVariants.{Bytes, Asc
 use Rattle.sre_patterns.specs.Covers.{InBytes, InUtf8, read_utf8}
 use Rattle.sre_patterns.proofs.OverBytes.{bytes-seen, bytes-places}
 use Rattle.sre_patterns.proofs.OverUtf8.{utf8-seen}
-use Rattle.sre_patterns.proofs.AsciiSeen.{ascii-of-utf8}
+use Rattle.sre_patterns.proofs.SidesSeen.{ascii-of-utf8}
 
 -- bytes up to a position
 pub bytes_seen : (text hay : List ℕ) (end : ℕ) → ((i : ℕ) → Fits w8 (get_or text i 0)) → end ≤ length text

@@ -14,7 +14,7 @@ pub use Rattle.sre_code.specs.Codes.{hints_of}
 pub use Rattle.sre_engine.specs.Starts.{NoneBetween}
 pub use Rattle.sre_model.specs.Found.{asked_after, at_start, first_accepted, is_accepted, subject_of}
 pub use Rattle.sre_model.specs.Ways.{Way, ways}
-pub use Rattle.sre_patterns.specs.Exact.{ExactTree}
+pub use Rattle.sre_patterns.specs.Covers.{ExactTree}
 pub use Rattle.sre_request.specs.Requests.{must_advance_of}
 pub use Rattle.sre_finder.specs.Finders.{Covering, CoveringAny, EndStands, Filters, NoneLeftOfAny, SamePatterns}
 pub use Rattle.sre_finder.specs.Kepts.{Suits}

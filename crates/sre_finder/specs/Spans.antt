@@ -5,7 +5,7 @@ use Rattle.sre_finder.specs.Terms.{Re, meaning, Hir, Ghosts, StringCursor, Tree,
 use Rattle.sre_finder.specs.Terms.{words_of, items_of, uni_of, Code, Request, string_of, start_of, end_of, code_of}
 use Rattle.sre_finder.specs.Terms.{asked_of, stands_in, Shown, match_shown, view_of, Encoding}
 use Rattle.regex_hir.specs.Matches.{IsMinLen}
-use Rattle.sre_patterns.specs.Exact.{ExactTree}
+use Rattle.sre_patterns.specs.Covers.{ExactTree}
 use Rattle.sre_finder.specs.declared.span_finder.Known.{Known}
 use Rattle.sre_finder.specs.declared.span_finder.Known.TheVariants as known
 

@@ -1,9 +1,8 @@
-pub mod AnswerTexts
+pub mod Parts
 pub mod Cuts
 pub mod FileLines
 pub mod Numbers
 pub mod Pairs
-pub mod Parts
 pub mod Words
 pub mod Lines
 pub mod Causes

@@ -4,7 +4,7 @@ use Rattle.sre_machine.proofs.Terms.{no_marks, Run, AreIdle, Asks, Kept, HoldsNo
 use Rattle.sre_machine.proofs.Terms.{remembers_still, MemoValue, Covers, Recalls, EndsStay, MarklessRegions, EndsTable}
 use Rattle.sre_machine.proofs.Terms.{EndsRight, HoldsNoEnd, HoldsNone, BitsStay, Grows, right_none, remembers_none}
 use Rattle.sre_machine.proofs.Terms.{MarkedValue, Recalled, MarkedStays}
-use Rattle.sre_machine.proofs.AskedGroups.{covers_told}
+use Rattle.sre_machine.proofs.Analyses.{covers_told}
 
 -- nothing is kept
 pub recalls_none : (r : Run) (k : Kept) (m : MarkedValue) (e : EndsTable) (h : Bool) → HoldsNone k → HoldsNone m.kept

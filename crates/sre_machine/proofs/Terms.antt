@@ -1,9 +1,9 @@
 -- The words and the laws from elsewhere, and the words of specs/, which proofs of this crate name.
 pub use Rattle.std.proofs.Common.{Bool, Err, IfNone, IfOk, IfSome, List, None, Ok, Option, Result, Some, [], add-mul}
-pub use Rattle.std.proofs.Common.{ap, arith, cond, drop, false, inl, inr, length, map, max, min, mul-le-mul}
-pub use Rattle.std.proofs.Common.{nat_lt, not, one-mul, refl, rules, slice_get, slice_index_or, slice_set, subst, suc}
-pub use Rattle.std.proofs.Common.{sym, true, zero, ◌&&◌, ◌*◌, ◌++◌, ◌+◌, ◌-◌, ◌/◌, ◌<◌, ◌^◌, ◌||◌, ◌∙◌, ◌∷◌, ◌≡◌, ◌≢◌}
-pub use Rattle.std.proofs.Common.{◌≤◌, ◌⊎◌, ℕ}
+pub use Rattle.std.proofs.Common.{ap, arith, cond, drop, false, inl, inr, length, map, max, min, mul-le-mul, nat_lt}
+pub use Rattle.std.proofs.Common.{not, one-mul, refl, rules, slice_get, slice_index_or, slice_set, subst, suc, sym}
+pub use Rattle.std.proofs.Common.{true, zero, ◌&&◌, ◌*◌, ◌++◌, ◌+◌, ◌-◌, ◌/◌, ◌<◌, ◌^◌, ◌||◌, ◌∙◌, ◌∷◌, ◌≡◌, ◌≢◌, ◌≤◌}
+pub use Rattle.std.proofs.Common.{◌⊎◌, ℕ}
 pub use Rattle.std.proofs.lemmas.Bool.{cases_lt, leb-true, not-true, true≢false}
 pub use Rattle.std.proofs.lemmas.Bool.Decides.{nat_tests}
 pub use Rattle.std.proofs.lemmas.List.{append-nil}
@@ -16,7 +16,7 @@ pub use Rattle.sre_board.proofs.EndsKept.{end_told, none_told, right_none, right
 pub use Rattle.sre_board.proofs.EndsTold.{bit_numbered, end_told_before, no_end_outside}
 pub use Rattle.sre_board.proofs.Prepared.{account_prepared, bit_prepared}
 pub use Rattle.sre_board.proofs.Remembering.{remembers_more, remembers_none, remembers_still}
-pub use Rattle.sre_board.proofs.RowsAdded.{rows_stay}
+pub use Rattle.sre_board.proofs.Rows.{rows_stay}
 pub use Rattle.sre_board.specs.Accounts.{BitOf, BitsOf, IsEnded, StaysEnded, most_paid, toll_at}
 pub use Rattle.sre_board.specs.Ends.{EndsRight, EndsTable, HoldsEnd, HoldsNoEnd, HoldsOpenMore}
 pub use Rattle.sre_board.specs.Failures.{BitsStay, Entry, Grows, HasBit, HoldsNone, HoldsOneMore, IsOpen, KeepsSpot}
@@ -34,14 +34,13 @@ pub use Rattle.sre_code.specs.AsciiSets.{AreTold, HoldsFor}
 pub use Rattle.sre_code.specs.Codes.{words_of}
 pub use Rattle.sre_code.specs.declared.ascii_set.AsciiSet.{AsciiSet}
 pub use Rattle.sre_code.specs.declared.code.Code.{Code}
-pub use Rattle.sre_model.proofs.CodesRead.{word_known}
+pub use Rattle.sre_model.proofs.Opcodes.{word_known, are_words, opcode_within, same_number, same_opcode, same_word}
+pub use Rattle.sre_model.proofs.Opcodes.{word_of, word_there, word_within}
 pub use Rattle.sre_model.proofs.Longest.{run_at_most, run_inside}
 pub use Rattle.sre_model.proofs.Members.{negated, nothing_left}
 pub use Rattle.sre_model.proofs.Passing.{stands_at_own}
 pub use Rattle.sre_model.proofs.TreeOf.{tree_of, whole-read}
 pub use Rattle.sre_model.proofs.TurnBounds.{last_spent, turn_spent}
-pub use Rattle.sre_model.proofs.Words.{are_words, opcode_within, same_number, same_opcode, same_word, word_of}
-pub use Rattle.sre_model.proofs.Words.{word_there, word_within}
 pub use Rattle.sre_model.specs.Characters.{is_member, item_holds, verdict}
 pub use Rattle.sre_model.specs.Cost.{cost, ending}
 pub use Rattle.sre_model.specs.Grammar.{TestOperands, Whole, WholeItems, run_opcode, test_opcode, until_opcode}
@@ -65,17 +64,15 @@ pub use Rattle.sre_request.specs.AsciiSets.{TakesAscii}
 pub use Rattle.sre_request.specs.Requests.{code_of}
 pub use Rattle.sre_request.specs.Runs.{Standing}
 pub use Rattle.sre_request.specs.declared.admitted.Admitted.{Admitted}
-pub use Rattle.sre_turns.proofs.analyses.Admitting.{leads_admit}
-pub use Rattle.sre_turns.proofs.analyses.AskedPlaces.{IsNarrower, IsSameBut, one_place_told, told_everywhere}
-pub use Rattle.sre_turns.proofs.analyses.AskedPlaces.{whole_asks}
+pub use Rattle.sre_turns.proofs.Analyses.{leads_admit, IsNarrower, IsSameBut, one_place_told, told_everywhere}
+pub use Rattle.sre_turns.proofs.Analyses.{whole_asks}
 pub use Rattle.sre_turns.proofs.bound.Faring.{alternatives_free, longer_free, newest_tried, nothing_waits, run_code}
 pub use Rattle.sre_turns.proofs.bound.Faring.{shorter_free}
 pub use Rattle.sre_turns.proofs.bound.FaringInRegions.{opened_first}
 pub use Rattle.sre_turns.proofs.bound.GrantedTolls.{no_scan, no_toll, split_few, toll_few}
 pub use Rattle.sre_turns.proofs.bound.HereMoves.{here_forked, here_settled}
 pub use Rattle.sre_turns.proofs.bound.SettledMoves.{settled_behind}
-pub use Rattle.sre_turns.proofs.bound.Steps.{role_there}
-pub use Rattle.sre_turns.proofs.bound.TreePrices.{steps_behind}
+pub use Rattle.sre_turns.proofs.bound.TreePrices.{role_there, steps_behind}
 pub use Rattle.sre_turns.proofs.memoization.Asked.{few_unmarked, from_alike}
 pub use Rattle.sre_turns.proofs.memoization.Bodies.{markless_regions}
 pub use Rattle.sre_turns.proofs.memoization.BodyEnds.{end_taken, tried_end}
@@ -104,22 +101,21 @@ pub use Rattle.sre_turns.proofs.semantics.StepsAtItems.{at_operand, at_refused, 
 pub use Rattle.sre_turns.proofs.semantics.StepsAtItems.{jump_operand, jump_step, literal_demands, mark_operand}
 pub use Rattle.sre_turns.proofs.semantics.StepsAtItems.{mark_refuses, mark_run, mark_step, other_character}
 pub use Rattle.sre_turns.proofs.semantics.StepsAtItems.{success_step, test_continues, test_misses, test_there}
-pub use Rattle.sre_turns.proofs.semantics.StepsAtReferences.{condition_absent, condition_present, reference_missing}
-pub use Rattle.sre_turns.proofs.semantics.StepsAtReferences.{reference_operand, reference_past, reference_step}
-pub use Rattle.sre_turns.proofs.semantics.StepsAtReferences.{reference_there, reference_unlike}
-pub use Rattle.sre_turns.proofs.semantics.StepsInBranches.{alternatives_both, alternatives_exhausted, alternatives_none}
-pub use Rattle.sre_turns.proofs.semantics.StepsInBranches.{alternatives_pass, alternatives_run, alternatives_there}
-pub use Rattle.sre_turns.proofs.semantics.StepsInBranches.{branch_run, branch_step, positive}
+pub use Rattle.sre_turns.proofs.semantics.StepsAtItems.{condition_absent, condition_present, reference_missing}
+pub use Rattle.sre_turns.proofs.semantics.StepsAtItems.{reference_operand, reference_past, reference_step}
+pub use Rattle.sre_turns.proofs.semantics.StepsAtItems.{reference_there, reference_unlike, alternatives_both}
+pub use Rattle.sre_turns.proofs.semantics.StepsAtItems.{alternatives_exhausted, alternatives_none, alternatives_pass}
+pub use Rattle.sre_turns.proofs.semantics.StepsAtItems.{alternatives_run, alternatives_there, branch_run, branch_step}
+pub use Rattle.sre_turns.proofs.semantics.StepsAtItems.{positive}
 pub use Rattle.sre_turns.proofs.semantics.StepsInLoops.{InLoop, entered_board, entered_on, lazy_board, repeat_begun}
 pub use Rattle.sre_turns.proofs.semantics.StepsInLoops.{repeat_further, repeat_step, saved_on, taken_off, until_alone}
 pub use Rattle.sre_turns.proofs.semantics.StepsInLoops.{until_below, until_done, until_greedy, until_lazy}
 pub use Rattle.sre_turns.proofs.semantics.StepsInLoops.{until_operands, until_refused, until_runs}
-pub use Rattle.sre_turns.proofs.semantics.StepsInPossessiveLoops.{InPossessiveLoop, again_done, again_further}
-pub use Rattle.sre_turns.proofs.semantics.StepsInPossessiveLoops.{again_operands, again_owed, again_place, begun_board}
-pub use Rattle.sre_turns.proofs.semantics.StepsInPossessiveLoops.{possessive_step}
-pub use Rattle.sre_turns.proofs.semantics.StepsInPossessiveRuns.{longest_short, longest_step}
+pub use Rattle.sre_turns.proofs.semantics.StepsInRegions.{InPossessiveLoop, again_done, again_further, again_operands}
+pub use Rattle.sre_turns.proofs.semantics.StepsInRegions.{again_owed, again_place, begun_board, possessive_step}
 pub use Rattle.sre_turns.proofs.semantics.StepsInRegions.{ahead_early, atomic_operand, atomic_step, look_operand}
 pub use Rattle.sre_turns.proofs.semantics.StepsInRegions.{look_step, not_ahead_early, region_closes}
+pub use Rattle.sre_turns.proofs.semantics.StepsInPossessiveRuns.{longest_short, longest_step}
 pub use Rattle.sre_turns.proofs.semantics.StepsInRuns.{longer_end, longer_full, longer_passes, longer_past}
 pub use Rattle.sre_turns.proofs.semantics.StepsInRuns.{longer_skips, longer_there, longer_unlike, operands_within}
 pub use Rattle.sre_turns.proofs.semantics.StepsInRuns.{run_both, run_misses, run_only, run_refuses, run_runs, run_short}
@@ -129,8 +125,8 @@ pub use Rattle.sre_turns.proofs.semantics.Strides.{body_reached, in_loop, only_y
 pub use Rattle.sre_turns.proofs.semantics.Strides.{strides_goes, tells_test}
 pub use Rattle.sre_turns.specs.Admitting.{AdmitsOnly, IsOutside, LeadsOnly, RepeatsOnly, RunsOnly, TestsOnly}
 pub use Rattle.sre_turns.specs.Alike.{Alike}
-pub use Rattle.sre_turns.specs.AskedPlaces.{AlternativesAsk, AsksAt, GroupAsked, GroupLies, Lies, MarkLeads, MarkRange}
-pub use Rattle.sre_turns.specs.AskedPlaces.{PlacesAsk, Within}
+pub use Rattle.sre_turns.specs.Asked.{AlternativesAsk, AsksAt, GroupAsked, GroupLies, Lies, MarkLeads, MarkRange}
+pub use Rattle.sre_turns.specs.Asked.{PlacesAsk, Within}
 pub use Rattle.sre_turns.specs.Attempts.{Attempt}
 pub use Rattle.sre_turns.specs.Board.{Else, Trying, choice}
 pub use Rattle.sre_turns.specs.Bodies.{MarklessRegions}
@@ -140,8 +136,7 @@ pub use Rattle.sre_turns.specs.Limits.{with_tried, without_open, without_tried}
 pub use Rattle.sre_turns.specs.Machine.{Advances, Arrives, Backs, Closes, Continues, Demands, DemandsAny, Ends}
 pub use Rattle.sre_turns.specs.Machine.{Exhausted, Goes, GoesBoth, HasRun, IsAt, IsBack, Later, Refuses, Runs, Skips}
 pub use Rattle.sre_turns.specs.Machine.{SkipsBoth, Tries, with_loop}
-pub use Rattle.sre_turns.specs.Moves.{Spot}
-pub use Rattle.sre_turns.specs.MovesAtReferences.{HasReference, Named, asks}
+pub use Rattle.sre_turns.specs.Moves.{Spot, HasReference, Named, asks}
 pub use Rattle.sre_turns.specs.Nested.{most_slots, place_of, repeats}
 pub use Rattle.sre_turns.specs.OpenMarks.{open_spots}
 pub use Rattle.sre_turns.specs.Prices.{price_of, scan_by, scan_toll, split_toll, steps, toll}
@@ -150,20 +145,17 @@ pub use Rattle.sre_turns.specs.Settled.{Counted, SettledIn}
 pub use Rattle.sre_turns.specs.Strides.{Strides, TellsAlternatives, TellsBodies}
 pub use Rattle.sre_turns.specs.declared.Frame.{Frame}
 pub use Rattle.sre_turns.specs.declared.Point.TheVariants.{Shorter}
-pub use Rattle.sre_machine.specs.Allowances.{is_limited, left_of}
+pub use Rattle.sre_machine.specs.Spending.{is_limited, left_of, TurnsSoFar, decision_of, found_of, told_of}
 pub use Rattle.sre_machine.specs.AskedLists.{AllAsked, AreMarks, HaveAll, InstructionAsks, LetGo, any_marks}
-pub use Rattle.sre_machine.specs.AskedLists.{asks_for_any, asks_of, range_of, told_or_any}
-pub use Rattle.sre_machine.specs.ByPlace.{AllTold}
+pub use Rattle.sre_machine.specs.AskedLists.{asks_for_any, asks_of, range_of, told_or_any, AllTold}
 pub use Rattle.sre_machine.specs.EndlessRuns.{AllTaken, BeginsLater, EndsFirst, HasOtherEnds, LacksLeast, NotTakenAt}
-pub use Rattle.sre_machine.specs.EndlessRuns.{TakenAt}
+pub use Rattle.sre_machine.specs.EndlessRuns.{TakenAt, AreOperands}
 pub use Rattle.sre_machine.specs.Memos.{Covers, EndsStay, KeepsEndsOf, KeepsFrom, MakesRoom, MarkedStays, MarkedValue}
 pub use Rattle.sre_machine.specs.Memos.{MemoValue, Recalled, Recalls, RecallsOf}
 pub use Rattle.sre_machine.specs.Paying.{AnewSettles, AnewStops, Holding, Holds, HoldsBits, HoldsTried, Pays}
 pub use Rattle.sre_machine.specs.Paying.{Remembering, RunSettles, RunStops, Settles, Stops, Waited, each_of, rows_from}
 pub use Rattle.sre_machine.specs.Paying.{run_cost}
 pub use Rattle.sre_machine.specs.Runners.{RunnerValue}
-pub use Rattle.sre_machine.specs.Runs.{AreOperands}
-pub use Rattle.sre_machine.specs.Spending.{TurnsSoFar, decision_of, found_of, told_of}
 pub use Rattle.sre_machine.specs.Terms.{Again, Alternatives, AreIdle, Asks, BoardValue, Ghosts, HoldsNoMore}
 pub use Rattle.sre_machine.specs.Terms.{HoldsOpenEnds, Instruction, Kept, Limit, Longer, Marks, MayRepeat, Next, Opcode}
 pub use Rattle.sre_machine.specs.Terms.{OpcodeAt, Point, Refused, Request, Run, SreOpcode, Stands, StandsWithin}

@@ -1,10 +1,13 @@
--- What a list says of each address: which captures may be live from there on.
--- Definitions for the machine's contracts; what sre_engine makes public does not rest on it.
-use Rattle.std.specs.Prelude.{ℕ, ◌-◌, ◌^◌, ◌≡◌, ◌⊎◌, List, Option, None, Some, slice_get}
-use Rattle.sre_machine.specs.Terms.{SreOpcode, Opcode, role}
-use Rattle.sre_turns.specs.AskedPlaces.{MarkRange, Lies, Within, PlacesAsk, AsksAt, AskedByPlace}
+-- What a list says of each address: which captures may be live from there on, and which ASCII characters a set takes.
+use Rattle.std.specs.Prelude.{ℕ, ◌≡◌, List, Option, Some, slice_get, ◌-◌, ◌^◌, ◌⊎◌, None}
+use Rattle.sre_machine.specs.Terms.{AreTold, AsciiSet, SreOpcode, Opcode, role}
+use Rattle.sre_turns.specs.Asked.{MarkRange, Lies, Within, PlacesAsk, AsksAt, AskedByPlace}
 use Rattle.sre_machine.specs.declared.asked_places.AskedMarks.{AskedMarks}
 use Rattle.sre_machine.specs.declared.asked_places.AskedPlace.{AskedPlace}
+
+-- what a list tells of the set at each place
+pub record AllTold (ws : List ℕ) (list : List (Option AsciiSet)) : Type 0 where
+  pub each : (i : ℕ) (members : Option AsciiSet) → slice_get list i ≡ Some members → AreTold ws i members
 
 -- the marks from one on, up to another
 abbrev pub range_of : AskedMarks → MarkRange

@@ -1,9 +1,14 @@
 -- Repeats without a greatest count, while failures are memoized: their first end, and the repeat that has the others.
--- Definitions for the machine's contracts; what sre_engine makes public does not rest on it.
-use Rattle.std.specs.Prelude.{ℕ, ◌+◌, ◌≡◌, ◌<◌, ◌⊎◌, true, false, Option, MatchOption}
-use Rattle.sre_machine.specs.Terms.{Ghosts, StringCursor, Test, RunsOn, Request, run_of, OpcodeAt, Standing, passes}
-use Rattle.sre_machine.specs.Terms.{run_length, TestStands, AllPass}
+use Rattle.std.specs.Prelude.{ℕ, ◌+◌, ◌^◌, ◌<◌, ◌≡◌, ◌⊎◌, true, false, Option, MatchOption}
+use Rattle.sre_machine.specs.Terms.{Ghosts, Request, run_of, OperandsOfRun, StringCursor, Test, RunsOn, OpcodeAt}
+use Rattle.sre_machine.specs.Terms.{Standing, passes, run_length, TestStands, AllPass}
+use Rattle.sre_machine.specs.declared.run_operands.RunOperands.{RunOperands}
 use Rattle.sre_chars.specs.declared.constants.SreOpcode.TheVariants as opcode
+
+-- the operands of the run at a place, to which a word can be added
+pub record AreOperands {S : Type 0} {text : Ghosts S} (r : Request S text) (place : ℕ) (o : RunOperands) : Type 0 where
+  pub operands : OperandsOfRun (run_of r).words place o.tail o.least o.greatest
+  pub room : place + 2 ^ 33 < 2 ^ 64
 
 -- a run without a greatest count is at a place
 abbrev pub IsEndlessRun : {S : Type 0} {text : Ghosts S} → Request S text → ℕ → Type 0

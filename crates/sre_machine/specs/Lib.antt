@@ -1,11 +1,8 @@
-pub mod Allowances
+pub mod Spending
 pub mod Memos
 pub mod Paying
 pub mod Turns
 pub mod Runners
-pub mod Runs
 pub mod EndlessRuns
-pub mod Spending
-pub mod ByPlace
 pub mod AskedLists
 pub mod Terms

@@ -6,7 +6,7 @@ use Rattle.sre_machine.specs.Terms.{Ghosts, StringCursor, Tree, WholeItems, no_m
 use Rattle.sre_machine.specs.Terms.{turns_of, most_each, BoardValue, bare, Decides, outcomes, Request, asked_of, end_of}
 use Rattle.sre_machine.specs.Terms.{run_of, Standing}
 use Rattle.std.specs.declared.alloc.Allocator.{Ghosts as Memory}
-use Rattle.sre_machine.specs.Allowances.{is_limited, left_of}
+use Rattle.sre_machine.specs.Spending.{is_limited, left_of}
 use Rattle.sre_machine.specs.Memos.{MemoValue, Recalls}
 use Rattle.sre_machine.specs.Paying.{RunStops, RunSettles}
 use Rattle.sre_machine.specs.declared.allowance.Allowance.{Allowance}

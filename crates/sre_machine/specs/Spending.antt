@@ -1,23 +1,36 @@
--- What steps take off those that are left, and what a run of them costs.
--- Definitions for the machine's contracts; what sre_engine makes public does not rest on it.
-use Rattle.std.specs.Prelude.{ℕ, ◌+◌, ◌-◌, ◌*◌, ◌≡◌, ◌≤◌, ◌⊎◌, Bool, true, false, Option, None, Some, List, Result, Ok}
+-- What steps take off those that are left, if they are limited, and what a run of them costs.
+use Rattle.std.specs.Prelude.{ℕ, ◌≡◌, Bool, true, false, ◌+◌, ◌-◌, ◌*◌, ◌≤◌, ◌⊎◌, Option, None, Some, List, Result, Ok}
 use Rattle.std.specs.Prelude.{Err, IfOk, IfErr}
-use Rattle.sre_machine.specs.Terms.{Ghosts, StringCursor, Refused, Tree, Way, WholeItems, behind_items, turns_of}
+use Rattle.sre_machine.specs.Terms.{Refused, Ghosts, StringCursor, Tree, Way, WholeItems, behind_items, turns_of}
 use Rattle.sre_machine.specs.Terms.{most_each, BoardValue, Limit, raised, Decides, Stands, StandsWithin, outcomes, Next}
 use Rattle.sre_machine.specs.Terms.{Request, asked_of, run_of}
 use Rattle.std.specs.declared.alloc.Allocator.{Ghosts as Memory}
-use Rattle.sre_machine.specs.Allowances.{is_limited, left_of}
-use Rattle.sre_machine.specs.Memos.{MemoValue, Recalls}
-use Rattle.sre_machine.specs.Paying.{Settles, RunStops, RunSettles, AnewStops, AnewSettles, IfDecided}
-use Rattle.sre_machine.specs.Paying.{Pays, Remembering, Waited, each_of}
 use Rattle.sre_machine.specs.declared.allowance.Allowance.{Allowance}
+use Rattle.sre_machine.specs.declared.allowance.Allowance.TheVariants.{Unlimited, Turns}
+use Rattle.sre_machine.specs.declared.turns.Halt.{Halt}
+use Rattle.sre_machine.specs.declared.turns.Halt.TheVariants as halt
+use Rattle.sre_machine.specs.Memos.{MemoValue, Recalls}
+use Rattle.sre_machine.specs.Paying.{Settles, RunStops, RunSettles, AnewStops, AnewSettles, IfDecided, Pays}
+use Rattle.sre_machine.specs.Paying.{Remembering, Waited, each_of}
 use Rattle.sre_machine.specs.declared.turns.Decision.{Decision}
 use Rattle.sre_machine.specs.declared.turns.Decision.TheVariants.{Decided, Opened}
 use Rattle.sre_machine.specs.declared.turns.Ending.{Ending}
 use Rattle.sre_machine.specs.declared.turns.Ending.TheVariants.{Found, Failed}
 use Rattle.sre_machine.specs.declared.turns.Ending.TheVariants as ways
-use Rattle.sre_machine.specs.declared.turns.Halt.{Halt}
-use Rattle.sre_machine.specs.declared.turns.Halt.TheVariants as halt
+
+abbrev pub is_limited : Allowance → Bool
+is_limited Unlimited = false
+is_limited (Turns left) = true
+
+-- how many turns are left; none are counted where they are not limited
+abbrev pub left_of : Allowance → ℕ
+left_of Unlimited = 0
+left_of (Turns left) = left
+
+-- why a run is given up: an allocation failed, or its turns are limited and used up
+abbrev pub Halted : {M : Type 0} {memory : Memory M} → Allowance → Halt M memory → Type 0
+Halted {M} allowed (halt.Refused refusal) = Refused M
+Halted allowed halt.UsedUp = (is_limited allowed ≡ true) × (left_of allowed ≡ 0)
 
 -- the end of an accepted outcome, where there is one
 abbrev pub end_if : Bool → StringCursor → Option StringCursor

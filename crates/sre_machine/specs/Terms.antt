@@ -39,12 +39,11 @@ pub use Rattle.sre_request.specs.Requests.{asked_of, end_of, start_of}
 pub use Rattle.sre_request.specs.Runs.{OpcodeAt, Standing, TestAt, run_of}
 pub use Rattle.sre_request.specs.declared.request.Request.{Request}
 pub use Rattle.sre_turns.specs.Admitting.{AdmitsOnly, HasAll, RepeatsOnly, RunsOnly, TestsOnly}
-pub use Rattle.sre_turns.specs.Asked.{MarksAlike, Unmarked}
-pub use Rattle.sre_turns.specs.AskedPlaces.{AlternativesAsk, AreIdle, GroupAsked, GroupLies, MarkLeads, MarksIdle}
-pub use Rattle.sre_turns.specs.AskedPlaces.{SaysOf}
+pub use Rattle.sre_turns.specs.Asked.{MarksAlike, Unmarked, AlternativesAsk, AreIdle, GroupAsked, GroupLies, MarkLeads}
+pub use Rattle.sre_turns.specs.Asked.{MarksIdle, SaysOf}
 pub use Rattle.sre_turns.specs.Attempts.{Attempt}
 pub use Rattle.sre_turns.specs.Board.{BoardValue, MayBeTried, Trying, bare, from_region}
-pub use Rattle.sre_turns.specs.Bodies.{MarklessRegions}
+pub use Rattle.sre_turns.specs.Bodies.{MarklessRegions, ForksAt}
 pub use Rattle.sre_turns.specs.BodyEnds.{EndsAt}
 pub use Rattle.sre_turns.specs.Fruit.{is_inside}
 pub use Rattle.sre_turns.specs.Hopeless.{Hopeless, MarksServe}
@@ -53,15 +52,11 @@ pub use Rattle.sre_turns.specs.Machine.{Advances, Arrives, Backs, Chooses, Close
 pub use Rattle.sre_turns.specs.Machine.{Excludes, Exhausted, Goes, HasRun, IsAt, IsBack, IsRead, Later, Refuses}
 pub use Rattle.sre_turns.specs.Machine.{SaysAccepted, SkipsBoth, Stands, StandsWithin, Tries, after_outcome, outcomes}
 pub use Rattle.sre_turns.specs.Machine.{spot, with_loop, without_loop, without_outcome}
-pub use Rattle.sre_turns.specs.Moves.{spot_at}
-pub use Rattle.sre_turns.specs.MovesAtReferences.{Asks, HasReference, Named, asks}
-pub use Rattle.sre_turns.specs.MovesInLoops.{next_frame}
+pub use Rattle.sre_turns.specs.Moves.{spot_at, Asks, HasReference, Named, asks, next_frame, OperandsOfRun}
 pub use Rattle.sre_turns.specs.Nested.{place_under, repeats}
-pub use Rattle.sre_turns.specs.OperandsOfRuns.{OperandsOfRun}
 pub use Rattle.sre_turns.specs.Prices.{scan_toll}
 pub use Rattle.sre_turns.specs.RunEnds.{AllPass, RunsOn}
 pub use Rattle.sre_turns.specs.Settled.{Counted}
-pub use Rattle.sre_turns.specs.Straight.{ForksAt}
 pub use Rattle.sre_turns.specs.Strides.{MayRepeat, TellsBodies, TellsTest, YieldsTo}
 pub use Rattle.sre_turns.specs.declared.Next.{Next}
 pub use Rattle.sre_turns.specs.declared.Point.{Point}

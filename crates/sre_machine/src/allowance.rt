@@ -1,7 +1,7 @@
 //! [`Allowance`]: the step limit of a call.
 
 ghost use Rattle.std.specs.Prelude.{◌≡◌};
-ghost use Rattle.sre_machine.specs.Allowances.{is_limited, left_of};
+ghost use Rattle.sre_machine.specs.Spending.{is_limited, left_of};
 
 /// How many steps are left.
 #[derive(Clone, Copy, Debug)]

@@ -12,8 +12,8 @@
 ghost use Rattle.std.specs.Prelude.{◌≡◌, ◌+◌, ◌<◌, ◌≤◌, length, true, Some, slice_get, IfOk};
 ghost use Rattle.sre_machine.specs.Terms.{Opcode, word, skip, AreIdle, GroupLies, MarkLeads, GroupAsked};
 ghost use Rattle.sre_machine.specs.Terms.{AlternativesAsk};
-ghost use Rattle.sre_machine.specs.AskedLists.{range_of, any_marks, asks_of, AllAsked, AreMarks, HaveAll};
-ghost use Rattle.sre_machine.specs.AskedLists.{LetGo, InstructionAsks};
+ghost use Rattle.sre_machine.specs.AskedLists.{range_of, any_marks, asks_of, AllAsked, AreMarks, HaveAll, LetGo};
+ghost use Rattle.sre_machine.specs.AskedLists.{InstructionAsks};
 
 use crate::admitting::leads;
 use crate::set_members::fill;
@@ -134,7 +134,7 @@ fn both(list: &[AskedPlace], one: usize, other: usize) -> AskedMarks
 }
 
 // The live slots at a MARK.
-#[tactic(auto, using(crate::proofs::AskedLists::mark_leads))]
+#[tactic(auto, using(crate::proofs::Analyses::mark_leads))]
 fn mark(words: &[u32], list: &[AskedPlace], place: usize) -> AskedMarks
     requires { place < length words.now }
     ensures { MarkLeads words.now (asks_of list.now) (range_of result) place }
@@ -156,7 +156,7 @@ fn reference(words: &[u32], list: &[AskedPlace], place: usize) -> AskedMarks
 }
 
 // The live slots at a conditional.
-#[tactic(auto, using(crate::proofs::AskedLists::had_at))]
+#[tactic(auto, using(crate::proofs::Analyses::had_at))]
 fn condition(words: &[u32], list: &[AskedPlace], place: usize) -> AskedMarks
     requires { place < length words.now }
     ensures group { GroupAsked (λ k. ⊥) words.now (range_of result) place }

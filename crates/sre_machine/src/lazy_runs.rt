@@ -5,7 +5,7 @@
 
 ghost use Rattle.std.specs.Prelude.{⊤, ◌≡◌, ◌+◌, ◌<◌, IfOk, MatchOption, ◌||◌, nat_eq, nat_lt};
 ghost use Rattle.sre_machine.specs.Terms.{unlimited, skip, BoardValue, Instruction, Longer, run_of, OpcodeAt};
-ghost use Rattle.sre_machine.specs.Runs.{AreOperands};
+ghost use Rattle.sre_machine.specs.EndlessRuns.{AreOperands};
 ghost use Rattle.sre_machine.specs.Turns.{At, Turn, AtPoint, SkipsBothAt, TurnAt};
 
 use crate::machine::{choose, first_literal, lacks, refuses};

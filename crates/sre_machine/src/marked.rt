@@ -89,7 +89,7 @@ fn is_asking(code: SreOpcode) -> bool
 }
 
 // Whether a word is the number of an opcode that reads a group.
-#[tactic(auto, using(crate::proofs::AskedGroups::asks_as, sre_model::proofs::Words::opcode_low))]
+#[tactic(auto, using(crate::proofs::Analyses::asks_as, sre_model::proofs::Opcodes::opcode_low))]
 fn may_ask(word: u32) -> bool
     ensures { result ≡ false → (o : SreOpcode) → opcode_number o ≡ word → asks (role o) ≡ false }
 {

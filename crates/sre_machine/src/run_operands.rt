@@ -3,7 +3,7 @@
 ghost use Rattle.std.specs.Prelude.{◌≡◌, ◌+◌, ◌≤◌};
 ghost use Rattle.sre_machine.specs.Terms.{Instruction, end_of, word, run_of, TestAt};
 ghost use Rattle.sre_model.specs.TreePrices as prices;
-ghost use Rattle.sre_machine.specs.Runs.{AreOperands};
+ghost use Rattle.sre_machine.specs.EndlessRuns.{AreOperands};
 ghost use Rattle.sre_machine.specs.Turns.{At, scan_at};
 
 use crate::machine::opcode;

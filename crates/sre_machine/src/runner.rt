@@ -3,10 +3,10 @@
 ghost use Rattle.std.specs.Prelude.{◌≡◌, ◌≤◌, ◌+◌, ◌*◌, ◌^◌, ◌<◌, IfErr, false};
 ghost use Rattle.sre_machine.specs.Terms.{Tree, WholeItems, no_marks, ReadsBehind, bare, start_of, end_of, run_of};
 ghost use Rattle.sre_machine.specs.Terms.{Standing};
-ghost use Rattle.sre_machine.specs.Allowances.{Halted, is_limited};
+ghost use Rattle.sre_machine.specs.Spending.{Halted, is_limited, RunDecides, Spends, RunCosts, AnewCosts, found_of};
+ghost use Rattle.sre_machine.specs.Spending.{told_of};
 ghost use Rattle.sre_machine.specs.Memos.{Recalls, Begins, RecallsOf};
 ghost use Rattle.sre_machine.specs.Runners.{IsReady, MayRun, Began, AttemptDecides, ClearsUnfound, AttemptCosts};
-ghost use Rattle.sre_machine.specs.Spending.{RunDecides, Spends, RunCosts, AnewCosts, found_of, told_of};
 
 use crate::allowance::Allowance;
 use crate::memo::Memo;

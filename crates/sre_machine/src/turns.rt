@@ -2,11 +2,11 @@
 
 ghost use Rattle.std.specs.Prelude.{◌≡◌, ◌≢◌, ℕ, ◌+◌, ◌-◌, ◌*◌, ◌^◌, ◌<◌, ◌≤◌, [], List, IfOk, IfErr, true, false};
 ghost use Rattle.sre_machine.specs.Terms.{Way, most_each, Decides, asked_of, run_of, SaysAccepted};
-ghost use Rattle.sre_machine.specs.Allowances.{is_limited, left_of};
+ghost use Rattle.sre_machine.specs.Spending.{is_limited, left_of, TurnsDecide, Spends, TurnsCost, end_if, decision_of};
+ghost use Rattle.sre_machine.specs.Spending.{told_of};
 ghost use Rattle.sre_machine.specs.Memos.{RecallsOf};
 ghost use Rattle.sre_machine.specs.Paying.{Remembering, each_of, Stops};
 ghost use Rattle.sre_machine.specs.Turns.{WithinTurns};
-ghost use Rattle.sre_machine.specs.Spending.{TurnsDecide, Spends, TurnsCost, end_if, decision_of, told_of};
 
 use crate::allowance::Allowance;
 use crate::body_ends::keep_ends;

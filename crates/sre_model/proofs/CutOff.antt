@@ -3,8 +3,7 @@ use Rattle.sre_model.proofs.Terms.{◌≡◌, ℕ, ◌-◌, Bool, true, false, L
 use Rattle.sre_model.proofs.Terms.{nat_tests, Tree, Empty, Then, word, Opcode, Reads, WholeItems, has_block}
 use Rattle.sre_model.proofs.Terms.{behind_block, fits_block, Whole}
 use Rattle.sre_chars.specs.declared.constants.SreOpcode.TheVariants as opcode
-use Rattle.sre_model.proofs.Words.{word_of, word_at, opcode_within}
-use Rattle.sre_model.proofs.Families.{no_item}
+use Rattle.sre_model.proofs.Opcodes.{word_of, word_at, opcode_within, no_item}
 
 -- items begin with no block
 no_block_at : (ws : List ℕ) (j : ℕ) (t : Tree) → Reads ws 0 j t → Opcode ws j opcode.SUCCESS

@@ -7,16 +7,16 @@ use Rattle.sre_model.proofs.Terms.{LazyRun, PossessiveRun, Positive, Marks, set_
 use Rattle.sre_model.proofs.Terms.{Opcode, skip, until_opcode, Reads, ReadsBranch, Operands, ReadsItem, WholeItems}
 use Rattle.sre_model.proofs.Terms.{Role, ToTest, role, ToCheckPosition, ToMark, ToBranch, ToRun, ToRepeat}
 use Rattle.sre_model.proofs.Terms.{ToRepeatPossessively, ToGroupAtomically, ToLook, TestKind, begins_test, Way, Body}
-use Rattle.sre_model.proofs.Terms.{first, here, most_from, longest_run, run_ways, within, least, ways, item_ways}
+use Rattle.sre_model.proofs.Terms.{first, most_from, longest_run, run_ways, within, least, ways, item_ways}
 use Rattle.sre_model.proofs.Terms.{HasTest, is_end, TreeStands}
 use Rattle.sre_chars.specs.declared.constants.SreOpcode.TheVariants as opcode
 use Rattle.sre_model.specs.FirstCharacters.{NoWay, NoneOf, NotPassed, HasTree, HasAlternatives, Leads}
-use Rattle.sre_model.proofs.Words.{same_word, same_opcode, same_at, word_within, opcode_within}
-use Rattle.sre_model.proofs.Places.{reads_within}
+use Rattle.sre_model.proofs.Opcodes.{same_word, same_opcode, same_at, word_within, opcode_within, HasRole, until_role}
+use Rattle.sre_model.proofs.Opcodes.{is_branch, is_one, is_at, is_mark, is_loop, is_run, is_possessive, is_atomic}
+use Rattle.sre_model.proofs.Opcodes.{is_look, role_here, some_test}
+use Rattle.sre_model.proofs.TreeOf.{reads_within}
 use Rattle.sre_model.proofs.Longest.{run_none}
 use Rattle.sre_model.proofs.LoopCases.{cond-same}
-use Rattle.sre_model.proofs.Families.{HasRole, until_role, is_branch, is_one, is_at, is_mark, is_loop, is_run}
-use Rattle.sre_model.proofs.Families.{is_possessive, is_atomic, is_look, role_here, some_test}
 
 -- Which opcodes begin what is looked at
 

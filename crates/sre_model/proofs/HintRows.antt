@@ -2,8 +2,7 @@
 use Rattle.sre_model.proofs.Terms.{refl, ◌≡◌, List, ℕ, Option, Some, None, Bool, true, false, [], ◌∷◌, ascii_table}
 use Rattle.sre_model.proofs.Terms.{unlimited, behind_block, HasFirstSet, Single, confirmed_width, confirmed_prefix}
 use Rattle.sre_model.proofs.Terms.{is_literal, border_length}
-use Rattle.sre_model.proofs.Unique.{set_same}
-use Rattle.sre_model.proofs.TreeOf.{tree_of, items_at, trees_at, set_at}
+use Rattle.sre_model.proofs.TreeOf.{set_same, tree_of, items_at, trees_at, set_at}
 
 -- the width, the prefix, and whether it is a literal
 abbrev hints : List ℕ → Option ℕ × Option (ℕ × ℕ) × Bool

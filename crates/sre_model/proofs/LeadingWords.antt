@@ -6,10 +6,9 @@ use Rattle.sre_model.proofs.Terms.{unlimited, Word, Opcode, Reads, ReadsItem, Wh
 use Rattle.sre_model.proofs.Terms.{begins_test, ToTest, ToMark, TestStands, HasTest, RunLeads, TreeStands, is_end}
 use Rattle.sre_model.proofs.Terms.{or_parts, FrontStands, RunStands}
 use Rattle.sre_chars.specs.declared.constants.SreOpcode.TheVariants as opcode
-use Rattle.sre_model.proofs.Words.{same_word, word_within}
+use Rattle.sre_model.proofs.Opcodes.{same_word, word_within, HasRole, is_one, is_mark, is_run, role_here, some_test}
 use Rattle.sre_model.proofs.FirstCharacters.{Begins, begins, known, tree_within}
-use Rattle.sre_model.proofs.Families.{HasRole, is_one, is_mark, is_run, role_here, some_test}
-use Rattle.sre_model.proofs.Places.{test_past}
+use Rattle.sre_model.proofs.TreeOf.{test_past}
 use Rattle.sre_model.proofs.LeadingRuns.{run_leads, front_leads, mark_leads}
 
 -- a run that leads what is left of a tree, behind what stands in front, leads the whole

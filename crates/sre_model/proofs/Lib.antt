@@ -1,18 +1,13 @@
-pub mod Words
-pub mod Families
+pub mod Opcodes
 pub mod SetItems
-pub mod Places
-pub mod Widths
-pub mod Unique
+pub mod TreeOf
+pub mod WideWays
 pub mod Props
 pub mod SetWords
-pub mod ClaimProps
 pub mod Each
 pub mod Along
 pub mod Bounds
-pub mod WideWays
 pub mod LoopCases
-pub mod PossessiveCases
 pub mod FoundLaws
 pub mod WalkLaws
 pub mod FirstCharacters
@@ -20,20 +15,16 @@ pub mod Foldings
 pub mod MarksApart
 pub mod LeadingRuns
 pub mod LeadingWords
-pub mod CodesRead
 pub mod Blocks
 pub mod Members
 pub mod CountingRuns
 pub mod OneCharacter
 pub mod Longest
-pub mod TreeOf
 pub mod CutOff
 pub mod StandingWords
-pub mod LaidOut
-pub mod ReadBack
+pub mod WrittenWords
 pub mod OneToOne
-mod RowsWritten
-mod ReaderRows
+mod WordRows
 mod HintRows
 pub mod Passing
 pub mod TurnBounds

@@ -2,8 +2,8 @@
 use Rattle.sre_model.proofs.Terms.{◌≡◌, ℕ, zero, suc, ◌+◌, ◌-◌, ◌<◌, ◌≤◌, max, Bool, true, false, cond, List, [], ◌∷◌}
 use Rattle.sre_model.proofs.Terms.{Option, Some, None, refl, sym, ap, ◌∙◌, arith, flat_map, nat_tests, Order, Greedy}
 use Rattle.sre_model.proofs.Terms.{Lazy, Marks, Subject, Way, Body, here, within, ordered, may_repeat, more, least}
-use Rattle.sre_model.proofs.Terms.{loop_ways, inl, inr, cases_lt, followed, loop_from}
-use Rattle.sre_model.proofs.Each.{flat_map_each}
+use Rattle.sre_model.proofs.Terms.{loop_ways, inl, inr, cases_lt, followed, loop_from, first, first_of_body}
+use Rattle.sre_model.proofs.Each.{flat_map_each, each-first}
 use Rattle.sre_model.proofs.Bounds.{Between, EachBetween, Bounded, within-each, within-all}
 
 -- past the window's end nothing is followed
@@ -115,3 +115,11 @@ module _ (s : Subject) (o : Order) (low high : ℕ) (body : Body) where
       ∙ ap (λ l. ordered o (cond (may_repeat high count last p) l []) (here p m))
       (followed-same s body (fuelled fuel (count + 1) (Some p)) (loop (count + 1) (Some p)) p m each
       ∙ followed-all s body (loop (count + 1) (Some p)) p m b l)
+
+-- of a body whose ways lie between, the first is the body's own
+pub first_of_body-all : (s : Subject) (body : Body) (p : ℕ) (m : Marks) → Bounded s body → p ≤ s.end
+    → first_of_body s body p m ≡ first (body p m)
+first_of_body-all s body p m b h = ap (first {A = Way}) (within-all s p (body p m) (b p m h))
+
+pub first-bounded : (s : Subject) (body : Body) → Bounded s (first_of_body s body)
+first-bounded s body p m h = each-first (Between s p) (within s p (body p m)) (within-each s p (body p m))

@@ -5,8 +5,8 @@ use Rattle.sre_model.proofs.Terms.{SreOpcode, SreCatCode, SetItem, RangeUniIgnor
 use Rattle.sre_model.proofs.Terms.{Opcode, word, bytes_of, BlocksBelow, ReadsSet, HasCategory, SetStands, HasSet}
 use Rattle.sre_model.proofs.Terms.{ItemSays, is_between, category, item_holds, verdict, is_member, VerdictLeft}
 use Rattle.sre_chars.specs.declared.constants.SreOpcode.TheVariants as opcode
-use Rattle.sre_model.proofs.Words.{word_of, same_opcode, opcode_within, opcode_moved}
-use Rattle.sre_model.proofs.Places.{set_within}
+use Rattle.sre_model.proofs.Opcodes.{word_of, same_opcode, opcode_within, opcode_moved}
+use Rattle.sre_model.proofs.TreeOf.{set_within}
 use Rattle.sre_model.proofs.SetItems.{set_item_opcode, first, begins, set_item_by, item_past, parted, category_at}
 use Rattle.sre_model.proofs.SetItems.{category-read, unlike}
 

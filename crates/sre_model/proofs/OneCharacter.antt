@@ -4,7 +4,7 @@ use Rattle.sre_model.proofs.Terms.{Test, Any, AnyAll, InCategory, Literal, NotLi
 use Rattle.sre_model.proofs.Terms.{Unicode, Word, Opcode, test_opcode, TestOperands, SetStands, HasSet, ItemSays}
 use Rattle.sre_model.proofs.Terms.{TestStands, HasTest}
 use Rattle.sre_chars.specs.declared.constants.SreOpcode.TheVariants as opcode
-use Rattle.sre_model.proofs.Words.{word_of, same_opcode}
+use Rattle.sre_model.proofs.Opcodes.{word_of, same_opcode}
 use Rattle.sre_model.proofs.Members.{one_item_member}
 
 -- an opcode other than those of tests is not reached

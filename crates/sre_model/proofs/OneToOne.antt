@@ -3,11 +3,10 @@ use Rattle.sre_model.proofs.Terms.{ℕ, ◌+◌, ◌-◌, ◌≡◌, ◌<◌, fa
 use Rattle.sre_model.proofs.Terms.{length-append, opcode_number, Tree, has_block, WholeItems, Whole, AreWords}
 use Rattle.sre_model.proofs.Terms.{LawfulTree, tree_words, code_words, append-nil, drop_all}
 use Rattle.sre_chars.specs.declared.constants.SreOpcode.TheVariants as opcode
-use Rattle.sre_model.proofs.Words.{opcode_within}
+use Rattle.sre_model.proofs.Opcodes.{opcode_within}
 use Rattle.sre_model.proofs.CutOff.{none_behind}
 use Rattle.sre_model.proofs.StandingWords.{head, stands_whole, stands_moved, stands_front, stands_behind}
-use Rattle.sre_model.proofs.LaidOut.{lay_tree}
-use Rattle.sre_model.proofs.ReadBack.{read_tree, spell_then, spell_last}
+use Rattle.sre_model.proofs.WrittenWords.{lay_tree, read_tree, spell_then, spell_last}
 
 -- the words of a tree that has some are read as it
 pub code_whole : (t : Tree) → LawfulTree t → WholeItems (code_words t) t

@@ -1,10 +1,13 @@
--- A tree is related in one way.
+-- A tree is related in one way, and a FIRST set is confirmed in one way.
 use Rattle.sre_model.proofs.Terms.{ℕ, ◌+◌, ◌*◌, ◌-◌, ◌≡◌, List, [], ◌∷◌, length, props, is_prop→PathP, Tree, Empty}
 use Rattle.sre_model.proofs.Terms.{Then, Item, One, Branch, Loop, Run, PossessiveLoop, Atomic, Look, Exists, ExistsElse}
 use Rattle.sre_model.proofs.Terms.{Trees, Only, Or, Test, In, SetItem, Single, Range, RangeUniIgnore, Category, Charset}
 use Rattle.sre_model.proofs.Terms.{BigCharset, Negate, word, skip, Reads, ReadsItem, ReadsBranch, TestOperands}
-use Rattle.sre_model.proofs.Terms.{ReadsSet, Whole, WholeItems, behind_block, ∥∥₁_elim, IsCode}
-use Rattle.sre_model.proofs.Unique.{item_same, whole_same}
+use Rattle.sre_model.proofs.Terms.{ReadsSet, Whole, WholeItems, behind_block, ∥∥₁_elim, IsCode, true, false, Table}
+use Rattle.sre_model.proofs.Terms.{Literal, Plain, Opcode, HasFirstSet, has_flag, behind_marks, TestIn, EachTestIn}
+use Rattle.sre_model.proofs.Terms.{FirstIn}
+use Rattle.sre_model.proofs.TreeOf.{item_same, whole_same, set_same}
+use Rattle.sre_chars.specs.declared.constants.SreOpcode.TheVariants as opcode
 
 -- the place between two readings is determined
 between : (A B : ℕ → Type 0) → ((k m : ℕ) → A k → A m → k ≡ m) → ((k : ℕ) → IsProp (A k)) → ((k : ℕ) → IsProp (B k))
@@ -72,3 +75,37 @@ code_prop ws x y =
 -- the tree that a code keeps
 pub kept_tree : (ws : List ℕ) → ∥ IsCode ws ∥₁ → IsCode ws
 kept_tree ws c = ∥∥₁_elim c (code_prop ws) (λ x. x)
+
+test_in_prop : (table : Table) (set : List SetItem) (t : Tree) → IsProp (TestIn table set t)
+test_in_prop table set Empty = hlevel props
+test_in_prop table set (Then (One (Literal Plain v)) rest) = hlevel props
+test_in_prop table set (Then (One (In Plain items)) rest) = hlevel props
+test_in_prop table set (Then x rest) = hlevel props
+
+each_test_in_prop : (table : Table) (set : List SetItem) (ts : Trees) → IsProp (EachTestIn table set ts)
+each_test_in_prop table set (Only t) = test_in_prop table set (behind_marks t)
+each_test_in_prop table set (Or t ts) =
+    hlevel (props, test_in_prop table set (behind_marks t), each_test_in_prop table set ts)
+
+first_in_prop : (table : Table) (set : List SetItem) (t : Tree) → IsProp (FirstIn table set t)
+first_in_prop table set Empty = test_in_prop table set Empty
+first_in_prop table set (Then (Branch ts) rest) = each_test_in_prop table set ts
+first_in_prop table set (Then x rest) = test_in_prop table set (Then x rest)
+
+pub first_set_prop : (ws : List ℕ) (table : Table) (t : Tree) → IsProp (HasFirstSet ws table t)
+first_set_prop ws table t x y =
+    let end = skip ws 1 - 1 in
+    let p : x.set ≡ y.set = set_same x.set y.set ws 5 end x.items y.items in
+    let flags : IsProp (has_flag 4 ws ≡ true) = hlevel props in
+    let clears : IsProp (has_flag 1 ws ≡ false) = hlevel props in
+    let ends : IsProp (Opcode ws end opcode.FAILURE) = hlevel props in
+    λ i. record {
+      flag = flags x.flag y.flag i;
+      no_prefix = clears x.no_prefix y.no_prefix i;
+      set = p i;
+      items = is_prop→PathP (λ j. ReadsSet ws 5 end (p j)) (λ j. set_prop (p j) ws 5 end) x.items y.items i;
+      ends = ends x.ends y.ends i;
+      first =
+          is_prop→PathP (λ j. FirstIn table (p j) (behind_marks t))
+          (λ j. first_in_prop table (p j) (behind_marks t)) x.first y.first i;
+    }

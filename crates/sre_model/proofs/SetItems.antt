@@ -1,11 +1,11 @@
 -- What an item of a set is, by its opcode: what is read of it, and what is left behind it.
-use Rattle.sre_model.proofs.Terms.{ℕ, ◌+◌, ◌*◌, ◌≡◌, ◌≢◌, ◌<◌, List, [], ◌∷◌, slice_index_or, slice_range, refl, ap}
-use Rattle.sre_model.proofs.Terms.{◌∙◌, arith, opcode_number, category_number, SreOpcode, SreCatCode, SetItem, Single}
-use Rattle.sre_model.proofs.Terms.{Range, RangeUniIgnore, Category, Charset, BigCharset, Negate, Word, word, Opcode}
-use Rattle.sre_model.proofs.Terms.{bytes_of, ReadsSet, flat_map}
+use Rattle.sre_model.proofs.Terms.{ℕ, ◌+◌, ◌*◌, ◌≡◌, ◌≢◌, ◌<◌, List, [], ◌∷◌, slice_index_or, numbered, opcode_at}
+use Rattle.sre_model.proofs.Terms.{slice_range, refl, ap, ◌∙◌, arith, opcode_number, category_number, SreOpcode}
+use Rattle.sre_model.proofs.Terms.{SreCatCode, SetItem, Single, Range, RangeUniIgnore, Category, Charset, BigCharset}
+use Rattle.sre_model.proofs.Terms.{Negate, Word, word, Opcode, bytes_of, ReadsSet, flat_map}
 use Rattle.sre_chars.specs.declared.constants.SreOpcode.TheVariants as opcode
 use Rattle.sre_chars.specs.declared.constants.SreCatCode.TheVariants as category
-use Rattle.sre_model.proofs.Words.{same_opcode, word_of, opcodes, opcode_back, categories, category_back}
+use Rattle.sre_model.proofs.Opcodes.{same_opcode, word_of, opcode_back, categories, category_back}
 
 -- an item's first word
 abbrev pub set_item_opcode : SetItem → SreOpcode
@@ -38,15 +38,12 @@ unlike o single range folded category charset big negate (Charset bits) = charse
 unlike o single range folded category charset big negate (BigCharset numbers bits) = big
 unlike o single range folded category charset big negate Negate = negate
 
-abbrev pub opcode_at : List ℕ → ℕ → SreOpcode
-opcode_at ws i = slice_index_or opcodes (word ws i) opcode.FAILURE
-
 abbrev pub category_at : List ℕ → ℕ → SreCatCode
 category_at ws i = slice_index_or categories (word ws i) category.DIGIT
 
 pub opcode-read : (ws : List ℕ) (i : ℕ) (o : SreOpcode) → Opcode ws i o → opcode_at ws i ≡ o
 opcode-read ws i o h =
-    ap (λ n. slice_index_or opcodes n opcode.FAILURE) (word_of ws i (opcode_number o) h) ∙ opcode_back o
+    ap (λ n. slice_index_or numbered n opcode.FAILURE) (word_of ws i (opcode_number o) h) ∙ opcode_back o
 
 pub category-read : (ws : List ℕ) (i : ℕ) (c : SreCatCode) → Word ws i (category_number c) → category_at ws i ≡ c
 category-read ws i c h =

@@ -5,11 +5,10 @@ use Rattle.sre_model.proofs.Terms.{Range, RangeUniIgnore, Category, Charset, Big
 use Rattle.sre_model.proofs.Terms.{BlocksBelow, ReadsSet, AreWords, SetStands, set_words}
 use Rattle.std.proofs.lemmas.List.{drop-drop, drop-take, take-take, length-take, length-drop}
 use Rattle.std.proofs.Common.{flat_map}
-use Rattle.sre_model.proofs.Words.{word_at, word_of, word_within}
-use Rattle.sre_model.proofs.Places.{set_within}
-use Rattle.sre_model.proofs.Unique.{set_same}
+use Rattle.sre_model.proofs.Opcodes.{word_at, word_of, word_within}
+use Rattle.sre_model.proofs.TreeOf.{set_within, set_same}
 use Rattle.sre_model.proofs.StandingWords.{range_long}
-use Rattle.sre_model.proofs.ReadBack.{read_set, spell_then, spell_last, spelled_range}
+use Rattle.sre_model.proofs.WrittenWords.{read_set, spell_then, spell_last, spelled_range}
 
 -- the n words from i on, as a list of their own
 module _ (ws : List ℕ) (i n : ℕ) (le : i + n ≤ length ws) where

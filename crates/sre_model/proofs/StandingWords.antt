@@ -3,7 +3,7 @@ use Rattle.sre_model.proofs.Terms.{refl, ℕ, zero, suc, ◌+◌, ◌-◌, ◌�
 use Rattle.sre_model.proofs.Terms.{slice_index, slice_range, sym, ◌∙◌, subst, arith, length-append, get_or-take}
 use Rattle.sre_model.proofs.Terms.{get_or-drop, length-take-le, ext_get_or, Word}
 use Rattle.std.proofs.Common.{length-drop}
-use Rattle.sre_model.proofs.Words.{word_moved, word_of, word_there}
+use Rattle.sre_model.proofs.Opcodes.{word_moved, word_of, word_there}
 
 -- the words from place i on are those of xs
 pub record Stands (ws : List ℕ) (i : ℕ) (xs : List ℕ) : Type 0 where

@@ -31,7 +31,8 @@ pub use mathlib.Core.HLevel.{is_prop→PathP}
 pub use Rattle.sre_model.specs.Characters.{holds, is_member, item_holds, verdict}
 pub use Rattle.sre_model.specs.Claims.{EachTestIn, FirstIn, HasFirstSet, TestIn, behind_marks, border_length}
 pub use Rattle.sre_model.specs.Claims.{confirmed_prefix, confirmed_width, has_flag, is_literal}
-pub use Rattle.sre_model.specs.CountedRuns.{Ended}
+pub use Rattle.sre_model.specs.LeadingRuns.{Ended, FrontStands, NoneEnds, RunLeads, RunStands, front_length}
+pub use Rattle.sre_model.specs.LeadingRuns.{front_passes}
 pub use Rattle.sre_model.specs.FirstCharacters.{TreeStands, is_end}
 pub use Rattle.sre_model.specs.Folding.{Folding, of_branch, of_item, of_parts, of_tree}
 pub use Rattle.sre_model.specs.Found.{Asked, Match, asked_after, at_start, first_accepted, found, found_from}
@@ -40,8 +41,8 @@ pub use Rattle.sre_model.specs.Grammar.{BlocksBelow, BytesBelow, IsCode, JumpsTo
 pub use Rattle.sre_model.specs.Grammar.{ReadsItem, ReadsSet, TestOperands, Whole, WholeItems, Word, behind_block}
 pub use Rattle.sre_model.specs.Grammar.{bytes_of, fits_block, has_block, item_opcode, look_opcode, reference_opcode}
 pub use Rattle.sre_model.specs.Grammar.{run_opcode, skip, test_opcode, until_opcode, word}
-pub use Rattle.sre_model.specs.Lawful.{LawfulTree}
-pub use Rattle.sre_model.specs.LeadingRuns.{FrontStands, NoneEnds, RunLeads, RunStands, front_length, front_passes}
+pub use Rattle.sre_model.specs.Written.{LawfulTree, branch_words, code_words, item_words, packed, repeated, set_words}
+pub use Rattle.sre_model.specs.Written.{test_words, tree_words}
 pub use Rattle.sre_model.specs.Loops.{first_of_body, followed, loop_from, or_here}
 pub use Rattle.sre_model.specs.Marks.{Marks, group, no_marks, set_mark}
 pub use Rattle.sre_model.specs.References.{by_references, refers}
@@ -50,7 +51,7 @@ pub use Rattle.sre_model.specs.Remembered.{words_at_place}
 pub use Rattle.sre_model.specs.Roles.{OfAny, OfAnyAll, OfCategory, OfLiteral, OfNotLiteral, OfSet, Role, TestKind}
 pub use Rattle.sre_model.specs.Roles.{ToBranch, ToCheckGroup, ToCheckPosition, ToEnd, ToFail, ToGroupAtomically, ToJump}
 pub use Rattle.sre_model.specs.Roles.{ToLook, ToLoop, ToMark, ToNothing, ToRefer, ToRepeat, ToRepeatPossessively, ToRun}
-pub use Rattle.sre_model.specs.Roles.{ToTest, begins_test, is_test_role, role}
+pub use Rattle.sre_model.specs.Roles.{ToTest, begins_test, is_test_role, numbered, opcode_at, role}
 pub use Rattle.sre_model.specs.Shown.{a, b, c, d, is_a, items}
 pub use Rattle.sre_model.specs.Slots.{counted_to, loop_slots, most_slots}
 pub use Rattle.sre_model.specs.Standing.{AreWords, HasCategory, HasSet, HasTest, ItemSays, SetStands, TestStands}
@@ -70,5 +71,3 @@ pub use Rattle.sre_model.specs.Ways.{longest_run, look_ways, loop_ways, may_repe
 pub use Rattle.sre_model.specs.Ways.{possessive_more, possessive_ways, reference_ways, rising, run_length, run_ways}
 pub use Rattle.sre_model.specs.Ways.{unlimited, ways, within}
 pub use Rattle.sre_model.specs.Width.{item_width, least_width, width}
-pub use Rattle.sre_model.specs.Written.{branch_words, code_words, item_words, packed, repeated, set_words, test_words}
-pub use Rattle.sre_model.specs.Written.{tree_words}

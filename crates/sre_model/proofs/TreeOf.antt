@@ -1,19 +1,82 @@
--- The tree of bytecode, by a function: a run of the machine is measured by it.
-use Rattle.sre_model.proofs.Terms.{◌≡◌, ℕ, zero, suc, ◌+◌, ◌-◌, ◌<◌, ◌≤◌, ◌⊎◌, inl, inr, Bool, true, false, nat_lt}
-use Rattle.sre_model.proofs.Terms.{nat_eq, List, [], ◌∷◌, length, Option, None, Some, slice_index_or, refl, sym, ap}
-use Rattle.sre_model.proofs.Terms.{◌∙◌, arith, nat_tests, at_number, SreOpcode, SreAtCode, Tree, Empty, Then, Item}
-use Rattle.sre_model.proofs.Terms.{Fail, One, At, Mark, Branch, Loop, Run, PossessiveLoop, Atomic, Look, Reference}
-use Rattle.sre_model.proofs.Terms.{Exists, ExistsElse, Trees, Only, Or, Test, Any, AnyAll, InCategory, Literal}
+-- The tree of bytecode, by a function: a run of the machine is measured by it, and the grammar relates no other tree to
+-- the words.
+use Rattle.sre_model.proofs.Terms.{opcode_at, ℕ, ◌+◌, ◌*◌, ◌-◌, ◌≡◌, ◌<◌, ◌≤◌, List, [], ◌∷◌, length, refl, arith, Tree}
+use Rattle.sre_model.proofs.Terms.{Empty, Then, Item, One, Branch, ExistsElse, Trees, Only, Or, Test, Any, SetItem}
+use Rattle.sre_model.proofs.Terms.{Single, Range, RangeUniIgnore, Category, Charset, BigCharset, Negate, word, skip}
+use Rattle.sre_model.proofs.Terms.{Reads, ReadsBranch, ReadsSet, Operands, TestOperands, zero, suc, ◌⊎◌, inl, inr, Bool}
+use Rattle.sre_model.proofs.Terms.{true, false, nat_lt, nat_eq, Option, None, Some, slice_index_or, sym, ap, ◌∙◌}
+use Rattle.sre_model.proofs.Terms.{nat_tests, at_number, SreOpcode, SreAtCode, Fail, At, Mark, Loop, Run}
+use Rattle.sre_model.proofs.Terms.{PossessiveLoop, Atomic, Look, Reference, Exists, AnyAll, InCategory, Literal}
 use Rattle.sre_model.proofs.Terms.{NotLiteral, In, Order, Greedy, Lazy, RunKind, GreedyRun, LazyRun, PossessiveRun}
-use Rattle.sre_model.proofs.Terms.{Sign, Positive, Negative, Fold, Plain, Ascii, Locale, Unicode, SetItem, Word, word}
-use Rattle.sre_model.proofs.Terms.{Opcode, skip, test_opcode, item_opcode, until_opcode, ReadsSet, TestOperands, Reads}
-use Rattle.sre_model.proofs.Terms.{Operands, ReadsBranch, WholeItems}
+use Rattle.sre_model.proofs.Terms.{Sign, Positive, Negative, Fold, Plain, Ascii, Locale, Unicode, Word, Opcode}
+use Rattle.sre_model.proofs.Terms.{test_opcode, item_opcode, until_opcode, WholeItems, reference_opcode, ReadsItem}
+use Rattle.sre_model.proofs.Terms.{Whole, behind_block, same_Some}
 use Rattle.sre_chars.specs.declared.constants.SreOpcode.TheVariants as opcode
 use Rattle.sre_chars.specs.declared.constants.SreAtCode.TheVariants as at
-use Rattle.sre_model.proofs.Words.{word_of, opcode_within, at_codes, at_back}
-use Rattle.sre_model.proofs.SetItems.{set_item_opcode, first, opcode_at, category_at, set_item_by, item_past, parted}
-use Rattle.sre_model.proofs.SetItems.{opcode-read, category-read}
-use Rattle.sre_model.proofs.Places.{reads_within, operands_past, branch_past, set_past, alternative_long}
+use Rattle.sre_model.proofs.Opcodes.{word_of, opcode_within, at_codes, at_back, same_opcode}
+use Rattle.sre_model.proofs.SetItems.{set_item_opcode, first, category_at, set_item_by, item_past, parted, opcode-read}
+use Rattle.sre_model.proofs.SetItems.{category-read}
+
+-- Where readings end
+
+-- each item of a set has a word at least
+set_long : (ws : List ℕ) (i j : ℕ) (s : List SetItem) → ReadsSet ws i j s → i + length s ≤ j
+set_long ws i j [] r = omega arith
+set_long ws i j (Single v ∷ rest) r = omega (arith, set_long ws (i + 2) j rest r.2)
+set_long ws i j (Range low high ∷ rest) r = omega (arith, set_long ws (i + 3) j rest r.3)
+set_long ws i j (RangeUniIgnore low high ∷ rest) r = omega (arith, set_long ws (i + 3) j rest r.3)
+set_long ws i j (Category c ∷ rest) r = omega (arith, set_long ws (i + 2) j rest r.2)
+set_long ws i j (Charset bits ∷ rest) r = omega (arith, set_long ws (i + 9) j rest r.3)
+set_long ws i j (BigCharset numbers bits ∷ rest) r =
+    omega (arith, set_long ws (i + 66 + word ws (i + 1) * 8) j rest r.5)
+set_long ws i j (Negate ∷ rest) r = omega (arith, set_long ws (i + 1) j rest r.1)
+
+pub set_within : (ws : List ℕ) (i j : ℕ) (s : List SetItem) → ReadsSet ws i j s → i ≤ j
+set_within ws i j s r = omega (arith, set_long ws i j s r)
+
+-- a set item is not empty
+pub set_past : (x : SetItem) (rest : List SetItem) (ws : List ℕ) (i j : ℕ) → ReadsSet ws i j (x ∷ rest) → i < j
+set_past x rest ws i j r = omega (arith, set_long ws i j (x ∷ rest) r)
+
+pub test_past : (t : Test) (ws : List ℕ) (i j : ℕ) → TestOperands ws i j t → i < j
+test_past Any ws i j r = omega arith
+test_past t ws i j r = omega arith
+
+mutual
+  pub reads_within : (t : Tree) (ws : List ℕ) (i j : ℕ) → Reads ws i j t → i ≤ j
+  reads_within Empty ws i j r = omega arith
+  reads_within (Then x rest) ws i j r = omega (arith, operands_past x ws i r.0 r.1.1, reads_within rest ws r.0 j r.2)
+
+  pub operands_past : (x : Item) (ws : List ℕ) (i j : ℕ) → Operands ws i j x → i < j
+  operands_past (One t) ws i j r = test_past t ws i j r
+  operands_past (Branch ts) ws i j r = omega (arith, branch_past ts ws (i + 1) j r)
+  operands_past (ExistsElse g there absent) ws i j r =
+      omega (arith, reads_within absent ws (i + 1 + word ws (i + 2)) j r.3)
+  operands_past x ws i j r = omega arith
+
+  pub branch_past : (ts : Trees) (ws : List ℕ) (q j : ℕ) → ReadsBranch ws q j ts → q < j
+  branch_past (Only t) ws q j r = omega arith
+  branch_past (Or t ts) ws q j r = omega (arith, branch_past ts ws (skip ws q) j r.2)
+
+-- an alternative has three words at least
+pub alternative_long : (ws : List ℕ) (q j : ℕ) (ts : Trees) → ReadsBranch ws q j ts → q + 3 ≤ skip ws q
+alternative_long ws q j (Only t) r = omega (arith, reads_within t ws (q + 1) (skip ws q - 2) r.0)
+alternative_long ws q j (Or t ts) r = omega (arith, reads_within t ws (q + 1) (skip ws q - 2) r.0)
+
+pub reads_moved : (ws : List ℕ) (i i2 j j2 : ℕ) (t : Tree) → i ≡ i2 → j ≡ j2 → Reads ws i j t → Reads ws i2 j2 t
+reads_moved ws i i2 j j2 t e f r = rw (← e, ← f) r
+
+pub set_moved : (ws : List ℕ) (i i2 j j2 : ℕ) (s : List SetItem) → i ≡ i2 → j ≡ j2 → ReadsSet ws i j s
+    → ReadsSet ws i2 j2 s
+set_moved ws i i2 j j2 s e f r = rw (← e, ← f) r
+
+-- a reading that ends where it begins is empty
+pub reads_nothing : (ws : List ℕ) (i k : ℕ) (t : Tree) → Reads ws i k t → k ≡ i → t ≡ Empty
+reads_nothing ws i k Empty r e = refl
+reads_nothing ws i k (Then x t) r e =
+    absurd (omega (arith, operands_past x ws i r.0 r.1.1, reads_within t ws r.0 k r.2))
+
+-- The tree, by a function
 
 -- The codes of words
 
@@ -307,3 +370,42 @@ whole-read ws t h =
     let last = length ws - 1 in
     let within : last < length ws = opcode_within ws last opcode.SUCCESS h.1 in
     ap (λ (r : Tree × ℕ). r.0) (items-read (length ws) ws 0 last last t h.0 (inl refl) (omega arith))
+
+-- At most one tree
+
+pub set_same : (a b : List SetItem) (ws : List ℕ) (i j : ℕ) → ReadsSet ws i j a → ReadsSet ws i j b → a ≡ b
+set_same a b ws i j r s = sym (set-read a j ws i j r (omega arith)) ∙ set-read b j ws i j s (omega arith)
+
+pub test_same : (t u : Test) (ws : List ℕ) (i j k : ℕ) → Opcode ws i (test_opcode t) → TestOperands ws i j t
+    → Opcode ws i (test_opcode u) → TestOperands ws i k u → (t ≡ u) × (j ≡ k)
+test_same t u ws i j k w r x s =
+    let same = ap (λ o. test_by o ws i) (same_opcode ws i (test_opcode t) (test_opcode u) w x) in
+    let e : (t, j) ≡ (u, k) = sym (test-read t ws i j r) ∙ same ∙ test-read u ws i k s in
+    (ap (λ (p : Test × ℕ). p.0) e, ap (λ (p : Test × ℕ). p.1) e)
+
+pub item_same : (x y : Item) (ws : List ℕ) (i j k : ℕ) → ReadsItem ws i j x → ReadsItem ws i k y → (x ≡ y) × (j ≡ k)
+item_same x y ws i j k r s =
+    let f : ℕ = j + k in
+    let a = item-read x f (items_at f ws) ws i j (items-read f ws) r.1 (omega arith) in
+    let b = item-read y f (items_at f ws) ws i k (items-read f ws) s.1 (omega arith) in
+    let same = ap (λ o. item_by o f (items_at f ws) ws i) (same_opcode ws i (item_opcode x) (item_opcode y) r.0 s.0) in
+    let e = same_Some (x, j) (y, k) (sym a ∙ same ∙ b) in
+    (ap (λ (p : Item × ℕ). p.0) e, ap (λ (p : Item × ℕ). p.1) e)
+
+-- a reference folds in one way
+pub same_reference_fold : (ws : List ℕ) (i : ℕ) (f g : Fold) → Opcode ws i (reference_opcode f)
+    → Opcode ws i (reference_opcode g) → f ≡ g
+same_reference_fold ws i f g x y = same f g (same_opcode ws i (reference_opcode f) (reference_opcode g) x y)
+  where
+    same : (f g : Fold) → reference_opcode f ≡ reference_opcode g → f ≡ g
+    same Plain Plain e = refl
+    same Ascii Ascii e = refl
+    same Locale Locale e = refl
+    same Unicode Unicode e = refl
+    same f g e = absurd (cc)
+
+pub items_same : (ws : List ℕ) (t u : Tree) → WholeItems ws t → WholeItems ws u → t ≡ u
+items_same ws t u x y = sym (whole-read ws t x) ∙ whole-read ws u y
+
+pub whole_same : (ws : List ℕ) (t u : Tree) → Whole ws t → Whole ws u → t ≡ u
+whole_same ws t u x y = items_same (behind_block ws) t u x.1 y.1

@@ -1,8 +1,16 @@
--- Each match path is at least as long as the tree's least width.
-use Rattle.sre_model.proofs.Terms.{◌≡◌, ℕ, ◌+◌, ◌<◌, ◌≤◌, List, [], ◌∷◌, refl, arith, flat_map, AllByRecursion, Tree}
-use Rattle.sre_model.proofs.Terms.{Marks, Subject, Way, Body, ways, width}
+-- Each match path is at least as long as the tree's least width, which saturates at the greatest word.
+use Rattle.sre_model.proofs.Terms.{◌≤◌, arith, Tree, Empty, Then, Trees, Only, Or, width, least_width, ◌≡◌, ℕ, ◌+◌, ◌<◌}
+use Rattle.sre_model.proofs.Terms.{List, [], ◌∷◌, refl, flat_map, AllByRecursion, Marks, Subject, Way, Body, ways}
 use Rattle.sre_model.proofs.Each.{each-flat_map, each-weaken}
 use Rattle.sre_model.proofs.Bounds.{EachBetween, Wide, tree-wide, ways-bounded}
+
+pub width_held : (t : Tree) → width t ≤ 4294967295
+width_held Empty = omega arith
+width_held (Then x t) = omega arith
+
+pub least_held : (ts : Trees) → least_width ts ≤ 4294967295
+least_held (Only t) = width_held t
+least_held (Or t ts) = omega (arith, width_held t)
 
 -- a way that ends n characters on, or more
 abbrev pub Far : ℕ → ℕ → Way → Type 0

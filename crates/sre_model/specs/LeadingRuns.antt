@@ -1,12 +1,28 @@
--- Leading repeats: trees that begin with a repeat without a greatest count, perhaps after one test of a character.
--- Definitions for the search's contracts; what sre_engine makes public does not rest on it.
-use Rattle.std.specs.Prelude.{⊤, ℕ, ◌+◌, ◌≡◌, ◌≤◌, Bool, true, false, List, Option, Some, None}
-use Rattle.std.specs.List.{AllByRecursion}
-use Rattle.sre_model.specs.Tree.{Tree, Test}
-use Rattle.sre_model.specs.Marks.{Marks}
-use Rattle.sre_model.specs.Subject.{Subject, passes}
-use Rattle.sre_model.specs.Ways.{Way, unlimited, longest_run, ways}
+-- Repeats of one character: as they are counted, and at the front of a tree without a greatest count, perhaps after one
+-- test of a character.
+use Rattle.std.specs.Prelude.{ℕ, ◌+◌, ◌≡◌, ◌<◌, ◌≤◌, Bool, not, ⊤, true, false, List, Option, Some, None}
+use Rattle.sre_chars.specs.declared.string.StringCursor.{StringCursor}
+use Rattle.sre_model.specs.Tree.{Test, Tree}
+use Rattle.sre_model.specs.Subject.{passes, Subject}
+use Rattle.sre_model.specs.Runs.{Run}
 use Rattle.sre_model.specs.Standing.{TestStands}
+use Rattle.std.specs.List.{AllByRecursion}
+use Rattle.sre_model.specs.Marks.{Marks}
+use Rattle.sre_model.specs.Ways.{Way, unlimited, longest_run, ways}
+
+-- the test at i says what is wanted of the first count characters from start on, and the cursor stands behind them
+pub record Counted (r : Run) (i : ℕ) (wanted : Bool) (most : ℕ) (start cursor : StringCursor) (count : ℕ) : Type 0 where
+  pub within : count ≤ most
+  pub position : cursor.position ≡ start.position + count
+  pub stands : r.stands cursor cursor.position
+  pub each : (j q : ℕ) (t : Test) → TestStands r.words i j t → start.position ≤ q → q < cursor.position
+      → passes r.subject t q ≡ wanted
+
+-- and not of the next one, where more are allowed
+pub record Ended (r : Run) (i : ℕ) (wanted : Bool) (most : ℕ) (start cursor : StringCursor) (count : ℕ) : Type 0 where
+  pub counted : Counted r i wanted most start cursor count
+  pub ends : count < most → (j : ℕ) (t : Test) → TestStands r.words i j t
+      → passes r.subject t cursor.position ≡ not wanted
 
 -- whether the test in front takes the character at p, where there is one
 abbrev pub front_passes : Subject → Option Test → ℕ → Bool

@@ -8,7 +8,6 @@ pub mod Grammar
 pub mod Roles
 pub mod Width
 pub mod Claims
-pub mod Lawful
 pub mod Written
 pub mod Found
 pub mod FirstCharacters
@@ -27,12 +26,8 @@ pub mod LeadingRuns
 pub mod WalkBounds
 pub mod Shown
 pub mod Rows
-pub mod RowsOfWalks
 pub mod RowsOfBounds
-pub mod RowsOfPatterns
-pub mod RowsOfGroups
 pub mod Standing
 pub mod Runs
 pub mod Cost
 pub mod TurnBounds
-pub mod CountedRuns

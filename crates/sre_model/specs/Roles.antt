@@ -1,10 +1,29 @@
 -- Roles: what each opcode is for, in one table.
 -- For the machine and the proofs; what sre_engine makes public does not rest on it.
-use Rattle.std.specs.Prelude.{Bool, true, false}
+use Rattle.std.specs.Prelude.{ℕ, Bool, true, false, List, [], ◌∷◌, slice_index_or}
 use Rattle.sre_chars.specs.declared.constants.SreOpcode.{SreOpcode}
 use Rattle.sre_chars.specs.declared.constants.SreOpcode.TheVariants as opcode
+use Rattle.sre_model.specs.Grammar.{word}
 use Rattle.sre_model.specs.Tree.{Order, Greedy, Lazy, RunKind, GreedyRun, LazyRun, PossessiveRun, Sign, Positive}
 use Rattle.sre_model.specs.Tree.{Negative}
+
+-- the opcodes, in the order of their numbers
+abbrev pub numbered : List SreOpcode
+numbered =
+    opcode.FAILURE ∷ opcode.SUCCESS ∷ opcode.ANY ∷ opcode.ANY_ALL ∷ opcode.ASSERT ∷ opcode.ASSERT_NOT ∷ opcode.AT
+    ∷ opcode.BRANCH ∷ opcode.CATEGORY ∷ opcode.CHARSET ∷ opcode.BIGCHARSET ∷ opcode.GROUPREF ∷ opcode.GROUPREF_EXISTS
+    ∷ opcode.IN ∷ opcode.INFO ∷ opcode.JUMP
+    ∷ opcode.LITERAL ∷ opcode.MARK ∷ opcode.MAX_UNTIL ∷ opcode.MIN_UNTIL ∷ opcode.NOT_LITERAL ∷ opcode.NEGATE
+    ∷ opcode.RANGE ∷ opcode.REPEAT ∷ opcode.REPEAT_ONE ∷ opcode.SUBPATTERN ∷ opcode.MIN_REPEAT_ONE ∷ opcode.ATOMIC_GROUP
+    ∷ opcode.POSSESSIVE_REPEAT ∷ opcode.POSSESSIVE_REPEAT_ONE
+    ∷ opcode.GROUPREF_IGNORE ∷ opcode.IN_IGNORE ∷ opcode.LITERAL_IGNORE ∷ opcode.NOT_LITERAL_IGNORE
+    ∷ opcode.GROUPREF_LOC_IGNORE ∷ opcode.IN_LOC_IGNORE ∷ opcode.LITERAL_LOC_IGNORE ∷ opcode.NOT_LITERAL_LOC_IGNORE
+    ∷ opcode.GROUPREF_UNI_IGNORE ∷ opcode.IN_UNI_IGNORE ∷ opcode.LITERAL_UNI_IGNORE ∷ opcode.NOT_LITERAL_UNI_IGNORE
+    ∷ opcode.RANGE_UNI_IGNORE ∷ []
+
+-- the one whose number is word i
+abbrev pub opcode_at : List ℕ → ℕ → SreOpcode
+opcode_at ws i = slice_index_or numbered (word ws i) opcode.FAILURE
 
 -- the kinds of tests
 pub data TestKind : Type 0 where

@@ -1,14 +1,15 @@
--- Worked rows, by computation: how many steps suffice.
-use Rattle.std.specs.Prelude.{ℕ, ◌-◌, ◌*◌, refl, ◌≡◌, [], ◌∷◌, replicate, true, false}
-use Rattle.sre_chars.specs.declared.constants.SreAtCode.TheVariants.{END}
+-- Worked rows, by computation: how many steps suffice, which groups a tree reads, and iterations.
+use Rattle.std.specs.Prelude.{ℕ, ◌-◌, ◌*◌, refl, ◌≡◌, [], ◌∷◌, replicate, true, false, codes}
+use Rattle.sre_chars.specs.declared.constants.SreAtCode.TheVariants.{END, BOUNDARY}
 use Rattle.sre_model.specs.Tree.{Tree, Item, Empty, At, Branch, Loop, Run, PossessiveLoop, Atomic, Look, Only, Or}
-use Rattle.sre_model.specs.Tree.{Greedy, GreedyRun, PossessiveRun, Positive, Negative}
+use Rattle.sre_model.specs.Tree.{Greedy, GreedyRun, PossessiveRun, Positive, Negative, Mark, Reference, Exists, Plain}
 use Rattle.sre_model.specs.Ways.{unlimited}
-use Rattle.sre_model.specs.Found.{Asked}
+use Rattle.sre_model.specs.Found.{Asked, walk}
 use Rattle.sre_model.specs.Regions.{has_forked_region}
 use Rattle.sre_model.specs.LooksBehind.{backs}
 use Rattle.sre_model.specs.Remembered.{words_at_place, sides, step_bound}
-use Rattle.sre_model.specs.Shown.{items, is_a, a, b, c, window, whole}
+use Rattle.sre_model.specs.Shown.{items, is_a, a, b, c, window, whole, span, grouped}
+use Rattle.sre_model.specs.References.{asked_from, asked_to}
 
 -- so many letters
 abbrev letters : ℕ → Asked
@@ -143,3 +144,154 @@ steps_of_a_possessive_loop = refl
 -- with ten times the letters ten times the steps, but for the position at the range's end
 steps_of_a_longer_window : step_bound possessive_loop (letters 1000) ≡ 70070
 steps_of_a_longer_window = refl
+
+-- How many steps suffice for patterns in use, over 100 letters
+
+-- one or more, any number, and one or none
+abbrev some : Item
+some = Run GreedyRun 1 unlimited is_a
+
+abbrev any : Item
+any = Run GreedyRun 0 unlimited is_a
+
+abbrev maybe : Item
+maybe = Run GreedyRun 0 1 is_a
+
+-- e-mail: [\w.+-]+@[\w-]+\.[\w.-]+
+abbrev email : Tree
+email = items (some ∷ a ∷ some ∷ a ∷ some ∷ [])
+
+steps_of_email : step_bound email (letters 100) ≡ 4747
+steps_of_email = refl
+
+-- date: (\d{4})-(\d\d)-(\d\d)
+abbrev date : Tree
+date = items (Mark 0 ∷ Run GreedyRun 4 4 is_a ∷ Mark 1 ∷ a ∷ Mark 2 ∷ a ∷ a ∷ Mark 3 ∷ a ∷ Mark 4 ∷ a ∷ a ∷ Mark
+    5 ∷ [])
+
+steps_of_date : step_bound date (letters 100) ≡ 6161
+steps_of_date = refl
+
+-- IPv4 address: \b(?:\d{1,3}\.){3}\d{1,3}\b
+abbrev ipv4_address : Tree
+ipv4_address = items (At END ∷ Loop Greedy 3 3 (items (Run GreedyRun 1 3 is_a ∷ a ∷ [])) ∷ Run GreedyRun 1 3
+    is_a ∷ At END ∷ [])
+
+steps_of_ipv4_address : step_bound ipv4_address (letters 100) ≡ 17675
+steps_of_ipv4_address = refl
+
+-- number: [-+]?(?:\d+\.?\d*|\.\d+)(?:[eE][-+]?\d+)?
+abbrev number : Tree
+number = items (maybe ∷ Branch (Or (items (some ∷ maybe ∷ any ∷ [])) (Only (items (a ∷ some ∷ [])))) ∷ Loop
+    Greedy 0 1 (items (a ∷ maybe ∷ some ∷ [])) ∷ [])
+
+steps_of_number : step_bound number (letters 100) ≡ 12928
+steps_of_number = refl
+
+-- SQL keywords: (?:union\s+(?:all\s+)?select|insert\s+into|drop\s+table)
+abbrev sql_keywords : Tree
+sql_keywords = items (Branch (Or (items (a ∷ a ∷ a ∷ a ∷ a ∷ some ∷ Loop Greedy 0 1 (items (a ∷ a ∷ a ∷ some ∷
+    [])) ∷ a ∷ a ∷ a ∷ a ∷ a ∷ a ∷ [])) (Or (items (a ∷ a ∷ a ∷ a ∷ a ∷ a ∷ some ∷ a ∷ a ∷ a ∷ a ∷ [])) (Only
+    (items (a ∷ a ∷ a ∷ a ∷ some ∷ a ∷ a ∷ a ∷ a ∷ a ∷ []))))) ∷ [])
+
+steps_of_sql_keywords : step_bound sql_keywords (letters 100) ≡ 16665
+steps_of_sql_keywords = refl
+
+-- UUID: [0-9a-f]{8}(?:-[0-9a-f]{4}){3}-[0-9a-f]{12}
+abbrev uuid : Tree
+uuid = items (Run GreedyRun 8 8 is_a ∷ Loop Greedy 3 3 (items (a ∷ Run GreedyRun 4 4 is_a ∷ [])) ∷ a ∷ Run
+    GreedyRun 12 12 is_a ∷ [])
+
+steps_of_uuid : step_bound uuid (letters 100) ≡ 11514
+steps_of_uuid = refl
+
+-- log line: (\d+(?:\.\d+){3}) (\S+) (\S+) \[([^]]+)\] "([A-Z]+) (\S+)[^"]*" (\d{3}) (\d+|-)
+abbrev log_line : Tree
+log_line = items (Mark 0 ∷ some ∷ Loop Greedy 3 3 (items (a ∷ some ∷ [])) ∷ Mark 1 ∷ a ∷ Mark 2 ∷ some ∷ Mark 3
+    ∷ a ∷ Mark 4 ∷ some ∷ Mark 5 ∷ a ∷ a ∷ Mark 6 ∷ some ∷ Mark 7 ∷ a ∷ a ∷ a ∷ Mark 8 ∷ some ∷ Mark 9 ∷ a ∷
+    Mark 10 ∷ some ∷ Mark 11 ∷ any ∷ a ∷ a ∷ Mark 12 ∷ Run GreedyRun 3 3 is_a ∷ Mark 13 ∷ a ∷ Mark 14 ∷ Branch
+    (Or (items (some ∷ [])) (Only (items (a ∷ [])))) ∷ Mark 15 ∷ [])
+
+steps_of_log_line : step_bound log_line (letters 100) ≡ 19190
+steps_of_log_line = refl
+
+-- date with time: (\d{4})-(\d\d)-(\d\d)T(\d\d):(\d\d)(?::(\d\d)(?:\.\d+)?)?(Z|[+-]\d\d:\d\d)?
+abbrev date_with_time : Tree
+date_with_time = items (Mark 0 ∷ Run GreedyRun 4 4 is_a ∷ Mark 1 ∷ a ∷ Mark 2 ∷ a ∷ a ∷ Mark 3 ∷ a ∷ Mark 4 ∷ a
+    ∷ a ∷ Mark 5 ∷ a ∷ Mark 6 ∷ a ∷ a ∷ Mark 7 ∷ a ∷ Mark 8 ∷ a ∷ a ∷ Mark 9 ∷ Loop Greedy 0 1 (items (a ∷ Mark
+    10 ∷ a ∷ a ∷ Mark 11 ∷ Loop Greedy 0 1 (items (a ∷ some ∷ [])) ∷ [])) ∷ Loop Greedy 0 1 (items (Mark 12 ∷
+    Branch (Or (items (a ∷ [])) (Only (items (a ∷ a ∷ a ∷ a ∷ a ∷ a ∷ [])))) ∷ Mark 13 ∷ [])) ∷ [])
+
+steps_of_date_with_time : step_bound date_with_time (letters 100) ≡ 35350
+steps_of_date_with_time = refl
+
+-- password rule: (?=.*[a-z])(?=.*\d)(?=.*[A-Z]).{8,64}
+abbrev password_rule : Tree
+password_rule = items (Look Positive 0 (items (any ∷ a ∷ [])) ∷ Look Positive 0 (items (any ∷ a ∷ [])) ∷ Look
+    Positive 0 (items (any ∷ a ∷ [])) ∷ Run GreedyRun 8 64 is_a ∷ [])
+
+steps_of_password_rule : step_bound password_rule (letters 100) ≡ 55045
+steps_of_password_rule = refl
+
+-- Which groups a tree reads
+
+-- (a)(b)\1
+abbrev first_of_two : Tree
+first_of_two =
+    items (Mark 0 ∷ a ∷ Mark 1 ∷ Mark 2 ∷ b ∷ Mark 3 ∷ Reference Plain 0 ∷ [])
+
+first_asked : asked_from first_of_two ≡ 0
+first_asked = refl
+
+last_asked : asked_to first_of_two ≡ 0
+last_asked = refl
+
+-- references to the groups 3 and 1, one of them in a loop
+abbrev two_asked : Tree
+two_asked = items (Loop Greedy 0 unlimited (items (Reference Plain 3 ∷ [])) ∷ Reference Plain 1 ∷ [])
+
+first_of_both : asked_from two_asked ≡ 1
+first_of_both = refl
+
+last_of_both : asked_to two_asked ≡ 3
+last_of_both = refl
+
+-- nothing asks, and a condition asks for all
+none_asked : asked_to (items (Mark 0 ∷ a ∷ Mark 1 ∷ [])) ≡ 0
+none_asked = refl
+
+all_asked : asked_to (items (Exists 0 (items (a ∷ [])) ∷ [])) ≡ 4294967295
+all_asked = refl
+
+-- Iterations
+
+-- a*
+empty_matches_between : walk (whole (codes "baa")) (items (Run GreedyRun 0 unlimited is_a ∷ []))
+    ≡ span 0 0 ∷ span 1 3 ∷ span 3 3 ∷ []
+empty_matches_between = refl
+
+-- (?:|a): as many matches as a walk can have
+most_matches_of_one_character : walk (whole (codes "a")) (items (Branch (Or Empty (Only (items (a ∷ [])))) ∷ []))
+    ≡ span 0 0 ∷ span 0 1 ∷ span 1 1 ∷ []
+most_matches_of_one_character = refl
+
+-- \b
+boundaries_of_a_word : walk (whole (codes "a ")) (items (At BOUNDARY ∷ [])) ≡ span 0 0 ∷ span 1 1 ∷ []
+boundaries_of_a_word = refl
+
+walk_without_a_match : walk (whole (codes "a")) (items (b ∷ [])) ≡ []
+walk_without_a_match = refl
+
+-- the empty tree on "", which must advance
+walk_that_must_advance : walk (record (whole []) { must_advance = true }) Empty ≡ []
+walk_that_must_advance = refl
+
+-- a* under match_all
+walk_up_to_the_end : walk (record (whole (codes "aa")) { match_all = true })
+    (items (Run GreedyRun 0 unlimited is_a ∷ [])) ≡ span 0 2 ∷ span 2 2 ∷ []
+walk_up_to_the_end = refl
+
+-- (a)b: each match begins with no marks
+walk_with_marks : walk (whole (codes "abab")) (items (Mark 0 ∷ a ∷ Mark 1 ∷ b ∷ []))
+    ≡ grouped 0 2 0 1 ∷ grouped 2 4 2 3 ∷ []
+walk_with_marks = refl

@@ -11,7 +11,7 @@ use Rattle.sre_patterns.proofs.Terms.{here, unlimited, ways, item_ways, loop_way
 use Rattle.sre_patterns.proofs.Terms.{Bounded, ways-bounded, item-bounded, View, ExactBody, ExactTree, Rises, AreKept}
 use Rattle.sre_patterns.proofs.Terms.{repeated, is_greedy, kind_of, exact_look, most_kept, option_or, option_or-None}
 use Rattle.regex_hir.proofs.TextLemmas.{char_at_fits, char_at_parts, char_at_past}
-use Rattle.sre_patterns.specs.Exact.{AtPlaces, tried, Exact, ExactItem, ExactTest}
+use Rattle.sre_patterns.specs.Covers.{AtPlaces, tried, Exact, ExactItem, ExactTest}
 use Rattle.regex_hir.specs.Meaning.{optional, copies, up_to, at_least, repeat}
 use Rattle.regex_class.specs.Ranges.{in_ranges}
 use Rattle.sre_patterns.proofs.Edges.{IsLater, char-bytes, Sided, HoldAlike, look-agrees}

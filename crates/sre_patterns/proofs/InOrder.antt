@@ -14,7 +14,7 @@ use Rattle.sre_model.proofs.LoopCases.{loop-below-all, loop-beyond-all, loop-way
 use Rattle.regex_hir.proofs.AttemptLemmas.{more_rounds_unfold, attempt_cong_after}
 use Rattle.regex_hir.specs.Meaning.{optional, copies, up_to, at_least, repeat}
 use Rattle.sre_model.proofs.Longest.{goes_on, longest_goes_on, longest_stops}
-use Rattle.sre_patterns.specs.Exact as exact
+use Rattle.sre_patterns.specs.Covers as exact
 
 -- the last body began before here
 abbrev pub Passed : Option ℕ → ℕ → Type 0

@@ -7,9 +7,9 @@ use Rattle.sre_patterns.proofs.Terms.{until_opcode, item_same}
 use Rattle.sre_patterns.specs.Patterns.{HasItems, AtItem, HasItem, HasRun, HasAtomic, HasLoop}
 use Rattle.sre_model.specs.Tree.{Reference, Fold, PossessiveLoop, Look, GreedyRun, LazyRun, PossessiveRun, Positive}
 use Rattle.sre_model.specs.Roles.{role, ToRun, ToMark, ToRepeat, ToRepeatPossessively, ToLook, ToRefer}
-use Rattle.sre_model.proofs.Words.{same_word, opcode_within, word_past}
-use Rattle.sre_model.proofs.Places.{reads_within}
-use Rattle.sre_model.proofs.Families.{test_here, is_one, is_mark, is_loop, is_run, is_possessive, is_look, is_reference}
+use Rattle.sre_model.proofs.Opcodes.{same_word, opcode_within, word_past, test_here, is_one, is_mark, is_loop, is_run}
+use Rattle.sre_model.proofs.Opcodes.{is_possessive, is_look, is_reference}
+use Rattle.sre_model.proofs.TreeOf.{reads_within}
 use Rattle.sre_chars.specs.declared.constants.SreOpcode.TheVariants as opcode
 
 -- items whose end is known

@@ -12,5 +12,4 @@ pub mod Fronts
 pub mod InOrder
 pub mod ExactTrees
 pub mod FirstFound
-pub mod AsciiSeen
 pub mod Terms

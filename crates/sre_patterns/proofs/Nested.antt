@@ -6,8 +6,8 @@ use Rattle.sre_patterns.proofs.Terms.{uni_of, view_of, alt_onto, Serves, ServesI
 use Rattle.sre_patterns.proofs.Terms.{word, role_here, View, Covers, IsWider, OnlyCovers, is_exists, item_opcode}
 use Rattle.sre_patterns.specs.Patterns.{HasItems, HasItem, AtItems, AtItem, Stops, HasBranch, HasCondition}
 use Rattle.sre_model.specs.Tree.{Empty, Trees, Only, Or, Branch, Exists, ExistsElse}
-use Rattle.sre_model.proofs.Words.{opcode_within, same_word, opcode_moved, word_within, word_of}
-use Rattle.sre_model.proofs.Places.{reads_within, operands_past, alternative_long}
+use Rattle.sre_model.proofs.Opcodes.{opcode_within, same_word, opcode_moved, word_within, word_of}
+use Rattle.sre_model.proofs.TreeOf.{reads_within, operands_past, alternative_long}
 use Rattle.sre_patterns.specs.declared.task.Task.{Task}
 use Rattle.sre_model.specs.Roles.{ToCheckGroup}
 use Rattle.sre_patterns.proofs.Items.{PartRead, items-to, word-needed, at-item}

@@ -7,7 +7,7 @@ use Rattle.sre_patterns.proofs.Terms.{HasBelow, HasFor, test_opcode, TestOperand
 use Rattle.sre_patterns.proofs.Terms.{slice_get-get_or, slice_range, category_number, Charset, set_same}
 use Rattle.std.proofs.Math.Seq.{drop-cons}
 use Rattle.regex_hir.proofs.TextLemmas.{has_bytes_at_from}
-use Rattle.sre_model.proofs.Words.{same_word, same_opcode}
+use Rattle.sre_model.proofs.Opcodes.{same_word, same_opcode}
 use Rattle.std.proofs.lemmas.Option.{get_or_from_slice_get, slice_get_within}
 use Rattle.regex_class.specs.Ranges.{in_range, in_ranges, HasExactly}
 use Rattle.regex_class.proofs.RangesLemmas.{in_ranges-push}

@@ -2,7 +2,5 @@ pub mod Patterns
 pub mod Purposes
 pub mod Settling
 pub mod Covers
-pub mod Repeated
-pub mod Exact
 pub mod Looks
 pub mod Terms

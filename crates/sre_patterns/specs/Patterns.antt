@@ -1,7 +1,9 @@
--- What is said of a pattern for the bytecode at an address.
-use Rattle.std.specs.Prelude.{ℕ, ◌≡◌, ◌<◌, ◌≤◌, ◌⊎◌, Bool, true, nat_lt, List, [], ◌∷◌, ◌&&◌}
-use Rattle.sre_patterns.specs.Terms.{Re, cat, alt, Table, SreOpcode, SreAtCode, Tree, Item, Test, RunKind, Opcode}
-use Rattle.sre_patterns.specs.Terms.{TestStands, Branch, Run, Atomic, Trees, item_opcode, Reads, ReadsItem}
+-- The pattern of a tree, and repetitions, whose counts are preserved while they are small.
+use Rattle.std.specs.Prelude.{ℕ, Bool, true, Option, Some, None, nat_lt, min, false, ◌||◌, cond, ◌≡◌, ◌<◌, ◌≤◌, ◌⊎◌}
+use Rattle.std.specs.Prelude.{List, [], ◌∷◌, ◌&&◌}
+use Rattle.sre_patterns.specs.Terms.{Re, repeat, Order, RunKind, Greedy, Lazy, GreedyRun, LazyRun, cat, alt, Table}
+use Rattle.sre_patterns.specs.Terms.{SreOpcode, SreAtCode, Tree, Item, Test, Opcode, TestStands, Branch, Run, Atomic}
+use Rattle.sre_patterns.specs.Terms.{Trees, item_opcode, Reads, ReadsItem}
 use Rattle.sre_model.specs.Roles.{role, ToRun, ToRepeat, ToRepeatPossessively, ToCheckGroup}
 use Rattle.regex_class.specs.Ranges.{in_ranges}
 use Rattle.sre_patterns.specs.Covers.{View, InBytes, InUtf8, CoversStart}
@@ -9,6 +11,23 @@ use Rattle.sre_patterns.specs.Looks.{in_ascii}
 use Rattle.sre_chars.specs.declared.constants.SreOpcode.TheVariants as opcode
 use Rattle.sre_patterns.specs.declared.encoding.Encoding as encoding_type
 use Rattle.sre_patterns.specs.declared.encoding.Encoding.TheVariants as encoding
+
+-- the greatest count of a repetition, unless it or the least one is more than is kept
+abbrev pub most_kept : ℕ → ℕ → ℕ → Option ℕ
+most_kept kept low high = cond (nat_lt kept low || nat_lt kept high) None (Some high)
+
+-- a pattern as often as the counts say, as far as these are kept
+abbrev pub repeated : ℕ → ℕ → ℕ → Bool → Re → Re
+repeated kept low high greedy a = repeat (min low kept) (most_kept kept low high) greedy a
+
+abbrev pub is_greedy : Order → Bool
+is_greedy Greedy = true
+is_greedy Lazy = false
+
+-- the runs that try their counts so
+abbrev pub kind_of : Order → RunKind
+kind_of Greedy = GreedyRun
+kind_of Lazy = LazyRun
 
 abbrev pub view_of : encoding_type.Encoding → View
 view_of encoding.Bytes = InBytes 256

@@ -3,13 +3,11 @@ use Rattle.std.specs.Prelude.{ℕ, ◌≡◌, Bool, List, Option, ⊤}
 use Rattle.sre_patterns.specs.Terms.{Re, Look, Table, SreAtCode, SreOpcode, Tree, Item, One, Test, Order, Opcode}
 use Rattle.sre_patterns.specs.Terms.{Subject, Body, ways, item_ways, uni_of, until_opcode}
 use Rattle.sre_model.specs.Roles.{role, ToRun}
-use Rattle.sre_patterns.specs.Covers.{View, IsWider, CoversBody}
-use Rattle.sre_patterns.specs.Exact.{ExactBody}
+use Rattle.sre_patterns.specs.Covers.{View, IsWider, CoversBody, ExactBody}
 use Rattle.sre_patterns.specs.Looks.{look_of, exact_look}
-use Rattle.sre_patterns.specs.Repeated.{is_greedy, kind_of}
+use Rattle.sre_patterns.specs.Patterns.{is_greedy, kind_of, view_of, HasBelow, HasJust}
 use Rattle.sre_patterns.specs.declared.task.Purpose.{Purpose}
 use Rattle.sre_patterns.specs.declared.task.Task.{Task}
-use Rattle.sre_patterns.specs.Patterns.{view_of, HasBelow, HasJust}
 use Rattle.sre_chars.specs.declared.constants.SreOpcode.TheVariants as opcode
 use Rattle.sre_patterns.specs.declared.task.Purpose.TheVariants as purpose
 

@@ -2,9 +2,9 @@
 
 ghost use Rattle.std.specs.Prelude.{◌≡◌, ◌≤◌, ◌+◌, ◌<◌, ◌^◌, IfOk, length, true, None};
 ghost use Rattle.sre_patterns.specs.Terms.{meaning, repeat, Word, items_of, IsMinLen};
-ghost use Rattle.sre_patterns.specs.Exact.{AreKept};
+ghost use Rattle.sre_patterns.specs.Covers.{AreKept};
 ghost use Rattle.sre_patterns.specs.Purposes.{WhenInOrder, RunsSo, LoopsSo};
-ghost use Rattle.sre_patterns.specs.Repeated as repetitions;
+ghost use Rattle.sre_patterns.specs.Patterns as repetitions;
 
 use crate::fault::Fault;
 use crate::task::{Purpose, Task, only_covers};

@@ -77,7 +77,7 @@ fn settled_item(words: &[u32], place: usize, opcode: SreOpcode) -> Option<Settle
 }
 
 // From which character on the set with items from `start` on is constant.
-#[tactic(auto, using(sre_model::proofs::Words::opcode_within))]
+#[tactic(auto, using(sre_model::proofs::Opcodes::opcode_within))]
 fn settled_set(words: &[u32], start: usize) -> Option<u32>
     requires { HasSet words.now start }
     ensures { IfSome result (λ from. SettledSet words.now start from) }

@@ -9,8 +9,7 @@
 ghost use Rattle.std.specs.Prelude.{◌≡◌, IfOk, Some};
 ghost use Rattle.sre_patterns.specs.Terms.{meaning, empty, Tree, Opcode, HasTest, items_of, uni_of};
 ghost use Rattle.sre_model.specs.Grammar.{WholeItems};
-ghost use Rattle.sre_patterns.specs.Covers.{Covers, CoversStart};
-ghost use Rattle.sre_patterns.specs.Exact.{ExactTree};
+ghost use Rattle.sre_patterns.specs.Covers.{Covers, CoversStart, ExactTree};
 ghost use Rattle.sre_patterns.specs.Patterns.{view_of, HasItems, HasItem, AtItems, AtItem, CoversFrontAt, HasRun};
 ghost use Rattle.sre_patterns.specs.Patterns.{HasLoop, HasAtomic, HasCondition, HasBranch};
 ghost use Rattle.sre_patterns.specs.Purposes.{Serves, ServesFor, ServesItem};

@@ -1,5 +1,5 @@
-pub mod analyses
 pub mod semantics
 pub mod memoization
 pub mod bound
 pub mod Terms
+pub mod Analyses

@@ -21,20 +21,19 @@ pub use Rattle.sre_chars.specs.declared.constants.SreAtCode.{SreAtCode}
 pub use Rattle.sre_model.proofs.Bounds.{Between, Bounded, EachBetween, longest_run-fits, passes-below, ways-bounded}
 pub use Rattle.sre_model.proofs.Bounds.{within-all}
 pub use Rattle.sre_model.proofs.Each.{each-append, each-both, each-map, each-weaken, flat_map-flat_map}
-pub use Rattle.sre_model.proofs.Families.{HasRole, is_literal, item_here, item_role, look_role, reference_role}
-pub use Rattle.sre_model.proofs.Families.{role_here, role_same, run_role, some_test, test_kind, test_role, until_role}
+pub use Rattle.sre_model.proofs.Opcodes.{HasRole, is_literal, item_here, item_role, look_role, reference_role}
+pub use Rattle.sre_model.proofs.Opcodes.{role_here, role_same, run_role, some_test, test_kind, test_role, until_role}
+pub use Rattle.sre_model.proofs.Opcodes.{at_low, opcode_within, same_at, same_opcode, same_word, word_of, word_past}
+pub use Rattle.sre_model.proofs.Opcodes.{word_there, word_within}
 pub use Rattle.sre_model.proofs.Foldings.{paired, tree_paired}
 pub use Rattle.sre_model.proofs.Longest.{goes_on, least_short, least_there, longest_goes_on, longest_stops, run_at_most}
 pub use Rattle.sre_model.proofs.Longest.{run_has, run_inside, run_none, run_passes, run_stopped}
-pub use Rattle.sre_model.proofs.LoopCases.{stays}
+pub use Rattle.sre_model.proofs.LoopCases.{stays, first-bounded, first_of_body-all}
 pub use Rattle.sre_model.proofs.MarksApart.{SameStops}
 pub use Rattle.sre_model.proofs.Passing.{other_taken, past_end, read_passes, stands_at_own}
-pub use Rattle.sre_model.proofs.Places.{alternative_long, branch_past, operands_past, reads_within}
-pub use Rattle.sre_model.proofs.PossessiveCases.{first-bounded, first_of_body-all}
-pub use Rattle.sre_model.proofs.ReadBack.{read_tree}
-pub use Rattle.sre_model.proofs.Unique.{items_same, same_reference_fold, test_same}
-pub use Rattle.sre_model.proofs.Words.{at_low, opcode_back, opcode_within, same_at, same_opcode, same_word, word_of}
-pub use Rattle.sre_model.proofs.Words.{word_past, word_there, word_within}
+pub use Rattle.sre_model.proofs.TreeOf.{alternative_long, branch_past, operands_past, reads_within, items_same}
+pub use Rattle.sre_model.proofs.TreeOf.{same_reference_fold, test_same}
+pub use Rattle.sre_model.proofs.WrittenWords.{read_tree}
 pub use Rattle.sre_model.specs.Cost.{Costs, atomic_cost, condition_cost, cost, ending, further_cost, item_cost}
 pub use Rattle.sre_model.specs.Cost.{lazy_run_cost, least_cost, longer_cost, longest_run_cost, look_cost, looked_cost}
 pub use Rattle.sre_model.specs.Cost.{more_cost, owed_cost, possessive_cost, reference_cost, run_cost, shorter_cost}
@@ -48,6 +47,7 @@ pub use Rattle.sre_model.specs.MarksSet.{by_marked_regions, by_marks, marks_in_r
 pub use Rattle.sre_model.specs.Prefixes.{ReadsBehind, behind_items}
 pub use Rattle.sre_model.specs.References.{asked_from, asked_to, by_groups, by_last_groups, by_references}
 pub use Rattle.sre_model.specs.Regions.{by_forked_regions, by_forks, forks, has_forked_region}
+pub use Rattle.sre_model.proofs.SetItems.{opcode-read}
 pub use Rattle.sre_model.specs.Roles.{OfAny, TestKind, ToNothing, begins_test}
 pub use Rattle.sre_model.specs.Slots.{loop_slots}
 pub use Rattle.sre_model.specs.Standing.{AreWords}
@@ -60,15 +60,16 @@ pub use Rattle.sre_model.specs.Ways.{Body, branch_ways, falling, item_ways, leas
 pub use Rattle.sre_model.specs.Ways.{more, most_from, ordered, possessive_more, possessive_ways, reference_ways, rising}
 pub use Rattle.sre_model.specs.Ways.{run_length, run_ways, ways, within}
 pub use Rattle.sre_turns.specs.Alike.{Alike, FramesAlike, LoopsAlike, counted_to, is_last, least_from}
-pub use Rattle.sre_turns.specs.Asked.{AskedMark, MarksAgree, MarksAlike, OutcomesAlike, Unmarked}
-pub use Rattle.sre_turns.specs.AskedPlaces.{AlternativesAsk, AreIdle, AskedByPlace, AsksAt, GroupAsked, GroupLies}
-pub use Rattle.sre_turns.specs.AskedPlaces.{LoopsAsk, MarkLeads, MarkRange, MarksIdle, Matters, MattersBehind}
-pub use Rattle.sre_turns.specs.AskedPlaces.{PlacesAsk, PointAsks, RegionAsks, SaysOf, SaysOfBodies, Within}
+pub use Rattle.sre_turns.specs.Asked.{AskedMark, MarksAgree, MarksAlike, OutcomesAlike, Unmarked, AlternativesAsk}
+pub use Rattle.sre_turns.specs.Asked.{AreIdle, AskedByPlace, AsksAt, GroupAsked, GroupLies, LoopsAsk, MarkLeads}
+pub use Rattle.sre_turns.specs.Asked.{MarkRange, MarksIdle, Matters, MattersBehind, PlacesAsk, PointAsks, RegionAsks}
+pub use Rattle.sre_turns.specs.Asked.{SaysOf, SaysOfBodies, Within}
 pub use Rattle.sre_turns.specs.Attempts.{Attempt}
 pub use Rattle.sre_turns.specs.Board.{Choice, Cuts, Dropped, Else, Keep, Trying, bare, choice, from_region}
-pub use Rattle.sre_turns.specs.Bodies.{Confined, IsConfined, LiesInBody, MarklessBody, MarklessRegions}
+pub use Rattle.sre_turns.specs.Bodies.{Confined, IsConfined, LiesInBody, MarklessBody, MarklessRegions, AllConfined}
+pub use Rattle.sre_turns.specs.Bodies.{BothConfined, ChoicesConfined, ConfinedInside, StandsConfined, BodyOf, ForksAt}
+pub use Rattle.sre_turns.specs.Bodies.{InBody, IsBodyIn, forking, goes_behind, point_behind}
 pub use Rattle.sre_turns.specs.BodyEnds.{AllMarked, CameToEnd, EndsAt, MarksStay}
-pub use Rattle.sre_turns.specs.Confining.{AllConfined, BothConfined, ChoicesConfined, ConfinedInside, StandsConfined}
 pub use Rattle.sre_turns.specs.Fruit.{Fruitless, SameFruit, is_inside}
 pub use Rattle.sre_turns.specs.Hopeless.{AcceptsByStop, Hopeless, MarksServe}
 pub use Rattle.sre_turns.specs.Limits.{CodeAt, Coming, EndsIn, Fares, FaresAt, FaresBack, FaresBoth, FaresEnd, Going}
@@ -82,22 +83,20 @@ pub use Rattle.sre_turns.specs.Machine.{Run, Runs, SaysAccepted, Skips, SkipsBot
 pub use Rattle.sre_turns.specs.Machine.{Tries, Waits, after_outcome, ends, enters, goes, kept, otherwise, outcomes}
 pub use Rattle.sre_turns.specs.Machine.{outermost, splits, spot, spot_at, stops, tried, turns, with_loop, without_loop}
 pub use Rattle.sre_turns.specs.Machine.{without_outcome}
-pub use Rattle.sre_turns.specs.Moves.{End, Enter, Move, Split, Spot, TestMove, closing_move, to_point}
-pub use Rattle.sre_turns.specs.MovesAtReferences.{Asks, HasReference, MayAsk, asks, condition_place, reference_turn}
-pub use Rattle.sre_turns.specs.MovesInLoops.{AgainMove, LoopMove, UntilMove, again_move, at_body, behind, enter_body}
-pub use Rattle.sre_turns.specs.MovesInLoops.{first_frame, in_order, next_frame, until_move}
+pub use Rattle.sre_turns.specs.Moves.{End, Enter, Move, Split, Spot, TestMove, closing_move, to_point, Asks}
+pub use Rattle.sre_turns.specs.Moves.{HasReference, MayAsk, asks, condition_place, reference_turn, AgainMove, LoopMove}
+pub use Rattle.sre_turns.specs.Moves.{UntilMove, again_move, at_body, behind, enter_body, first_frame, in_order}
+pub use Rattle.sre_turns.specs.Moves.{next_frame, until_move, OperandsOfRun}
 pub use Rattle.sre_turns.specs.Turning.{look, RunOperands, run_turn}
 pub use Rattle.sre_turns.specs.Nested.{AllBegunBy, BegunBy, ClosesAt, IsAt, LeadsTo, Lies, LiesIn, LiesInBranch}
 pub use Rattle.sre_turns.specs.Nested.{LiesInItem, Passed, by_slots, is_again, most_slots, place_of, place_under}
 pub use Rattle.sre_turns.specs.Nested.{repeats, slots}
 pub use Rattle.sre_turns.specs.OpenMarks.{EachOpen, open_spots}
-pub use Rattle.sre_turns.specs.OperandsOfRuns.{OperandsOfRun}
 pub use Rattle.sre_turns.specs.Prices.{Covers, again_toll, aside, bit_by, bit_toll, branch_price, end_price}
-pub use Rattle.sre_turns.specs.Prices.{ends_beside, loop_toll, more_ends, numbered, price, price_of, role_at, scan_by}
-pub use Rattle.sre_turns.specs.Prices.{scan_toll, split_by, split_toll, steps, steps_by, test_end, toll, toll_by}
+pub use Rattle.sre_turns.specs.Prices.{ends_beside, loop_toll, more_ends, price, price_of, role_at, scan_by, scan_toll}
+pub use Rattle.sre_turns.specs.Prices.{split_by, split_toll, steps, steps_by, test_end, toll, toll_by}
 pub use Rattle.sre_turns.specs.RunEnds.{AllPass, RunsOn}
 pub use Rattle.sre_turns.specs.Settled.{Counted, Settled, SettledIn}
-pub use Rattle.sre_turns.specs.Straight.{BodyOf, ForksAt, InBody, IsBodyIn, forking, goes_behind, point_behind}
 pub use Rattle.sre_turns.specs.Strides.{EndsBody, MayRepeat, Strides, TellsAlternatives, TellsBodies, TellsTest, Yields}
 pub use Rattle.sre_turns.specs.Strides.{YieldsTo}
 pub use Rattle.sre_turns.specs.Terms.{AllByRecursion, GreedyRun, HasTest, LazyRun, Marks, Opcode, Order, PossessiveRun}

@@ -3,11 +3,9 @@ pub mod SettledMoves
 pub mod Faring
 pub mod NestedMoves
 pub mod NestedPlaces
-pub mod NestedSlots
 pub mod HereMoves
 pub mod FaringInRegions
-pub mod Steps
-pub mod PriceMoves
 pub mod TreePrices
+pub mod PriceMoves
 pub mod TreeCosts
 pub mod GrantedTolls

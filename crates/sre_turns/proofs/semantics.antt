@@ -3,13 +3,10 @@ pub mod OneTurn
 pub mod Moving
 pub mod FirstOutcomes
 pub mod StepsAtItems
-pub mod StepsInBranches
 pub mod AfterSteps
 pub mod StepsInRuns
 pub mod StepsInLoops
 pub mod StepsInRegions
-pub mod StepsAtReferences
-pub mod StepsInPossessiveLoops
 pub mod RanAtItems
 pub mod Ran
 pub mod GoingBack

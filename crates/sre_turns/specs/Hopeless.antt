@@ -7,8 +7,7 @@ pub use Rattle.sre_turns.specs.Fruit.{fruit, Fruitless, SameFruit, is_inside}
 use Rattle.sre_turns.specs.Moves.{Spot}
 use Rattle.sre_turns.specs.Machine.{Runs}
 use Rattle.sre_turns.specs.Alike.{Alike}
-use Rattle.sre_turns.specs.Asked.{MarksAlike}
-use Rattle.sre_turns.specs.AskedPlaces.{MarksIdle}
+use Rattle.sre_turns.specs.Asked.{MarksAlike, MarksIdle}
 
 -- what is known under some marks serves a spot: the marks that the words ask for are these, or none makes a difference
 abbrev pub MarksServe : List ℕ → Marks → Spot → Type 0

@@ -11,9 +11,9 @@ use Rattle.sre_turns.specs.declared.Point.TheVariants.{Instruction, Again}
 use Rattle.sre_turns.specs.declared.Point.{Point}
 use Rattle.sre_turns.specs.Moves.{Spot, spot_at}
 use Rattle.sre_turns.specs.Prices.{price, price_of, toll, split_toll, aside}
-use Rattle.sre_turns.specs.Lying.{repeats}
+use Rattle.sre_turns.specs.Nested.{repeats}
 use Rattle.sre_turns.specs.Settled.{Counted, SettledIn}
-use Rattle.sre_turns.specs.Straight.{InBody, forking, point_behind, goes_behind}
+use Rattle.sre_turns.specs.Bodies.{InBody, forking, point_behind, goes_behind}
 use Rattle.sre_turns.specs.declared.Frame.{Frame}
 use Rattle.sre_turns.specs.declared.Region.{Region}
 use Rattle.sre_turns.specs.declared.Region.TheVariants.{Further}

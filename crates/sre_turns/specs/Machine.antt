@@ -12,9 +12,8 @@ pub use Rattle.sre_model.specs.Ways.{Way}
 pub use Rattle.sre_model.specs.Grammar.{Word, Opcode, skip}
 pub use Rattle.sre_model.specs.Runs.{Run}
 pub use Rattle.sre_turns.specs.Board.{Choice, Else, Keep, Trying, BoardValue, from_region}
-use Rattle.sre_turns.specs.Bodies.{IsConfined, MarklessRegions}
-use Rattle.sre_turns.specs.Lying.{repeats}
-use Rattle.sre_turns.specs.Confining.{ChoicesConfined, StandsConfined, BothConfined}
+use Rattle.sre_turns.specs.Bodies.{IsConfined, MarklessRegions, ChoicesConfined, StandsConfined, BothConfined}
+use Rattle.sre_turns.specs.Nested.{repeats}
 use Rattle.sre_turns.specs.Fruit.{SameFruit, is_inside}
 pub use Rattle.sre_turns.specs.declared.Frame.{Frame}
 pub use Rattle.sre_turns.specs.declared.Region.TheVariants.{AtomicGroup, Ahead, NotAhead, Owed, Further}

@@ -1,13 +1,24 @@
--- Moves: what the machine does in one step, by the role of the opcode. Nothing here is recursive.
--- Definitions for the machine's contracts; what sre_engine makes public does not rest on it.
-use Rattle.std.specs.Prelude.{ℕ, ◌+◌, ◌≡◌, ◌<◌, length, drop, cond, nat_eq, List, [], ◌∷◌}
-use Rattle.sre_turns.specs.Terms.{Test, Marks, Subject, passes, Word, skip, TestStands, Way, at_number, SreAtCode}
-use Rattle.sre_turns.specs.Terms.{set_mark, holds_at}
+-- Moves: what the machine does in one step, by the role of the opcode.
+use Rattle.std.specs.Prelude.{ℕ, ◌+◌, ◌≡◌, List, ◌<◌, length, drop, cond, nat_eq, [], ◌∷◌, ◌-◌, ◌≤◌, ◌&&◌, nat_le, Bool}
+use Rattle.std.specs.Prelude.{true, false, Some, None, min, nat_lt, Option}
+use Rattle.sre_turns.specs.Terms.{Word, skip, HasTest, Test, Marks, Subject, passes, TestStands, Way, at_number}
+use Rattle.sre_turns.specs.Terms.{SreAtCode, set_mark, holds_at, SreOpcode, Tree, Fold, refers, asked_from, asked_to}
+use Rattle.sre_turns.specs.Terms.{Role, ToRefer, ToCheckGroup, role, group, same_folded, word, Opcode, WholeItems}
+use Rattle.sre_turns.specs.Terms.{reference_opcode, Order, unlimited, may_repeat, Greedy, Lazy}
 use Rattle.sre_turns.specs.declared.Frame.{Frame}
 use Rattle.sre_turns.specs.declared.Region.TheVariants.{AtomicGroup, Ahead, NotAhead, Owed, Further}
 use Rattle.sre_turns.specs.declared.Region.{Region}
 use Rattle.sre_turns.specs.declared.Point.TheVariants.{Instruction, Alternatives, Again}
 use Rattle.sre_turns.specs.declared.Point.{Point}
+
+-- What follows the opcode of a single-character repeat
+
+-- skip least greatest test: the skip leads to the run's tail, and a test stands there
+pub record OperandsOfRun (ws : List ℕ) (i tail low high : ℕ) : Type 0 where
+  pub leads : tail ≡ skip ws (i + 1)
+  pub lowest : Word ws (i + 2) low
+  pub highest : Word ws (i + 3) high
+  pub test : HasTest ws (i + 4)
 
 -- where the machine stands: a point, the loops in progress, a position and marks
 pub record Spot : Type 0 where
@@ -83,3 +94,128 @@ pub record AlternativesMove (ws : List ℕ) (q : ℕ) (x : Spot) (mv : Move) : T
   pub there : Word ws q value
   pub is : mv
       ≡ cond (nat_eq value 0) Stop (Split (to_point x (Instruction (q + 1))) (to_point x (Alternatives (q + value))))
+
+-- A back-reference to a group: GROUPREF group and its three foldings; a conditional: GROUPREF_EXISTS group skip
+
+-- a reference or a condition is in the words, whatever tree they have
+abbrev pub HasReference : List ℕ → Type 0
+HasReference ws = (t : Tree) → WholeItems ws t → refers t ≡ true
+
+-- there is a reference or a condition, and this group is one of those from the first that is asked for up to the last
+abbrev pub MayAsk : List ℕ → ℕ → Type 0
+MayAsk ws g = HasReference ws × ((t : Tree) → WholeItems ws t → (asked_from t ≤ g) × (g ≤ asked_to t))
+
+-- whether an opcode of this role asks for a group
+abbrev pub asks : Role → Bool
+asks ToRefer = true
+asks ToCheckGroup = true
+asks _ = false
+
+-- a group stands behind an opcode that asks for one
+pub record Named (ws : List ℕ) (g : ℕ) : Type 0 where
+  pub place : ℕ
+  pub opcode : SreOpcode
+  pub code : Opcode ws place opcode
+  pub asks : asks (role opcode) ≡ true
+  pub there : Word ws (place + 1) g
+
+-- the words may ask for a group, which stands behind such an opcode
+abbrev pub Asks : List ℕ → ℕ → Type 0
+Asks ws g = MayAsk ws g × Named ws g
+
+-- what comes of a reference whose tail is at t: nothing of a group that is missing
+abbrev pub reference_turn : Subject → Fold → ℕ → ℕ → Spot → Move
+reference_turn s fold g t x = elim (group x.marks g) [
+  | None ↦ Stop
+  | (Some span) ↦
+      cond (nat_le (x.position + (span.1 - span.0)) s.end && same_folded s fold (span.1 - span.0) span.0 x.position)
+      (Go (to_place x (Instruction t) (x.position + (span.1 - span.0)))) Stop
+]
+
+-- GROUPREF, GROUPREF_IGNORE, GROUPREF_LOC_IGNORE or GROUPREF_UNI_IGNORE
+pub record ReferenceMove (ws : List ℕ) (s : Subject) (i : ℕ) (x : Spot) (mv : Move) : Type 0 where
+  pub fold : Fold
+  pub number : ℕ
+  pub asked : Asks ws number
+  pub code : Opcode ws i (reference_opcode fold)
+  pub there : Word ws (i + 1) number
+  pub is : mv ≡ reference_turn s fold number (i + 2) x
+
+-- where a condition at i leads: to its yes part where the group is present, else to where its skip word leads
+abbrev pub condition_place : List ℕ → ℕ → ℕ → Marks → ℕ
+condition_place ws i g m = elim (group m g) [ None ↦ i + 1 + word ws (i + 2) | (Some _) ↦ i + 3 ]
+
+-- GROUPREF_EXISTS
+pub record ConditionMove (ws : List ℕ) (i : ℕ) (x : Spot) (mv : Move) : Type 0 where
+  pub number : ℕ
+  pub asked : Asks ws number
+  pub there : Word ws (i + 1) number
+  pub skips : i + 2 < length ws
+  pub is : mv ≡ Go (to_point x (Instruction (condition_place ws i number x.marks)))
+
+-- A loop: REPEAT skip least greatest body, and then MAX_UNTIL or MIN_UNTIL; and POSSESSIVE_REPEAT skip least greatest
+-- body SUCCESS, whose bodies are atomic scopes
+
+-- a loop that has had no body
+abbrev pub first_frame : ℕ → Frame
+first_frame i = record { repeat = i; count = 0; last = None }
+
+-- one body more, as far as is counted
+abbrev pub next_frame : Frame → Option ℕ → Frame
+next_frame f last = record { repeat = f.repeat; count = min (f.count + 1) unlimited; last = last }
+
+-- at a further body of a loop
+abbrev pub at_body : Frame → Option ℕ → List Frame → Spot → Spot
+at_body f last outer x = record x { point = Instruction (f.repeat + 4); frames = next_frame f last ∷ outer }
+
+-- behind the loop that ends at u
+abbrev pub behind : ℕ → List Frame → Spot → Spot
+behind u outer x = record x { point = Instruction (u + 1); frames = outer }
+
+-- a further body, or the loop's end, in order
+abbrev pub in_order : Order → Spot → Spot → Move
+in_order Greedy body end = Split body end
+in_order Lazy body end = Split end body
+
+-- REPEAT
+pub record RepeatMove (ws : List ℕ) (i : ℕ) (x : Spot) (mv : Move) : Type 0 where
+  pub there : i + 1 < length ws
+  pub is : mv ≡ Go (record x { point = Instruction (skip ws (i + 1)); frames = first_frame i ∷ x.frames })
+
+-- what ends a body: below the least count a further one; from it on a further one where one may be tried, and the end
+abbrev pub until_move : Order → ℕ → ℕ → ℕ → Frame → List Frame → Spot → Move
+until_move o low high u f outer x =
+    cond (nat_lt f.count low) (Go (at_body f f.last outer x))
+    (cond (may_repeat high f.count f.last x.position)
+    (in_order o (at_body f (Some x.position) outer x) (behind u outer x)) (Go (behind u outer x)))
+
+-- a turn of the innermost loop, by its counts
+pub record LoopMove (ws : List ℕ) (turn : ℕ → ℕ → Frame → List Frame → Move) (x : Spot) (mv : Move) : Type 0 where
+  pub frame : Frame
+  pub outer : List Frame
+  pub low : ℕ
+  pub high : ℕ
+  pub inside : x.frames ≡ frame ∷ outer
+  pub lowest : Word ws (frame.repeat + 2) low
+  pub highest : Word ws (frame.repeat + 3) high
+  pub is : mv ≡ turn low high frame outer
+
+-- MAX_UNTIL, MIN_UNTIL
+abbrev pub UntilMove : List ℕ → Order → ℕ → Spot → Move → Type 0
+UntilMove ws o u x mv = LoopMove ws (λ low high f outer. until_move o low high u f outer x) x mv
+
+-- a body of a possessive loop is entered, and counted before the loops are put aside
+abbrev pub enter_body : Region → Frame → Option ℕ → List Frame → Spot → Move
+enter_body g f last outer x =
+    Enter g (record x { frames = next_frame f last ∷ outer }) (into_region x (f.repeat + 4) x.position)
+
+-- below the least count a body is owed; from it on a further one is tried where one may be, and else the loop ends
+abbrev pub again_move : ℕ → ℕ → ℕ → Frame → List Frame → Spot → Move
+again_move low high u f outer x =
+    cond (nat_lt f.count low) (enter_body Owed f f.last outer x)
+    (cond (may_repeat high f.count f.last x.position) (enter_body (Further (u + 1)) f (Some x.position) outer x)
+    (Go (behind u outer x)))
+
+-- at a possessive loop
+abbrev pub AgainMove : List ℕ → Spot → Move → Type 0
+AgainMove ws x mv = LoopMove ws (λ low high f outer. again_move low high (skip ws (f.repeat + 1)) f outer x) x mv

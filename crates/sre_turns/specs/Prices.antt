@@ -3,36 +3,21 @@
 -- analysis).
 -- For the law that the step bound suffices. What sre_engine makes public does not rest on it.
 use Rattle.std.specs.Prelude.{ℕ, suc, ◌+◌, ◌-◌, ◌*◌, ◌≤◌, ◌≡◌, Bool, true, List, [], ◌∷◌, length, cond, min, nat_eq}
-use Rattle.std.specs.Prelude.{zero, max, slice_index_or}
-use Rattle.sre_turns.specs.Terms.{SreOpcode, GreedyRun, LazyRun, PossessiveRun, word, skip, unlimited, Role, ToEnd}
-use Rattle.sre_turns.specs.Terms.{ToTest, ToCheckPosition, ToMark, ToBranch, ToJump, ToRun, ToRepeat, ToLoop}
+use Rattle.std.specs.Prelude.{zero, max}
+use Rattle.sre_turns.specs.Terms.{SreOpcode, opcode_at, GreedyRun, LazyRun, PossessiveRun, word, skip, unlimited, Role}
+use Rattle.sre_turns.specs.Terms.{ToEnd, ToTest, ToCheckPosition, ToMark, ToBranch, ToJump, ToRun, ToRepeat, ToLoop}
 use Rattle.sre_turns.specs.Terms.{ToRepeatPossessively, ToGroupAtomically, ToLook, ToRefer, ToCheckGroup, role}
 use Rattle.sre_turns.specs.Terms.{other_ends, scan_price, TestKind, OfAny, OfAnyAll, OfCategory, OfLiteral}
 use Rattle.sre_turns.specs.Terms.{OfNotLiteral, OfSet}
-use Rattle.sre_chars.specs.declared.constants.SreOpcode.TheVariants as opcode
 use Rattle.sre_turns.specs.declared.Point.TheVariants.{Instruction, Alternatives, Shorter, Longer, Again}
 use Rattle.sre_turns.specs.declared.Point.{Point}
 use Rattle.sre_turns.specs.declared.Region.{Region}
 use Rattle.sre_turns.specs.declared.Region.TheVariants.{AtomicGroup, Ahead, NotAhead, Owed, Further}
 use Rattle.sre_turns.specs.Moves.{Spot, Move, Stop, End, Go, Split, Enter}
 
--- the opcodes, in the order of their numbers
-abbrev pub numbered : List SreOpcode
-numbered =
-    opcode.FAILURE ∷ opcode.SUCCESS ∷ opcode.ANY ∷ opcode.ANY_ALL ∷ opcode.ASSERT ∷ opcode.ASSERT_NOT ∷ opcode.AT
-    ∷ opcode.BRANCH ∷ opcode.CATEGORY ∷ opcode.CHARSET ∷ opcode.BIGCHARSET ∷ opcode.GROUPREF ∷ opcode.GROUPREF_EXISTS
-    ∷ opcode.IN ∷ opcode.INFO ∷ opcode.JUMP
-    ∷ opcode.LITERAL ∷ opcode.MARK ∷ opcode.MAX_UNTIL ∷ opcode.MIN_UNTIL ∷ opcode.NOT_LITERAL ∷ opcode.NEGATE
-    ∷ opcode.RANGE ∷ opcode.REPEAT ∷ opcode.REPEAT_ONE ∷ opcode.SUBPATTERN ∷ opcode.MIN_REPEAT_ONE ∷ opcode.ATOMIC_GROUP
-    ∷ opcode.POSSESSIVE_REPEAT ∷ opcode.POSSESSIVE_REPEAT_ONE
-    ∷ opcode.GROUPREF_IGNORE ∷ opcode.IN_IGNORE ∷ opcode.LITERAL_IGNORE ∷ opcode.NOT_LITERAL_IGNORE
-    ∷ opcode.GROUPREF_LOC_IGNORE ∷ opcode.IN_LOC_IGNORE ∷ opcode.LITERAL_LOC_IGNORE ∷ opcode.NOT_LITERAL_LOC_IGNORE
-    ∷ opcode.GROUPREF_UNI_IGNORE ∷ opcode.IN_UNI_IGNORE ∷ opcode.LITERAL_UNI_IGNORE ∷ opcode.NOT_LITERAL_UNI_IGNORE
-    ∷ opcode.RANGE_UNI_IGNORE ∷ []
-
 -- the role of the opcode whose number is a word
 abbrev pub role_at : List ℕ → ℕ → Role
-role_at ws i = role (slice_index_or numbered (word ws i) opcode.FAILURE)
+role_at ws i = role (opcode_at ws i)
 
 -- where a test of a kind ends that is at i
 abbrev pub test_end : List ℕ → ℕ → TestKind → ℕ

@@ -16,7 +16,7 @@ pub use Rattle.sre_model.specs.Regions.{forks, has_forked_region}
 pub use Rattle.sre_model.specs.Roles.{OfAny, OfAnyAll, OfCategory, OfLiteral, OfNotLiteral, OfSet, Role, TestKind}
 pub use Rattle.sre_model.specs.Roles.{ToBranch, ToCheckGroup, ToCheckPosition, ToEnd, ToFail, ToGroupAtomically, ToJump}
 pub use Rattle.sre_model.specs.Roles.{ToLook, ToLoop, ToMark, ToNothing, ToRefer, ToRepeat, ToRepeatPossessively, ToRun}
-pub use Rattle.sre_model.specs.Roles.{ToTest, role}
+pub use Rattle.sre_model.specs.Roles.{ToTest, opcode_at, role}
 pub use Rattle.sre_model.specs.Runs.{Run}
 pub use Rattle.sre_model.specs.Standing.{HasTest, TestStands}
 pub use Rattle.sre_model.specs.Subject.{Subject, char_at, holds_at, passes, same_folded}

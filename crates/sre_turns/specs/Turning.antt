@@ -14,9 +14,8 @@ use Rattle.sre_turns.specs.declared.Point.TheVariants.{TriedAgain}
 use Rattle.sre_turns.specs.declared.Point.{Point}
 use Rattle.sre_turns.specs.Bodies.{Confined, MarklessRegions}
 use Rattle.sre_turns.specs.Moves.{Spot, Move, Stop, End, Go, Split, Enter, closing_move, to_point, TestMove, AtMove}
-use Rattle.sre_turns.specs.Moves.{MarkMove, JumpMove, AlternativesMove, into_region, to_place}
-use Rattle.sre_turns.specs.MovesInLoops.{first_frame, RepeatMove, UntilMove, AgainMove}
-use Rattle.sre_turns.specs.MovesAtReferences.{ReferenceMove, ConditionMove}
+use Rattle.sre_turns.specs.Moves.{MarkMove, JumpMove, AlternativesMove, into_region, to_place, first_frame, RepeatMove}
+use Rattle.sre_turns.specs.Moves.{UntilMove, AgainMove, ReferenceMove, ConditionMove}
 use Rattle.sre_turns.specs.declared.Region.TheVariants.{AtomicGroup, Ahead, NotAhead}
 
 -- What the machine does in one step at a single-character repeat.

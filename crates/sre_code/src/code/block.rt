@@ -2,7 +2,7 @@
 //!
 //! Its skip leads past it. What follows the skip is read only for search hints (`claims`).
 
-ghost use Rattle.sre_code.specs.Fronts.{BlockAt};
+ghost use Rattle.sre_code.specs.Hints.{BlockAt};
 
 use crate::code::error::CodeError;
 use crate::code::words;

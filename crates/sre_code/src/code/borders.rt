@@ -6,7 +6,7 @@
 
 ghost use Rattle.std.specs.Prelude.{◌≡◌, ◌+◌, ◌^◌, ◌<◌, ◌≤◌, ◌↔◌, IsTrue, IfOk, length, true};
 ghost use Rattle.sre_code.specs.Terms.{are_overlaps};
-ghost use Rattle.sre_code.specs.Borders.{Longest, RightUpTo, Right};
+ghost use Rattle.sre_code.specs.Hints.{Longest, RightUpTo, Right};
 
 use sre_growth::Refusal;
 use std::alloc::Allocator;

@@ -7,8 +7,7 @@ ghost use Rattle.std.specs.Prelude.{◌≡◌, ◌+◌, ℕ, ◌-◌, ◌*◌, �
 ghost use Rattle.sre_code.specs.Terms.{Tree, WholeItems, refers, longest_lookbehind};
 ghost use Rattle.sre_code.specs.MostSlots.{SlotsTold};
 ghost use Rattle.sre_code.specs.Bounds.{CountedTold, BoundTold, NumberBy, AreWhole, room_by, bound_by, bound_of};
-ghost use Rattle.sre_code.specs.Prices.{AreHeld};
-ghost use Rattle.sre_code.specs.Saturating.{Held};
+ghost use Rattle.sre_code.specs.Prices.{AreHeld, Held};
 
 use crate::code::prices::{Prices, cost_before, prices_of};
 use crate::code::slots::scan;

@@ -4,8 +4,7 @@
 
 ghost use Rattle.std.specs.Prelude.{◌≡◌, ◌≤◌};
 ghost use Rattle.sre_code.specs.Terms.{Tree, WholeItems, width, confirmed_width, behind_prefix, is_literal};
-ghost use Rattle.sre_code.specs.Fronts.{Fronts, HasBlock};
-ghost use Rattle.sre_code.specs.Prefixes.{Ends, LeftAt};
+ghost use Rattle.sre_code.specs.Hints.{Fronts, HasBlock, Ends, LeftAt};
 ghost use Rattle.sre_code.specs.Hinted.{Confirmed};
 
 use crate::code::{Hints, first_set, prefix};

@@ -6,9 +6,7 @@
 ghost use Rattle.std.specs.Prelude.{◌≡◌, ◌≤◌, ◌↔◌, IsTrue, List, length, slice_range};
 ghost use Rattle.sre_code.specs.Terms.{Decides, Tree, SetItem, is_member, WholeItems, behind_marks, HasFirstSet};
 ghost use Rattle.sre_code.specs.Terms.{TestIn, EachTestIn, FirstIn};
-ghost use Rattle.sre_code.specs.Fronts.{HasBlock};
-ghost use Rattle.sre_code.specs.Prefixes.{Ends};
-ghost use Rattle.sre_code.specs.FirstSets.{HasBlockSet, IsSetUpTo, Tells, TellsEach};
+ghost use Rattle.sre_code.specs.Hints.{HasBlock, Ends, HasBlockSet, IsSetUpTo, Tells, TellsEach};
 
 use crate::ascii_members::ascii_members;
 use crate::ascii_set::AsciiSet;

@@ -6,7 +6,7 @@
 
 ghost use Rattle.std.specs.Prelude.{◌≡◌};
 ghost use Rattle.sre_code.specs.Terms.{Opcode, role};
-ghost use Rattle.sre_code.specs.Instructions.{own_words, NextAt};
+ghost use Rattle.sre_code.specs.Scans.{own_words, NextAt};
 
 use crate::code::character;
 use sre_chars::constants::SreOpcode;

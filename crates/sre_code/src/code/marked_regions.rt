@@ -9,7 +9,7 @@
 ghost use Rattle.std.specs.Prelude.{◌≡◌, ◌<◌, ◌≤◌, ◌+◌, ℕ, false, length};
 ghost use Rattle.sre_code.specs.Terms.{Tree, role, Opcode, WholeItems, marks_in_regions, refers};
 ghost use Rattle.sre_chars.specs.declared.constants.SreOpcode.TheVariants as opcode;
-ghost use Rattle.sre_code.specs.RegionWords.{closing_place, RegionWord};
+ghost use Rattle.sre_code.specs.Scans.{closing_place, RegionWord};
 
 use crate::code::summary::summarize;
 use crate::code::words;
@@ -31,7 +31,7 @@ fn closing_place(code: SreOpcode, tail: usize) -> Option<usize>
 }
 
 /// The address of that SUCCESS if the word at `place` may begin an atomic scope, else 0.
-#[tactic(auto, using(sre_model::proofs::Words::word_of))]
+#[tactic(auto, using(sre_model::proofs::Opcodes::word_of))]
 fn closing_at(words: &[u32], place: usize) -> usize
     requires { place < length words.now }
     ensures { (end : ℕ) → RegionWord words.now place end → end ≤ result }
@@ -50,7 +50,7 @@ fn closing_at(words: &[u32], place: usize) -> usize
 }
 
 /// Whether the word at `place` has the number of MARK, and `place` is before `end`.
-#[tactic(auto, using(sre_model::proofs::Words::word_of))]
+#[tactic(auto, using(sre_model::proofs::Opcodes::word_of))]
 fn is_mark_before(words: &[u32], place: usize, end: usize) -> bool
     ensures { result ≡ false → place < end → Opcode words.now place opcode.MARK → ⊥ }
 {

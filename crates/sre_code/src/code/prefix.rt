@@ -4,10 +4,9 @@
 //! directly; the others have only MARK items before and between them.
 
 ghost use Rattle.std.specs.Prelude.{◌≡◌, ◌+◌, ◌*◌, ◌<◌, ◌≤◌, ◌↔◌, IsTrue, true, false, length, MatchOption, OnSome};
-ghost use Rattle.sre_model.specs.Claims.{behind_adjacent, behind_spread, behind_literals, behind_prefix};
-ghost use Rattle.sre_model.specs.Claims.{has_prefix, prefix_words};
-ghost use Rattle.sre_code.specs.Fronts.{HasBlock};
-ghost use Rattle.sre_code.specs.Prefixes.{Ends, IsLiteralAt, MarksPassed, LeftBehind};
+ghost use Rattle.sre_model.specs.Claims.{behind_adjacent, behind_spread, behind_literals, behind_prefix, has_prefix};
+ghost use Rattle.sre_model.specs.Claims.{prefix_words};
+ghost use Rattle.sre_code.specs.Hints.{HasBlock, Ends, IsLiteralAt, MarksPassed, LeftBehind};
 
 use crate::code::borders;
 use sre_chars::constants::SreOpcode;

@@ -6,11 +6,10 @@
 
 ghost use Rattle.std.specs.Prelude.{ℕ, ◌≡◌, ◌<◌, ◌≤◌, ◌+◌, ◌*◌, ◌^◌, length, Some, IfSome, false, cond};
 ghost use Rattle.sre_code.specs.Terms.{Opcode, role, scan_price};
-ghost use Rattle.sre_code.specs.Saturating.{Held};
-ghost use Rattle.sre_code.specs.Prices.{IsHeld, AreHeld, steps_at, cost_at, joined, passed, kind_of, straight_price};
-ghost use Rattle.sre_code.specs.Prices.{run_ends, scope_price, loop_price, possessive_price, with_alternative};
-ghost use Rattle.sre_code.specs.Prices.{BodyPriced, ArePriced, StraightPriced, RunPriced, LoopPriced, PossessivePriced};
-ghost use Rattle.sre_code.specs.Prices.{ScopePriced, BranchPriced, PricedAt};
+ghost use Rattle.sre_code.specs.Prices.{Held, IsHeld, AreHeld, steps_at, cost_at, joined, passed, kind_of};
+ghost use Rattle.sre_code.specs.Prices.{straight_price, run_ends, scope_price, loop_price, possessive_price};
+ghost use Rattle.sre_code.specs.Prices.{with_alternative, BodyPriced, ArePriced, StraightPriced, RunPriced, LoopPriced};
+ghost use Rattle.sre_code.specs.Prices.{PossessivePriced, ScopePriced, BranchPriced, PricedAt};
 
 use crate::code::instructions::next;
 use crate::code::slots::{counted_to, loop_slots};

@@ -71,7 +71,7 @@ fn blocks_below(blocks: &[u32], count: u32) -> bool
 }
 
 /// `<BIGCHARSET> <count> <64 words of block numbers> <8 words of bits for each block>`
-#[tactic(auto, using(crate::proofs::ReadSets::big_charset_laws, sre_model::proofs::Words::opcode_within))]
+#[tactic(auto, using(crate::proofs::ReadSets::big_charset_laws, sre_model::proofs::Opcodes::opcode_within))]
 fn big_charset(words: &[u32], place: usize) -> Result<usize, CodeError>
     requires { Opcode words.now place SreOpcode.BIGCHARSET }
     ensures { SetItemEnds words.now place result }

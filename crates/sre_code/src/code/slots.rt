@@ -10,7 +10,7 @@
 
 ghost use Rattle.std.specs.Prelude.{◌≡◌, ◌<◌, ◌≤◌, length, IfSome};
 ghost use Rattle.sre_code.specs.Terms.{Opcode, role, loop_slots, counted_to};
-ghost use Rattle.sre_code.specs.SlotScans.{kind_of, AreTold, LoopTold, OtherTold, PossessiveTold, ToldAt};
+ghost use Rattle.sre_code.specs.Scans.{kind_of, AreTold, LoopTold, OtherTold, PossessiveTold, ToldAt};
 
 use crate::code::instructions::next;
 use crate::code::words;

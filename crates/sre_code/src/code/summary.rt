@@ -5,7 +5,7 @@
 
 ghost use Rattle.std.specs.Prelude.{◌≡◌, ◌<◌, ◌+◌, length};
 ghost use Rattle.sre_code.specs.Terms.{Tree, word, WholeItems, role};
-ghost use Rattle.sre_code.specs.Summaries.{noted, IsSummary};
+ghost use Rattle.sre_code.specs.Scans.{noted, IsSummary};
 
 use crate::code::instructions::next;
 use crate::code::words;

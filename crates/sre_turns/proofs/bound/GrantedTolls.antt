@@ -10,7 +10,7 @@ use Rattle.sre_turns.proofs.Terms.{ends_beside, split_toll, split_by, role_at, f
 use Rattle.sre_turns.proofs.Terms.{scan_by, scan_toll, RunsOn}
 use Rattle.sre_chars.specs.declared.constants.SreOpcode.TheVariants as opcode
 use Rattle.sre_turns.proofs.semantics.Moving.{in_role}
-use Rattle.sre_turns.proofs.bound.Steps.{role_there}
+use Rattle.sre_turns.proofs.bound.TreePrices.{role_there}
 
 module _ (ws : List ℕ) (e i : ℕ) (ks : List ℕ) where
   -- a repeat with a greatest count

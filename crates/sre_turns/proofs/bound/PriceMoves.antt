@@ -17,7 +17,7 @@ use Rattle.sre_turns.proofs.semantics.OneTurn.{next_alternative, next_shorter, n
 use Rattle.sre_turns.proofs.semantics.OneTurn.{possessive_loop, Enters, atomic_group, lookaround, Turned, stopped}
 use Rattle.sre_turns.proofs.semantics.OneTurn.{ended, went, forked, marked, grouped, begun, entered, looped, repeated}
 use Rattle.sre_turns.proofs.semantics.OneTurn.{point_turned, until_holds, again_holds}
-use Rattle.sre_turns.proofs.bound.Steps.{some_steps, role_there, steps_told, test_ends}
+use Rattle.sre_turns.proofs.bound.TreePrices.{some_steps, role_there, steps_told, test_ends}
 
 -- whether an instruction may enter an atomic scope
 abbrev pub enters : Role → Bool

@@ -19,8 +19,7 @@ use Rattle.sre_model.specs.Tree.{Run}
 use Rattle.sre_model.specs.TreePrices.{item_cost}
 use Rattle.sre_turns.specs.Prices.{branch_in}
 use Rattle.sre_turns.proofs.bound.NestedMoves.{begins}
-use Rattle.sre_turns.proofs.bound.Steps.{role_there, steps_told}
-use Rattle.sre_turns.proofs.bound.TreePrices.{tree_steps, body_steps, body_end, jump_steps}
+use Rattle.sre_turns.proofs.bound.TreePrices.{role_there, steps_told, tree_steps, body_steps, body_end, jump_steps}
 
 regrouped : {A B C D : Type 0} → A ⊎ ((B ⊎ C) ⊎ D) → A ⊎ (B ⊎ (C ⊎ D))
 regrouped (inl x) = inl x

@@ -11,7 +11,7 @@ use Rattle.sre_turns.proofs.Terms.{Within, PlacesAsk, GroupLies, AsksAt, AskedBy
 use Rattle.sre_turns.proofs.Terms.{MattersBehind, Moves, MovesAt, is_last, LoopsAlike, FramesAlike, least_from, Alike}
 use Rattle.sre_turns.proofs.Terms.{goes_behind, Subject, Frame, Instruction, spot_at, Stop, Go, MarkLeads, RegionAsks}
 use Rattle.sre_turns.proofs.Terms.{not, ◌&&◌, ◌||◌, min, nat_eq, None, ◌∙◌, unlimited, counted_to}
-use Rattle.sre_turns.specs.AskedPlaces.{Lies}
+use Rattle.sre_turns.specs.Asked.{Lies}
 use Rattle.sre_turns.proofs.memoization.Asked.{agree_less, agree_set, group_agrees}
 use Rattle.sre_turns.proofs.semantics.Onward.{EndFrom}
 use Rattle.sre_turns.proofs.semantics.OneTurn.{GoesOn, behind_test, behind_reference, behind_look, run_on, group_there}

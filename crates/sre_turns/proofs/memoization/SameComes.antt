@@ -6,10 +6,10 @@ use Rattle.sre_turns.proofs.Terms.{closing_move, HasReference, Runs, turns, Come
 use Rattle.sre_turns.proofs.Terms.{least_from, LoopsAlike, Alike, AskedMark, MarksAlike, OutcomesAlike, PlacesAsk}
 use Rattle.sre_turns.proofs.Terms.{AskedByPlace, PointAsks, LoopsAsk, Matters, MattersBehind, Subject, Frame}
 use Rattle.sre_turns.proofs.Terms.{Instruction, spot_at, Stop, Go, slice_get, MarksIdle, SaysOfBodies, SaysOf, AreIdle}
-use Rattle.sre_turns.specs.AskedPlaces.{Lies}
+use Rattle.sre_turns.specs.Asked.{Lies}
 use Rattle.sre_turns.proofs.memoization.AlikeTurns.{loops-alike, Twins, EntersAlike, MovesAlike, closing-alike}
 use Rattle.sre_turns.proofs.memoization.AlikeTurns.{turns-alike}
-use Rattle.sre_turns.proofs.analyses.AskedPlaces.{told_alike}
+use Rattle.sre_turns.proofs.Analyses.{told_alike}
 use Rattle.sre_turns.proofs.semantics.Onward.{outcomes-onward}
 use Rattle.sre_turns.proofs.memoization.Asked.{agree_less, outcomes_appended, stops_of, both_agree, start_asked}
 use Rattle.sre_turns.proofs.memoization.Asked.{end_asked, apart_alike}

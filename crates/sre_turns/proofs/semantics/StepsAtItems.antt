@@ -1,4 +1,5 @@
--- Steps at tests, positions, MARKs, jumps, and at the ends of an atomic scope.
+-- Steps at tests, positions, MARKs, jumps, back-references, conditionals and branches, and at the ends of an atomic
+-- scope.
 use Rattle.sre_turns.proofs.Terms.{◌≡◌, ℕ, ◌+◌, ◌<◌, ◌≤◌, Bool, true, false, List, length, refl, ◌∙◌, arith, nat_tests}
 use Rattle.sre_turns.proofs.Terms.{at_number, SreAtCode, SreOpcode, Test, Literal, Plain, Marks, set_mark, holds}
 use Rattle.sre_turns.proofs.Terms.{passes, char_at, holds_at, Frame, Instruction, spot_at, Go, BoardValue, Run}
@@ -7,14 +8,18 @@ use Rattle.sre_turns.proofs.Terms.{HasTest, ToFail, ToEnd, ToCheckPosition, ToMa
 use Rattle.sre_turns.proofs.Terms.{word_of, word_within, past_end, read_passes, Subject, repeats, Word, Opcode, ◌≢◌}
 use Rattle.sre_turns.proofs.Terms.{sym, at_low, stands_at_own, is_literal, zero, suc, ◌⊎◌, inl, inr, ⊎_elim, [], ◌∷◌}
 use Rattle.sre_turns.proofs.Terms.{slice_set, slice_index_or, Option, Some, None, mark_at, no_marks, lengthened, Placed}
+use Rattle.sre_turns.proofs.Terms.{◌-◌, nat_le, subst, Fold, group, same_folded, reference_opcode, Asks, reference_turn}
+use Rattle.sre_turns.proofs.Terms.{condition_place, ToRefer, role, ToCheckGroup, Stop, Goes, spot, reference_role}
+use Rattle.sre_turns.proofs.Terms.{same_opcode, Move, Limit, Way, nat_eq, Spot, Split, Runs, turns, GoesBoth, Exhausted}
+use Rattle.sre_turns.proofs.Terms.{ToBranch, Alternatives, earlier, to_point}
 use Rattle.sre_chars.specs.declared.constants.SreOpcode.TheVariants as opcode
 use Rattle.sre_turns.specs.declared.Next.TheVariants as next
 use Rattle.sre_turns.proofs.memoization.Asked.{longer}
-use Rattle.sre_turns.proofs.bound.Faring.{next_less, test_pool}
+use Rattle.sre_turns.proofs.bound.Faring.{next_less, test_pool, second_less, alternatives_free}
 use Rattle.sre_turns.proofs.semantics.Moving.{in_role, in_test, at_instruction, at_test, run_nothing, turn_stops}
-use Rattle.sre_turns.proofs.semantics.Moving.{turn_ends, turn_goes}
-use Rattle.sre_turns.proofs.memoization.Bodies.{turn_confines}
-use Rattle.sre_turns.proofs.semantics.AfterSteps.{run_on, nothing_after, has_run}
+use Rattle.sre_turns.proofs.semantics.Moving.{turn_ends, turn_goes, turn_splits, arrived}
+use Rattle.sre_turns.proofs.memoization.Bodies.{turn_confines, confined_leads}
+use Rattle.sre_turns.proofs.semantics.AfterSteps.{run_on, nothing_after, has_run, both_run, run_second}
 
 -- Captured positions lie in the text.
 
@@ -243,3 +248,171 @@ mark_run r i c w x =
 -- a character that is read, inside the range or not, and is another one than a literal's
 pub other_character : (s : Subject) (v ch p : ℕ) → ch ≡ char_at s p → ch ≢ v → passes s (Literal Plain v) p ≡ false
 other_character s v ch p e unlike = grind (arith, nat_tests)
+
+-- what is asked for is told by the word that names it
+same_asked : (ws : List ℕ) (k n g : ℕ) → Word ws k n → Word ws k g → Asks ws n → Asks ws g
+same_asked ws k n g w v asked = subst (λ x. Asks ws x) (sym (word_of ws k n w) ∙ word_of ws k g v) asked
+
+-- GROUPREF and its foldings
+pub reference_operand : (r : Run) (fold : Fold) (i : ℕ) (c : StringCursor) → Opcode r.words i (reference_opcode fold)
+    → HasRun r (Instruction i) c → i + 1 < length r.words
+reference_operand r fold i c w x =
+    let h = (in_role (reference_opcode fold) ToRefer (reference_role fold) w x.runs).1 in
+    word_within r.words (i + 1) h.number h.there
+
+-- which folding it is
+pub reference_there : (r : Run) (i : ℕ) (c : StringCursor) (o : SreOpcode) → Opcode r.words i o → role o ≡ ToRefer
+    → HasRun r (Instruction i) c
+    → (fold : Fold) × (o ≡ reference_opcode fold) × Opcode r.words i (reference_opcode fold)
+reference_there r i c o w e x =
+    let h = (in_role o ToRefer (e) w x.runs).1 in
+    (h.fold, same_opcode r.words i o (reference_opcode h.fold) w h.code, h.code)
+
+module _ (r : Run) (fold : Fold) (i g : ℕ) (c : StringCursor) (b : BoardValue)
+    (w : Opcode r.words i (reference_opcode fold)) (there : Word r.words (i + 1) g) where
+  -- a turn there: that it is at a reference is known of the run that stands there
+  turn_there : (all : List Way) (limit : Limit) → Goes r all limit (Instruction i) c b → (mv : Move)
+      → mv ≡ reference_turn r.subject fold g (i + 2) (spot (Instruction i) c b)
+      → Moves r.words r.subject (spot (Instruction i) c b) mv
+  turn_there all limit k mv is =
+      let h = (in_role (reference_opcode fold) ToRefer (reference_role fold) w k.runs).1 in
+      at_instruction (reference_opcode fold) ToRefer (reference_role fold) w
+      (record {
+        fold = fold;
+        number = g;
+        asked = same_asked r.words (i + 1) h.number g h.there there h.asked;
+        code = w;
+        there = there;
+        is = is;
+      })
+
+  pub reference_missing : group b.marks g ≡ None → Advances r (Instruction i) c b next.Back b
+  reference_missing known all limit k =
+      turn_stops r (Instruction i) c b (turn_there all limit k Stop (rw (known, reference_turn) refl)) all limit k
+
+  module _ (x y : ℕ) (known : group b.marks g ≡ Some (x, y)) where
+    -- the group is longer than what is left of the window, or the window goes on otherwise
+    pub reference_past : nat_le (c.position + (y - x)) r.subject.end ≡ false
+        → Advances r (Instruction i) c b next.Back b
+    reference_past past all limit k =
+        turn_stops r (Instruction i) c b (turn_there all limit k Stop (rw (known, past, reference_turn) refl)) all limit
+        k
+
+    pub reference_unlike : nat_le (c.position + (y - x)) r.subject.end ≡ true
+        → same_folded r.subject fold (y - x) x c.position ≡ false → Advances r (Instruction i) c b next.Back b
+    reference_unlike inside unlike all limit k =
+        turn_stops r (Instruction i) c b
+        (turn_there all limit k Stop (rw (known, inside, unlike, reference_turn) refl)) all limit k
+
+    pub reference_step : (after : StringCursor) → nat_le (c.position + (y - x)) r.subject.end ≡ true
+        → same_folded r.subject fold (y - x) x c.position ≡ true → after.position ≡ c.position + (y - x)
+        → r.stands after after.position → Advances r (Instruction i) c b (next.At (i + 2) after) b
+    reference_step after inside alike place stands all limit k =
+        turn_goes r (Instruction i) c b (Instruction (i + 2)) after b
+        (turn_there all limit k (Go (spot (Instruction (i + 2)) after b))
+        (rw (known, inside, alike, place, reference_turn) refl))
+        stands k.placed refl all limit k
+
+module _ (r : Run) (i g v : ℕ) (c : StringCursor) (b : BoardValue) (w : Opcode r.words i opcode.GROUPREF_EXISTS)
+    (there : Word r.words (i + 1) g) (leads : Word r.words (i + 2) v) where
+  -- it goes on behind its operands, or at the other part
+  condition_step : (t : ℕ) → t ≡ condition_place r.words i g b.marks → Advances r (Instruction i) c b (next.At t c) b
+  condition_step t e all limit k =
+      let h = (in_role opcode.GROUPREF_EXISTS ToCheckGroup refl w k.runs).1 in
+      turn_goes r (Instruction i) c b (Instruction t) c b
+      (at_instruction opcode.GROUPREF_EXISTS ToCheckGroup refl w (record {
+        number = g;
+        asked = same_asked r.words (i + 1) h.number g h.there there h.asked;
+        there = there;
+        skips = word_within r.words (i + 2) v leads;
+        is = rw e refl;
+      })) k.stands k.placed refl all limit k
+
+  pub condition_present : (u : ℕ × ℕ) → group b.marks g ≡ Some u → Advances r (Instruction i) c b (next.At (i + 3) c) b
+  condition_present u known = condition_step (i + 3) (rw (known, condition_place) refl)
+
+  pub condition_absent : group b.marks g ≡ None → Advances r (Instruction i) c b (next.At (i + 1 + v) c) b
+  condition_absent known =
+      condition_step (i + 1 + v) (rw (known, word_of r.words (i + 2) v leads, condition_place) refl)
+
+pub positive : (n : ℕ) → (n ≡ 0 → ⊥) → 0 < n
+positive zero no_ = absurd (no_ refl)
+positive (suc n) no_ = omega arith
+
+-- BRANCH
+pub branch_moves : (ws : List ℕ) (s : Subject) (i : ℕ) (x : Spot) → x.point ≡ Instruction i → Opcode ws i opcode.BRANCH
+    → Moves ws s x (Go (to_point x (Alternatives (i + 1))))
+branch_moves ws s i x e w = rw e (at_instruction opcode.BRANCH ToBranch refl w refl)
+
+pub branch_step : (r : Run) (i : ℕ) (c : StringCursor) (b : BoardValue)
+    → Opcode r.words i opcode.BRANCH → (all : List Way) (limit : Limit) → Goes r all limit (Instruction i) c b
+    → (1 ≤ limit.turns) × Goes r all (earlier limit) (Alternatives (i + 1)) c b
+branch_step r i c b w all limit g =
+    let s = turn_goes r (Instruction i) c b (Alternatives (i + 1)) c b
+    (branch_moves r.words r.subject i (spot (Instruction i) c b) refl w) g.stands g.placed refl all limit g in
+    (s.0, arrived alternatives_free s.1)
+
+pub branch_run : (r : Run) (i : ℕ) (c : StringCursor) → Opcode r.words i opcode.BRANCH → HasRun r (Instruction i) c
+    → HasRun r (Alternatives (i + 1)) c
+branch_run r i c w x =
+    has_run r (Alternatives (i + 1)) c x.stands (run_on _ (branch_moves r.words r.subject i _ refl w) x.runs).2
+
+-- alternatives
+pub alternatives_move : (ws : List ℕ) (s : Subject) (q v : ℕ) (x : Spot) → x.point ≡ Alternatives q → Word ws q v
+    → 0 < v → Moves ws s x (Split (to_point x (Instruction (q + 1))) (to_point x (Alternatives (q + v))))
+alternatives_move ws s q v x e w l =
+    let more : nat_eq v 0 ≡ false = grind (arith, nat_tests) in
+    rw e (record { value = v; there = w; is = rw more refl })
+
+alternatives_stop : (ws : List ℕ) (s : Subject) (q v : ℕ) (x : Spot) → x.point ≡ Alternatives q → Word ws q v → v ≡ 0
+    → Moves ws s x Stop
+alternatives_stop ws s q v x e w z = rw e (record { value = v; there = w; is = rw z refl })
+
+pub alternatives_there : (r : Run) (q : ℕ) (c : StringCursor) → HasRun r (Alternatives q) c → q < length r.words
+alternatives_there r q c x = go x.runs
+  where
+    go : {os : List Way} {n : ℕ} → Runs r.words r.subject (spot_at (Alternatives q) x.frames c.position x.marks) os n
+        → q < length r.words
+    go (turns mv h d) = word_within r.words q h.value h.there
+
+pub alternatives_none : (r : Run) (q : ℕ) (c : StringCursor) (b : BoardValue) {v : ℕ} → Word r.words q v → v ≡ 0
+    → Advances r (Alternatives q) c b next.Back b
+alternatives_none r q c b {v} w e =
+    turn_stops r (Alternatives q) c b (alternatives_stop r.words r.subject q v (spot (Alternatives q) c b) refl w e)
+
+pub alternatives_both : (r : Run) (q v : ℕ) (c : StringCursor) (b : BoardValue) → Word r.words q v → 0 < v
+    → (all : List Way) (limit : Limit) → Goes r all limit (Alternatives q) c b
+    → GoesBoth r all limit (spot (Instruction (q + 1)) c b) (spot (Alternatives (q + v)) c b) c b.choices
+alternatives_both r q v c b w l all limit g =
+    turn_splits r (Alternatives q) c b (spot (Instruction (q + 1)) c b) (spot (Alternatives (q + v)) c b) c
+    (alternatives_move r.words r.subject q v (spot (Alternatives q) c b) refl w l) g.stands refl refl all limit g
+
+pub alternatives_run : (r : Run) (q v : ℕ) (c : StringCursor) → Word r.words q v → 0 < v → HasRun r (Alternatives q) c
+    → HasRun r (Instruction (q + 1)) c × HasRun r (Alternatives (q + v)) c
+alternatives_run r q v c w l x =
+    both_run r (Alternatives q) (Instruction (q + 1)) (Alternatives (q + v)) c c
+    (λ fs m. alternatives_move r.words r.subject q v _ refl w l) x.stands x
+
+pub alternatives_exhausted : (r : Run) (q v p : ℕ) → Word r.words q v → v ≡ 0 → Exhausted r (Alternatives q) p
+alternatives_exhausted r q v p w e fs m os n d =
+    run_nothing (alternatives_stop r.words r.subject q v (spot_at (Alternatives q) fs p m) refl w e) d
+
+-- of an alternative of which nothing comes, the others are left
+pub alternatives_pass : (r : Run) (q v : ℕ) (c : StringCursor) → Word r.words q v → 0 < v
+    → r.stands c c.position → Refuses r (q + 1) c.position
+    → Continues r (Alternatives q) c (Alternatives (q + v)) c
+alternatives_pass r q v c w l stands none = record {
+  stands = stands;
+  runs = λ fs m os n d.
+      run_second (spot_at (Instruction (q + 1)) fs c.position m) (spot_at (Alternatives (q + v)) fs c.position m)
+      (alternatives_move r.words r.subject q v (spot_at (Alternatives q) fs c.position m) refl w l)
+      (λ os' n' e. none fs m os' n' e) d;
+  fares = λ pl start cs fs m h.
+      second_less r pl start cs (spot_at (Alternatives q) fs c.position m)
+      (spot_at (Instruction (q + 1)) fs c.position m) (spot_at (Alternatives (q + v)) fs c.position m)
+      alternatives_free (alternatives_move r.words r.subject q v (spot_at (Alternatives q) fs c.position m) refl w l)
+      h;
+  confines = λ fs h.
+      (confined_leads r.words r.subject (spot_at (Alternatives q) fs c.position no_marks) _
+      (alternatives_move r.words r.subject q v (spot_at (Alternatives q) fs c.position no_marks) refl w l) h).1;
+}

@@ -8,7 +8,7 @@ use Rattle.sre_turns.proofs.Terms.{toll, toll_by, loop_toll, until_role, same_op
 use Rattle.sre_turns.proofs.Terms.{Else, repeats}
 use Rattle.sre_chars.specs.declared.constants.SreOpcode.TheVariants as opcode
 use Rattle.sre_turns.specs.Machine.{IsAt}
-use Rattle.sre_turns.proofs.bound.Steps.{some_steps}
+use Rattle.sre_turns.proofs.bound.TreePrices.{some_steps}
 use Rattle.sre_turns.specs.declared.Next.TheVariants as next
 use Rattle.sre_turns.proofs.semantics.Moving.{in_role, at_instruction, turn_goes, turn_splits, both_wait_there}
 use Rattle.sre_turns.proofs.semantics.Moving.{both_first, both_second, standing}

@@ -15,7 +15,7 @@ use Rattle.sre_turns.specs.Machine.{Shorter, Longer, Move, Split, Marks}
 use Rattle.sre_turns.proofs.semantics.Moving.{in_role, turn_stops, turn_splits, both_last, run_nothing, skips_then}
 use Rattle.sre_turns.proofs.semantics.Moving.{at_instruction}
 use Rattle.sre_turns.proofs.semantics.AfterSteps.{both_run, run_second}
-use Rattle.sre_turns.proofs.semantics.StepsInBranches.{positive}
+use Rattle.sre_turns.proofs.semantics.StepsAtItems.{positive}
 
 -- Steps at a single-character repeat, and at its shorter and longer counts, where its operands are known.
 

@@ -12,9 +12,8 @@ use Rattle.sre_turns.specs.Machine.{IsAt}
 use Rattle.sre_turns.proofs.memoization.Bodies.{confined_leads}
 use Rattle.sre_turns.proofs.semantics.Moving.{Barren, continues_then, continues_exhausted, standing}
 use Rattle.sre_turns.proofs.bound.HereMoves.{here_moves}
-use Rattle.sre_turns.proofs.semantics.StepsAtItems.{test_misses, test_continues, jump_continues}
-use Rattle.sre_turns.proofs.semantics.StepsInBranches.{branch_moves, alternatives_move, alternatives_pass}
-use Rattle.sre_turns.proofs.semantics.StepsInBranches.{alternatives_exhausted}
+use Rattle.sre_turns.proofs.semantics.StepsAtItems.{test_misses, test_continues, jump_continues, branch_moves}
+use Rattle.sre_turns.proofs.semantics.StepsAtItems.{alternatives_move, alternatives_pass, alternatives_exhausted}
 use Rattle.sre_turns.proofs.semantics.StepsInLoops.{InLoop, body_spot, end_spot, until_splits, until_runs}
 use Rattle.sre_turns.proofs.semantics.AfterSteps.{run_on, parted}
 

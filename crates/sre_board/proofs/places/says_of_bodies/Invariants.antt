@@ -1,5 +1,5 @@
 use Rattle.sre_board.proofs.Terms.{◌<◌, [], length, slice_index_or}
-use Rattle.sre_turns.specs.AskedPlaces.{SaysOfBodies}
+use Rattle.sre_turns.specs.Asked.{SaysOfBodies}
 use Rattle.sre_board.proofs.places.says_of_bodies.Given as goal
 
 abbrev pub invariant-walk : goal.invariant-walk

@@ -1,5 +1,5 @@
 use Rattle.sre_board.proofs.Terms.{◌∷◌, [], ◌++◌, ap, ◌∙◌, arith, append_assoc, List, ℕ}
-use Rattle.sre_board.proofs.ShapesAdded.{place_more, slots_more, none_few, cut_back, shape_whole}
+use Rattle.sre_board.proofs.CounterStates.{place_more, slots_more, none_few, cut_back, shape_whole}
 use Rattle.sre_board.proofs.slots.add_shape.Goals as goal
 
 pub walk-preserved : goal.walk-preserved

@@ -1,6 +1,6 @@
 use Rattle.sre_board.proofs.Terms.{◌≡◌, ◌∙◌, ap, sym, refl, arith, Some, slice_get, slice_index_or, Frame}
 use Rattle.sre_board.proofs.ChainLaws.{get_some}
-use Rattle.sre_board.proofs.NoSlot.{no_slot_with, slot_with}
+use Rattle.sre_board.proofs.CounterStates.{no_slot_with, slot_with}
 use Rattle.sre_board.proofs.slots.slot_of.Goals as goal
 
 pub returns-in_err-slot : goal.returns-in_err-slot

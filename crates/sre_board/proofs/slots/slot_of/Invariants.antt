@@ -1,5 +1,5 @@
 use Rattle.sre_board.proofs.Terms.{ℕ, ◌<◌, ◌↔◌, [], length, slice_index_or, ◌^◌}
-use Rattle.sre_board.proofs.NoSlot.{Slotted}
+use Rattle.sre_board.proofs.CounterStates.{Slotted}
 use Rattle.sre_board.proofs.slots.slot_of.Given as goal
 
 abbrev pub invariant-walk : goal.invariant-walk

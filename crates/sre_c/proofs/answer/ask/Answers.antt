@@ -1,5 +1,5 @@
 use Rattle.sre_c.proofs.Terms.{refl, arith, code_of}
-use Rattle.sre_c.proofs.Finding.{finds_any}
+use Rattle.sre_c.proofs.Matches.{finds_any}
 use Rattle.sre_c.proofs.answer.ask.Goals as goal
 
 pub returns-then-steps-eq-NO_LIMIT-clause-finds : goal.returns-then-steps-eq-NO_LIMIT-clause-finds

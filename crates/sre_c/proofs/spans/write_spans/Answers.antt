@@ -1,5 +1,5 @@
 use Rattle.sre_c.proofs.Terms.{rules, ◌∙◌, true, false, Ok, refl, arith, code_of, asked_of, end_of, walk-end}
-use Rattle.sre_c.proofs.Finding.{unspent}
+use Rattle.sre_c.proofs.Matches.{unspent}
 use Rattle.sre_c.proofs.Rows.{none_kept, stay, rows_keep, rows_over, row_more}
 use Rattle.sre_c.proofs.spans.write_spans.Goals as goal
 

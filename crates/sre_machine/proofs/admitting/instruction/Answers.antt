@@ -1,6 +1,6 @@
 use Rattle.sre_machine.proofs.Terms.{rules}
-use Rattle.sre_machine.proofs.AdmittedHere.{next_admits, skip_admits, run_admits, loop_admits, possessive_admits}
-use Rattle.sre_machine.proofs.AdmittedHere.{test_admits}
+use Rattle.sre_machine.proofs.Analyses.{next_admits, skip_admits, run_admits, loop_admits, possessive_admits}
+use Rattle.sre_machine.proofs.Analyses.{test_admits}
 use Rattle.sre_machine.proofs.admitting.instruction.Goals as goal
 
 pub returns-in-MARK : goal.returns-in-MARK

@@ -1,4 +1,4 @@
-use Rattle.sre_machine.proofs.AdmittedHere.{category_here, test_here}
+use Rattle.sre_machine.proofs.Analyses.{category_here, test_here}
 use Rattle.sre_machine.proofs.admitting.taken.Goals as goal
 
 pub ascii_taken-requires : goal.ascii_taken-requires

@@ -1,4 +1,4 @@
-use Rattle.sre_machine.proofs.AskedLists.{alternatives_ask}
+use Rattle.sre_machine.proofs.Analyses.{alternatives_ask}
 use Rattle.sre_machine.proofs.asked_places.alternatives.Goals as goal
 
 pub returns : goal.returns

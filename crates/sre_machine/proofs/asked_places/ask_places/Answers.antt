@@ -1,8 +1,8 @@
 use Rattle.sre_machine.proofs.Terms.{ℕ, ◌≡◌, ◌-◌, ◌<◌, List, length, slice_get, ap, subst, arith, rules, AreWords}
 use Rattle.sre_machine.proofs.Terms.{are_words, AlternativesAsk, AskedMarks, AskedPlace, range_of, asks_for_any}
 use Rattle.sre_machine.proofs.Terms.{told_or_any, asks_of, InstructionAsks}
-use Rattle.sre_machine.proofs.AskedLists.{MarksFit, asked_more, marks_more, none_before, all_untold, marks_untold}
-use Rattle.sre_machine.proofs.AskedLists.{none_told}
+use Rattle.sre_machine.proofs.Analyses.{MarksFit, asked_more, marks_more, none_before, all_untold, marks_untold}
+use Rattle.sre_machine.proofs.Analyses.{none_told}
 use Rattle.sre_machine.proofs.asked_places.ask_places.Goals as goal
 
 pub place-init : goal.place-init

@@ -1,5 +1,5 @@
 use Rattle.sre_machine.proofs.Terms.{◌≡◌, ◌≤◌, length, AllAsked, AreMarks}
-use Rattle.sre_machine.proofs.AskedLists.{NoneBefore}
+use Rattle.sre_machine.proofs.Analyses.{NoneBefore}
 use Rattle.sre_machine.proofs.asked_places.ask_places.Given as goal
 
 abbrev pub invariant-place : goal.invariant-place

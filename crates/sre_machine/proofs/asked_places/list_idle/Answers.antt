@@ -1,5 +1,5 @@
 use Rattle.sre_machine.proofs.Terms.{◌≡◌, List, Bool, subst, sym, rules, AreIdle, AskedPlace, asks_of, HaveAll}
-use Rattle.sre_machine.proofs.AskedLists.{idle_told, says_nothing, says_more}
+use Rattle.sre_machine.proofs.Analyses.{idle_told, says_nothing, says_more}
 use Rattle.sre_machine.proofs.asked_places.list_idle.Goals as goal
 
 pub place-init : goal.place-init

@@ -1,5 +1,5 @@
 use Rattle.sre_machine.proofs.Terms.{◌≡◌, ◌-◌, length, AllAsked}
-use Rattle.sre_machine.proofs.AskedLists.{SaysOfNone}
+use Rattle.sre_machine.proofs.Analyses.{SaysOfNone}
 use Rattle.sre_machine.proofs.asked_places.list_idle.Given as goal
 
 abbrev pub invariant-place : goal.invariant-place

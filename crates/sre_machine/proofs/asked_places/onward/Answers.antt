@@ -1,5 +1,5 @@
 use Rattle.sre_machine.proofs.Terms.{arith, AreWords, are_words}
-use Rattle.sre_machine.proofs.AskedLists.{any_asked, literal_asks, skip_asks}
+use Rattle.sre_machine.proofs.Analyses.{any_asked, literal_asks, skip_asks}
 use Rattle.sre_machine.proofs.asked_places.onward.Goals as goal
 
 pub returns-in-AT : goal.returns-in-AT

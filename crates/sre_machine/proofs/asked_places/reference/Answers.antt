@@ -1,5 +1,5 @@
 use Rattle.std.proofs.Common.{◌+◌, refl}
-use Rattle.sre_machine.proofs.AskedLists.{had_at}
+use Rattle.sre_machine.proofs.Analyses.{had_at}
 use Rattle.sre_machine.proofs.asked_places.reference.Goals as goal
 
 pub returns-clause-next : goal.returns-clause-next

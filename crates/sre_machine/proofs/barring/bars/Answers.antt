@@ -1,5 +1,5 @@
 use Rattle.sre_machine.proofs.Terms.{contains, Instruction, run_of}
-use Rattle.sre_machine.proofs.AdmittedHere.{told_there, nothing_before}
+use Rattle.sre_machine.proofs.Analyses.{told_there, nothing_before}
 use Rattle.sre_machine.proofs.barring.bars.Goals as goal
 
 pub returns-in-Some : goal.returns-in-Some

@@ -1,5 +1,5 @@
 use Rattle.sre_machine.proofs.Terms.{contains, Alternatives, run_of}
-use Rattle.sre_machine.proofs.AdmittedHere.{told_there, nothing_before}
+use Rattle.sre_machine.proofs.Analyses.{told_there, nothing_before}
 use Rattle.sre_machine.proofs.barring.bars_alternatives.Goals as goal
 
 pub returns-in-Some : goal.returns-in-Some

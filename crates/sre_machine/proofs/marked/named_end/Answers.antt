@@ -1,5 +1,5 @@
 use Rattle.std.proofs.Common.{refl, arith}
-use Rattle.sre_machine.proofs.AskedGroups.{covers_next, covers_end, told_here}
+use Rattle.sre_machine.proofs.Analyses.{covers_next, covers_end, told_here}
 use Rattle.sre_machine.proofs.marked.named_end.Goals as goal
 
 pub word-preserved : goal.word-preserved

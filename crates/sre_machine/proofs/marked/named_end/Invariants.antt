@@ -1,5 +1,5 @@
 use Rattle.std.proofs.Common.{◌-◌, ◌≤◌, length}
-use Rattle.sre_machine.proofs.AskedGroups.{CoversTo}
+use Rattle.sre_machine.proofs.Analyses.{CoversTo}
 use Rattle.sre_machine.proofs.marked.named_end.Given as goal
 
 abbrev pub invariant-word : goal.invariant-word

@@ -1,7 +1,7 @@
 use Rattle.sre_machine.proofs.Terms.{◌∙◌, ap, items_of, no_marks, run_of, no_reference}
 use Rattle.sre_machine.proofs.Failing.{fails_kept}
 use Rattle.sre_machine.proofs.Recalling.{recalls_kept}
-use Rattle.sre_machine.proofs.Keeping.{holds_tried}
+use Rattle.sre_machine.proofs.MarksPassed.{holds_tried}
 use Rattle.sre_machine.proofs.trying.keep.Goals as goal
 
 pub returns-then-serves_unmarked-clause-remembers : goal.returns-then-serves_unmarked-clause-remembers

@@ -3,7 +3,7 @@ use Rattle.sre_request.proofs.Terms.{Table, is_member, holds, SetStands}
 use Rattle.sre_model.specs.Grammar.{Opcode, test_opcode, TestOperands}
 use Rattle.sre_code.specs.declared.ascii_set.AsciiSet.{AsciiSet}
 use Rattle.sre_model.specs.Tree.{SetItem, Test, In, Plain}
-use Rattle.sre_model.proofs.Words.{same_opcode}
+use Rattle.sre_model.proofs.Opcodes.{same_opcode}
 use Rattle.sre_request.specs.AsciiSets.{TakesAscii}
 use Rattle.sre_chars.specs.declared.constants.SreOpcode.TheVariants as opcode
 use Rattle.sre_request.proofs.ascii.ascii_taken.Goals as goal

@@ -1,7 +1,7 @@
 use Rattle.sre_request.proofs.Terms.{◌+◌, sym, ◌∙◌, ap, arith, Table, items_of, Code, one_item_takes, set_stands}
 use Rattle.sre_chars.specs.Numbers.{category_number}
 use Rattle.sre_chars.specs.Categories.{category as in_category}
-use Rattle.sre_model.proofs.CodesRead.{word_known}
+use Rattle.sre_model.proofs.Opcodes.{word_known}
 use Rattle.sre_model.proofs.Members.{range_says, category_there, category_says, charset_room, charset_says}
 use Rattle.sre_request.proofs.runs.run_in_set.Goals as goal
 

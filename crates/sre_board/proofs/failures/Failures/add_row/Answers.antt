@@ -1,5 +1,5 @@
 use Rattle.sre_board.proofs.Terms.{◌≡◌, ◌++◌, length, ◌∙◌, ap, sym, refl, slice_get, arith, Kept, kept_of, Row}
-use Rattle.sre_board.proofs.RowsAdded.{no_row, new_row, made_for, there_if_ok, roomy_added}
+use Rattle.sre_board.proofs.Rows.{no_row, new_row, made_for, there_if_ok, roomy_added}
 use Rattle.sre_board.proofs.KeptStill.{grown, grows_after}
 use Rattle.sre_board.proofs.failures.Failures.add_row.Goals as goal
 

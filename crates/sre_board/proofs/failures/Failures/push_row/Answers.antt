@@ -1,5 +1,5 @@
 use Rattle.sre_board.proofs.Terms.{◌≡◌, ◌∙◌, ◌++◌, ◌∷◌, [], ap, subst, cond, is_ok, Some, slice_get, Kept}
-use Rattle.sre_board.proofs.RowNumbers.{numbered_set, numbered_row}
+use Rattle.sre_board.proofs.Rows.{numbered_set, numbered_row}
 use Rattle.sre_board.proofs.KeptStill.{pushed}
 use Rattle.sre_board.proofs.failures.Failures.push_row.Goals as goal
 

@@ -1,6 +1,6 @@
 use Rattle.sre_board.proofs.Terms.{◌≡◌, ◌∙◌, ap, sym, refl, arith, get_or, slice_get, slice_get_within, slice_get_read}
 use Rattle.sre_board.proofs.Terms.{get_or_from_slice_get, Kept, Row}
-use Rattle.sre_board.proofs.RowNumbers.{no_row_at}
+use Rattle.sre_board.proofs.Rows.{no_row_at}
 use Rattle.sre_board.proofs.failures.Failures.row.Goals as goal
 
 pub returns-then-place-len-clause-found : goal.returns-then-place-len-clause-found

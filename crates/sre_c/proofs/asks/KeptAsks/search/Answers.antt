@@ -1,5 +1,5 @@
 use Rattle.sre_c.proofs.Terms.{code_of}
-use Rattle.sre_c.proofs.Finding.{search_kept, finds_any}
+use Rattle.sre_c.proofs.Matches.{search_kept, finds_any}
 use Rattle.sre_c.proofs.asks.KeptAsks.search.Goals as goal
 
 pub search-requires : goal.search-requires

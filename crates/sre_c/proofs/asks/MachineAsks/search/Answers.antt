@@ -1,5 +1,5 @@
 use Rattle.sre_c.proofs.Terms.{code_of}
-use Rattle.sre_c.proofs.Finding.{search_kept, finds_any}
+use Rattle.sre_c.proofs.Matches.{search_kept, finds_any}
 use Rattle.sre_c.proofs.asks.MachineAsks.search.Goals as goal
 
 pub returns-then-steps-eq-NO_LIMIT-clause-finds : goal.returns-then-steps-eq-NO_LIMIT-clause-finds

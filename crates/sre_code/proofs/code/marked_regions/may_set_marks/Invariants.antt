@@ -1,5 +1,5 @@
 use Rattle.sre_code.proofs.Terms.{◌-◌, length}
-use Rattle.sre_code.proofs.MarksOutside.{ScannedTo}
+use Rattle.sre_code.proofs.Scanning.{ScannedTo}
 use Rattle.sre_code.proofs.code.marked_regions.may_set_marks.Given as goal
 
 abbrev pub invariant-word : goal.invariant-word

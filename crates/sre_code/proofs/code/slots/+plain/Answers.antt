@@ -1,6 +1,6 @@
 use Rattle.sre_code.proofs.Terms.{arith, refl, sym, subst, common_steps, ToldAt}
-use Rattle.sre_code.proofs.ScanningLoops.{scanned_start, scanned_next, scan_stops, scan_ends, nothing_left, loop_stops}
-use Rattle.sre_code.proofs.ScanningLoops.{loop_passed}
+use Rattle.sre_code.proofs.Scanning.{scanned_start, scanned_next, scan_stops, scan_ends, nothing_left, loop_stops}
+use Rattle.sre_code.proofs.Scanning.{loop_passed}
 use Rattle.sre_code.proofs.code.slots.+plain.Goals as goal
 
 pub looped-returns-then-left-eq0-clause-told : goal.looped-returns-then-left-eq0-clause-told

@@ -1,5 +1,5 @@
 use Rattle.sre_code.proofs.Terms.{◌≤◌, ◌*◌, ◌+◌, ◌-◌}
-use Rattle.sre_code.proofs.ScanningLoops.{Scanned}
+use Rattle.sre_code.proofs.Scanning.{Scanned}
 use Rattle.sre_code.proofs.code.slots.+plain.Given as goal
 
 -- a scan stands above the instruction that it passes, and that above the loop that it is

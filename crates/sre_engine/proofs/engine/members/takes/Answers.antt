@@ -1,5 +1,5 @@
 use Rattle.sre_engine.proofs.Terms.{◌≡◌, ◌∙◌, ap, subst, sym, List, ℕ, words_of, code_of, HasSet}
-use Rattle.sre_engine.proofs.FirstMembers.{set_there}
+use Rattle.sre_engine.proofs.FirstSets.{set_there}
 use Rattle.sre_engine.proofs.engine.members.takes.Goals as goal
 
 pub is_member-requires : goal.is_member-requires

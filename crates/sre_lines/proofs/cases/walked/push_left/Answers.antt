@@ -1,7 +1,7 @@
 -- One more span is written of the matches that were left.
 use Rattle.sre_lines.proofs.Terms.{rules, ◌∙◌, sym, subst, Whole, words_of}
 use Rattle.sre_finder.specs.SpanIters.{GivesSpan}
-use Rattle.sre_lines.proofs.AnswerTexts.{one_written}
+use Rattle.sre_lines.proofs.Parts.{one_written}
 use Rattle.sre_lines.proofs.cases.walked.push_left.Goals as goal
 
 pub matches-preserved : goal.matches-preserved

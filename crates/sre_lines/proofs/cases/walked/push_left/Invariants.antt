@@ -1,5 +1,5 @@
 use Rattle.sre_lines.proofs.Terms.{◌≡◌, string_bytes, words_of, code_of, request_of, left_of}
-use Rattle.sre_lines.proofs.AnswerTexts.{Written}
+use Rattle.sre_lines.proofs.Parts.{Written}
 use Rattle.sre_lines.proofs.cases.walked.push_left.Given as goal
 
 -- what is written and what is still to come are the text of what was left

@@ -1,6 +1,6 @@
 use Rattle.sre_machine.proofs.Terms.{◌≡◌, ap, sym, ◌∙◌, subst, List, ℕ, items_of, AreWords, run_of, AreIdle, Covers}
 use Rattle.sre_turns.proofs.memoization.SameComes.{none_idle}
-use Rattle.sre_machine.proofs.AskedGroups.{covers_all}
+use Rattle.sre_machine.proofs.Analyses.{covers_all}
 use Rattle.sre_machine.proofs.Recalling.{recalls_none}
 use Rattle.sre_machine.proofs.memo.Memo.begin.Goals as goal
 

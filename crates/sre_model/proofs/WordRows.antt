@@ -1,10 +1,10 @@
--- Worked rows of reading bytecode, by computation.
+-- Worked rows of reading and of writing bytecode, by computation.
 use Rattle.sre_model.proofs.Terms.{refl, ◌≡◌, [], ◌∷◌, ◌++◌, replicate, false, END, WORD, UNI_NOT_LINEBREAK, Empty}
 use Rattle.sre_model.proofs.Terms.{Fail, One, At, Mark, Branch, Loop, Run, PossessiveLoop, Atomic, Look, Reference}
 use Rattle.sre_model.proofs.Terms.{Exists, ExistsElse, Only, Or, Any, AnyAll, InCategory, Literal, NotLiteral, In}
 use Rattle.sre_model.proofs.Terms.{Single, Range, RangeUniIgnore, Category, Charset, BigCharset, Negate, Plain, Ascii}
 use Rattle.sre_model.proofs.Terms.{Locale, Unicode, Greedy, Lazy, GreedyRun, LazyRun, PossessiveRun, Positive, Negative}
-use Rattle.sre_model.proofs.Terms.{unlimited, behind_block, fits_block, items, is_a, a, b, c, d}
+use Rattle.sre_model.proofs.Terms.{unlimited, behind_block, fits_block, items, is_a, a, b, c, d, code_words}
 use Rattle.sre_model.proofs.TreeOf.{tree_of, items_at, trees_at, set_at}
 
 -- (a)b
@@ -134,3 +134,60 @@ block_without_its_widths = refl
 
 block_past_the_end : behind_block (14 ∷ 4 ∷ 0 ∷ 0 ∷ 0 ∷ []) ≡ []
 block_past_the_end = refl
+
+-- Writing
+
+letter_written : code_words (items (a ∷ [])) ≡ 16 ∷ 97 ∷ 1 ∷ []
+letter_written = refl
+
+-- (?:|a)
+empty_or_letter_written : code_words (items (Branch (Or Empty (Only (items (a ∷ [])))) ∷ []))
+    ≡ 7 ∷ 3 ∷ 15 ∷ 7 ∷ 5 ∷ 16 ∷ 97 ∷ 15 ∷ 2 ∷ 0 ∷ 1 ∷ []
+empty_or_letter_written = refl
+
+-- (?:(a)(?!b)|a)b
+branch_and_look_written : code_words
+    (items
+    (Branch (Or (items (Mark 0 ∷ a ∷ Mark 1 ∷ Look Negative 0 (items (b ∷ [])) ∷ [])) (Only (items (a ∷ [])))) ∷ b ∷
+    []))
+    ≡ 7 ∷ 15 ∷ 17 ∷ 0 ∷ 16 ∷ 97 ∷ 17 ∷ 1 ∷ 5 ∷ 5 ∷ 0 ∷ 16 ∷ 98 ∷ 1 ∷ 15 ∷ 7 ∷ 5 ∷ 16 ∷ 97 ∷ 15 ∷ 2 ∷ 0 ∷ 16 ∷ 98 ∷ 1
+    ∷ []
+branch_and_look_written = refl
+
+-- (a)?(?(1)b|c)
+loop_and_both_parts_written : code_words
+    (items (Loop Greedy 0 1 (items (Mark 0 ∷ a ∷ Mark 1 ∷ [])) ∷ ExistsElse 0 (items (b ∷ [])) (items (c ∷ [])) ∷ []))
+    ≡ 23 ∷ 9 ∷ 0 ∷ 1 ∷ 17 ∷ 0 ∷ 16 ∷ 97 ∷ 17 ∷ 1 ∷ 18 ∷ 12 ∷ 0 ∷ 6 ∷ 16 ∷ 98 ∷ 15 ∷ 3 ∷ 16 ∷ 99 ∷ 1 ∷ []
+loop_and_both_parts_written = refl
+
+jump_as_an_operand_written : code_words (items (Exists 0 (items (One (Literal Plain 15) ∷ One Any ∷ [])) ∷ []))
+    ≡ 12 ∷ 0 ∷ 5 ∷ 16 ∷ 15 ∷ 2 ∷ 1 ∷ []
+jump_as_an_operand_written = refl
+
+empty_part_written : code_words (items (ExistsElse 0 (items (b ∷ [])) Empty ∷ []))
+    ≡ 12 ∷ 0 ∷ 6 ∷ 16 ∷ 98 ∷ 15 ∷ 1 ∷ 1 ∷ []
+empty_part_written = refl
+
+set_that_flips_written : code_words (items (One (In Plain (Single 97 ∷ Negate ∷ Range 97 98 ∷ [])) ∷ []))
+    ≡ 13 ∷ 8 ∷ 16 ∷ 97 ∷ 21 ∷ 22 ∷ 97 ∷ 98 ∷ 0 ∷ 1 ∷ []
+set_that_flips_written = refl
+
+-- (?:a*)*
+run_in_a_loop_written : code_words (items (Loop Greedy 0 unlimited (items (Run GreedyRun 0 unlimited is_a ∷ [])) ∷ []))
+    ≡ 23 ∷ 10 ∷ 0 ∷ unlimited ∷ 24 ∷ 6 ∷ 0 ∷ unlimited ∷ 16 ∷ 97 ∷ 1 ∷ 18 ∷ 1 ∷ []
+run_in_a_loop_written = refl
+
+-- (?>a)b
+group_and_letter_written : code_words (items (Atomic (items (a ∷ [])) ∷ b ∷ []))
+    ≡ 27 ∷ 4 ∷ 16 ∷ 97 ∷ 1 ∷ 16 ∷ 98 ∷ 1 ∷ []
+group_and_letter_written = refl
+
+-- (?:ab){2}+
+possessive_loop_written : code_words (items (PossessiveLoop 2 2 (items (a ∷ b ∷ [])) ∷ []))
+    ≡ 28 ∷ 7 ∷ 2 ∷ 2 ∷ 16 ∷ 97 ∷ 16 ∷ 98 ∷ 1 ∷ 1 ∷ []
+possessive_loop_written = refl
+
+charsets_written : code_words (items
+    (One (In Plain (Charset (replicate 8 3) ∷ BigCharset (replicate 256 0) (replicate 8 5) ∷ [])) ∷ []))
+    ≡ 13 ∷ 85 ∷ 9 ∷ replicate 8 3 ++ (10 ∷ 1 ∷ replicate 64 0 ++ (replicate 8 5 ++ (0 ∷ 1 ∷ [])))
+charsets_written = refl

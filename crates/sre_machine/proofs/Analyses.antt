@@ -1,17 +1,68 @@
--- Live captures at an instruction, by its opcode, where the words are as the computation reads them. A list of the
--- captures that may be live at each address stays right where one more address is filled in.
--- The list of live captures by address rests on this; nothing else here does.
-use Rattle.sre_machine.proofs.Terms.{◌≡◌, ℕ, ◌<◌, ◌≤◌, ◌⊎◌, inl, inr, List, [], ◌∷◌, ◌++◌, Option, Some, None, Bool}
-use Rattle.sre_machine.proofs.Terms.{true, length, slice_get, refl, sym, ◌∙◌, ap, subst, arith, role, AreWords, AreIdle}
-use Rattle.sre_machine.proofs.Terms.{Lies, MarkRange, Within, AsksAt, AlternativesAsk, AskedMarks, AskedPlace, range_of}
-use Rattle.sre_machine.proofs.Terms.{any_marks, asks_for_any, told_or_any, asks_of, AllAsked, AreMarks, HaveAll}
-use Rattle.sre_machine.proofs.Terms.{InstructionAsks, zero, suc, slice_set, PlacesAsk, are_idle, IsNarrower, IsSameBut}
-use Rattle.sre_machine.proofs.Terms.{one_place_told, told_everywhere, ◌+◌, ◌*◌, SreOpcode, Test, Any, InCategory}
-use Rattle.sre_machine.proofs.Terms.{Literal, NotLiteral, Plain, Ascii, Unicode, Word, Opcode, word, skip, word_of}
-use Rattle.sre_machine.proofs.Terms.{AnyAll, In, Locale, test_opcode, TestOperands, same_opcode, GroupLies, MarkLeads}
-use Rattle.sre_machine.proofs.Terms.{GroupAsked, whole_asks, LetGo}
+-- Live captures and FIRST sets at an instruction, by its opcode, where the words are as the computation reads them; and
+-- what a FIRST set rules out.
+use Rattle.sre_machine.proofs.Terms.{◌≡◌, ℕ, ◌+◌, ◌-◌, ◌*◌, ◌<◌, ◌≤◌, ◌⊎◌, inl, inr, Bool, true, false, List, length}
+use Rattle.sre_machine.proofs.Terms.{sym, ◌∙◌, ap, subst, arith, cases_lt, SreOpcode, word, role, AreWords, word_of}
+use Rattle.sre_machine.proofs.Terms.{Asks, Named, Covers, opcode_number, same_number, word_within, asks, [], ◌∷◌, ◌++◌}
+use Rattle.sre_machine.proofs.Terms.{Option, Some, None, slice_get, refl, AreIdle, Lies, MarkRange, Within, AsksAt}
+use Rattle.sre_machine.proofs.Terms.{AlternativesAsk, AskedMarks, AskedPlace, range_of, any_marks, asks_for_any}
+use Rattle.sre_machine.proofs.Terms.{told_or_any, asks_of, AllAsked, AreMarks, HaveAll, InstructionAsks, zero, suc}
+use Rattle.sre_machine.proofs.Terms.{slice_set, PlacesAsk, are_idle, IsNarrower, IsSameBut, one_place_told}
+use Rattle.sre_machine.proofs.Terms.{told_everywhere, Test, Any, InCategory, Literal, NotLiteral, Plain, Ascii, Unicode}
+use Rattle.sre_machine.proofs.Terms.{Word, Opcode, skip, AnyAll, In, test_opcode, TestOperands, same_opcode}
+use Rattle.sre_machine.proofs.Terms.{GroupLies, MarkLeads, GroupAsked, whole_asks, LetGo, Order, until_opcode, HasTest}
+use Rattle.sre_machine.proofs.Terms.{Instruction, AdmitsOnly, category_number, SreCatCode, TestsOnly, RepeatsOnly}
+use Rattle.sre_machine.proofs.Terms.{RunsOnly, LeadsOnly, leads_admit, nat_lt, slice_index_or, nat_tests, Run, char_at}
+use Rattle.sre_machine.proofs.Terms.{Point, AllAdmitted, IsOutside, Exhausted, get_some, IsAdmitted, Admitted}
 use Rattle.sre_model.specs.Roles.{TestKind, ToTest}
 use Rattle.sre_chars.specs.declared.constants.SreOpcode.TheVariants as opcode
+
+-- the groups behind the words up to a place
+pub record CoversTo (ws : List ℕ) (n end : ℕ) : Type 0 where
+  pub covers : (g : ℕ) (x : Named ws g) → x.place + 1 < n → 2 * g + 1 < end
+
+-- one place more
+pub covers_next : (ws : List ℕ) (n end end' : ℕ) → 1 ≤ n → CoversTo ws n end → end ≤ end'
+    → ((g : ℕ) (x : Named ws g) → x.place + 1 ≡ n → 2 * g + 1 < end') → CoversTo ws (n + 1) end'
+covers_next ws n end end' some was grows here = record {
+  covers = λ g x l. by_place g x (cases_lt (x.place + 1) n) l;
+}
+  where
+    by_place : (g : ℕ) (x : Named ws g) → (x.place + 1 < n) ⊎ (n ≤ x.place + 1) → x.place + 1 < n + 1 → 2 * g + 1 < end'
+    by_place g x (inl before) l = let b = was.covers g x before in omega (arith, b, grows)
+    by_place g x (inr behind) l = here g x (omega (arith, behind, l))
+
+-- all of them
+pub covers_end : (ws : List ℕ) (n end : ℕ) → length ws ≤ n → CoversTo ws n end → (g : ℕ) → Named ws g → 2 * g + 1 < end
+covers_end ws n end all was g x =
+    let inside = word_within ws (x.place + 1) g x.there in was.covers g x (omega (arith, all, inside))
+
+-- a word that is the number of one opcode is that of no other
+pub asks_as : (o p : SreOpcode) (n : ℕ) (told : Bool) → opcode_number p ≡ n → told ≡ asks (role p) → told ≡ false
+    → opcode_number o ≡ n → asks (role o) ≡ false
+asks_as o p n told is same none e =
+    ap (λ x. asks (role x)) (same_number o p (e ∙ sym is)) ∙ sym same ∙ none
+
+-- all groups are few
+pub covers_all : (ws : List ℕ) → AreWords ws → Covers ws 18446744073709551615
+covers_all ws are = λ g asked. let few = are.fits (asked.1.place + 1) g asked.1.there in omega (arith, few)
+
+-- those that were told are those that are asked for
+pub covers_told : (ws us : List ℕ) (old new : ℕ) → us ≡ ws
+    → (new ≡ old) ⊎ ((g : ℕ) → Asks us g → 2 * g + 1 < new) → Covers ws old → Covers ws new
+covers_told ws us old new same (inl e) was = λ g asked. let l = was g asked in omega (arith, l, e)
+covers_told ws us old new same (inr told) was = λ g asked. told g (subst (λ vs. Asks vs g) (sym same) asked)
+
+-- the group behind a word is told where that is the number of an opcode that asks for one
+pub told_here : (ws : List ℕ) (n end code group : ℕ) → code ≡ word ws (n - 1) → group ≡ word ws n
+    → ((o : SreOpcode) → opcode_number o ≡ code → asks (role o) ≡ true → 2 * group + 1 < end) → (g : ℕ) (x : Named ws g)
+    → x.place + 1 ≡ n → 2 * g + 1 < end
+told_here ws n end code group before here told g x at =
+    let place : x.place ≡ n - 1 = omega (arith, at) in
+    let same : opcode_number x.opcode ≡ code =
+    sym (word_of ws x.place (opcode_number x.opcode) x.code) ∙ ap (λ k. word ws k) place ∙ sym before in
+    let is : group ≡ g = here ∙ ap (λ k. word ws k) (sym at) ∙ word_of ws (x.place + 1) g x.there in
+    let l = told x.opcode same x.asks in
+    omega (arith, l, is)
 
 -- marks that have all of others have what those do
 pub all_had : (marks others : AskedMarks) (r : MarkRange) → HaveAll marks (range_of others) → HaveAll others r
@@ -314,3 +365,81 @@ says_more list idle now place told marks long same has empty says = record { non
           let none : marks.end ≤ marks.from = empty last.1 in
           absurd (omega (arith, at.0, at.1, none))
     ]
+
+-- a test stands where its opcode and its operand do
+stands_here : {ws : List ℕ} {i : ℕ} {o : SreOpcode} → Opcode ws i o → (end : ℕ) (t : Test) → o ≡ test_opcode t
+    → TestOperands ws i end t → HasTest ws i
+stands_here {ws} {i} w end t e h =
+    record { end = end; test = t; stands = record { code = subst (Opcode ws i) e w; operands = h } }
+
+pub category_here : (ws : List ℕ) (i v : ℕ) (o : SreOpcode) (code : SreCatCode) → Opcode ws i o → o ≡ opcode.CATEGORY
+    → Word ws (i + 1) v → category_number code ≡ v → HasTest ws i
+category_here ws i v o code w e wv same =
+    stands_here w (i + 2) (InCategory code) e (subst (Word ws (i + 1)) (sym same) wv, refl)
+
+pub test_here : (ws : List ℕ) (i v : ℕ) (o : SreOpcode) → Opcode ws i o → Word ws (i + 1) v
+    → (o ≡ opcode.ANY) ⊎ ((o ≡ opcode.LITERAL) ⊎ ((o ≡ opcode.LITERAL_IGNORE)
+    ⊎ ((o ≡ opcode.LITERAL_UNI_IGNORE) ⊎ (o ≡ opcode.NOT_LITERAL))))
+    → HasTest ws i
+test_here ws i v o w wv (inl e) = stands_here w (i + 1) Any e refl
+test_here ws i v o w wv (inr (inl e)) = stands_here w (i + 2) (Literal Plain v) e (wv, refl)
+test_here ws i v o w wv (inr (inr (inl e))) = stands_here w (i + 2) (Literal Ascii v) e (wv, refl)
+test_here ws i v o w wv (inr (inr (inr (inl e)))) = stands_here w (i + 2) (Literal Unicode v) e (wv, refl)
+test_here ws i v o w wv (inr (inr (inr (inr e)))) = stands_here w (i + 2) (NotLiteral Plain v) e (wv, refl)
+
+-- what an instruction of a group of opcodes admits
+module _ (ws : List ℕ) (i : ℕ) (o : SreOpcode) (set : ℕ → Bool) (w : Opcode ws i o) where
+  as_role : {p : SreOpcode} → o ≡ p → LeadsOnly ws set (role p) i → AdmitsOnly ws (Instruction i) set
+  as_role e h = leads_admit ws i o set w (subst (λ q. LeadsOnly ws set (role q) i) (sym e) h)
+
+  pub next_admits : (o ≡ opcode.MARK) ⊎ ((o ≡ opcode.AT) ⊎ (o ≡ opcode.ATOMIC_GROUP))
+      → AdmitsOnly ws (Instruction (i + 2)) set → AdmitsOnly ws (Instruction i) set
+  next_admits (inl e) h = as_role e h
+  next_admits (inr (inl e)) h = as_role e h
+  next_admits (inr (inr e)) h = as_role e h
+
+  pub skip_admits : (t : ℕ) → t ≡ skip ws (i + 1)
+      → (o ≡ opcode.JUMP) ⊎ ((o ≡ opcode.ASSERT) ⊎ (o ≡ opcode.ASSERT_NOT))
+      → AdmitsOnly ws (Instruction t) set → AdmitsOnly ws (Instruction i) set
+  skip_admits t leads (inl e) h = as_role e (subst (λ q. AdmitsOnly ws (Instruction q) set) leads h)
+  skip_admits t leads (inr (inl e)) h = as_role e (subst (λ q. AdmitsOnly ws (Instruction q) set) leads h)
+  skip_admits t leads (inr (inr e)) h = as_role e (subst (λ q. AdmitsOnly ws (Instruction q) set) leads h)
+
+  pub run_admits : (o ≡ opcode.REPEAT_ONE) ⊎ ((o ≡ opcode.MIN_REPEAT_ONE) ⊎ (o ≡ opcode.POSSESSIVE_REPEAT_ONE))
+      → RunsOnly ws i set → AdmitsOnly ws (Instruction i) set
+  run_admits (inl e) h = as_role e h
+  run_admits (inr (inl e)) h = as_role e h
+  run_admits (inr (inr e)) h = as_role e h
+
+  pub loop_admits : (t : ℕ) → t ≡ skip ws (i + 1) → o ≡ opcode.REPEAT
+      → ((order : Order) × Opcode ws t (until_opcode order)) → RepeatsOnly ws i set → AdmitsOnly ws (Instruction i) set
+  loop_admits t leads e ends h =
+      as_role e ((ends.0, subst (λ q. Opcode ws q (until_opcode ends.0)) leads ends.1), h)
+
+  pub possessive_admits : o ≡ opcode.POSSESSIVE_REPEAT → RepeatsOnly ws i set → AdmitsOnly ws (Instruction i) set
+  possessive_admits e h = as_role e h
+
+  pub test_admits : (o ≡ opcode.ANY) ⊎ ((o ≡ opcode.LITERAL) ⊎ ((o ≡ opcode.LITERAL_IGNORE)
+      ⊎ ((o ≡ opcode.LITERAL_UNI_IGNORE) ⊎ ((o ≡ opcode.NOT_LITERAL) ⊎ ((o ≡ opcode.CATEGORY)
+      ⊎ (o ≡ opcode.IN))))))
+      → TestsOnly ws i set → AdmitsOnly ws (Instruction i) set
+  test_admits (inl e) h = as_role e h
+  test_admits (inr (inl e)) h = as_role e h
+  test_admits (inr (inr (inl e))) h = as_role e h
+  test_admits (inr (inr (inr (inl e)))) h = as_role e h
+  test_admits (inr (inr (inr (inr (inl e))))) h = as_role e h
+  test_admits (inr (inr (inr (inr (inr (inl e)))))) h = as_role e h
+  test_admits (inr (inr (inr (inr (inr (inr e)))))) h = as_role e h
+
+-- what a list tells of a place that it has
+pub told_there : (ws : List ℕ) (list : List Admitted) (i : ℕ) (a d : Admitted) → AllAdmitted ws list
+    → true ≡ nat_lt i (length list) → a ≡ slice_index_or list i d → IsAdmitted ws i a
+told_there ws list i a d all there same =
+    let inside : i < length list = grind (arith, nat_tests) in
+    all.each i a (get_some list i d inside ∙ ap (λ x. Some x) (sym same))
+
+-- nothing comes of a point before a character that it does not admit
+pub nothing_before : (r : Run) (pt : Point) (set : ℕ → Bool) (c p : ℕ) → AdmitsOnly r.words pt set → IsOutside set c
+    → c ≡ char_at r.subject p → Exhausted r pt p
+nothing_before r pt set c p only out same = λ fs m os n x.
+    only.none r.subject p (record { character = c; outside = out; next = λ _. same }) fs m os n x
