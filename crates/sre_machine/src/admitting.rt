@@ -10,15 +10,16 @@
 ghost use Rattle.std.specs.Prelude.{◌≡◌, ◌+◌, ◌<◌, ◌≤◌, length, true, IfOk};
 ghost use Rattle.sre_machine.specs.Terms.{Opcode, word, skip, contains, Instruction, Alternatives, Order, until_opcode};
 ghost use Rattle.sre_machine.specs.Terms.{AdmitsOnly, TestsOnly, HasAll, RepeatsOnly, RunsOnly, AllAdmitted};
-ghost use Rattle.sre_machine.specs.ByPlace.{AllTold};
+ghost use Rattle.sre_machine.specs.AskedLists.{AllTold};
 
-use crate::set_members::{filled, members_at, set_members, word_at};
+use crate::set_members::{filled, members_at, set_members};
 use sre_chars::constants::{SreCatCode, SreOpcode};
 use sre_code::ascii_set::AsciiSet;
 use sre_code::operands;
 use sre_growth::Refusal;
 use sre_request::Admitted;
 use sre_request::ascii::ascii_taken;
+use sre_request::words::word_at;
 use std::alloc::Allocator;
 use std::convert::TryFrom;
 

@@ -6,12 +6,13 @@
 
 ghost use Rattle.std.specs.Prelude.{◌≡◌, ℕ, ◌+◌, ◌<◌, ◌≤◌, length, slice_range, slice_get, Some, IfOk, IfSome};
 ghost use Rattle.sre_machine.specs.Terms.{Table, Charset, item_holds, Word, Opcode, contains, HoldsFor, AreTold};
-ghost use Rattle.sre_machine.specs.ByPlace.{AllTold};
+ghost use Rattle.sre_machine.specs.AskedLists.{AllTold};
 
 use sre_chars::constants::{SreCatCode, SreOpcode};
 use sre_code::ascii_set::AsciiSet;
 use sre_code::operands::word;
 use sre_growth::Refusal;
+use sre_request::words::word_at;
 use std::alloc::Allocator;
 use std::convert::TryFrom;
 
@@ -20,17 +21,6 @@ use std::convert::TryFrom;
 struct Item {
     members: AsciiSet,
     next: usize,
-}
-
-/// The word at an address, if there is one.
-#[inline(always)]
-pub(crate) fn word_at(words: &[u32], place: usize) -> Option<u32>
-    ensures { IfSome result (λ w. Word words.now place w) }
-{
-    match words.get(place) {
-        Some(word) => Some(*word),
-        None => None,
-    }
 }
 
 // The item of a LITERAL, if its operand exists.

@@ -11,17 +11,16 @@ ghost use Rattle.sre_turns.specs.Strides.{EndsBody, Strides};
 ghost use Rattle.sre_machine.specs.Turns.{AtPoint, DemandedAt};
 
 use crate::branches::only_alternative;
+use crate::known_bodies::known_bodies;
 use crate::loops::next_frame;
 use crate::machine::first_literal;
-use crate::set_members::word_at;
-use crate::told_bodies::told_bodies;
 use sre_board::Board;
 use sre_chars::constants::{MAXREPEAT, SreOpcode};
 use sre_chars::string::{StrDrive, StringCursor};
 use sre_code::ascii_set::AsciiSet;
 use sre_request::Request;
 use sre_request::text::read;
-use sre_request::words::{operand, word};
+use sre_request::words::{operand, word, word_at};
 use sre_turns::Frame;
 use std::alloc::Allocator;
 
@@ -53,14 +52,11 @@ fn next_body<S: StrDrive>(
     requires told { TellsBodies (run_of req.now) alternatives place (contains told) }
     requires more { MayRepeat (run_of req.now).words frame cursor.position }
     requires ends { EndsBody (run_of req.now) place frame cursor }
+    requires inside { cursor.position < end_of req.now }
     ensures strides { IfSome result (λ end.
         Strides (run_of req.now) place frame cursor (next_frame frame (Some cursor.position)) end) }
     ensures moves { IfSome result (λ end. cursor.position < end.position) }
-    ensures inside { IfSome result (λ _. cursor.position < end_of req.now) }
 {
-    if cursor.position() >= req.end() {
-        return None;
-    }
     let (character, after) = read(req, cursor);
     if character == wanted {
         return None;
@@ -78,7 +74,7 @@ fn next_body<S: StrDrive>(
 // The ASCII characters that are whole bodies, unless no body follows: at the end of the range, or before the literal
 // after the loop.
 #[inline(always)]
-fn told_before<S: StrDrive>(
+fn known_before<S: StrDrive>(
     req: &Request<'_, S>,
     place: usize,
     alternatives: usize,
@@ -91,7 +87,7 @@ fn told_before<S: StrDrive>(
     if cursor.position() >= req.end() || read(req, cursor).0 == wanted {
         return AsciiSet::new();
     }
-    told_bodies(req, place, alternatives, cursor)
+    known_bodies(req, place, alternatives, cursor)
 }
 
 // Bodies of one character from a cursor on, as long as nothing else may match.
@@ -115,17 +111,16 @@ fn stride<S: StrDrive>(
     ensures more { MayRepeat (run_of req.now).words result.frame result.cursor.position }
     ensures on { start.position ≤ result.cursor.position }
 {
+    let end = req.end().min(start.position().saturating_add(MOST_BODIES));
+    let told = known_before(req, place, alternatives, wanted, start);
     let mut frame = first;
     let mut cursor = start;
-    let told = told_before(req, place, alternatives, wanted, start);
-    let mut bodies = 0;
-    'body: while bodies < MOST_BODIES {
-        let Some(end) = next_body(req, place, alternatives, wanted, told, frame, cursor) else {
+    'body: while cursor.position() < end {
+        let Some(after) = next_body(req, place, alternatives, wanted, told, frame, cursor) else {
             break;
         };
         frame = next_frame(frame, Some(cursor.position()));
-        cursor = end;
-        bodies += 1;
+        cursor = after;
     }
     BodyEnd { frame, cursor }
 }

@@ -8,12 +8,12 @@ ghost use Rattle.std.specs.Prelude.{◌≡◌, ℕ, ◌<◌, ◌≤◌, true, le
 ghost use Rattle.sre_machine.specs.Terms.{Opcode, Standing, TestAt};
 ghost use Rattle.sre_machine.specs.Turns.{RefusesAt, DemandedAt};
 
-use crate::set_members::word_at;
 use sre_board::{Board, LOOK_SPEED};
 use sre_chars::constants::SreOpcode;
 use sre_chars::string::{StrDrive, StringCursor};
 use sre_request::Request;
 use sre_request::runs::longest_run;
+use sre_request::words::word_at;
 use std::alloc::Allocator;
 use std::convert::TryFrom;
 

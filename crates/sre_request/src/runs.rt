@@ -8,8 +8,7 @@ ghost use Rattle.sre_model.specs.Subject.{passes};
 ghost use Rattle.sre_model.specs.Ways.{most_from, run_length, longest_run};
 ghost use Rattle.sre_request.specs.Requests.{end_of};
 ghost use Rattle.sre_request.specs.Runs.{run_of, OpcodeAt, Standing, TestAt};
-ghost use Rattle.sre_request.specs.Stretches.{IsLongest, SaysOtherwiseOf, GoesUpTo, GoesOnTo};
-ghost use Rattle.sre_request.specs.Reads.{TestStandsAt, test_takes};
+ghost use Rattle.sre_request.specs.Reads.{IsLongest, SaysOtherwiseOf, GoesUpTo, GoesOnTo, TestStandsAt, test_takes};
 
 use crate::Request;
 use crate::one_character::{opcode, takes};
@@ -84,17 +83,19 @@ fn run_tested<S: StrDrive, const WANTED: bool>(
     requires most { most ≤ end_of req.now - start.position }
     ensures { IsLongest req.now place WANTED most start result }
 {
+    let end = start.position() + most;
     let mut cursor = start;
-    let mut count = 0;
-    'character: while count < most {
+    'character: while cursor.position() < end {
         let (character, after) = read(req, cursor);
         if takes(req, place, opcode, character) != WANTED {
-            return Stretch { count, end: cursor };
+            break;
         }
         cursor = after;
-        count += 1;
     }
-    Stretch { count, end: cursor }
+    Stretch {
+        count: cursor.position() - start.position(),
+        end: cursor,
+    }
 }
 
 // The single character for which the test at an address does not answer `WANTED`, if there is only one.
@@ -236,17 +237,19 @@ fn run_while<S: StrDrive, T: Taker, const WANTED: bool>(
     requires most { most ≤ end_of req.now - start.position }
     ensures { IsLongest req.now place WANTED most start result }
 {
+    let end = start.position() + most;
     let mut cursor = start;
-    let mut count = 0;
-    'character: while count < most {
+    'character: while cursor.position() < end {
         let (character, after) = read(req, cursor);
         if taker.takes(character) != WANTED {
-            return Stretch { count, end: cursor };
+            break;
         }
         cursor = after;
-        count += 1;
     }
-    Stretch { count, end: cursor }
+    Stretch {
+        count: cursor.position() - start.position(),
+        end: cursor,
+    }
 }
 
 // The longest such repeat for an IN with any items.

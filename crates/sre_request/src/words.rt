@@ -1,6 +1,7 @@
-//! Single code words of a request, at addresses that a proof knows to exist.
+//! Single code words: of a request, at addresses that a proof knows to exist, and of a slice, where there may be none.
 
-ghost use Rattle.std.specs.Prelude.{◌+◌, ◌<◌, ◌^◌};
+ghost use Rattle.std.specs.Prelude.{◌+◌, ◌<◌, ◌^◌, IfSome};
+ghost use Rattle.sre_request.specs.Terms.{Word};
 ghost use Rattle.sre_request.specs.Reads.{HasWordAt, WordAt};
 
 use crate::Request;
@@ -25,4 +26,15 @@ pub fn operand<S: StrDrive>(req: &Request<'_, S>, place: usize, offset: usize) -
     ensures room { place + 2 ^ 33 < 2 ^ 64 }
 {
     operands::operand(req.pattern_codes().items(), place, offset)
+}
+
+/// The word at an address, if there is one.
+#[inline(always)]
+pub fn word_at(words: &[u32], place: usize) -> Option<u32>
+    ensures { IfSome result (λ w. Word words.now place w) }
+{
+    match words.get(place) {
+        Some(word) => Some(*word),
+        None => None,
+    }
 }

@@ -1,4 +1,4 @@
-use Rattle.sre_machine.proofs.Terms.{◌+◌, ◌<◌, sym, subst, arith, HasRun, Alternatives, run_of, branch_run}
+use Rattle.sre_machine.proofs.Terms.{◌+◌, sym, subst, HasRun, Alternatives, run_of, branch_run}
 use Rattle.sre_machine.proofs.Terms.{body_reached, strides_before}
 use Rattle.sre_machine.proofs.strides.next_body.Goals as goal
 
@@ -9,15 +9,13 @@ pub returns-then-contains-clause-strides : goal.returns-then-contains-clause-str
 returns-then-contains-clause-strides g c =
     let r = run_of c.args.req.now in
     let after = c.read-character.result.1 in
-    let inside : c.args.cursor.position < r.subject.end =
-    omega (arith, c.if-position-end.false, c.position.ensures, c.end.ensures.value) in
     strides_before r c.args.place c.args.alternatives c.args.wanted c.read-character.result.0 c.args.cursor after
     c.args.frame c.requires.opcode c.requires.branch c.requires.alternatives c.requires.wanted c.requires.more
-    inside c.read-character.ensures.character (λ same. c.if-character-wanted.false same)
+    c.requires.inside c.read-character.ensures.character (λ same. c.if-character-wanted.false same)
     (c.requires.told.each c.args.cursor c.read-character.result.0 after (record {
       stands = c.requires.ends.at.stands;
       read = record {
-        inside = inside;
+        inside = c.requires.inside;
         character = c.read-character.ensures.character;
         position = c.read-character.ensures.position;
         stands = subst (λ p. r.stands after p) (sym c.read-character.ensures.position) c.read-character.ensures.stands;
@@ -36,6 +34,5 @@ pub returns-clause-strides : goal.returns-clause-strides
 returns-clause-strides g c =
     strides_before (run_of c.args.req.now) c.args.place c.args.alternatives c.args.wanted c.read-character.result.0
     c.args.cursor c.in_ok-behind.behind c.args.frame c.requires.opcode c.requires.branch c.requires.alternatives
-    c.requires.wanted c.requires.more
-    (omega (arith, c.if-position-end.false, c.position.ensures, c.end.ensures.value))
-    c.read-character.ensures.character (λ same. c.if-character-wanted.false same) c.in_ok-behind.ensures
+    c.requires.wanted c.requires.more c.requires.inside c.read-character.ensures.character
+    (λ same. c.if-character-wanted.false same) c.in_ok-behind.ensures

@@ -7,6 +7,7 @@ invariant-body g l = record {
   more : MayRepeat (run_of l.req).words l.frame l.cursor.position;
   told : TellsBodies (run_of l.req) l.alternatives l.place (contains l.told);
   behind : l.fn.start.position ≤ l.cursor.position;
+  inside : l.end ≤ end_of l.req;
 }
 
 abbrev pub decreases-body : goal.decreases-body

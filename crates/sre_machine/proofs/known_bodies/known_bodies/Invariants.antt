@@ -1,5 +1,5 @@
 use Rattle.sre_machine.proofs.Terms.{length, ◌-◌, contains, HasRun, Alternatives, run_of, TellsAlternatives}
-use Rattle.sre_machine.proofs.told_bodies.told_bodies.Given as goal
+use Rattle.sre_machine.proofs.known_bodies.known_bodies.Given as goal
 
 abbrev pub invariant-alternative : goal.invariant-alternative
 invariant-alternative g l = record {

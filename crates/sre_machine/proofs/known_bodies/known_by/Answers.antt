@@ -1,7 +1,7 @@
 use Rattle.sre_machine.proofs.Terms.{◌≡◌, ◌⊎◌, ◌+◌, ℕ, List, sym, ap, ◌∙◌, subst, Word, Opcode, HasTest, contains}
 use Rattle.sre_machine.proofs.Terms.{items_of, run_of, test_there, TakesAscii, tells_test}
 use Rattle.sre_chars.specs.declared.constants.SreOpcode.TheVariants as opcode
-use Rattle.sre_machine.proofs.told_bodies.told_by.Goals as goal
+use Rattle.sre_machine.proofs.known_bodies.known_by.Goals as goal
 
 pub ascii_taken-requires : goal.ascii_taken-requires
 ascii_taken-requires g c =

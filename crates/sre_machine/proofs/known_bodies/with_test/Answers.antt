@@ -1,6 +1,6 @@
 use Rattle.sre_machine.proofs.Terms.{inl, arith, contains}
-use Rattle.sre_machine.proofs.ToldBodies.{left_over, left_or_common}
-use Rattle.sre_machine.proofs.told_bodies.with_test.Goals as goal
+use Rattle.sre_machine.proofs.ByPlace.{left_over, left_or_common}
+use Rattle.sre_machine.proofs.known_bodies.with_test.Goals as goal
 
 pub returns-then-test-place : goal.returns-then-test-place
 returns-then-test-place c = λ ch y.

@@ -1,7 +1,7 @@
 use Rattle.sre_machine.proofs.Terms.{arith, contains, run_of, alternatives_there, alternatives_run, positive}
 use Rattle.sre_turns.proofs.semantics.Strides.{tells_first, tells_next, tells_last}
-use Rattle.sre_machine.proofs.ToldBodies.{left_over}
-use Rattle.sre_machine.proofs.told_bodies.told_bodies.Goals as goal
+use Rattle.sre_machine.proofs.ByPlace.{left_over}
+use Rattle.sre_machine.proofs.known_bodies.known_bodies.Goals as goal
 
 pub alternative-init : goal.alternative-init
 alternative-init g c = record {
@@ -20,8 +20,8 @@ returns-then-length-eq0 g c =
     (contains c.alternative.none) (contains c.alternative.only) c.word-length.ensures.word c.if-length-eq0.true
     c.alternative.invariant.told
 
-pub told_test-requires : goal.told_test-requires
-told_test-requires g c =
+pub known_test-requires : goal.known_test-requires
+known_test-requires g c =
     (alternatives_run (run_of c.args.req.now) c.alternative.at c.word-length.result c.args.cursor
     c.word-length.ensures.word (positive _ c.if-length-eq0.false) c.alternative.invariant.stands).0
 

@@ -9,19 +9,18 @@ ghost use Rattle.sre_machine.specs.Terms.{OpcodeAt, TellsTest};
 ghost use Rattle.sre_machine.specs.Turns.{At, AtPoint};
 
 use crate::machine::opcode;
-use crate::set_members::word_at;
 use sre_chars::constants::SreOpcode;
 use sre_chars::string::{StrDrive, StringCursor};
 use sre_code::ascii_set::AsciiSet;
 use sre_request::Request;
 use sre_request::ascii::ascii_taken;
 use sre_request::one_character::test_end;
-use sre_request::words::word;
+use sre_request::words::{word, word_at};
 
 // The ASCII characters that a test takes, and where the machine continues: after the JUMP that ends the alternative, if
 // the test is all of it.
 #[derive(Clone, Copy)]
-struct ToldTest {
+struct KnownTest {
     taken: AsciiSet,
     behind: usize,
 }
@@ -46,12 +45,12 @@ fn behind_jump_at(words: &[u32], place: usize) -> usize
 }
 
 // The test at an address with a known opcode, if its characters are known.
-fn told_by<S: StrDrive>(
+fn known_by<S: StrDrive>(
     req: &Request<'_, S>,
     opcode: SreOpcode,
     place: usize,
     cursor: StringCursor,
-) -> Option<ToldTest>
+) -> Option<KnownTest>
     requires opcode { OpcodeAt req.now place opcode }
     requires tests { begins_test opcode ≡ true }
     requires stands { At req.now place cursor }
@@ -60,26 +59,26 @@ fn told_by<S: StrDrive>(
     let words = req.pattern_codes().items();
     let taken = ascii_taken(words, place)?;
     let end = test_end(req, place, opcode);
-    Some(ToldTest {
+    Some(KnownTest {
         taken,
         behind: behind_jump_at(words, end),
     })
 }
 
 // The test that an alternative begins with, if its characters are known.
-fn told_test<S: StrDrive>(
+fn known_test<S: StrDrive>(
     req: &Request<'_, S>,
     place: usize,
     cursor: StringCursor,
-) -> Option<ToldTest>
+) -> Option<KnownTest>
     requires { At req.now place cursor }
     ensures { IfSome result (λ told. TellsTest (run_of req.now) place (contains told.taken) told.behind) }
 {
     match opcode(req, place, cursor) {
-        SreOpcode::LITERAL => told_by(req, SreOpcode::LITERAL, place, cursor),
-        SreOpcode::NOT_LITERAL => told_by(req, SreOpcode::NOT_LITERAL, place, cursor),
-        SreOpcode::IN => told_by(req, SreOpcode::IN, place, cursor),
-        SreOpcode::ANY => told_by(req, SreOpcode::ANY, place, cursor),
+        SreOpcode::LITERAL => known_by(req, SreOpcode::LITERAL, place, cursor),
+        SreOpcode::NOT_LITERAL => known_by(req, SreOpcode::NOT_LITERAL, place, cursor),
+        SreOpcode::IN => known_by(req, SreOpcode::IN, place, cursor),
+        SreOpcode::ANY => known_by(req, SreOpcode::ANY, place, cursor),
         _ => None,
     }
 }
@@ -87,7 +86,7 @@ fn told_test<S: StrDrive>(
 // The ASCII characters with which exactly one alternative begins that leads to an address, once one more alternative is
 // added. Before it, none begins with a character of `none`, and exactly one with each of `only`.
 #[inline(always)]
-fn with_test(none: AsciiSet, only: AsciiSet, test: ToldTest, place: usize) -> AsciiSet
+fn with_test(none: AsciiSet, only: AsciiSet, test: KnownTest, place: usize) -> AsciiSet
     ensures { (ch : ℕ) → contains result ch ≡ true
         → ((contains only ch ≡ true) × (contains test.taken ch ≡ false))
         ⊎ ((contains none ch ≡ true) × ((contains test.taken ch ≡ true) × (test.behind ≡ place))) }
@@ -103,7 +102,7 @@ fn with_test(none: AsciiSet, only: AsciiSet, test: ToldTest, place: usize) -> As
 /// that it leads to an address. The set is empty if an alternative does not begin with a test whose characters are
 /// known.
 #[inline(never)]
-pub(super) fn told_bodies<S: StrDrive>(
+pub(super) fn known_bodies<S: StrDrive>(
     req: &Request<'_, S>,
     place: usize,
     start: usize,
@@ -120,7 +119,7 @@ pub(super) fn told_bodies<S: StrDrive>(
         if length == 0 {
             return only;
         }
-        let Some(test) = told_test(req, at + 1, cursor) else {
+        let Some(test) = known_test(req, at + 1, cursor) else {
             return AsciiSet::new();
         };
         only = with_test(none, only, test, place);
