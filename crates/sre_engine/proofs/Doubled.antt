@@ -1,26 +1,26 @@
 -- Codes that begin with a group of one character and a back-reference to it: where no character comes twice none has a
 -- match.
-use Rattle.sre_engine.proofs.Terms.{◌≡◌, ◌⊎◌, ◌&&◌, ◌+◌, ◌-◌, ◌*◌, ◌<◌, ◌≤◌, ◌≢◌, ℕ, Bool, true, false, List, length}
-use Rattle.sre_engine.proofs.Terms.{refl, sym, ap, ◌∙◌, subst, arith, nat_tests, nat_le, nat_eq, cond, [], Option, Some}
-use Rattle.sre_engine.proofs.Terms.{None, inl, inr, cases_lt, Tree, Then, Item, One, At, Mark, Test, is_member, Marks}
-use Rattle.sre_engine.proofs.Terms.{set_mark, no_marks, Subject, char_at, passes, ways, Word, Opcode, WholeItems, Whole}
-use Rattle.sre_engine.proofs.Terms.{TreeStands, NoWay, is_anchored, Asked, at_start, subject_of, Code, words_of, uni_of}
-use Rattle.sre_engine.proofs.Terms.{items_of, StringCursor, NoneBetween, NoneUntil, same_word, same_opcode}
-use Rattle.sre_engine.proofs.Terms.{whole_stands, stands_up_to, items_whole}
+use Rattle.sre_engine.proofs.Terms.{◌≡◌, ◌⊎◌, ◌&&◌, ◌+◌, ◌-◌, ◌*◌, ◌<◌, ◌≤◌, ◌≢◌, ℕ, zero, suc, Bool, true, false, List}
+use Rattle.sre_engine.proofs.Terms.{length, refl, sym, ap, ◌∙◌, subst, arith, nat_tests, nat_le, nat_eq, cond, []}
+use Rattle.sre_engine.proofs.Terms.{Option, Some, None, inl, inr, cases_lt, Tree, Then, Item, One, At, Mark, Test}
+use Rattle.sre_engine.proofs.Terms.{is_member, Marks, set_mark, no_marks, Subject, char_at, passes, ways, Word, Opcode}
+use Rattle.sre_engine.proofs.Terms.{WholeItems, Whole, TreeStands, NoWay, is_end, is_anchored, Asked, at_start}
+use Rattle.sre_engine.proofs.Terms.{subject_of, Code, words_of, uni_of, items_of, StringCursor, NoneBetween, NoneUntil}
+use Rattle.sre_engine.proofs.Terms.{same_word, same_opcode, whole_stands, stands_up_to, items_whole}
 use Rattle.std.proofs.Common.{length-append, replicate}
 use Rattle.std.proofs.lemmas.List.{get_or-set_same, get_or-set_other, get_or_append_left, length-set, length-replicate}
 use Rattle.sre_chars.specs.declared.constants.SreOpcode.TheVariants as opcode
-use Rattle.sre_model.specs.Tree.{Reference, Plain, Fold}
+use Rattle.sre_model.specs.Tree.{Reference, Plain, Fold, Order, Loop}
 use Rattle.sre_model.specs.Ways.{Way, here, reference_ways}
 use Rattle.sre_model.specs.Subject.{same_folded}
-use Rattle.sre_model.specs.Grammar.{Reads, reference_opcode}
+use Rattle.sre_model.specs.Grammar.{Reads, reference_opcode, until_opcode, skip}
 use Rattle.sre_model.specs.Marks.{mark_at, group, lengthened}
-use Rattle.sre_model.specs.Roles.{ToMark, ToRefer, ToTest}
-use Rattle.sre_model.proofs.Families.{role_here, is_mark, is_one, is_reference}
+use Rattle.sre_model.specs.Roles.{ToMark, ToRefer, ToRepeat, ToTest}
+use Rattle.sre_model.proofs.Opcodes.{role_here, is_mark, is_one, is_reference, is_loop, until_role}
 use Rattle.sre_model.proofs.FirstCharacters.{Begins, known, some_test_here}
-use Rattle.sre_engine.specs.Doubled.{comes_twice, EndsTest, IsDoubled, IsOutside, IsNoDouble, NextDouble}
+use Rattle.sre_engine.specs.Doubled.{comes_twice, EndsTest, LeadsInside, IsDoubled, IsOutside, IsNoDouble, NextDouble}
 use Rattle.sre_engine.proofs.LeadingStarts.{none_joined}
-use Rattle.sre_engine.proofs.FirstMembers.{unmembered_at}
+use Rattle.sre_engine.proofs.FirstSets.{unmembered_at}
 
 -- The group that two marks make
 
@@ -61,10 +61,10 @@ group_made m g p =
 
 -- What such a tree comes to where no character comes twice
 
-abbrev pub doubled_tree : ℕ → Test → Tree → Tree
-doubled_tree g u rest = Then (Mark (2 * g)) (Then (One u) (Then (Mark (2 * g + 1)) (Then (Reference Plain g) rest)))
+abbrev doubled_tree : ℕ → Test → Tree → Tree
+doubled_tree g u t = Then (Mark (2 * g)) (Then (One u) (Then (Mark (2 * g + 1)) t))
 
-module _ (s : Subject) (g p : ℕ) (u : Test) (rest : Tree) (once : comes_twice s p ≡ false) where
+module _ (s : Subject) (g p : ℕ) (once : comes_twice s p ≡ false) where
   not_twice : (nat_le (p + 1 + 1) s.end && (nat_eq (char_at s p) (char_at s (p + 1)) && true)) ≡ false
   not_twice = grind (arith, nat_tests, once)
 
@@ -78,14 +78,25 @@ module _ (s : Subject) (g p : ℕ) (u : Test) (rest : Tree) (once : comes_twice 
             (here (p + 1 + (span.1 - span.0)) m) []
       ]) []) (sym made) (rw (one, not_twice) refl)
 
-  pub doubled_none : NoWay s (doubled_tree g u rest) p
-  doubled_none = record { none = λ m. by_test m (passes s u p) refl }
+  -- a tree has no way behind the group
+  abbrev NoneBehind : Tree → Type 0
+  NoneBehind t = (m : Marks) → group m g ≡ Some (p, p + 1) → ways s t (p + 1) m ≡ []
+
+  reference_none : (rest : Tree) → NoneBehind (Then (Reference Plain g) rest)
+  reference_none rest m made = rw (unreferred m made) refl
+
+  loop_none : (o : Order) (low high : ℕ) (body rest : Tree) → 0 < low → NoneBehind body
+      → NoneBehind (Then (Loop o low high body) rest)
+  loop_none o zero high body rest owed none m made = absurd (omega (arith, owed))
+  loop_none o (suc more) high body rest owed none m made = rw (none m made) refl
+
+  doubled_none : (u : Test) (t : Tree) → NoneBehind t → NoWay s (doubled_tree g u t) p
+  doubled_none u t none = record { none = λ m. by_test m (passes s u p) refl }
     where
-      by_test : (m : Marks) (b : Bool) → passes s u p ≡ b → ways s (doubled_tree g u rest) p m ≡ []
+      by_test : (m : Marks) (b : Bool) → passes s u p ≡ b → ways s (doubled_tree g u t) p m ≡ []
       by_test m false e = rw e refl
       by_test m true e =
-          let none = unreferred (set_mark (set_mark m (2 * g) p) (2 * g + 1) (p + 1)) (group_made m g p) in
-          rw (e, none) refl
+          rw (e, none (set_mark (set_mark m (2 * g) p) (2 * g + 1) (p + 1)) (group_made m g p)) refl
 
 -- Words of such a tree
 
@@ -108,9 +119,9 @@ plain_fold ws i fold w v = by_fold fold (same_opcode ws i opcode.GROUPREF (refer
     by_fold Plain e = refl
     by_fold f e = absurd (cc e)
 
-module _ (ws : List ℕ) (g behind : ℕ) (first : Opcode ws 0 opcode.MARK) (opens : Word ws 1 (g * 2))
+module _ (ws : List ℕ) (g behind at : ℕ) (first : Opcode ws 0 opcode.MARK) (opens : Word ws 1 (g * 2))
     (test : EndsTest ws behind) (second : Opcode ws behind opcode.MARK) (closes : Word ws (behind + 1) (g * 2 + 1))
-    (third : Opcode ws (behind + 2) opcode.GROUPREF) (refers : Word ws (behind + 3) g) where
+    (leads : LeadsInside ws (behind + 2) at) (third : Opcode ws at opcode.GROUPREF) (refers : Word ws (at + 1) g) where
   mark_begins : (t : Tree) (i n : ℕ) → TreeStands ws i t → Opcode ws i opcode.MARK → Word ws (i + 1) n
       → (rest : Tree) × (t ≡ Then (Mark n) rest) × TreeStands ws (i + 2) rest
   mark_begins t i n x w v =
@@ -133,18 +144,42 @@ module _ (ws : List ℕ) (g behind : ℕ) (first : Opcode ws 0 opcode.MARK) (ope
             (test.ends a.0.after a.1.0 (record { code = a.1.2.0; operands = a.1.2.1 })),
       )
 
-  reference_begins : (t : Tree) → TreeStands ws (behind + 2) t → (rest : Tree) × (t ≡ Then (Reference Plain g) rest)
+  reference_begins : (t : Tree) → TreeStands ws at t → (rest : Tree) × (t ≡ Then (Reference Plain g) rest)
   reference_begins t x =
-      let a = known ws t (behind + 2) x ToRefer refl (role_here ws (behind + 2) opcode.GROUPREF ToRefer third refl)
-      (is_reference ws (behind + 2)) in
-      let fold : a.1.0 ≡ Plain = plain_fold ws (behind + 2) a.1.0 third a.1.3.0 in
-      let there : Word ws (behind + 2 + 1) g =
-      subst (λ k. Word ws k g) (let e : behind + 3 ≡ behind + 2 + 1 = omega arith in e) refers in
-      let group : a.1.1 ≡ g = same_word ws (behind + 2 + 1) a.1.1 g a.1.3.1.0 there in (
+      let a = known ws t at x ToRefer refl (role_here ws at opcode.GROUPREF ToRefer third refl) (is_reference ws at) in
+      let fold : a.1.0 ≡ Plain = plain_fold ws at a.1.0 third a.1.3.0 in
+      let group : a.1.1 ≡ g = same_word ws (at + 1) a.1.1 g a.1.3.1.0 refers in (
         a.0.rest,
-        begins_so ws t (behind + 2) x a.0 (Reference Plain g)
+        begins_so ws t at x a.0 (Reference Plain g)
             (a.1.2 ∙ ap (λ f. Reference f a.1.1) fold ∙ ap (Reference Plain) group),
       )
+
+  module _ (s : Subject) (p : ℕ) (once : comes_twice s p ≡ false) where
+    reference_there : (t : Tree) → TreeStands ws at t → NoneBehind s g p once t
+    reference_there t x =
+        let a = reference_begins t x in
+        subst (NoneBehind s g p once) (sym a.1) (reference_none s g p once a.0)
+
+    -- a loop that owes a body, which begins with the reference
+    loop_there : (low : ℕ) → Opcode ws (behind + 2) opcode.REPEAT → Word ws (behind + 2 + 2) low → 0 < low
+        → at ≡ behind + 2 + 4 → (t : Tree) → TreeStands ws (behind + 2) t → NoneBehind s g p once t
+    loop_there low w there owed inside t x =
+        let i = behind + 2 in
+        let a = known ws t i x ToRepeat refl (role_here ws i opcode.REPEAT ToRepeat w refl) (is_loop ws i) in
+        let item = Loop a.1.0 a.1.1 a.1.2 a.1.3 in
+        let same : a.1.1 ≡ low = same_word ws (i + 2) a.1.1 low a.1.5.1.0 there in
+        let body : TreeStands ws (i + 4) a.1.3 =
+        stands_up_to ws (i + 4) (skip ws (i + 1)) a.1.3 (until_opcode a.1.0) a.1.5.1.3 a.1.5.1.4
+        (ap is_end (until_role a.1.0)) in
+        subst (NoneBehind s g p once) (sym (begins_so ws t i x a.0 item a.1.4))
+        (loop_none s g p once a.1.0 a.1.1 a.1.2 a.1.3 a.0.rest (omega (arith, same, owed))
+        (reference_there a.1.3 (subst (λ k. TreeStands ws k a.1.3) (sym inside) body)))
+
+    none_there : (t : Tree) → TreeStands ws (behind + 2) t → NoneBehind s g p once t
+    none_there t x = elim leads [
+      | (inl same) ↦ reference_there t (subst (λ k. TreeStands ws k t) (sym same) x)
+      | (inr l) ↦ loop_there l.0 l.1.0 l.1.1 l.1.2 l.1.3 t x
+    ]
 
   pub doubled_words : IsDoubled ws
   doubled_words = record {
@@ -153,13 +188,12 @@ module _ (ws : List ℕ) (g behind : ℕ) (first : Opcode ws 0 opcode.MARK) (ope
         let a = mark_begins t 0 (g * 2) (whole_stands ws t whole) first opens in
         let b = test_begins a.0 a.2 in
         let c = mark_begins b.1 behind (g * 2 + 1) b.3 second closes in
-        let d = reference_begins c.0 c.2 in
         let twice : g * 2 ≡ 2 * g = omega arith in
-        let is : t ≡ doubled_tree g b.0 d.0 =
-        a.1 ∙ ap (Then (Mark (g * 2))) (b.2 ∙ ap (Then (One b.0)) (c.1 ∙ ap (Then (Mark (g * 2 + 1))) d.1))
-        ∙ ap (λ n. Then (Mark n) (Then (One b.0) (Then (Mark (n + 1)) (Then (Reference Plain g) d.0)))) twice
+        let is : t ≡ doubled_tree g b.0 c.0 =
+        a.1 ∙ ap (Then (Mark (g * 2))) (b.2 ∙ ap (Then (One b.0)) c.1)
+        ∙ ap (λ n. Then (Mark n) (Then (One b.0) (Then (Mark (n + 1)) c.0))) twice
         in
-        subst (λ v. NoWay s v p) (sym is) (doubled_none s g p b.0 d.0 once);
+        subst (λ v. NoWay s v p) (sym is) (doubled_none s g p once b.0 c.0 (none_there s p once c.0 c.2));
   }
 
 -- such words are not anchored at the text's start

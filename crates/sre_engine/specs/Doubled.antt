@@ -4,7 +4,7 @@ use Rattle.std.specs.Prelude.{ℕ, ◌+◌, ◌≡◌, ◌<◌, ◌≤◌, ◌�
 use Rattle.std.specs.Prelude.{None}
 use Rattle.sre_chars.specs.declared.constants.SreOpcode.TheVariants as opcode
 use Rattle.sre_engine.specs.Terms.{SreOpcode, StringCursor, SetItem, Tree, Test, Subject, char_at, Asked, subject_of}
-use Rattle.sre_engine.specs.Terms.{NoWay, Opcode, TestStands, WholeItems, Code, words_of, hints_of, begins_test}
+use Rattle.sre_engine.specs.Terms.{NoWay, Word, Opcode, TestStands, WholeItems, Code, words_of, hints_of, begins_test}
 use Rattle.sre_engine.specs.Terms.{uni_of, is_member}
 use Rattle.sre_engine.specs.Members.{IsFirstSet, is_among}
 
@@ -18,6 +18,11 @@ pub record EndsTest (ws : List ℕ) (behind : ℕ) : Type 0 where
   pub there : Opcode ws 2 code
   pub tests : begins_test code ≡ true
   pub ends : (j : ℕ) (t : Test) → TestStands ws 2 j t → j ≡ behind
+
+-- an address is that of the first item of the body of a REPEAT that owes one, or of the item itself
+abbrev pub LeadsInside : List ℕ → ℕ → ℕ → Type 0
+LeadsInside ws i first =
+    (first ≡ i) ⊎ ((low : ℕ) × (Opcode ws i opcode.REPEAT × Word ws (i + 2) low × (0 < low) × (first ≡ i + 4)))
 
 -- the words begin with a MARK, and from where no character comes twice no tree of theirs has a way
 pub record IsDoubled (ws : List ℕ) : Type 0 where

@@ -1,28 +1,19 @@
-//! Codes that begin with a group of one character and a back-reference to it, as that of `(\w)\1`. Each match begins
-//! where a character comes twice.
+//! Codes that begin with a group of one character and a back-reference to it, as those of `(\w)\1` and `(\w)\1+`. Each
+//! match begins where a character comes twice.
 
 ghost use Rattle.std.specs.Prelude.{◌≡◌, ◌≢◌, ◌≤◌, ◌⊎◌, List, true, false, IfSome};
 ghost use Rattle.sre_engine.specs.Terms.{SetItem, is_member, Word, words_of, uni_of, hints_of, end_of, code_of};
 ghost use Rattle.sre_engine.specs.Terms.{asked_of, run_of, Standing};
 ghost use Rattle.sre_engine.specs.Members.{IsFirstSet};
-ghost use Rattle.sre_engine.specs.Doubled.{EndsTest, IsDoubled, IsOutside, NextDouble};
+ghost use Rattle.sre_engine.specs.Doubled.{EndsTest, LeadsInside, IsDoubled, IsOutside, NextDouble};
 
 use crate::engine::members::takes;
 use sre_chars::constants::SreOpcode;
 use sre_chars::string::{StrDrive, StringCursor};
 use sre_request::Request;
 use sre_request::text::read;
+use sre_request::words::word_at;
 use std::convert::TryFrom;
-
-// A word, if it is there.
-fn word_at(words: &[u32], place: usize) -> Option<u32>
-    ensures { IfSome result (λ w. Word words.now place w) }
-{
-    match words.get(place) {
-        Some(word) => Some(*word),
-        None => None,
-    }
-}
 
 // Returns something if a word is there and is this one.
 fn is_at(words: &[u32], place: usize, word: u32) -> Option<()>
@@ -47,15 +38,30 @@ fn behind_test(words: &[u32]) -> Option<usize>
     }
 }
 
-// Returns something if words begin so: MARK, the test, MARK, GROUPREF.
+// The address of the first item of a loop's body, if a REPEAT with a least count above 0 is at an address, else that
+// address.
+fn first_inside(words: &[u32], place: usize) -> Option<usize>
+    requires { place ≤ 4294967302 }
+    ensures leads { IfSome result (λ first. LeadsInside words.now place first) }
+    ensures near { IfSome result (λ first. first ≤ 4294967306) }
+{
+    let least = word_at(words, place + 2)?;
+    if least == 0 || is_at(words, place, SreOpcode::REPEAT as u32).is_none() {
+        return Some(place);
+    }
+    Some(place + 4)
+}
+
+// Returns something if words begin so: MARK, the test, MARK, and GROUPREF or a loop whose body begins with it.
 fn begins_doubled(words: &[u32]) -> Option<()>
     ensures { IfSome result (λ _. IsDoubled words.now) }
 {
     is_at(words, 0, SreOpcode::MARK as u32)?;
     let behind = behind_test(words)?;
     is_at(words, behind, SreOpcode::MARK as u32)?;
-    is_at(words, behind + 2, SreOpcode::GROUPREF as u32)?;
-    let group = word_at(words, behind + 3)?;
+    let reference = first_inside(words, behind + 2)?;
+    is_at(words, reference, SreOpcode::GROUPREF as u32)?;
+    let group = word_at(words, reference + 1)?;
     let opening = group.checked_mul(2)?;
     is_at(words, 1, opening)?;
     is_at(words, behind + 1, opening + 1)?;
