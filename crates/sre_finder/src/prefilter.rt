@@ -205,7 +205,13 @@ fn is_over(whole: &mut Option<Seeker>, hay: &[u8], start: usize) -> bool
 
 // Where the next match can begin, at `at` or after it. Looks for the required literal first, then runs the DFAs if
 // they may read more.
-fn told_by(seeker: &mut Seeker, pace: &mut Pace, reads: &mut Reads, hay: &[u8], at: usize) -> Told
+fn next_possible(
+    seeker: &mut Seeker,
+    pace: &mut Pace,
+    reads: &mut Reads,
+    hay: &[u8],
+    at: usize,
+) -> Told
     requires { at ≤ length hay.now }
     ensures told { Tells hay.now (meaning seeker.old) at result }
     ensures same { seeker.new ≡ seeker.old }
@@ -327,7 +333,7 @@ impl Prefilter {
             self.is_silent = true;
             return Some(from);
         };
-        let told = told_by(seeker, &mut self.pace, &mut self.reads, hay, start);
+        let told = next_possible(seeker, &mut self.pace, &mut self.reads, hay, start);
         self.is_silent = seeker.lacks_automata();
         match told {
             Told::Nothing => None,

@@ -14,7 +14,7 @@ use sre_request::text::read;
 
 // The ASCII characters of the first set, if its items define them directly.
 #[inline(always)]
-fn members_told<S: StrDrive>(req: &Request<'_, S>) -> Option<AsciiSet>
+fn first_set_members<S: StrDrive>(req: &Request<'_, S>) -> Option<AsciiSet>
     requires { (hints_of (code_of req.now)).first_set ≡ true }
     ensures { AreTold (words_of (code_of req.now)) 5 result }
 {
@@ -91,7 +91,7 @@ pub(crate) fn next_member<S: StrDrive>(
         if takes(req, None, read(req, start).0) {
             return Some(start);
         }
-        *told = members_told(req);
+        *told = first_set_members(req);
     }
     next_taken(req, *told, start)
 }

@@ -69,7 +69,7 @@ impl<S: StrDrive> Starts<S> for Nobody {
 // again.
 #[inline(always)]
 #[tactic(auto, using(crate::proofs::Looking::stays, crate::proofs::Looking::none_passed))]
-fn spot_told<S: StrDrive, F: Starts<S>>(
+fn spot_allowed<S: StrDrive, F: Starts<S>>(
     req: &Request<'_, S>,
     spot: Spot,
     starts: &mut F,
@@ -100,7 +100,7 @@ fn spot_told<S: StrDrive, F: Starts<S>>(
 /// Finds the next occurrence of the prefix that the prefilter does not exclude, and moves past it.
 #[inline(always)]
 #[tactic(auto, using(crate::proofs::Steps::here_on))]
-pub(crate) fn find_told<S: StrDrive, F: Starts<S>>(
+pub(crate) fn find_allowed<S: StrDrive, F: Starts<S>>(
     req: &Request<'_, S>,
     prefix: &Prefix<'_>,
     compared: &mut u64,
@@ -120,7 +120,7 @@ pub(crate) fn find_told<S: StrDrive, F: Starts<S>>(
     ensures none { result ≡ false → NoMatch (asked_of req.now) (code_of req.now)
         (spot.old.cursor.position - spot.old.matched) (end_of req.now + 1) }
 {
-    let Some(next) = spot_told(req, *spot, starts) else {
+    let Some(next) = spot_allowed(req, *spot, starts) else {
         return false;
     };
     *spot = next;
@@ -129,7 +129,7 @@ pub(crate) fn find_told<S: StrDrive, F: Starts<S>>(
 
 /// The first member of the confirmed first set, from a cursor on, that the prefilter does not exclude.
 #[inline(always)]
-pub(crate) fn next_member_told<S: StrDrive, F: Starts<S>>(
+pub(crate) fn next_member_allowed<S: StrDrive, F: Starts<S>>(
     req: &Request<'_, S>,
     told: &mut Option<AsciiSet>,
     start: StringCursor,
@@ -154,7 +154,7 @@ pub(crate) fn next_member_told<S: StrDrive, F: Starts<S>>(
 
 /// The first cursor, from a given one on, at which a match may begin and which the prefilter does not exclude.
 #[inline(always)]
-pub(crate) fn next_start_told<S: StrDrive, F: Starts<S>>(
+pub(crate) fn next_start_allowed<S: StrDrive, F: Starts<S>>(
     req: &Request<'_, S>,
     first: &First,
     start: StringCursor,

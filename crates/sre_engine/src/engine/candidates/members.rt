@@ -4,7 +4,7 @@ ghost use Rattle.std.specs.Prelude.{◌≡◌, None};
 
 use crate::engine::candidates::{Candidate, Candidates};
 use crate::engine::leading_run::{leading_run, pass_start};
-use crate::engine::told::{Starts, next_member_told};
+use crate::engine::told::{Starts, next_member_allowed};
 use sre_chars::string::{StrDrive, StringCursor};
 use sre_code::ascii_set::AsciiSet;
 use sre_request::Request;
@@ -46,7 +46,7 @@ impl<S: StrDrive> Candidates<S> for Members {
         _compared: &mut u64,
         starts: &mut F,
     ) -> Option<Candidate> {
-        let cursor = next_member_told(req, &mut self.told, self.start, starts)?;
+        let cursor = next_member_allowed(req, &mut self.told, self.start, starts)?;
         Some(Candidate::at(cursor))
     }
 

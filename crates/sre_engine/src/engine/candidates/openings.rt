@@ -9,7 +9,7 @@ use crate::engine::candidates::{Candidate, Candidates};
 use crate::engine::first_characters::{First, Wanted};
 use crate::engine::leading_run::{LeadingRun, leading_run, pass_start};
 use crate::engine::opening::Opening;
-use crate::engine::told::{Starts, next_start_told};
+use crate::engine::told::{Starts, next_start_allowed};
 use sre_chars::string::{StrDrive, StringCursor};
 use sre_request::Request;
 
@@ -125,7 +125,7 @@ impl<S: StrDrive> Candidates<S> for Openings {
         _compared: &mut u64,
         starts: &mut F,
     ) -> Option<Candidate> {
-        let cursor = next_start_told(req, &self.first, self.start, starts)?;
+        let cursor = next_start_allowed(req, &self.first, self.start, starts)?;
         Some(Candidate::at(cursor))
     }
 

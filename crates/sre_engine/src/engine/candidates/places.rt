@@ -4,7 +4,7 @@ ghost use Rattle.std.specs.Prelude.{◌≡◌, false};
 
 use crate::engine::candidates::{Candidate, Candidates};
 use crate::engine::prefix::{Prefix, Spot, behind_literals, go_on, prefix_start};
-use crate::engine::told::{Starts, find_told};
+use crate::engine::told::{Starts, find_allowed};
 use sre_chars::string::{StrDrive, StringCursor};
 use sre_request::Request;
 
@@ -50,7 +50,7 @@ impl<'a, S: StrDrive> Candidates<S> for Places<'a> {
         compared: &mut u64,
         starts: &mut F,
     ) -> Option<Candidate> {
-        if !find_told(req, self.prefix, compared, &mut self.spot, starts) {
+        if !find_allowed(req, self.prefix, compared, &mut self.spot, starts) {
             return None;
         }
         Some(Candidate {

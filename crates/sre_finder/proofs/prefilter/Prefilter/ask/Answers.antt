@@ -33,8 +33,8 @@ returns-in-Nothing-clause-none g c = λ t whole.
     let seen = subst (λ n. SeenAs p.encoding a.text place n hay) c.end_in-end.ensures.end
     (subst (λ l. SeenAs p.encoding l place c.end_in-end.result.position hay)
     (ap g.S.StrDrive.text c.string-text.ensures) c.in-Some.ensures) in
-    let told = subst (λ n. Tells hay pattern n c.told_by-told.result) c.place_of-start.ensures
-    c.told_by-told.ensures.told in
+    let told = subst (λ n. Tells hay pattern n c.next_possible-told.result) c.place_of-start.ensures
+    c.next_possible-told.ensures.told in
     let none : NoneLeft hay pattern (place c.args.from.position) = rw c.in-Nothing.is at told in
     no_start_left p.encoding a t pattern place hay (covering.covers t (items_whole asked.pattern_codes t whole)) seen
     c.args.from.position none
@@ -53,8 +53,8 @@ returns-in-From-clause-none g c = λ t whole.
     let seen = subst (λ n. SeenAs p.encoding a.text place n hay) c.end_in-end.ensures.end
     (subst (λ l. SeenAs p.encoding l place c.end_in-end.result.position hay)
     (ap g.S.StrDrive.text c.string-text.ensures) c.in-Some.ensures) in
-    let told = subst (λ n. Tells hay pattern n c.told_by-told.result) c.place_of-start.ensures
-    c.told_by-told.ensures.told in
+    let told = subst (λ n. Tells hay pattern n c.next_possible-told.result) c.place_of-start.ensures
+    c.next_possible-told.ensures.told in
     let none : NoneUpTo hay pattern (place c.args.from.position) c.in-From.offset = rw c.in-From.is at told in
     let next = c.cursor_up_to.ensures in
     no_start_below p.encoding a t pattern place hay (covering.covers t (items_whole asked.pattern_codes t whole)) seen

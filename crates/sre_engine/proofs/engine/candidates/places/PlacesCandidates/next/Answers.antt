@@ -13,9 +13,9 @@ returns-clause-some g c =
     let vs = prefix.words.now in
     let is = c.requires.looks.is in
     let some = prefix.confirmed.some in
-    let here = c.find_told.ensures.here in
-    let there = c.find_told.ensures.found c.if-not-find_told.false in
-    let at : c.find_told.new.spot.cursor.position - c.find_told.new.spot.matched ≡ c.prefix_start.result =
+    let here = c.find_allowed.ensures.here in
+    let there = c.find_allowed.ensures.found c.if-not-find_allowed.false in
+    let at : c.find_allowed.new.spot.cursor.position - c.find_allowed.new.spot.matched ≡ c.prefix_start.result =
     omega (arith, there.0, c.prefix_start.ensures) in
     let stands : Stands a.text vs a.end c.prefix_start.result =
     subst (λ p. Stands a.text vs a.end p) at (complete a.text vs a.start a.end _ _ _ here there.0) in

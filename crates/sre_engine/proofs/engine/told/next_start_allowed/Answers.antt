@@ -1,6 +1,6 @@
 use Rattle.sre_engine.proofs.Terms.{refl, asked_of, run_of, items_whole}
 use Rattle.sre_engine.proofs.Starting.{none_until_start}
-use Rattle.sre_engine.proofs.engine.told.next_start_told.Goals as goal
+use Rattle.sre_engine.proofs.engine.told.next_start_allowed.Goals as goal
 
 pub returns-clause-none : goal.returns-clause-none
 returns-clause-none g c = λ t whole.

@@ -1,6 +1,6 @@
 use Rattle.sre_engine.proofs.Terms.{◌≡◌, ◌∙◌, ap, subst, sym, List, ℕ, words_of, code_of, HasSet, AreTold, told}
-use Rattle.sre_engine.proofs.FirstMembers.{set_there}
-use Rattle.sre_engine.proofs.engine.members.members_told.Goals as goal
+use Rattle.sre_engine.proofs.FirstSets.{set_there}
+use Rattle.sre_engine.proofs.engine.members.first_set_members.Goals as goal
 
 pub ascii_members-requires : goal.ascii_members-requires
 ascii_members-requires g c =

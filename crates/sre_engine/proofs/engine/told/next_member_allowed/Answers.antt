@@ -1,6 +1,6 @@
 use Rattle.sre_engine.proofs.Terms.{refl, code_of, asked_of}
-use Rattle.sre_engine.proofs.FirstMembers.{none_until_member}
-use Rattle.sre_engine.proofs.engine.told.next_member_told.Goals as goal
+use Rattle.sre_engine.proofs.FirstSets.{none_until_member}
+use Rattle.sre_engine.proofs.engine.told.next_member_allowed.Goals as goal
 
 pub returns-clause-none : goal.returns-clause-none
 returns-clause-none g c = λ t whole.

@@ -1,5 +1,5 @@
 use Rattle.sre_engine.proofs.Looking.{no_match_unplaced}
-use Rattle.sre_engine.proofs.engine.told.find_told.Goals as goal
+use Rattle.sre_engine.proofs.engine.told.find_allowed.Goals as goal
 
 pub returns-clause-found : goal.returns-clause-found
 returns-clause-found g c = λ yes.
