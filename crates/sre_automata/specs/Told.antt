@@ -1,4 +1,5 @@
 -- What DFAs report about the matches of a pattern, and what is known of a pattern that is sought.
+-- Definitions for the contracts of this crate.
 use Rattle.std.specs.Prelude.{◌≡◌, ⊤, ℕ, ◌≤◌, ◌<◌, List, length, Some, None, Option}
 use Rattle.sre_automata.specs.Terms.{Re, Nfa, Implements, HasPaths}
 use Rattle.regex_hir.specs.Matches.{Matches}

@@ -1,4 +1,5 @@
 -- The alternatives that a backtrack stack saves, which share one trail and one table of chains.
+-- Definitions for private contracts: the value of a backtrack stack is `BoardValue` of sre_turns.
 use Rattle.std.specs.Prelude.{◌≡◌, ◌⊎◌, ⊤, ℕ, List, [], ◌∷◌, ◌≤◌, ◌++◌, Some, None, cond, slice_index_or, slice_get}
 use Rattle.std.specs.Prelude.{Option, take, slice_set, ◌+◌, ◌<◌, nat_eq, map, reverse, Bool, true, false}
 use Rattle.sre_board.specs.Terms.{Frame, Marks, no_marks, set_mark, index_of, StringCursor, Choice, choice, BoardValue}

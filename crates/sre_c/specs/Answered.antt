@@ -1,4 +1,5 @@
 -- What an export reports of a match: a status, the match, and what is left of the call's steps.
+-- Public clauses rest on it.
 use Rattle.std.specs.Prelude.{ℕ, ◌≡◌, ◌≤◌, ◌+◌, ◌-◌, ◌*◌, ◌^◌, List, [], ◌∷◌, Bool, true, Option, Some, Result, Ok, ◌<◌}
 use Rattle.std.specs.Prelude.{length, slice_index, false, cond, None}
 use Rattle.sre_c.specs.Terms.{Status, No, Yes, StepLimit, Memory, NoCode, NoRoom, NotUtf8, FaultyTable, Global, Asked}

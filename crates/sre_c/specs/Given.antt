@@ -1,4 +1,5 @@
 -- What a caller passes, in the terms of the specification.
+-- Public clauses rest on it.
 use Rattle.std.specs.Prelude.{◌≡◌, ◌≢◌, ◌<◌, ◌≤◌, ℕ, List, Option, length, MatchOption, ◌⊎◌, cond, min}
 use Rattle.sre_c.specs.Terms.{AllWithin, HoldsAt, Table, Tree, Whole, behind_block, Asked, Match, matched, found, Never}
 use Rattle.sre_c.specs.Terms.{NonBoundary, IsRemembered, step_bound, Status, NotUtf8}

@@ -1,8 +1,8 @@
 -- Sets of ASCII characters: bits of a word, what a set has half by half, and the sets of the categories.
 use Rattle.sre_code.proofs.Terms.{◌≡◌, ℕ, ◌+◌, ◌-◌, ◌*◌, ◌/◌, ◌%◌, ◌^◌, ◌<◌, ◌≤◌, Bool, false, not, ◌&&◌, ◌||◌}
 use Rattle.sre_code.proofs.Terms.{if◌then◌else◌, nat_eq, nat_lt, List, slice_index, bit_and, bit_or, refl, ap, sym, ◌∙◌}
-use Rattle.sre_code.proofs.Terms.{inl, inr, arith, bit_at, cases_lt, lt-ltb, le-ltb, nat_tests, AsciiSet, true}
-use Rattle.sre_code.proofs.Terms.{contains, cases_eq, eq-eqb, ne_eqb, agree_below, agree_below_at}
+use Rattle.sre_code.proofs.Terms.{inl, inr, arith, cases_lt, lt-ltb, le-ltb, nat_tests, AsciiSet, true}
+use Rattle.sre_code.proofs.Terms.{cases_eq, eq-eqb, ne_eqb, agree_below, agree_below_at}
 use Rattle.std.specs.Int.{bit_at, w64}
 use Rattle.std.proofs.lemmas.Nat.{one_shl, or_comm, or_shifted, shl_whole}
 use Rattle.std.proofs.lemmas.Nat.Bits.{bit_at-lt, bit_at_or, bit_at_and, bit_at_not, bit_at-pow_same, bit_at-pow_other}

@@ -1,5 +1,6 @@
 -- The INFO block: its front, the borders of a prefix, what is left of the items after it, and what is computed of the
 -- first items.
+-- Definitions for the check's contracts; what sre_engine makes public does not rest on it.
 use Rattle.std.specs.Prelude.{ℕ, ◌≡◌, ◌≢◌, ◌<◌, ◌≤◌, true, false, List, length, drop, Result, Ok, Err, ◌+◌, ◌-◌}
 use Rattle.std.specs.Prelude.{slice_index, Option, Some, None, Bool}
 use Rattle.sre_code.specs.Terms.{Tree, Whole, skip, has_block, behind_block, fits_block, SreOpcode, role, is_end, Word}

@@ -1,5 +1,6 @@
 -- Prices of items as they are computed, by numbers that saturate at 64 bits: the steps and costs they come to, whatever
 -- follows and whatever loops are around them.
+-- Definitions for the check's contracts; what sre_engine makes public does not rest on it.
 use Rattle.std.specs.Prelude.{ℕ, ◌-◌, ◌^◌, ◌≡◌, min, ◌+◌, ◌*◌, ◌<◌, ◌≤◌, Bool, true, false, ◌&&◌, cond, max, List}
 use Rattle.std.specs.Prelude.{Option, Some, None}
 use Rattle.sre_code.specs.Terms.{SreOpcode, Tree, Item, Loop, Trees, Order, Word, skip, Opcode, Operands, Reads}

@@ -1,4 +1,5 @@
 -- Scans of the bytecode from one instruction to the next: a summary of the tree, and how many counter states it has.
+-- Definitions for the check's contracts; what sre_engine makes public does not rest on it.
 use Rattle.std.specs.Prelude.{ℕ, ◌+◌, ◌-◌, ◌≡◌, List, Option, Some, None, ◌<◌, ◌⊎◌, ◌^◌, true, false, ◌||◌, nat_lt, min}
 use Rattle.std.specs.Prelude.{max, ◌*◌, ◌≤◌}
 use Rattle.sre_code.specs.Terms.{SreOpcode, Role, ToRepeatPossessively, ToGroupAtomically, ToLook, role, Opcode, skip}

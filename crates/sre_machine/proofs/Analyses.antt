@@ -1,5 +1,7 @@
 -- Live captures and FIRST sets at an instruction, by its opcode, where the words are as the computation reads them; and
--- what a FIRST set rules out.
+-- what a FIRST set rules out: a point before a character that the set does not have.
+-- The list of live captures by address and the list by which branches skip alternatives rest on this; nothing else here
+-- does.
 use Rattle.sre_machine.proofs.Terms.{◌≡◌, ℕ, ◌+◌, ◌-◌, ◌*◌, ◌<◌, ◌≤◌, ◌⊎◌, inl, inr, Bool, true, false, List, length}
 use Rattle.sre_machine.proofs.Terms.{sym, ◌∙◌, ap, subst, arith, cases_lt, SreOpcode, word, role, AreWords, word_of}
 use Rattle.sre_machine.proofs.Terms.{Asks, Named, Covers, opcode_number, same_number, word_within, asks, [], ◌∷◌, ◌++◌}

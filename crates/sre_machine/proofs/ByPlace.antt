@@ -1,4 +1,5 @@
 -- Lists by address: what an entry says of sets, and which characters of two sets a third one takes away.
+-- The list by which branches skip alternatives rests on this; nothing else here does.
 use Rattle.std.proofs.Common.{◌≡◌, ◌⊎◌, inl, inr, Bool, true, false, not, ◌&&◌, ◌||◌, refl}
 use Rattle.sre_machine.proofs.Terms.{◌≡◌, ℕ, ◌+◌, Bool, true, false, not, ◌&&◌, ◌||◌, nat_lt, List, [], ◌∷◌, Some, refl}
 use Rattle.sre_machine.proofs.Terms.{sym, ap, ◌∙◌, arith, nat_tests, Opcode, contains, cond, Table, SetItem, Single}

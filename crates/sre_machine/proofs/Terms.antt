@@ -53,7 +53,7 @@ pub use Rattle.sre_model.specs.Roles.{ToCheckPosition}
 pub use Rattle.sre_model.specs.Standing.{AreWords, HasTest, TestStands}
 pub use Rattle.sre_model.specs.Subject.{char_at, holds_at, passes, same_folded}
 pub use Rattle.sre_model.specs.Tree.{Any, AnyAll, Ascii, BigCharset, Category, Charset, Greedy, GreedyRun, In}
-pub use Rattle.sre_model.specs.Tree.{InCategory, Lazy, LazyRun, Literal, Locale, Negate, Negative, NotLiteral, Order}
+pub use Rattle.sre_model.specs.Tree.{InCategory, Lazy, LazyRun, Literal, Negate, Negative, NotLiteral, Order}
 pub use Rattle.sre_model.specs.Tree.{Plain, Positive, PossessiveRun, Range, RangeUniIgnore, RunKind, SetItem, Single}
 pub use Rattle.sre_model.specs.Tree.{Unicode}
 pub use Rattle.sre_model.specs.TreePrices.{most_steps}

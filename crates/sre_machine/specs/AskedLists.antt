@@ -1,4 +1,5 @@
 -- What a list says of each address: which captures may be live from there on, and which ASCII characters a set takes.
+-- Definitions for the machine's contracts; what sre_engine makes public does not rest on it.
 use Rattle.std.specs.Prelude.{ℕ, ◌≡◌, List, Option, Some, slice_get, ◌-◌, ◌^◌, ◌⊎◌, None}
 use Rattle.sre_machine.specs.Terms.{AreTold, AsciiSet, SreOpcode, Opcode, role}
 use Rattle.sre_turns.specs.Asked.{MarkRange, Lies, Within, PlacesAsk, AsksAt, AskedByPlace}

@@ -1,4 +1,5 @@
 -- Repeats without a greatest count, while failures are memoized: their first end, and the repeat that has the others.
+-- Definitions for the machine's contracts; what sre_engine makes public does not rest on it.
 use Rattle.std.specs.Prelude.{ℕ, ◌+◌, ◌^◌, ◌<◌, ◌≡◌, ◌⊎◌, true, false, Option, MatchOption}
 use Rattle.sre_machine.specs.Terms.{Ghosts, Request, run_of, OperandsOfRun, StringCursor, Test, RunsOn, OpcodeAt}
 use Rattle.sre_machine.specs.Terms.{Standing, passes, run_length, TestStands, AllPass}

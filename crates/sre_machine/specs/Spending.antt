@@ -1,4 +1,5 @@
 -- What steps take off those that are left, if they are limited, and what a run of them costs.
+-- Definitions for the machine's contracts; what sre_engine makes public does not rest on it.
 use Rattle.std.specs.Prelude.{ℕ, ◌≡◌, Bool, true, false, ◌+◌, ◌-◌, ◌*◌, ◌≤◌, ◌⊎◌, Option, None, Some, List, Result, Ok}
 use Rattle.std.specs.Prelude.{Err, IfOk, IfErr}
 use Rattle.sre_machine.specs.Terms.{Refused, Ghosts, StringCursor, Tree, Way, WholeItems, behind_items, turns_of}

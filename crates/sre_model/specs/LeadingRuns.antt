@@ -1,5 +1,6 @@
 -- Repeats of one character: as they are counted, and at the front of a tree without a greatest count, perhaps after one
 -- test of a character.
+-- Definitions for the contracts of the machine and the search; what sre_engine makes public does not rest on it.
 use Rattle.std.specs.Prelude.{ℕ, ◌+◌, ◌≡◌, ◌<◌, ◌≤◌, Bool, not, ⊤, true, false, List, Option, Some, None}
 use Rattle.sre_chars.specs.declared.string.StringCursor.{StringCursor}
 use Rattle.sre_model.specs.Tree.{Test, Tree}

@@ -145,7 +145,8 @@ steps_of_a_possessive_loop = refl
 steps_of_a_longer_window : step_bound possessive_loop (letters 1000) ≡ 70070
 steps_of_a_longer_window = refl
 
--- How many steps suffice for patterns in use, over 100 letters
+-- How many steps suffice for patterns in use, over 100 letters: what a test asks of a character makes no difference, so
+-- one letter is every class and every literal
 
 -- one or more, any number, and one or none
 abbrev some : Item

@@ -1,5 +1,6 @@
 -- The code words of a tree, written out: each skip counts what it leads over; and the trees that have bytecode.
--- Definitions for the contracts of what writes trees; public clauses rest on the grammar.
+-- Definitions for the contracts of what writes trees. Their public clauses rest on which trees have bytecode, and on
+-- the grammar.
 use Rattle.std.specs.Prelude.{ℕ, ◌+◌, ◌*◌, ◌/◌, List, [], ◌∷◌, ◌++◌, length, ◌≡◌, ◌<◌, ◌≤◌, slice_index, EachIndex}
 use Rattle.sre_chars.specs.Numbers.{opcode_number, at_number, category_number}
 use Rattle.sre_chars.specs.declared.constants.SreOpcode.TheVariants as opcode

@@ -24,7 +24,7 @@ pub use Rattle.sre_model.proofs.Opcodes.{is_exists, no_item, role_here}
 pub use Rattle.sre_model.proofs.TreeOf.{item_same, set_same}
 pub use Rattle.sre_model.specs.Grammar.{ReadsBranch, TestOperands, skip, test_opcode, word}
 pub use Rattle.sre_model.specs.Marks.{Marks, group, no_marks}
-pub use Rattle.sre_model.specs.Subject.{after, bars_non_boundary, holds_at, is_boundary, is_on_nothing, passes}
+pub use Rattle.sre_model.specs.Subject.{bars_non_boundary, holds_at, is_boundary, is_on_nothing, passes}
 pub use Rattle.sre_model.specs.Tree.{At, Charset, Fail, Loop, Mark, Negative, Sign, Then}
 pub use Rattle.sre_model.specs.Ways.{branch_ways, here, loop_ways}
 pub use Rattle.sre_patterns.specs.Covers.{Along, Covers, CoversBody, CoversItem, CoversStart, CoversTest, Fronts}

@@ -1,4 +1,5 @@
 -- What is read of a request's words and text: a word, a test, a character, and stretches of characters.
+-- Definitions for the request's contracts; what sre_engine makes public does not rest on it.
 use Rattle.std.specs.Prelude.{not, ℕ, ◌+◌, ◌-◌, ◌≡◌, ◌≢◌, ◌<◌, ◌≤◌, Bool, cond, nat_eq, length}
 use Rattle.sre_request.specs.Terms.{Ghosts, StringCursor, Test, holds, Word, TestStands}
 use Rattle.sre_model.specs.LeadingRuns.{Ended}

@@ -1,4 +1,7 @@
--- Dataflow analyses over addresses: FIRST sets, and captures that may be live.
+-- Dataflow analyses over addresses: the FIRST set of an instruction, from those of its successors; and a list of the
+-- captures that may be live at each address, which stays right where fewer are listed for one.
+-- Branches skip alternatives that fail by the first, and the machine's list of live captures is filled by the second.
+-- Nothing in this crate rests on them.
 use Rattle.sre_turns.proofs.Terms.{◌≡◌, ℕ, ◌+◌, ◌-◌, ◌<◌, ◌&&◌, ◌||◌, Bool, true, false, cond, nat_eq, nat_lt, List, []}
 use Rattle.sre_turns.proofs.Terms.{◌∷◌, Some, None, refl, sym, ◌∙◌, ap, subst, arith, ⊤, nat_tests, true≢false}
 use Rattle.sre_turns.proofs.Terms.{and_parts, SreOpcode, Test, Order, Greedy, Lazy, Positive, Negative, holds, Marks}

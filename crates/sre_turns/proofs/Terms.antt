@@ -16,7 +16,7 @@ pub use Rattle.std.proofs.lemmas.List.Sums.{sum_by-cons, sum_by-le}
 pub use Rattle.std.proofs.lemmas.Map.Steps.{length-le_from_distinct_below}
 pub use Rattle.std.specs.Bool.{⊤}
 pub use Rattle.std.specs.List.{filter, flat_map, list_any, sum_by}
-pub use Rattle.sre_chars.specs.Numbers.{at_number, opcode_number}
+pub use Rattle.sre_chars.specs.Numbers.{at_number}
 pub use Rattle.sre_chars.specs.declared.constants.SreAtCode.{SreAtCode}
 pub use Rattle.sre_model.proofs.Bounds.{Between, Bounded, EachBetween, longest_run-fits, passes-below, ways-bounded}
 pub use Rattle.sre_model.proofs.Bounds.{within-all}

@@ -1,5 +1,7 @@
 -- Captures as far as a step depends on them: those that a back-reference or a conditional may read, and which may be
--- live at an address: read from there on, before they are set anew.
+-- live at an address: read from there on, before they are set anew. Where none is, captures make no difference to the
+-- outcomes of a configuration.
+-- Definitions for the machine's contracts; what sre_engine makes public does not rest on it.
 use Rattle.std.specs.Prelude.{⊤, ℕ, ◌+◌, ◌*◌, ◌≡◌, ◌⊎◌, List, [], ◌∷◌, ◌<◌, ◌≤◌, Bool, true, Some, slice_get}
 use Rattle.sre_turns.specs.Terms.{Marks, no_marks, mark_at, Way, SreOpcode, Test, Word, Opcode, word, skip, Role}
 use Rattle.sre_turns.specs.Terms.{ToFail, ToEnd, ToTest, ToCheckPosition, ToMark, ToBranch, ToJump, ToRun, ToRepeat}

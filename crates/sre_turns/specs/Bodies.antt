@@ -1,4 +1,5 @@
 -- Bodies of atomic scopes: where one is, whether it sets a capture, and where it has one way to go on at most.
+-- Definitions for the machine's contracts; what sre_engine makes public does not rest on it.
 use Rattle.std.specs.Prelude.{ℕ, ◌≡◌, false, List, [], ◌+◌, ◌≤◌, Bool, true, ⊤, ◌∷◌}
 use Rattle.sre_turns.specs.Terms.{Tree, Opcode, Reads, WholeItems, sets_mark, marks_in_regions, SreOpcode, Role}
 use Rattle.sre_turns.specs.Terms.{ToBranch, ToRun, ToRepeat, ToLoop, ToRepeatPossessively, role, Run, backs, forks}

@@ -1,4 +1,5 @@
--- Moves: what the machine does in one step, by the role of the opcode.
+-- Moves: what the machine does in one step, by the role of the opcode. Nothing here is recursive.
+-- Definitions for the machine's contracts; what sre_engine makes public does not rest on it.
 use Rattle.std.specs.Prelude.{ℕ, ◌+◌, ◌≡◌, List, ◌<◌, length, drop, cond, nat_eq, [], ◌∷◌, ◌-◌, ◌≤◌, ◌&&◌, nat_le, Bool}
 use Rattle.std.specs.Prelude.{true, false, Some, None, min, nat_lt, Option}
 use Rattle.sre_turns.specs.Terms.{Word, skip, HasTest, Test, Marks, Subject, passes, TestStands, Way, at_number}

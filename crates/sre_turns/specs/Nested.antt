@@ -1,4 +1,5 @@
 -- Where the machine is in the bytecode of a tree, in which loops, and where its steps lead to.
+-- Definitions for the machine's contracts; what sre_engine makes public does not rest on it.
 use Rattle.std.specs.Prelude.{ℕ, ◌+◌, ◌-◌, ◌≡◌, ◌⊎◌, List, [], ◌∷◌, map, ⊤, ◌≤◌, length, drop, Option, Some, None, ◌*◌}
 use Rattle.std.specs.Prelude.{Bool, true, false}
 use Rattle.sre_model.specs.Tree.{Tree, Empty, Then, Item, Fail, One, At, Mark, Branch, Loop, Run, PossessiveLoop}
@@ -7,7 +8,7 @@ use Rattle.sre_model.specs.Grammar.{word, skip, Reads, Operands, ReadsBranch}
 use Rattle.sre_turns.specs.declared.Frame.{Frame}
 use Rattle.sre_turns.specs.declared.Point.TheVariants.{Instruction, Alternatives, Shorter, Longer, Again}
 use Rattle.sre_turns.specs.declared.Point.{Point}
-use Rattle.sre_turns.specs.Terms.{AllByRecursion, Tree, Subject, word, WholeItems}
+use Rattle.sre_turns.specs.Terms.{AllByRecursion, Subject, WholeItems}
 use Rattle.sre_turns.specs.declared.Region.TheVariants.{AtomicGroup, Ahead, NotAhead, Owed, Further}
 use Rattle.sre_turns.specs.declared.Region.{Region}
 use Rattle.sre_turns.specs.Moves.{Spot, Move, Stop, End, Go, Split, Enter}

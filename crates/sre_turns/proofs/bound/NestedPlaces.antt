@@ -1,5 +1,6 @@
 -- An address of a tree's bytecode always has the same point, in the same loops, which have at most as many states as
 -- the tree says.
+-- That the step bound suffices (`enough` of sre_engine) rests on this.
 use Rattle.sre_turns.proofs.Terms.{◌≡◌, ℕ, ◌+◌, ◌-◌, ◌<◌, ◌≤◌, ◌⊎◌, inl, inr, List, [], ◌∷◌, length, refl, true, false}
 use Rattle.sre_turns.proofs.Terms.{ap, Option, Some, None, sym, ◌∙◌, subst, arith, true≢false, Tree, Empty, Then, Item}
 use Rattle.sre_turns.proofs.Terms.{Branch, Loop, PossessiveLoop, Atomic, Look, Exists, ExistsElse, Trees, Only, Or}

@@ -1,5 +1,6 @@
 -- The steps from an instruction, by those from what follows it, are those of the tree whose code words begin there,
 -- before those from where they end.
+-- That the step bound suffices (`enough` of sre_engine) rests on this.
 use Rattle.sre_turns.proofs.Terms.{◌≡◌, ℕ, zero, suc, ◌+◌, ◌-◌, ◌<◌, ◌≤◌, List, length, refl, sym, ap, ◌∙◌, arith}
 use Rattle.sre_turns.proofs.Terms.{opcode-read, SreOpcode, Test, Literal, word, skip, Opcode, TestOperands, Role}
 use Rattle.sre_turns.proofs.Terms.{ToFail, ToTest, role, HasRole, test_kind, word_past, opcode_within, role_at}

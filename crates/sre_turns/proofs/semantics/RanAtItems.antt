@@ -18,7 +18,7 @@ use Rattle.sre_turns.proofs.Terms.{RunOperands, longest_run-fits, goes_on, Short
 use Rattle.sre_turns.proofs.Terms.{longest_goes_on, longest_stops, least_there, least_short, shorter_cost, run_cost}
 use Rattle.sre_turns.proofs.Terms.{longer_cost, lazy_run_cost, longest_run_cost}
 use Rattle.sre_chars.specs.declared.constants.SreOpcode.TheVariants as opcode
-use Rattle.sre_turns.specs.Machine.{Point, Spot, End, Marks, Opcode}
+use Rattle.sre_turns.specs.Machine.{Point, End}
 use Rattle.sre_turns.proofs.semantics.Moving.{at_instruction}
 use Rattle.sre_turns.proofs.semantics.StepsInRuns.{greedy_stops, greedy_splits, lazy_none, lazy_splits, longer_none}
 use Rattle.sre_turns.proofs.semantics.StepsInRuns.{longer_splits}

@@ -11,7 +11,7 @@ use Rattle.sre_turns.proofs.Terms.{Split, Limit, Marks, DemandsAny, Excludes, ot
 use Rattle.sre_turns.proofs.Terms.{Go, Subject, run_turn}
 use Rattle.sre_chars.specs.declared.constants.SreOpcode.TheVariants as opcode
 use Rattle.sre_turns.specs.declared.Next.TheVariants as next
-use Rattle.sre_turns.specs.Machine.{Shorter, Longer, Move, Split, Marks}
+use Rattle.sre_turns.specs.Machine.{Move}
 use Rattle.sre_turns.proofs.semantics.Moving.{in_role, turn_stops, turn_splits, both_last, run_nothing, skips_then}
 use Rattle.sre_turns.proofs.semantics.Moving.{at_instruction}
 use Rattle.sre_turns.proofs.semantics.AfterSteps.{both_run, run_second}
