@@ -56,7 +56,6 @@ fn leading(items: &[Item]) -> usize
 }
 
 // The plain literals at the front, with MARK items between them skipped.
-#[tactic(auto, using(std::proofs::lemmas::List::append_assoc))]
 fn spread<A: Allocator>(alloc: A, items: &[Item]) -> Result<Vec<u32, A>, Refusal<A>>
     ensures { IfOk result (λ words. words.items ≡ spread (in_order (map item_of items.now))) }
 {

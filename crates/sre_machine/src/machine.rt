@@ -235,7 +235,6 @@ pub(super) fn ends_in_vain<S: StrDrive>(
 
 // Continues at an instruction, and saves another point.
 #[inline(always)]
-#[tactic(auto, using(crate::proofs::Terms::both_choose))]
 pub(super) fn choose<S: StrDrive, A: Allocator>(
     req: &Request<'_, S>,
     board: &mut Board<A>,

@@ -160,6 +160,7 @@ pub(super) fn may_stride<S: StrDrive, const STRIDES: bool>(
 }
 
 /// Batches bodies of one character each, in a loop without a greatest count over alternatives, with a literal after it.
+#[tactic(auto, using(std::proofs::lemmas::Grind::elements))]
 #[inline(always)]
 pub(super) fn stride_on<S: StrDrive, A: Allocator>(
     req: &Request<'_, S>,

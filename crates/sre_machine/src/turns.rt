@@ -114,7 +114,7 @@ impl<A: Allocator> From<Refusal<A>> for Halt<A> {
 }
 
 // How a loop of steps ends.
-#[derive(Clone, Copy, Debug)]
+#[derive(Clone, Copy)]
 pub(crate) enum Decision {
     // The run is decided: the cursor at the end of the first accepted outcome, if there is one.
     Decided(Option<StringCursor>),
@@ -199,7 +199,6 @@ fn waits_on<A: Allocator>(memo: &mut Memo<A>, waits: bool, turns: u64) -> bool
 
 // The loop with a memo: steps until the run is decided. Some steps may already be taken. If the memo is open at first,
 // failures are memoized. If it is closed, a loop with a limit ends when the memo is to open.
-#[tactic(auto, using(crate::proofs::Following::turns_stop, sre_model::proofs::TurnBounds::last_spent))]
 #[inline(never)]
 fn remembering_turns<L: Ledger, K: Plan, S: StrDrive, A: Allocator, const LIMITED: bool>(
     req: &Request<'_, S>,
@@ -358,7 +357,7 @@ fn turns<L: Ledger, K: Plan, S: StrDrive, A: Allocator>(
 }
 
 // How a run ended.
-#[derive(Clone, Copy, Debug)]
+#[derive(Clone, Copy)]
 pub(crate) enum Ending {
     // There is an accepted outcome, whose end is written elsewhere.
     Found,

@@ -47,6 +47,7 @@ pub fn opcode<S: StrDrive>(req: &Request<'_, S>, place: usize) -> SreOpcode
 }
 
 /// Whether the test at an address takes a character.
+#[tactic(auto, using(std::proofs::lemmas::Grind::elements))]
 #[inline(always)]
 pub fn takes<S: StrDrive>(
     req: &Request<'_, S>,
@@ -108,6 +109,7 @@ pub fn takes_seldom<S: StrDrive>(
 }
 
 /// The address after the words of the test at an address.
+#[tactic(auto, using(std::proofs::lemmas::Grind::elements))]
 #[inline(always)]
 pub fn test_end<S: StrDrive>(req: &Request<'_, S>, place: usize, opcode: SreOpcode) -> usize
     requires code { OpcodeAt req.now place opcode }

@@ -99,6 +99,7 @@ fn run_tested<S: StrDrive, const WANTED: bool>(
 }
 
 // The single character for which the test at an address does not answer `WANTED`, if there is only one.
+#[tactic(auto, using(std::proofs::lemmas::Grind::elements))]
 #[inline(always)]
 fn only_other<S: StrDrive, const WANTED: bool>(
     req: &Request<'_, S>,
@@ -282,6 +283,7 @@ fn run_in_items<S: StrDrive, const WANTED: bool>(
 
 // The longest such repeat for an IN. A set of one RANGE, CATEGORY or CHARSET is recognized by its length and first
 // word, and has a loop of its own.
+#[tactic(auto, using(std::proofs::lemmas::Grind::elements))]
 #[inline(always)]
 fn run_in_set<S: StrDrive, const WANTED: bool>(
     req: &Request<'_, S>,

@@ -1,4 +1,5 @@
 use Rattle.sre_board.proofs.Terms.{◌≡◌, ◌∙◌, ap, sym, refl, arith, Some, slice_get, slice_index_or, Frame}
+use Rattle.std.proofs.lemmas.Grind.{elements}
 use Rattle.sre_board.proofs.ChainLaws.{get_some}
 use Rattle.sre_board.proofs.CounterStates.{no_slot_with, slot_with}
 use Rattle.sre_board.proofs.slots.slot_of.Goals as goal
@@ -33,3 +34,6 @@ returns g c =
     let all = (c.walk.invariant.same c.walk.slot).0
     (rw (c.is_empty.ensures.empty c.walk-test.false) (tt, (c.if-at-row.false, refl))) in
     (c.walk.invariant.few, all.0, all.1)
+
+pub returns-then-at-shapes : goal.returns-then-at-shapes
+returns-then-at-shapes g c = grind (arith, elements)

@@ -1,3 +1,4 @@
+use Rattle.std.proofs.lemmas.Grind.{elements}
 use Rattle.sre_machine.proofs.Terms.{arith, run_of, continues_exhausted, continues_then, continues_run}
 use Rattle.sre_machine.proofs.Terms.{alternatives_there, alternatives_run, alternatives_exhausted, alternatives_pass}
 use Rattle.sre_machine.proofs.Terms.{positive}
@@ -28,3 +29,9 @@ alternative-preserved g c =
       at = continues_run r _ _ c.args.cursor c.args.cursor passed c.alternative.invariant.at;
       on = continues_then r _ _ c.args.cursor c.args.cursor c.alternative.invariant.on _ c.args.cursor passed;
     }
+
+pub returns-in-Some : goal.returns-in-Some
+returns-in-Some g c = grind (arith, elements)
+
+pub alternative-smaller : goal.alternative-smaller
+alternative-smaller g c = grind (arith, elements)

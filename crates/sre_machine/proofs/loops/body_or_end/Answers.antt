@@ -1,3 +1,5 @@
+use Rattle.std.proofs.Common.{arith}
+use Rattle.std.proofs.lemmas.Grind.{elements}
 use Rattle.sre_machine.proofs.Terms.{ap, refl, ◌∙◌, Some, Greedy, next_frame, with_loop, run_of, until_refused}
 use Rattle.sre_machine.proofs.Terms.{until_alone, entered_on, body_reached, until_greedy, saved_on, in_loop}
 use Rattle.sre_machine.proofs.loops.body_or_end.Goals as goal
@@ -34,3 +36,9 @@ returns g c =
     c.args.cursor c.args.frame c.args.board.now c.requires.opcode c.requires.more) c.requires.more.enough
     c.requires.more.more (saved_on c.args.board.now c.save.new.self c.enter-2.new.self _ _ _ _ c.in_ok-save.ensures
     c.in_ok-enter-2.ensures (c.next_frame-next.ensures ∙ ap (λ p. next_frame c.args.frame (Some p)) c.position.ensures))
+
+pub operand-opcode-requires : goal.operand-opcode-requires
+operand-opcode-requires g c = grind (arith, elements)
+
+pub operand-greatest-requires : goal.operand-greatest-requires
+operand-greatest-requires g c = grind (arith, elements)

@@ -34,3 +34,6 @@ has_failed-requires-clause-no_end g c =
 
 pub has_failed-requires-clause-serves : goal.has_failed-requires-clause-serves
 has_failed-requires-clause-serves g c = inl (c.requires.keeping.unmarked c.in-Unmarked.is)
+
+pub returns-in-Idle-clause-tries : goal.returns-in-Idle-clause-tries
+returns-in-Idle-clause-tries g c = λ told _ _. c.has_failed-in-Idle.ensures.tries told

@@ -1,5 +1,5 @@
 use Rattle.sre_machine.proofs.Terms.{◌∙◌, inl, inr, refl, arith, ap, raised, run_of, accepted_first, refused_over}
-use Rattle.sre_machine.proofs.Terms.{MemoValue, KeepsBodyEnd, last_spent}
+use Rattle.sre_machine.proofs.Terms.{MemoValue, KeepsBodyEnd, last_spent, rules}
 use Rattle.sre_turns.specs.declared.Next.TheVariants as next
 use Rattle.sre_machine.proofs.Recalling.{recalls_waited}
 use Rattle.sre_machine.proofs.Paying.{pays_nothing}
@@ -173,3 +173,62 @@ returns-then-is_accepted-clause-stops g c = λ limited.
     turns_stop c.turn.invariant c.waits_on.new.memo c.takes_turns.new.allowed c.turns_due-turns.ensures.each
     c.takes_turns.ensures.spent (c.waits_on.ensures.waited c.if-not-waits_on.false)
     (c.may_wait-waits.ensures.waits (c.requires.limits ∙ limited))
+
+pub returns-in_err-next-in-At-clause-stops : goal.returns-in_err-next-in-At-clause-stops
+returns-in_err-next-in-At-clause-stops g c = λ limited.
+    turns_stop c.turn.invariant c.waits_on.new.memo c.takes_turns.new.allowed c.turns_due-turns.ensures.each
+    c.takes_turns.ensures.spent (c.waits_on.ensures.waited c.if-not-waits_on.false)
+    (c.may_wait-waits.ensures.waits (c.requires.limits ∙ limited))
+
+pub returns-in_err-next-in-At-clause-costs : goal.returns-in_err-next-in-At-clause-costs
+returns-in_err-next-in-At-clause-costs g c = record {
+  spent = last_spent _ _ _ _ _ _ c.turn.invariant.spent
+      (omega (arith, c.takes_turns.ensures.spent, c.turns_due-turns.ensures.most)) c.turn.invariant.within;
+  settles = search rules;
+}
+
+pub returns-in_err-next-in-Again-clause-stops : goal.returns-in_err-next-in-Again-clause-stops
+returns-in_err-next-in-Again-clause-stops g c = λ limited.
+    turns_stop c.turn.invariant c.waits_on.new.memo c.takes_turns.new.allowed c.turns_due-turns.ensures.each
+    c.takes_turns.ensures.spent (c.waits_on.ensures.waited c.if-not-waits_on.false)
+    (c.may_wait-waits.ensures.waits (c.requires.limits ∙ limited))
+
+pub returns-in_err-next-in-Again-clause-costs : goal.returns-in_err-next-in-Again-clause-costs
+returns-in_err-next-in-Again-clause-costs g c = record {
+  spent = last_spent _ _ _ _ _ _ c.turn.invariant.spent
+      (omega (arith, c.takes_turns.ensures.spent, c.turns_due-turns.ensures.most)) c.turn.invariant.within;
+  settles = search rules;
+}
+
+pub returns-in_err-after-in-Back-clause-stops : goal.returns-in_err-after-in-Back-clause-stops
+returns-in_err-after-in-Back-clause-stops g c = λ limited.
+    turns_stop c.turn.invariant c.waits_on.new.memo c.takes_turns.new.allowed c.turns_due-turns.ensures.each
+    c.takes_turns.ensures.spent (c.waits_on.ensures.waited c.if-not-waits_on.false)
+    (c.may_wait-waits.ensures.waits (c.requires.limits ∙ limited))
+
+pub returns-in_err-after-in-Back-clause-costs : goal.returns-in_err-after-in-Back-clause-costs
+returns-in_err-after-in-Back-clause-costs g c = record {
+  spent = last_spent _ _ _ _ _ _ c.turn.invariant.spent
+      (omega (arith, c.takes_turns.ensures.spent, c.turns_due-turns.ensures.most)) c.turn.invariant.within;
+  settles = search rules;
+}
+
+pub returns-then-not-takes_turns-clause-costs : goal.returns-then-not-takes_turns-clause-costs
+returns-then-not-takes_turns-clause-costs g c = record {
+  spent = last_spent _ _ _ _ _ _ c.turn.invariant.spent
+      (omega (arith, c.takes_turns.ensures.spent, c.turns_due-turns.ensures.most)) c.turn.invariant.within;
+  settles = λ _. tt;
+}
+
+pub returns-then-is_accepted-clause-costs : goal.returns-then-is_accepted-clause-costs
+returns-then-is_accepted-clause-costs g c = record {
+  spent = last_spent _ _ _ _ _ _ c.turn.invariant.spent
+      (omega (arith, c.takes_turns.ensures.spent, c.turns_due-turns.ensures.most)) c.turn.invariant.within;
+  settles = λ _ e. absurd (cc e);
+}
+
+pub returns-then-not-waits_on-clause-costs : goal.returns-then-not-waits_on-clause-costs
+returns-then-not-waits_on-clause-costs g c = record {
+  spent = last_spent _ _ _ _ _ _ c.turn.invariant.spent (omega arith) c.turn.invariant.within;
+  settles = λ _ e. absurd (cc e);
+}

@@ -1,4 +1,5 @@
-use Rattle.sre_board.proofs.Terms.{◌≡◌, Some, slice_get, slice_index_or, [], ap, ◌∙◌, rules, choice, Trying}
+use Rattle.sre_board.proofs.Terms.{◌≡◌, Some, slice_get, slice_index_or, [], ap, ◌∙◌, arith, rules, choice, Trying}
+use Rattle.std.proofs.lemmas.Grind.{elements}
 use Rattle.sre_board.proofs.OpenSpots.{gone_else, gone_tried, more_tried, kept_tried, gone_to_end, gone_to_region}
 use Rattle.sre_board.proofs.OpenSpots.{passed_over}
 use Rattle.sre_board.proofs.ends.Ends.keep_open.Goals.{in-Some-tried_of+in_ok-keep_spot, in_default-tried_of}
@@ -78,3 +79,6 @@ pub returns-clause-held : goal.returns-clause-held
 returns-clause-held g c =
     gone_to_end c.args.failures.now c.args.words.now c.args.end c.choice.self c.args.board.now.choices c.choice.depth
     c.choice.invariant.gone c.in_default.ensures.waits
+
+pub choice-smaller : goal.choice-smaller
+choice-smaller g c = grind (arith, elements)

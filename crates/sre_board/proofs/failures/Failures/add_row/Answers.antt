@@ -1,4 +1,5 @@
 use Rattle.sre_board.proofs.Terms.{◌≡◌, ◌++◌, length, ◌∙◌, ap, sym, refl, slice_get, arith, Kept, kept_of, Row}
+use Rattle.sre_board.proofs.Terms.{length-append}
 use Rattle.sre_board.proofs.Rows.{no_row, new_row, made_for, there_if_ok, roomy_added}
 use Rattle.sre_board.proofs.KeptStill.{grown, grows_after}
 use Rattle.sre_board.proofs.failures.Failures.add_row.Goals as goal
@@ -64,3 +65,12 @@ returns g c =
           c.room-positions.ensures.enough);
       there = there_if_ok c.push_row.result _ mid c.push_row.new.self _ c.args.place c.push_row.ensures.rows refl;
     }
+
+pub invariant_of-self : goal.invariant_of-self
+invariant_of-self g c = grind (arith, length-append)
+
+pub returns-in_err-slots-clause-laid : goal.returns-in_err-slots-clause-laid
+returns-in_err-slots-clause-laid g c = grind (arith, length-append)
+
+pub invariant_of-self-2 : goal.invariant_of-self-2
+invariant_of-self-2 g c = grind (arith, length-append)

@@ -16,3 +16,11 @@ start-preserved g c =
     let first = c.args.first.now in
     let there = up_to_further r first _ c.start.cursor c.start.invariant _ c.in_ok-wanted.ensures in
     up_to_held r first _ _ there c.in-Some.code c.in-Some.is (search rules) _ c.in_ok-cursor.ensures
+
+pub returns-in_default : goal.returns-in_default
+returns-in_default g c =
+    up_to_further (run_of c.args.req.now) c.args.first.now _ c.start.cursor c.start.invariant _ c.in_ok-wanted.ensures
+
+pub returns-then-holds_at : goal.returns-then-holds_at
+returns-then-holds_at g c =
+    up_to_further (run_of c.args.req.now) c.args.first.now _ c.start.cursor c.start.invariant _ c.in_ok-wanted.ensures

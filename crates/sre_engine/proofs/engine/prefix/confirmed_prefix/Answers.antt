@@ -43,3 +43,9 @@ returns-clause-some g c =
 
 pub slice_bounds-result-end : goal.slice_bounds-result-end
 slice_bounds-result-end g c = omega (arith, room g (goal.at.slice_bounds-result-end g c).After-words-words)
+
+pub sought-requires : goal.sought-requires
+sought-requires g c =
+    let e = hint g (goal.at.sought-requires g c).After-words-words in
+    subst (λ (ws : List ℕ). 0 < length (prefix_of ws c.in-Some.length)) (sym c.words-words.ensures.same)
+    (prefix_overlaps c.pattern_codes-code.result _ _ e).some

@@ -15,3 +15,8 @@ returns-clause-steps g c =
     (once _ _ _ _ _ c.search_from-told.ensures.answers.counts)
     (λ _. used_up c.args.req _ _ _ _ _ c.search_from-told.ensures.charged up.field-0 up.is
     (rw up.is at up.field-0-is))
+
+pub returns-in-Err-Refused-clause-steps : goal.returns-in-Err-Refused-clause-steps
+returns-in-Err-Refused-clause-steps g c =
+    keeps_to c.args.req c.args.steps.now _ _ _ _ _ _ _ c.search_from-told.ensures.charged refl refl c.left.ensures
+    (once _ _ _ _ _ c.search_from-told.ensures.answers.counts) tt

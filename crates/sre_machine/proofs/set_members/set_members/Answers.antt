@@ -1,0 +1,6 @@
+use Rattle.std.proofs.Common.{arith}
+use Rattle.std.proofs.lemmas.Grind.{elements}
+use Rattle.sre_machine.proofs.set_members.set_members.Goals as goal
+
+pub place-preserved : goal.place-preserved
+place-preserved g c = grind (arith, elements)
