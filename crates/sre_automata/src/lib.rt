@@ -22,7 +22,7 @@ pub use needle::Needle;
 pub use seeker::Seeker;
 
 /// Where the next match of a pattern can begin, as far as its DFAs know. Offsets count bytes.
-#[derive(Clone, Copy, PartialEq, Eq, Debug)]
+#[derive(Clone, Copy)]
 pub enum Told {
     /// No match is left.
     Nothing,
@@ -31,7 +31,7 @@ pub enum Told {
 }
 
 /// The first match of a pattern, as far as its DFAs know. Offsets count bytes.
-#[derive(Clone, Copy, PartialEq, Eq, Debug)]
+#[derive(Clone, Copy)]
 pub enum FirstMatch {
     /// There is none.
     Nothing,

@@ -43,7 +43,7 @@ pub(crate) struct Row {
 }
 
 /// What is known of a configuration: it failed, its bit is not set yet, or it has no bit.
-#[derive(Clone, Copy, Debug, PartialEq, Eq)]
+#[derive(Clone, Copy)]
 pub enum Known {
     Failed,
     Open,
@@ -87,6 +87,7 @@ const MOST_WORDS_IN_ROW: usize = 1073741824;
 const MOST_WORDS: usize = 4294967296;
 
 // Sets the number of an address's row, in a list for so many addresses.
+#[tactic(auto, using(std::proofs::lemmas::Grind::elements))]
 #[inline(always)]
 fn set_number<A: Allocator>(
     numbers: &mut Vec<u32, A>,

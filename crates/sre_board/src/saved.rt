@@ -85,7 +85,7 @@ pub(crate) fn goes_on_at(
     ensures { result ≡ true → (saved.point ≡ Instruction place) × (saved.cursor ≡ cursor)
         × (saved.frame ≡ frame) × (marks_matter ≡ true → saved.changes ≡ changes) }
 {
-    saved.point == Point::Instruction(place)
+    matches!(saved.point, Point::Instruction(at) if at == place)
         && saved.cursor == cursor
         && saved.frame == frame
         && (!marks_matter || saved.changes == changes)

@@ -86,7 +86,7 @@ fn longer(pause: u32) -> u32 {
 }
 
 /// What the machine has still to spend before DFAs are built.
-#[derive(Clone, Copy, Debug)]
+#[derive(Clone, Copy)]
 pub(crate) struct Debt(u32);
 
 impl Debt {
@@ -116,7 +116,7 @@ impl Debt {
 }
 
 /// How much DFAs have read of a text, beside what the search has passed.
-#[derive(Clone, Copy, Debug)]
+#[derive(Clone, Copy)]
 pub(crate) struct Reads {
     // the offset of the first question, and how many bytes the DFAs had read by then
     begun: Option<(usize, usize)>,
@@ -152,7 +152,7 @@ impl Reads {
 }
 
 /// When the machine finds matches alone, since it has to show them.
-#[derive(Clone, Copy, Debug)]
+#[derive(Clone, Copy)]
 pub(crate) struct Alone {
     // number of next matches that it finds alone
     matches: u32,
@@ -218,7 +218,7 @@ impl Alone {
 }
 
 /// When a prefilter runs its DFAs.
-#[derive(Clone, Copy, Debug)]
+#[derive(Clone, Copy)]
 pub(crate) struct Pace {
     // remaining steps in which the DFAs run before the first start
     first: u32,

@@ -15,7 +15,7 @@ use sre_growth::Refusal;
 use std::alloc::Allocator;
 
 /// Why a line could not be read as a case.
-#[derive(Clone, Copy, PartialEq, Eq, Debug)]
+#[derive(Clone, Copy)]
 pub enum LineFault {
     /// The line is no case.
     NotACase,

@@ -4,7 +4,7 @@ ghost use Rattle.std.specs.Prelude.{◌≡◌};
 ghost use Rattle.sre_machine.specs.Spending.{is_limited, left_of};
 
 /// How many steps are left.
-#[derive(Clone, Copy, Debug)]
+#[derive(Clone, Copy)]
 pub enum Allowance {
     /// No limit: steps are not counted.
     Unlimited,

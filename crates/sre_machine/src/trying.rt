@@ -138,7 +138,7 @@ fn serves_unmarked<S: StrDrive, A: Allocator>(
 }
 
 /// The kind of captures under which failures are memoized at a point.
-#[derive(Clone, Copy, Debug, PartialEq, Eq)]
+#[derive(Clone, Copy, PartialEq, Eq)]
 pub(super) enum Keeping {
     // None: nothing is memoized.
     Nothing,

@@ -8,7 +8,7 @@
 use sre_chars::string::StringCursor;
 
 /// An atomic scope whose body is in progress, with the address after it if the machine continues there.
-#[derive(Clone, Copy, PartialEq, Eq, Debug)]
+#[derive(Clone, Copy)]
 pub enum Region {
     /// An atomic group.
     AtomicGroup(usize),
@@ -23,7 +23,7 @@ pub enum Region {
 }
 
 /// Where the machine can continue. Addresses count words.
-#[derive(Clone, Copy, PartialEq, Eq, Debug)]
+#[derive(Clone, Copy)]
 pub enum Point {
     /// At an instruction's address.
     Instruction(usize),

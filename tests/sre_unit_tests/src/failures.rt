@@ -116,7 +116,7 @@ fn is_kept_in<A: Allocator>(
     place: usize,
     position: usize,
 ) -> bool {
-    failures.known(words, board, Point::Instruction(place), position) == Known::Failed
+    matches!(failures.known(words, board, Point::Instruction(place), position), Known::Failed)
 }
 
 // Whether a failure that is memoized under some loops is known under others, with a row up to a position.
