@@ -35,9 +35,10 @@ CRATE = "sre_c"
 ASKED = "import importlib.util as u, sys; print('%d.%d' % sys.version_info[:2], bool(u.find_spec('test.test_re')))"
 
 
-def built(room, rlibs):
-    """The crate's archive, proved and built over proved crates, apart from the work tree, and whether an earlier run
-    built it of the very same files (kept.py); or none, and what the build said."""
+def built(room, rlibs, checked):
+    """The crate's archive, built over proved crates, apart from the work tree, and whether an earlier run built it of
+    the very same files (kept.py); or none, and what the build said. Where a check has written that folder, the build
+    takes its verdict, and else it proves the crate."""
     crate = crates()[CRATE]
     store = kept.Store(crate, PARTS, [os.path.realpath(__file__)])
     if store.path():
@@ -46,8 +47,12 @@ def built(room, rlibs):
     for part in PARTS:
         if os.path.isdir(f"{crate.folder}/{part}"):
             shutil.copytree(f"{crate.folder}/{part}", f"{room}/{CRATE}/{part}")
-    words = [f"{kit()}/bin/rattle", "build", *crate.words(rlibs), "--backend", "llvm"]
-    ran = run(*words, "--toolchain", f"{kit()}/toolchain", "-o", made, cwd=f"{room}/{CRATE}")
+    words = [*crate.words(rlibs), "--backend", "llvm", "--toolchain", f"{kit()}/toolchain", "-o", made]
+    if os.path.isdir(checked):
+        for word in ("--logic-built", "--jobs"):
+            del words[words.index(word) : words.index(word) + 2]
+        words += ["--crate-checked", checked]
+    ran = run(f"{kit()}/bin/rattle", "build", *words, cwd=f"{room}/{CRATE}")
     if ran.returncode:
         return None, ran.stdout
     store.keep(made)
@@ -193,10 +198,11 @@ class Embedding:
                 self.over(f"{room}/library")
         return self.passed, self.failed
 
-    def run(self, rlibs):
-        """Builds the library over proved crates, and tries all. `rlibs` gives the folder of a crate's rlib."""
+    def run(self, rlibs, checked):
+        """Builds the library over proved crates, and tries all. `rlibs` gives the folder of a crate's rlib, and
+        `checked` is what a check of the library may have written."""
         with tempfile.TemporaryDirectory(prefix="library-") as room:
-            made, said = built(room, rlibs)
+            made, said = built(room, rlibs, checked)
             taken_over = " (by an earlier run)" if said is True else ""
             if self.count(made is not None, f"lib{CRATE}.a is built{taken_over}"):
                 return self.over_archive(made, room)

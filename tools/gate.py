@@ -21,7 +21,7 @@ import quick
 import standing
 from ending import ended
 from quick import tell
-from repository import ROOT, crates, heard, read, tallied
+from repository import ROOT, crates, heard, kit, read, tallied, write
 
 BEGAN = time.monotonic()
 
@@ -52,6 +52,31 @@ class Count:
         took = f", {minutes(self.seconds)} of processors" if self.seconds else ""
         return f"minutes: {self.name} until {minutes(self.until)}{took}: {self.passed} passed, {self.failed} failed"
 
+# The kit's compiler, but that a check of the library for C also writes what it has proved.
+RECORDING = """#!/bin/sh
+case " $* " in
+*" --batches "*) ;;
+" check "*"--crate-name {crate} "*) set -- "$@" -o {checked};;
+esac
+exec {rattle} "$@"
+"""
+
+
+def recording(folder, checked):
+    """A folder with the kit's commands over that compiler. It is not for a kit that keeps what it has proved, since
+    another compiler may be another kit to it."""
+    own = f"{kit()}/bin"
+    if any("is kept" in read(f"{own}/{it}") for it in ("rt", "rtlib.py")):
+        return own
+    for part in os.listdir(kit()):
+        if part != "bin":
+            os.symlink(f"{kit()}/{part}", f"{folder}/{part}")
+    # rt takes the kit to be where its own file is
+    shutil.copytree(own, f"{folder}/bin", ignore=shutil.ignore_patterns("rattle"))
+    write(f"{folder}/bin/rattle", RECORDING.format(crate=embedding.CRATE, checked=checked, rattle=f"{own}/rattle"))
+    os.chmod(f"{folder}/bin/rattle", 0o755)
+    return f"{folder}/bin"
+
 
 class Prover:
     """`rt ci` over a copy, with its lines passed on. That crates are proved can be waited for."""
@@ -59,6 +84,9 @@ class Prover:
     def __init__(self, count, folder):
         self.count, self.folder, self.taken_over = count, f"{folder}/repository", 0
         self.rlibs, self.programs, self.last = f"{folder}/rlibs", [], ""
+        self.checked = f"{folder}/checked"
+        os.mkdir(f"{folder}/kit")
+        self.tools = recording(f"{folder}/kit", self.checked)
         self.proved = {it: concurrent.futures.Future() for it in crates()}
         # rt ci refuses sources that are not in a crate of crates.txt, as those of the tests
         shutil.copytree(f"{ROOT}/crates", f"{self.folder}/crates", ignore=shutil.ignore_patterns("out"))
@@ -73,7 +101,7 @@ class Prover:
                 self.end(it, False)
 
     def prove(self):
-        status, seconds = heard(self.hear, "rt", "ci", cwd=self.folder)
+        status, seconds = heard(self.hear, f"{self.tools}/rt", "ci", cwd=self.folder)
         found = re.fullmatch(r"(\d+) passed, (\d+) failed", self.last)
         passed, failed = map(int, found.groups()) if found else (0, 1)
         lacking = [it.name for it in crates().values() if it.is_program and self.programs.count(it.name) != 2]
@@ -119,12 +147,12 @@ def try_mutants(crate, prover, count):
 
 
 def try_library(prover, count):
-    """Builds the library over proved crates, and tries it in C, Rust and Python."""
+    """Builds the library once it is proved, and tries it in C, Rust and Python."""
     crate = crates()[embedding.CRATE]
-    if prover.are_proved([it.name for it in crate.below()]):
-        count.add(*embedding.Embedding(tell).run(prover.rlibs_of))
+    if prover.are_proved([it.name for it in [*crate.below(), crate]]):
+        count.add(*embedding.Embedding(tell).run(prover.rlibs_of, prover.checked))
     else:
-        count.check(False, f"embedding: not tried, since a crate below {crate.name} is not proved")
+        count.check(False, f"embedding: not tried, since {crate.name} is not proved, or a crate below it")
 
 
 def verified():
