@@ -5,7 +5,8 @@ use Rattle.sre_code.proofs.Terms.{Reads, capped, width, item_width, ToRepeat, No
 use Rattle.sre_code.proofs.Terms.{Exactly, IsEnd, CodeError, Part, Past, Opens, word_of, word_within, word_there}
 use Rattle.sre_code.proofs.Terms.{same_opcode, reads_nothing, width_held, role_here, ◌-◌, PossessiveLoop, Atomic, Look}
 use Rattle.sre_code.proofs.Terms.{Positive, Negative, look_opcode, ToRepeatPossessively, ToGroupAtomically, ToLook}
-use Rattle.sre_code.proofs.Terms.{opcode_within, reads_within, IsUntil, LookAt}
+use Rattle.sre_code.proofs.Terms.{opcode_within, reads_within, IsUntil, LookAt, Nowhere}
+use Rattle.std.proofs.lemmas.Option.{slice_get_within}
 use Rattle.sre_model.specs.Tree.{Greedy, Lazy}
 use Rattle.sre_code.specs.declared.code.step.Part.TheVariants.{Body, Region}
 use Rattle.sre_model.proofs.Opcodes.{is_loop, is_possessive, is_atomic, is_look, look_role}
@@ -56,10 +57,10 @@ looped_exactly part Ends ws i end low high opened closed form made ends lowest h
       (skip ws (i + 1), (f.2, r.3, closed _ _ j w (sym ends, r.4, r.5, wide)));
 }
 
-pub looped_cut : (Ends : ℕ → Type 0) (ws : List ℕ) (i j w : ℕ) → Looped Ends ws i j w → i + 3 < length ws
+looped_cut : (Ends : ℕ → Type 0) (ws : List ℕ) (i j w : ℕ) → Looped Ends ws i j w → i + 3 < length ws
 looped_cut Ends ws i j w f = word_within ws (i + 3) f.1 f.3.1
 
-pub looped_counts : (Ends : ℕ → Type 0) (ws : List ℕ) (i j w : ℕ) → Looped Ends ws i j w
+looped_counts : (Ends : ℕ → Type 0) (ws : List ℕ) (i j w : ℕ) → Looped Ends ws i j w
     → word ws (i + 2) ≤ word ws (i + 3)
 looped_counts Ends ws i j w f = omega (arith, word_of ws (i + 2) f.0 f.3.0, word_of ws (i + 3) f.1 f.3.1, f.3.2)
 
@@ -70,6 +71,14 @@ loop_here ws i h j w y =
     let f = is_loop ws i j y.0 (role_here ws i opcode.REPEAT ToRepeat h refl) y.1 in
     let r = f.5.1 in
     (f.1, f.2, f.3, (r.0, r.1, r.2, r.3, (f.0, r.4), r.5), y.2 ∙ ap item_width f.4)
+
+pub loop_cut : (ws : List ℕ) (i : ℕ) → Opcode ws i opcode.REPEAT → length ws ≤ i + 3 → Nowhere (ItemAt ws i)
+loop_cut ws i h le = record { none = λ j w y. omega (arith, looped_cut (IsUntil ws) ws i j w (loop_here ws i h j w y)) }
+
+pub loop_wrong : (ws : List ℕ) (i : ℕ) → Opcode ws i opcode.REPEAT → word ws (i + 3) < word ws (i + 2)
+    → Nowhere (ItemAt ws i)
+loop_wrong ws i h lt =
+    record { none = λ j w y. omega (arith, looped_counts (IsUntil ws) ws i j w (loop_here ws i h j w y)) }
 
 pub loop_exactly : (ws : List ℕ) (i end low high : ℕ) → Opcode ws i opcode.REPEAT → end ≡ skip ws (i + 1)
     → low ≡ word ws (i + 2) → high ≡ word ws (i + 3) → i + 3 < length ws → low ≤ high
@@ -108,7 +117,7 @@ body_cut ws end least i u e same n le =
     unclosed (body_end ws end least i same) (λ j w c. n.none (until_opcode c.1.0) c.1.1) le
 
 -- what `repeat` and `until` answer
-pub ruleset repeat_laws = (loop_exactly, loop_here, looped_cut, looped_counts)
+pub ruleset repeat_laws = (loop_exactly, loop_cut, loop_wrong, slice_get_within)
 
 pub ruleset until_laws = (body_end, body_max, body_min, no_until, body_cut)
 
@@ -141,6 +150,16 @@ possessive_here ws i h j w y =
     let f = is_possessive ws i j y.0 (role_here ws i opcode.POSSESSIVE_REPEAT ToRepeatPossessively h refl) y.1 in
     (f.0, f.1, f.2, f.4.1, y.2 ∙ ap item_width f.3)
 
+pub possessive_cut : (ws : List ℕ) (i : ℕ) → Opcode ws i opcode.POSSESSIVE_REPEAT → length ws ≤ i + 3
+    → Nowhere (ItemAt ws i)
+possessive_cut ws i h le =
+    record { none = λ j w y. omega (arith, looped_cut (IsSuccess ws) ws i j w (possessive_here ws i h j w y)) }
+
+pub possessive_wrong : (ws : List ℕ) (i : ℕ) → Opcode ws i opcode.POSSESSIVE_REPEAT
+    → word ws (i + 3) < word ws (i + 2) → Nowhere (ItemAt ws i)
+possessive_wrong ws i h lt =
+    record { none = λ j w y. omega (arith, looped_counts (IsSuccess ws) ws i j w (possessive_here ws i h j w y)) }
+
 pub possessive_exactly : (ws : List ℕ) (i end low high : ℕ) → Opcode ws i opcode.POSSESSIVE_REPEAT
     → end ≡ skip ws (i + 1) → low ≡ word ws (i + 2) → high ≡ word ws (i + 3) → i + 3 < length ws → low ≤ high
     → Exactly ws (Opens (Region end low) (i + 4)) (ItemAt ws i)
@@ -149,7 +168,7 @@ possessive_exactly ws i end low high h =
     (possessive_here ws i h) (λ j w f. (PossessiveLoop f.0 f.1 f.2, (h, f.3), f.4))
 
 -- what `possessive_repeat` answers
-pub ruleset possessive_repeat_laws = (possessive_exactly, possessive_here, looped_cut, looped_counts)
+pub ruleset possessive_repeat_laws = (possessive_exactly, possessive_cut, possessive_wrong, slice_get_within)
 
 -- an item at i whose body stands behind n words, with a SUCCESS, and counts so many times for its width
 abbrev pub Enclosed : List ℕ → ℕ → ℕ → ℕ → ℕ → ℕ → Type 0

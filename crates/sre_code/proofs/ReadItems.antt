@@ -4,14 +4,14 @@ use Rattle.sre_code.proofs.Terms.{ℕ, ◌≡◌, ◌<◌, ◌≤◌, List, leng
 use Rattle.sre_code.proofs.Terms.{category_number, Word, word, NoCode, word_of, word_at, word_within, ◌+◌, ◌-◌, ◌≢◌}
 use Rattle.sre_code.proofs.Terms.{◌⊎◌, inl, inr, [], Err, refl, ap, subst, SreOpcode, SreCatCode, Test, Literal, In}
 use Rattle.sre_code.proofs.Terms.{Fold, Plain, Ascii, Locale, Unicode, SetItem, Opcode, skip, ReadsSet, FoldedAt}
-use Rattle.sre_code.proofs.Terms.{ReadsTest, TestExactly, NoTest, IsSet, NoSet, word_there, opcode_within, opcode_moved}
+use Rattle.sre_code.proofs.Terms.{ReadsTest, TestExactly, NoTest, IsSet, word_there, opcode_within, opcode_moved}
 use Rattle.sre_code.proofs.Terms.{same_opcode, set_within, test_same, ToTest, role_here, test_here, SreAtCode, Item}
 use Rattle.sre_code.proofs.Terms.{Fail, One, At, Mark, Branch, Run, GreedyRun, LazyRun, Loop, PossessiveLoop, Atomic}
 use Rattle.sre_code.proofs.Terms.{Look, Positive, Negative, PossessiveRun, Reference, Exists, ExistsElse, item_opcode}
 use Rattle.sre_code.proofs.Terms.{ReadsItem, item_width, ToCheckPosition, ToMark, ToRefer, ItemAt, Exactly, Nowhere}
 use Rattle.sre_code.proofs.Terms.{Past, item_same, no_item, RunKind, test_opcode, ToRun, test_past, HasRole, opcode_low}
 use Rattle.sre_code.proofs.Terms.{at_low, category_low, literal_opcode, not_literal_opcode, set_opcode}
-use Rattle.sre_code.proofs.Terms.{reference_opcode, run_opcode, TestOperands, TestEnds, HasTest, BadItem, set_moved}
+use Rattle.sre_code.proofs.Terms.{reference_opcode, run_opcode, TestOperands, TestEnds, HasTest, BadItem}
 use Rattle.sre_code.proofs.Terms.{OfCategory, item_role, OnlyTests, RunAt}
 use Rattle.sre_model.specs.Tree.{Any, AnyAll, InCategory, NotLiteral}
 use Rattle.sre_model.proofs.Opcodes.{is_category, is_literal, is_not_literal, is_set, is_at, is_mark, is_reference}
@@ -111,17 +111,6 @@ pub set_exactly : (ws : List ℕ) (i t : ℕ) → FoldedAt set_opcode ws i → t
     → Opcode ws (t - 1) opcode.FAILURE → IsSet ws (i + 2) (t - 1) → TestExactly ws i t
 set_exactly ws i t h e closed s = exactly (In h.fold s.set.0) ws i t (h.there, (e, s.set.1, closed))
 
-pub set_wrong : (ws : List ℕ) (i t : ℕ) → FoldedAt set_opcode ws i → t ≡ skip ws (i + 1)
-    → NoSet ws (i + 2) (t - 1) → NoTest ws i
-set_wrong ws i t h e n = record {
-  none = λ k x r.
-      let f = set_here ws i k x h r in
-      n.none (
-        f.set,
-        set_moved ws (i + 2) (i + 2) (k - 1) (t - 1) f.set refl (ap (λ m. m - 1) (f.ends ∙ sym e)) f.reads,
-      );
-}
-
 pub set_closed : (ws : List ℕ) (i t k : ℕ) (x : Test) → FoldedAt set_opcode ws i → t ≡ skip ws (i + 1)
     → ReadsTest ws i k x → Opcode ws (t - 1) opcode.FAILURE
 set_closed ws i t k x h e r =
@@ -142,8 +131,6 @@ no_test ws i o h none = (
 
 -- what `not_literal`, `in_set` and `test` answer
 pub ruleset not_literal_laws = (not_literal_exactly, not_literal_cut)
-
-pub ruleset in_set_laws = (set_exactly, set_here, set_closed, set_ends_cut, set_wrong)
 
 pub ruleset test_laws = (any_exactly, any_all_exactly, folded_at)
 
@@ -287,7 +274,7 @@ run_here ws i j x h r =
     absurd (cc)
 
 -- where the test ends, SUCCESS stands
-pub run_closed : (ws : List ℕ) (i j e : ℕ) → RunHere ws i j → TestExactly ws (i + 4) e → Opcode ws e opcode.SUCCESS
+run_closed : (ws : List ℕ) (i j e : ℕ) → RunHere ws i j → TestExactly ws (i + 4) e → Opcode ws e opcode.SUCCESS
 run_closed ws i j e f t = opcode_moved ws (j - 1) e opcode.SUCCESS (t.only (j - 1) f.test f.reads) f.closed
 
 pub run_exactly : (ws : List ℕ) (i e t v high : ℕ) → RunAt ws i → t ≡ skip ws (i + 1) → v ≡ word ws (i + 2)
@@ -319,6 +306,3 @@ pub run_open : (ws : List ℕ) (i e : ℕ) (o : SreOpcode) → RunAt ws i → Te
 run_open ws i e o h x there ne = record {
   none = λ j w y. ne (same_opcode ws e o opcode.SUCCESS there (run_closed ws i j e (run_here ws i j y.0 h y.1) x));
 }
-
--- what `run` answers
-pub ruleset run_laws = (run_exactly, run_here, run_closed, run_ends_cut)

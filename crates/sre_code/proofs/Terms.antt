@@ -24,7 +24,7 @@ pub use Rattle.sre_model.proofs.Members.{charset_room, charset_says, folded_rang
 pub use Rattle.sre_model.proofs.Members.{left_nothing, left_past, left_there, left_turned, negated, nothing_left}
 pub use Rattle.sre_model.proofs.Members.{only_items, range_room, range_says, set_begins, single_room, single_says}
 pub use Rattle.sre_model.proofs.TreeOf.{alternative_long, branch_past, operands_past, reads_moved, reads_nothing}
-pub use Rattle.sre_model.proofs.TreeOf.{reads_within, set_moved, set_within, test_past, item_same, test_same}
+pub use Rattle.sre_model.proofs.TreeOf.{reads_within, set_within, test_past, item_same, test_same}
 pub use Rattle.sre_model.proofs.TreeOf.{whole_same}
 pub use Rattle.sre_model.proofs.Props.{kept_tree}
 pub use Rattle.sre_model.proofs.WideWays.{width_held}

@@ -98,6 +98,3 @@ bytes_once (b ∷ bs) (c ∷ cs) small small' is =
     let first = byte_once b c (All-head (λ b. b < 256) b bs small) (All-head (λ b. b < 256) c cs small') (cc) (cc) in
     let others = bytes_once bs cs (All-tail (λ b. b < 256) b bs small) (All-tail (λ b. b < 256) c cs small') (cc) in
     cc (first, others)
-
--- where digits are refused, and where a pair of them is read
-pub ruleset hex_pairs = (odd_is_no_text, no_pair_is_no_text, one_byte_more)

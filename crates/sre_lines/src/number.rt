@@ -37,7 +37,6 @@ fn begins_as_number(digits: &[u8]) -> bool
 }
 
 /// Replaces the content of `bytes` by the bytes that pairs of lower-case hexadecimal digits denote, perhaps none.
-#[tactic(auto, using(crate::proofs::Pairs::hex_pairs))]
 pub fn read_hex<A: Allocator>(digits: &[u8], bytes: &mut Vec<u8, A>) -> Result<(), LineFault>
     ensures read { OnOk result (hex_text bytes.new.items ≡ digits.now) }
     ensures fit { OnOk result (All (λ b. b < 256) bytes.new.items) }

@@ -30,7 +30,6 @@ pub fn write_whole<W: Write>(bytes: &[u8], out: &mut W) -> io::Result<()>
 }
 
 /// Writes two byte strings in sequence. After an error, a part of the sequence may be written.
-#[tactic(auto, using(crate::proofs::Parts::in_parts))]
 pub fn write_both<W: Write>(front: &[u8], end: &[u8], out: &mut W) -> io::Result<()>
     ensures whole { OnOk result (Appends (W.contents out.old) (W.contents out.new) (front.now ++ end.now)) }
     ensures part { OnErr result (AppendsPart (W.contents out.old) (W.contents out.new) (front.now ++ end.now)) }

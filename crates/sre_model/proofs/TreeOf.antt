@@ -66,10 +66,6 @@ alternative_long ws q j (Or t ts) r = omega (arith, reads_within t ws (q + 1) (s
 pub reads_moved : (ws : List ℕ) (i i2 j j2 : ℕ) (t : Tree) → i ≡ i2 → j ≡ j2 → Reads ws i j t → Reads ws i2 j2 t
 reads_moved ws i i2 j j2 t e f r = rw (← e, ← f) r
 
-pub set_moved : (ws : List ℕ) (i i2 j j2 : ℕ) (s : List SetItem) → i ≡ i2 → j ≡ j2 → ReadsSet ws i j s
-    → ReadsSet ws i2 j2 s
-set_moved ws i i2 j j2 s e f r = rw (← e, ← f) r
-
 -- a reading that ends where it begins is empty
 pub reads_nothing : (ws : List ℕ) (i k : ℕ) (t : Tree) → Reads ws i k t → k ≡ i → t ≡ Empty
 reads_nothing ws i k Empty r e = refl

@@ -38,7 +38,6 @@ fn not_literal(words: &[u32], place: usize) -> Result<usize, CodeError>
 }
 
 /// `<IN> <skip> <set> <FAILURE>`, under each folding
-#[tactic(auto, using(crate::proofs::ReadItems::in_set_laws))]
 fn in_set(words: &[u32], place: usize) -> Result<usize, CodeError>
     requires { FoldedAt set_opcode words.now place }
     ensures { TestEnds words.now place result }

@@ -50,7 +50,6 @@ fn reference(words: &[u32], place: usize) -> Result<Step, CodeError>
 
 /// `<REPEAT_ONE> <skip> <least count> <greatest count> <test> <SUCCESS>`, also with MIN_REPEAT_ONE and
 /// POSSESSIVE_REPEAT_ONE
-#[tactic(auto, using(crate::proofs::ReadItems::run_laws))]
 fn run(words: &[u32], place: usize) -> Result<Step, CodeError>
     requires { RunAt words.now place }
     ensures { Gives words.now place (ItemAt words.now place) result }

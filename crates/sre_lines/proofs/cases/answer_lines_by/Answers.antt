@@ -1,6 +1,7 @@
 -- The lines before the one at hand are answered, and so are all of them, or those before the fault.
 use Rattle.sre_lines.proofs.FileLines.{at_first, next_split, last_split, one_line_more, all_lines, stops_at, where_err}
-use Rattle.sre_lines.proofs.Terms.{◌∙◌, refl, on_ok_weaker}
+use Rattle.sre_lines.proofs.Terms.{◌∙◌, refl, on_ok_weaker, arith}
+use Rattle.std.proofs.lemmas.Grind.{common_steps}
 use Rattle.sre_lines.proofs.cases.answer_lines_by.Goals as goal
 
 pub lines-init : goal.lines-init
@@ -31,3 +32,6 @@ lines-preserved g c = record {
   so_far = one_line_more c.lines.invariant.so_far _ _ c.in-Some.ensures.parts c.in-Some.ensures.first _
       (rw (c.lines.invariant.table, c.lines.invariant.detail) at c.in-Ok.ensures.answers);
 }
+
+pub lines-smaller : goal.lines-smaller
+lines-smaller g c = grind (arith, common_steps)

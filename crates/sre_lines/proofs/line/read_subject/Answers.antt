@@ -42,3 +42,7 @@ returns-in_err-text-clause-refused g c failed subject words text fit lawful is =
     let w = after_words _ _ _ subject c.in-Some.ensures.parts c.in-Some.ensures.first words text fit is in
     let t = after_text _ _ _ subject c.in-Some-split_once.ensures.parts c.in-Some-split_once.ensures.first text w.1 in
     c.in_err-text.ensures.refused (search rules) subject.text text lawful.1 lawful.2 t.0
+
+pub returns-in_default-clause-refused : goal.returns-in_default-clause-refused
+returns-in_default-clause-refused g c failed subject words text fit lawful =
+    uncut 32 _ _ _ c.in_default.ensures.none

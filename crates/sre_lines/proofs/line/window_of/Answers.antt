@@ -1,7 +1,8 @@
 -- A field that is rejected is neither `all` nor two numbers with two dots between them.
-use Rattle.sre_lines.proofs.Terms.{◌≡◌, true, false, ◌∙◌}
+use Rattle.sre_lines.proofs.Terms.{◌≡◌, true, false, ◌∙◌, arith}
 use Rattle.sre_lines.proofs.Cuts.{unequal}
 use Rattle.sre_lines.proofs.Lines.{no_window, no_dot, first_dot, no_next_dot, next_dot}
+use Rattle.std.proofs.lemmas.Grind.{common_steps}
 use Rattle.sre_lines.proofs.line.window_of.Goals as goal
 
 pub returns-in_err-start-clause-refused : goal.returns-in_err-start-clause-refused
@@ -37,3 +38,6 @@ returns-in_err-decimal_number-2-clause-refused c =
     (λ start end ends _ at_end. let dot = next_dot _ _ _ start end c.in_ok-start.ensures.parts
     c.in_ok-start.ensures.first ends _ _ c.in_ok-between.ensures.parts c.in_ok-between.ensures.first in
     c.in_err-decimal_number-2.ensures.refused at_end.0 at_end.1 (at_end.2 ∙ dot.1)))
+
+pub returns-clause-written : goal.returns-clause-written
+returns-clause-written c = grind (arith, common_steps)

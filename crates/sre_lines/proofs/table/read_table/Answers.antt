@@ -1,7 +1,8 @@
 -- The lists that have a fault are those of the file.
-use Rattle.sre_lines.proofs.Terms.{◌≡◌, table_with}
+use Rattle.sre_lines.proofs.Terms.{◌≡◌, table_with, arith}
 use Rattle.sre_lines.specs.TableFiles.{table_text}
 use Rattle.sre_lines.proofs.Causes.{nothing}
+use Rattle.std.proofs.lemmas.Grind.{common_steps}
 use Rattle.sre_lines.proofs.table.read_table.Goals as goal
 
 pub returns-clause-lists : goal.returns-clause-lists
@@ -21,3 +22,6 @@ returns-clause-lists c error is =
       rw (c.as_slice.ensures.value, c.as_slice-2.ensures.value, c.as_slice-3.ensures.value, c.as_slice-4.ensures.value)
           at c.table_of.ensures.lists error is,
     )
+
+pub returns-clause-read : goal.returns-clause-read
+returns-clause-read c = grind (arith, common_steps)
