@@ -8,6 +8,7 @@ With `quick` nothing is proved. The last line is `N passed, M failed`.
 import concurrent.futures
 import os
 import re
+import shlex
 import shutil
 import subprocess
 import tempfile
@@ -52,6 +53,7 @@ class Count:
         took = f", {minutes(self.seconds)} of processors" if self.seconds else ""
         return f"minutes: {self.name} until {minutes(self.until)}{took}: {self.passed} passed, {self.failed} failed"
 
+
 # The kit's compiler, but that a check of the library for C also writes what it has proved.
 RECORDING = """#!/bin/sh
 case " $* " in
@@ -73,7 +75,8 @@ def recording(folder, checked):
             os.symlink(f"{kit()}/{part}", f"{folder}/{part}")
     # rt takes the kit to be where its own file is
     shutil.copytree(own, f"{folder}/bin", ignore=shutil.ignore_patterns("rattle"))
-    write(f"{folder}/bin/rattle", RECORDING.format(crate=embedding.CRATE, checked=checked, rattle=f"{own}/rattle"))
+    paths = {"checked": shlex.quote(checked), "rattle": shlex.quote(f"{own}/rattle")}
+    write(f"{folder}/bin/rattle", RECORDING.format(crate=embedding.CRATE, **paths))
     os.chmod(f"{folder}/bin/rattle", 0o755)
     return f"{folder}/bin"
 

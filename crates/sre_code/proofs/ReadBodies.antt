@@ -57,12 +57,20 @@ looped_exactly part Ends ws i end low high opened closed form made ends lowest h
       (skip ws (i + 1), (f.2, r.3, closed _ _ j w (sym ends, r.4, r.5, wide)));
 }
 
-looped_cut : (Ends : ℕ → Type 0) (ws : List ℕ) (i j w : ℕ) → Looped Ends ws i j w → i + 3 < length ws
-looped_cut Ends ws i j w f = word_within ws (i + 3) f.1 f.3.1
+-- where each item is such a loop, there is none if its counts are cut off, or out of order
+looped_cut : (Ends : ℕ → Type 0) (ws : List ℕ) (i : ℕ) → ((j w : ℕ) → ItemAt ws i j w → Looped Ends ws i j w)
+    → length ws ≤ i + 3 → Nowhere (ItemAt ws i)
+looped_cut Ends ws i form le = record {
+  none = λ j w y. let f = form j w y in omega (arith, word_within ws (i + 3) f.1 f.3.1);
+}
 
-looped_counts : (Ends : ℕ → Type 0) (ws : List ℕ) (i j w : ℕ) → Looped Ends ws i j w
-    → word ws (i + 2) ≤ word ws (i + 3)
-looped_counts Ends ws i j w f = omega (arith, word_of ws (i + 2) f.0 f.3.0, word_of ws (i + 3) f.1 f.3.1, f.3.2)
+looped_wrong : (Ends : ℕ → Type 0) (ws : List ℕ) (i : ℕ) → ((j w : ℕ) → ItemAt ws i j w → Looped Ends ws i j w)
+    → word ws (i + 3) < word ws (i + 2) → Nowhere (ItemAt ws i)
+looped_wrong Ends ws i form lt = record {
+  none = λ j w y.
+      let f = form j w y in
+      omega (arith, word_of ws (i + 2) f.0 f.3.0, word_of ws (i + 3) f.1 f.3.1, f.3.2);
+}
 
 -- REPEAT
 pub loop_here : (ws : List ℕ) (i : ℕ) → Opcode ws i opcode.REPEAT → (j w : ℕ) → ItemAt ws i j w
@@ -73,12 +81,11 @@ loop_here ws i h j w y =
     (f.1, f.2, f.3, (r.0, r.1, r.2, r.3, (f.0, r.4), r.5), y.2 ∙ ap item_width f.4)
 
 pub loop_cut : (ws : List ℕ) (i : ℕ) → Opcode ws i opcode.REPEAT → length ws ≤ i + 3 → Nowhere (ItemAt ws i)
-loop_cut ws i h le = record { none = λ j w y. omega (arith, looped_cut (IsUntil ws) ws i j w (loop_here ws i h j w y)) }
+loop_cut ws i h = looped_cut (IsUntil ws) ws i (loop_here ws i h)
 
 pub loop_wrong : (ws : List ℕ) (i : ℕ) → Opcode ws i opcode.REPEAT → word ws (i + 3) < word ws (i + 2)
     → Nowhere (ItemAt ws i)
-loop_wrong ws i h lt =
-    record { none = λ j w y. omega (arith, looped_counts (IsUntil ws) ws i j w (loop_here ws i h j w y)) }
+loop_wrong ws i h = looped_wrong (IsUntil ws) ws i (loop_here ws i h)
 
 pub loop_exactly : (ws : List ℕ) (i end low high : ℕ) → Opcode ws i opcode.REPEAT → end ≡ skip ws (i + 1)
     → low ≡ word ws (i + 2) → high ≡ word ws (i + 3) → i + 3 < length ws → low ≤ high
@@ -152,13 +159,11 @@ possessive_here ws i h j w y =
 
 pub possessive_cut : (ws : List ℕ) (i : ℕ) → Opcode ws i opcode.POSSESSIVE_REPEAT → length ws ≤ i + 3
     → Nowhere (ItemAt ws i)
-possessive_cut ws i h le =
-    record { none = λ j w y. omega (arith, looped_cut (IsSuccess ws) ws i j w (possessive_here ws i h j w y)) }
+possessive_cut ws i h = looped_cut (IsSuccess ws) ws i (possessive_here ws i h)
 
 pub possessive_wrong : (ws : List ℕ) (i : ℕ) → Opcode ws i opcode.POSSESSIVE_REPEAT
     → word ws (i + 3) < word ws (i + 2) → Nowhere (ItemAt ws i)
-possessive_wrong ws i h lt =
-    record { none = λ j w y. omega (arith, looped_counts (IsSuccess ws) ws i j w (possessive_here ws i h j w y)) }
+possessive_wrong ws i h = looped_wrong (IsSuccess ws) ws i (possessive_here ws i h)
 
 pub possessive_exactly : (ws : List ℕ) (i end low high : ℕ) → Opcode ws i opcode.POSSESSIVE_REPEAT
     → end ≡ skip ws (i + 1) → low ≡ word ws (i + 2) → high ≡ word ws (i + 3) → i + 3 < length ws → low ≤ high
