@@ -169,6 +169,6 @@ pub use Rattle.sre_machine.specs.Turns.{TriesKnown, TriesOn, TurnAt, TurnOnce, U
 pub use Rattle.sre_machine.specs.declared.allowance.Allowance.{Allowance}
 pub use Rattle.sre_machine.specs.declared.asked_places.AskedMarks.{AskedMarks}
 pub use Rattle.sre_machine.specs.declared.asked_places.AskedPlace.{AskedPlace}
-pub use Rattle.sre_machine.specs.declared.run_operands.RunOperands.{RunOperands}
+pub use Rattle.sre_machine.specs.declared.character_repeats.RunOperands.{RunOperands}
 pub use Rattle.sre_machine.specs.declared.trying.Keeping.{Keeping}
 pub use Rattle.sre_machine.specs.declared.trying.Keeping.TheVariants.{Idle, Marked, Nothing, Unmarked}

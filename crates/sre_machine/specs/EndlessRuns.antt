@@ -3,7 +3,7 @@
 use Rattle.std.specs.Prelude.{ℕ, ◌+◌, ◌^◌, ◌<◌, ◌≡◌, ◌⊎◌, true, false, Option, MatchOption}
 use Rattle.sre_machine.specs.Terms.{Ghosts, Request, run_of, OperandsOfRun, StringCursor, Test, RunsOn, OpcodeAt}
 use Rattle.sre_machine.specs.Terms.{Standing, passes, run_length, TestStands, AllPass}
-use Rattle.sre_machine.specs.declared.run_operands.RunOperands.{RunOperands}
+use Rattle.sre_machine.specs.declared.character_repeats.RunOperands.{RunOperands}
 use Rattle.sre_chars.specs.declared.constants.SreOpcode.TheVariants as opcode
 
 -- the operands of the run at a place, to which a word can be added

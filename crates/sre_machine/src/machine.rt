@@ -4,32 +4,31 @@
 //! The contract of each opcode's function says that the accepted outcomes of the run stay the same, with one step less.
 //! Choices wait on the backtrack stack. A choice that is known to fail is not pushed.
 
-ghost use Rattle.std.specs.Prelude.{◌≡◌, ℕ, ◌+◌, ◌^◌, ◌<◌, IfOk, MatchOption, true};
+ghost use Rattle.std.specs.Prelude.{◌≡◌, ℕ, ◌+◌, ◌^◌, ◌<◌, IfOk, MatchOption, true, nat_le};
 ghost use Rattle.sre_machine.specs.Terms.{BoardValue, Instruction, Longer, Point, IsBack, Chooses, begins_test, Test};
-ghost use Rattle.sre_machine.specs.Terms.{run_of, OpcodeAt, TestAt, Standing, TestStandsAt, test_takes};
+ghost use Rattle.sre_machine.specs.Terms.{run_of, OpcodeAt, TestAt, Standing, TestStandsAt, test_takes, role, ToRefer};
 ghost use Rattle.sre_machine.specs.Memos.{RecallsOf};
-ghost use Rattle.sre_machine.specs.Turns.{At, AtPoint, AtOnBoard, Turn, TurnAt, DemandedAt, RefusesAt};
-ghost use Rattle.sre_machine.specs.Turns.{Retreats, Finishes};
+ghost use Rattle.sre_machine.specs.Turns.{At, AtPoint, AtOnBoard, Turn, TurnAt, DemandedAt, RefusesAt, Retreats};
+ghost use Rattle.sre_machine.specs.Turns.{Finishes};
 
+use crate::atomic_scopes::{assert, assert_not, atomic_group, possessive_repeat, without_outcome};
 use crate::branches::{alternatives, branch};
-use crate::endless_runs::later_run;
-use crate::greedy_runs::{repeat_one, shorter_saved};
-use crate::lazy_runs::{longer, min_repeat_one};
+use crate::character_repeats::{
+    longer, min_repeat_one, possessive_repeat_one, repeat_one, shorter_saved,
+};
+use crate::long_repeats::later_run;
 use crate::loops::{max_until, min_until, repeat};
 use crate::memo::Memo;
-use crate::possessive_loops::possessive_repeat;
-use crate::possessive_runs::possessive_repeat_one;
-use crate::references::{condition, reference};
-use crate::regions::{assert, assert_not, atomic_group, without_outcome};
 use crate::trying::keep;
-use sre_board::Board;
+use sre_board::{Board, LOOK_SPEED};
 use sre_chars::constants::{SreAtCode, SreOpcode};
 use sre_chars::string::{StrDrive, StringCursor};
 use sre_growth::Refusal;
 use sre_request::Request;
 use sre_request::one_character::{takes, takes_seldom, test_end};
 use sre_request::position::holds_at;
-use sre_request::text::read;
+use sre_request::references::is_repeated;
+use sre_request::text::{cursor_at, read};
 use sre_request::words::{operand, word};
 use sre_turns::{Next, Point};
 use std::alloc::Allocator;
@@ -141,6 +140,72 @@ fn jump<S: StrDrive>(req: &Request<'_, S>, place: usize, cursor: StringCursor) -
 {
     let skip = operand(req, place, 1);
     Next::At(place + 1 + skip as usize, cursor)
+}
+
+// Whether so many characters from a position on end within the range.
+#[inline(always)]
+fn is_inside(position: usize, count: usize, end: usize) -> bool
+    ensures { result ≡ nat_le (position + count) end }
+{
+    position <= end && count <= end - position
+}
+
+/// `GROUPREF group` and its foldings: passes the characters of the group, folded on both sides.
+#[inline(always)]
+fn reference<S: StrDrive, A: Allocator>(
+    req: &Request<'_, S>,
+    board: &mut Board<A>,
+    opcode: SreOpcode,
+    place: usize,
+    cursor: StringCursor,
+) -> Next
+    requires opcode { OpcodeAt req.now place opcode }
+    requires refers { role opcode ≡ ToRefer }
+    requires stands { AtOnBoard req.now (Instruction place) cursor board.old }
+    ensures { Turn req.now place cursor board.old result board.new }
+{
+    let number = operand(req, place, 1);
+    let Some((start, end)) = board.group(number) else {
+        return Next::Back;
+    };
+    let count = end - start;
+    if !is_inside(cursor.position(), count, req.end()) {
+        return Next::Back;
+    }
+    // The way to the group and the equal characters are charged, and not the characters after the first that differ.
+    board.pass(cursor.position().saturating_sub(start) / LOOK_SPEED);
+    let group = cursor_at(req, cursor, start);
+    match is_repeated(req, opcode, group, cursor, count) {
+        Ok(after) => {
+            board.pass(count);
+            Next::At(place + 2, after)
+        }
+        Err(equal) => {
+            board.pass(equal);
+            Next::Back
+        }
+    }
+}
+
+/// `GROUPREF_EXISTS group skip yes` or `GROUPREF_EXISTS group skip yes JUMP skip no`: continues with the yes part if
+/// the group is set, else at the target of the skip, counted from the group's word.
+#[inline(always)]
+fn condition<S: StrDrive, A: Allocator>(
+    req: &Request<'_, S>,
+    board: &Board<A>,
+    place: usize,
+    cursor: StringCursor,
+) -> Next
+    requires opcode { OpcodeAt req.now place SreOpcode.GROUPREF_EXISTS }
+    requires stands { At req.now place cursor }
+    ensures { Turn req.now place cursor board.now result board.now }
+{
+    let number = operand(req, place, 1);
+    let skip = operand(req, place, 2);
+    match board.group(number) {
+        Some(_) => Next::At(place + 3, cursor),
+        None => Next::At(place + 1 + skip as usize, cursor),
+    }
 }
 
 // The character that must come next at an address, if a LITERAL gives it, after MARKs.

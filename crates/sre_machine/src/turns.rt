@@ -9,11 +9,9 @@ ghost use Rattle.sre_machine.specs.Paying.{Remembering, each_of, Stops};
 ghost use Rattle.sre_machine.specs.Turns.{WithinTurns};
 
 use crate::allowance::Allowance;
-use crate::body_ends::keep_ends;
+use crate::atomic_scopes::{again, end, keep_ends};
 use crate::machine::{back, instruction};
 use crate::memo::Memo;
-use crate::possessive_loops::again;
-use crate::regions::end;
 use crate::trying::{again_or_back, instruction_or_back};
 use sre_board::Board;
 use sre_chars::string::{StrDrive, StringCursor};
