@@ -5,19 +5,20 @@
 //! the first may match. At the end of the range no character decides, so each alternative is tried.
 //!
 //! If the request carries FIRST sets, an ASCII character is looked up there. Then the words of an alternative are read
-//! only if it may match.
+//! only if it may match. An empty list excludes nothing.
 
 ghost use Rattle.std.specs.Prelude.{◌≡◌, ℕ, ◌+◌, ◌<◌, ◌^◌, true, false, IfOk, IfSome, MatchOption};
 ghost use Rattle.sre_machine.specs.Terms.{Test, word, Instruction, Alternatives, Point, Chooses, Exhausted};
 ghost use Rattle.sre_machine.specs.Terms.{begins_test, end_of, run_of, OpcodeAt, TestAt, TestStandsAt, test_takes};
-ghost use Rattle.sre_machine.specs.Terms.{character_at, YieldsTo};
+ghost use Rattle.sre_machine.specs.Terms.{character_at, YieldsTo, contains};
+ghost use Rattle.sre_turns.specs.Admitting.{IsOutside};
 ghost use Rattle.sre_machine.specs.Turns.{At, Turn, AtPoint, ContinuesTo, ReadAt, RefusesAt, TurnAt};
 
-use crate::barring::{bars, bars_alternatives};
 use crate::machine::{choose, opcode};
 use sre_board::Board;
 use sre_chars::constants::SreOpcode;
 use sre_chars::string::{StrDrive, StringCursor};
+use sre_code::ascii_set::AsciiSet;
 use sre_growth::Refusal;
 use sre_request::one_character::{takes, test_end};
 use sre_request::text::read;
@@ -116,6 +117,46 @@ fn begins_otherwise<S: StrDrive>(
     by_opcode!(LITERAL LITERAL_IGNORE LITERAL_UNI_IGNORE IN IN_UNI_IGNORE)
 }
 
+/// The character at a cursor inside the range, and the cursor after it.
+#[derive(Clone, Copy)]
+pub(super) struct Ahead {
+    pub(super) cursor: StringCursor,
+    pub(super) character: u32,
+    pub(super) after: StringCursor,
+}
+
+// Whether a character is ASCII and not in a set.
+#[inline(always)]
+fn is_outside(set: AsciiSet, character: u32) -> bool
+    ensures { result ≡ true → IsOutside (contains set) character }
+{
+    character < 128 && !set.contains(character)
+}
+
+// Whether the instruction at an address fails before the character ahead, by FIRST sets.
+#[inline(always)]
+fn bars<S: StrDrive>(req: &Request<'_, S>, place: usize, ahead: &Ahead) -> bool
+    requires { ahead.now.character ≡ character_at req.now ahead.now.cursor.position }
+    ensures { result ≡ true → RefusesAt req.now place ahead.now.cursor.position }
+{
+    match req.admitted().get(place) {
+        Some(admitted) => is_outside(admitted.instruction, ahead.character),
+        None => false,
+    }
+}
+
+// Whether the alternatives from a length word on fail before the character ahead, by FIRST sets.
+#[inline(always)]
+fn bars_alternatives<S: StrDrive>(req: &Request<'_, S>, place: usize, ahead: &Ahead) -> bool
+    requires { ahead.now.character ≡ character_at req.now ahead.now.cursor.position }
+    ensures { result ≡ true → Exhausted (run_of req.now) (Alternatives place) ahead.now.cursor.position }
+{
+    match req.admitted().get(place) {
+        Some(admitted) => is_outside(admitted.alternatives, ahead.character),
+        None => false,
+    }
+}
+
 // Where the machine continues: an instruction's address, and a cursor.
 #[derive(Clone, Copy)]
 struct Onward {
@@ -123,27 +164,25 @@ struct Onward {
     cursor: StringCursor,
 }
 
-// The address and cursor after a test of one character, if it takes the one at the cursor.
+// The address and cursor after a test of one character, if it takes the one ahead.
 #[inline(always)]
 fn behind_test<S: StrDrive>(
     req: &Request<'_, S>,
     opcode: SreOpcode,
     place: usize,
-    character: u32,
-    after: StringCursor,
-    cursor: StringCursor,
+    ahead: &Ahead,
 ) -> Option<Onward>
     requires opcode { OpcodeAt req.now place opcode }
     requires tests { begins_test opcode ≡ true }
-    requires stands { At req.now place cursor }
-    requires read { ReadAt req.now cursor character after }
-    ensures { MatchOption result (RefusesAt req.now place cursor.position)
-        (λ x. ContinuesTo req.now (Instruction place) cursor (Instruction x.place) x.cursor) }
+    requires stands { At req.now place ahead.now.cursor }
+    requires read { ReadAt req.now ahead.now.cursor ahead.now.character ahead.now.after }
+    ensures { MatchOption result (RefusesAt req.now place ahead.now.cursor.position)
+        (λ x. ContinuesTo req.now (Instruction place) ahead.now.cursor (Instruction x.place) x.cursor) }
 {
-    if takes(req, place, opcode, character) {
+    if takes(req, place, opcode, ahead.character) {
         Some(Onward {
             place: test_end(req, place, opcode),
-            cursor: after,
+            cursor: ahead.after,
         })
     } else {
         None
@@ -163,23 +202,16 @@ fn behind_jump<S: StrDrive>(req: &Request<'_, S>, place: usize, cursor: StringCu
     place
 }
 
-// Continues after a set that takes the character at the cursor, and after the JUMP that ends an alternative of one
-// character.
+// Continues after a set that takes the character ahead, and after the JUMP that ends an alternative of one character.
 #[inline(always)]
-fn behind_set<S: StrDrive>(
-    req: &Request<'_, S>,
-    place: usize,
-    character: u32,
-    after: StringCursor,
-    cursor: StringCursor,
-) -> Option<Onward>
+fn behind_set<S: StrDrive>(req: &Request<'_, S>, place: usize, ahead: &Ahead) -> Option<Onward>
     requires opcode { OpcodeAt req.now place SreOpcode.IN }
-    requires stands { At req.now place cursor }
-    requires read { ReadAt req.now cursor character after }
-    ensures { MatchOption result (RefusesAt req.now place cursor.position)
-        (λ x. ContinuesTo req.now (Instruction place) cursor (Instruction x.place) x.cursor) }
+    requires stands { At req.now place ahead.now.cursor }
+    requires read { ReadAt req.now ahead.now.cursor ahead.now.character ahead.now.after }
+    ensures { MatchOption result (RefusesAt req.now place ahead.now.cursor.position)
+        (λ x. ContinuesTo req.now (Instruction place) ahead.now.cursor (Instruction x.place) x.cursor) }
 {
-    let Some(behind) = behind_test(req, SreOpcode::IN, place, character, after, cursor) else {
+    let Some(behind) = behind_test(req, SreOpcode::IN, place, ahead) else {
         return None;
     };
     Some(Onward {
@@ -188,93 +220,44 @@ fn behind_set<S: StrDrive>(
     })
 }
 
-// Where the machine continues from an instruction that may match: after a LITERAL, an IN, a NOT_LITERAL or a
-// LITERAL_UNI_IGNORE that takes the character, else at the instruction itself.
+// Where the machine continues from an instruction that may match: after a LITERAL or an IN that takes the character
+// ahead, else at the instruction itself. FIRST sets decide whether others may match. Without them the words do, and the
+// machine also continues after a NOT_LITERAL or a LITERAL_UNI_IGNORE.
 #[inline(always)]
-fn begin<S: StrDrive>(
+fn begin<S: StrDrive, const ADMITTED: bool>(
     req: &Request<'_, S>,
     place: usize,
-    character: u32,
-    after: StringCursor,
-    cursor: StringCursor,
+    ahead: &Ahead,
 ) -> Option<Onward>
-    requires stands { At req.now place cursor }
-    requires read { ReadAt req.now cursor character after }
-    ensures { MatchOption result (RefusesAt req.now place cursor.position)
-        (λ x. ContinuesTo req.now (Instruction place) cursor (Instruction x.place) x.cursor) }
+    requires stands { At req.now place ahead.now.cursor }
+    requires read { ReadAt req.now ahead.now.cursor ahead.now.character ahead.now.after }
+    ensures { MatchOption result (RefusesAt req.now place ahead.now.cursor.position)
+        (λ x. ContinuesTo req.now (Instruction place) ahead.now.cursor (Instruction x.place) x.cursor) }
 {
-    if word(req, place) == SreOpcode::LITERAL as u32 {
-        return behind_test(req, SreOpcode::LITERAL, place, character, after, cursor);
-    }
-    match opcode(req, place, cursor) {
-        SreOpcode::IN => behind_set(req, place, character, after, cursor),
-        SreOpcode::NOT_LITERAL => {
-            behind_test(req, SreOpcode::NOT_LITERAL, place, character, after, cursor)
-        }
-        SreOpcode::LITERAL_UNI_IGNORE => {
-            behind_test(
-                req,
-                SreOpcode::LITERAL_UNI_IGNORE,
-                place,
-                character,
-                after,
-                cursor,
-            )
-        }
-        _ => {
-            if begins_otherwise(req, place, character, cursor) {
-                None
-            } else {
-                Some(Onward { place, cursor })
-            }
-        }
-    }
-}
-
-// The same as `begin`, if the request carries FIRST sets.
-#[inline(always)]
-fn begin_admitted<S: StrDrive>(
-    req: &Request<'_, S>,
-    place: usize,
-    character: u32,
-    after: StringCursor,
-    cursor: StringCursor,
-) -> Option<Onward>
-    requires stands { At req.now place cursor }
-    requires read { ReadAt req.now cursor character after }
-    ensures { MatchOption result (RefusesAt req.now place cursor.position)
-        (λ x. ContinuesTo req.now (Instruction place) cursor (Instruction x.place) x.cursor) }
-{
-    if bars(req, place, character, cursor) {
+    if ADMITTED && bars(req, place, ahead) {
         return None;
     }
-    match opcode(req, place, cursor) {
-        SreOpcode::LITERAL => {
-            behind_test(req, SreOpcode::LITERAL, place, character, after, cursor)
-        }
-        SreOpcode::IN => behind_set(req, place, character, after, cursor),
-        _ => Some(Onward { place, cursor }),
+    if word(req, place) == SreOpcode::LITERAL as u32 {
+        return behind_test(req, SreOpcode::LITERAL, place, ahead);
     }
-}
-
-// The same as `begin`, by FIRST sets or by the code words.
-#[inline(always)]
-fn begin_by<S: StrDrive, const ADMITTED: bool>(
-    req: &Request<'_, S>,
-    place: usize,
-    character: u32,
-    after: StringCursor,
-    cursor: StringCursor,
-) -> Option<Onward>
-    requires stands { At req.now place cursor }
-    requires read { ReadAt req.now cursor character after }
-    ensures { MatchOption result (RefusesAt req.now place cursor.position)
-        (λ x. ContinuesTo req.now (Instruction place) cursor (Instruction x.place) x.cursor) }
-{
-    if ADMITTED {
-        begin_admitted(req, place, character, after, cursor)
-    } else {
-        begin(req, place, character, after, cursor)
+    match opcode(req, place, ahead.cursor) {
+        SreOpcode::IN => behind_set(req, place, ahead),
+        SreOpcode::NOT_LITERAL if !ADMITTED => {
+            behind_test(req, SreOpcode::NOT_LITERAL, place, ahead)
+        }
+        SreOpcode::LITERAL_UNI_IGNORE if !ADMITTED => {
+            behind_test(req, SreOpcode::LITERAL_UNI_IGNORE, place, ahead)
+        }
+        _ => {
+            if !ADMITTED && begins_otherwise(req, place, ahead.character, ahead.cursor) {
+                None
+            } else {
+                Some(Onward {
+                    place,
+                    cursor: ahead.cursor,
+                })
+            }
+        }
     }
 }
 
@@ -291,17 +274,15 @@ struct Alternative {
 fn first_alternative<S: StrDrive, const ADMITTED: bool>(
     req: &Request<'_, S>,
     start: usize,
-    character: u32,
-    after: StringCursor,
-    cursor: StringCursor,
+    ahead: &Ahead,
 ) -> Option<Alternative>
-    requires stands { AtPoint req.now (Alternatives start) cursor }
-    requires read { ReadAt req.now cursor character after }
-    ensures { MatchOption result (Exhausted (run_of req.now) (Alternatives start) cursor.position)
-        (λ x. AtPoint req.now (Alternatives x.length_word) cursor
+    requires stands { AtPoint req.now (Alternatives start) ahead.now.cursor }
+    requires read { ReadAt req.now ahead.now.cursor ahead.now.character ahead.now.after }
+    ensures { MatchOption result (Exhausted (run_of req.now) (Alternatives start) ahead.now.cursor.position)
+        (λ x. AtPoint req.now (Alternatives x.length_word) ahead.now.cursor
         × (0 < word (run_of req.now).words x.length_word)
-        × ContinuesTo req.now (Alternatives start) cursor (Alternatives x.length_word) cursor
-        × ContinuesTo req.now (Instruction (x.length_word + 1)) cursor (Instruction x.place) x.cursor) }
+        × ContinuesTo req.now (Alternatives start) ahead.now.cursor (Alternatives x.length_word) ahead.now.cursor
+        × ContinuesTo req.now (Instruction (x.length_word + 1)) ahead.now.cursor (Instruction x.place) x.cursor) }
 {
     let mut place = start;
     'alternative: loop {
@@ -309,7 +290,7 @@ fn first_alternative<S: StrDrive, const ADMITTED: bool>(
         if length == 0 {
             return None;
         }
-        let first = begin_by::<S, ADMITTED>(req, place + 1, character, after, cursor);
+        let first = begin::<S, ADMITTED>(req, place + 1, ahead);
         if let Some(begun) = first {
             return Some(Alternative {
                 length_word: place,
@@ -328,21 +309,20 @@ pub(super) fn only_alternative<S: StrDrive>(
     req: &Request<'_, S>,
     start: usize,
     end: usize,
-    character: u32,
-    after: StringCursor,
-    cursor: StringCursor,
+    ahead: &Ahead,
 ) -> Option<StringCursor>
-    requires stands { AtPoint req.now (Alternatives start) cursor }
-    requires read { ReadAt req.now cursor character after }
-    ensures { IfSome result (λ behind. YieldsTo (run_of req.now) (Alternatives start) cursor (Instruction end) behind) }
+    requires stands { AtPoint req.now (Alternatives start) ahead.now.cursor }
+    requires read { ReadAt req.now ahead.now.cursor ahead.now.character ahead.now.after }
+    ensures { IfSome result
+        (λ behind. YieldsTo (run_of req.now) (Alternatives start) ahead.now.cursor (Instruction end) behind) }
 {
-    let first = first_alternative::<S, false>(req, start, character, after, cursor)?;
+    let first = first_alternative::<S, false>(req, start, ahead)?;
     let length = word(req, first.length_word) as usize;
     if behind_jump(req, first.place, first.cursor) != end {
         return None;
     }
     let following = first.length_word + length;
-    match first_alternative::<S, false>(req, following, character, after, cursor) {
+    match first_alternative::<S, false>(req, following, ahead) {
         Some(_) => None,
         None => Some(first.cursor),
     }
@@ -396,45 +376,41 @@ fn choose_alternative<S: StrDrive, A: Allocator>(
 fn other_alternative<S: StrDrive, const ADMITTED: bool>(
     req: &Request<'_, S>,
     start: usize,
-    character: u32,
-    after: StringCursor,
-    cursor: StringCursor,
+    ahead: &Ahead,
 ) -> Option<Alternative>
-    requires stands { AtPoint req.now (Alternatives start) cursor }
-    requires read { ReadAt req.now cursor character after }
-    ensures { MatchOption result (Exhausted (run_of req.now) (Alternatives start) cursor.position)
-        (λ x. ContinuesTo req.now (Alternatives start) cursor (Alternatives x.length_word) cursor) }
+    requires stands { AtPoint req.now (Alternatives start) ahead.now.cursor }
+    requires read { ReadAt req.now ahead.now.cursor ahead.now.character ahead.now.after }
+    ensures { MatchOption result (Exhausted (run_of req.now) (Alternatives start) ahead.now.cursor.position)
+        (λ x. ContinuesTo req.now (Alternatives start) ahead.now.cursor (Alternatives x.length_word) ahead.now.cursor) }
 {
-    if ADMITTED && bars_alternatives(req, start, character, cursor) {
+    if ADMITTED && bars_alternatives(req, start, ahead) {
         return None;
     }
-    first_alternative::<S, ADMITTED>(req, start, character, after, cursor)
+    first_alternative::<S, ADMITTED>(req, start, ahead)
 }
 
-// The alternatives from a length word on, before a character.
+// The alternatives from a length word on, before the character ahead.
 #[inline(always)]
 fn alternatives_before<S: StrDrive, A: Allocator, const ADMITTED: bool>(
     req: &Request<'_, S>,
     board: &mut Board<A>,
     start: usize,
-    character: u32,
-    after: StringCursor,
-    cursor: StringCursor,
+    ahead: &Ahead,
 ) -> Result<Next, Refusal<A>>
-    requires stands { AtPoint req.now (Alternatives start) cursor }
-    requires read { ReadAt req.now cursor character after }
-    ensures { IfOk result (λ next. TurnAt req.now (Alternatives start) cursor board.old next board.new) }
+    requires stands { AtPoint req.now (Alternatives start) ahead.now.cursor }
+    requires read { ReadAt req.now ahead.now.cursor ahead.now.character ahead.now.after }
+    ensures { IfOk result (λ next. TurnAt req.now (Alternatives start) ahead.now.cursor board.old next board.new) }
 {
-    let Some(first) = first_alternative::<S, ADMITTED>(req, start, character, after, cursor) else {
+    let Some(first) = first_alternative::<S, ADMITTED>(req, start, ahead) else {
         return Ok(Next::Back);
     };
     let length = word(req, first.length_word) as usize;
     let following = first.length_word + length;
-    let others = other_alternative::<S, ADMITTED>(req, following, character, after, cursor);
+    let others = other_alternative::<S, ADMITTED>(req, following, ahead);
     let Some(other) = others else {
         return Ok(Next::At(first.place, first.cursor));
     };
-    Ok(choose_alternative(req, board, first, other.length_word, cursor)?)
+    Ok(choose_alternative(req, board, first, other.length_word, ahead.cursor)?)
 }
 
 /// The alternatives of a BRANCH from a length word on: `length body JUMP skip ... 0`.
@@ -452,10 +428,15 @@ pub(super) fn alternatives<S: StrDrive, A: Allocator>(
         return Ok(alternatives_at_end(req, board, start, cursor)?);
     }
     let (character, after) = read(req, cursor);
+    let ahead = Ahead {
+        cursor,
+        character,
+        after,
+    };
     if character < 128 && !req.admitted().is_empty() {
-        return alternatives_before::<S, A, true>(req, board, start, character, after, cursor);
+        return alternatives_before::<S, A, true>(req, board, start, &ahead);
     }
-    alternatives_before::<S, A, false>(req, board, start, character, after, cursor)
+    alternatives_before::<S, A, false>(req, board, start, &ahead)
 }
 
 /// `BRANCH length body JUMP skip ... 0`: the first alternative, then the others.

@@ -11,7 +11,6 @@ pub mod admitting;
 pub mod allowance;
 mod asked_places;
 mod atomic_scopes;
-pub mod barring;
 mod branches;
 mod character_repeats;
 mod long_repeats;

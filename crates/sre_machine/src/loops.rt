@@ -6,12 +6,12 @@
 //! nested loops would save the square of their depth.
 
 ghost use Rattle.std.specs.Prelude.{◌≡◌, ◌+◌, IfOk};
-ghost use Rattle.sre_machine.specs.Terms.{Word, Instruction, next_frame, MayRepeat, run_of, OpcodeAt, may_repeat};
+ghost use Rattle.sre_machine.specs.Terms.{Instruction, next_frame, MayRepeat, run_of, OpcodeAt, may_repeat};
 ghost use Rattle.sre_machine.specs.Terms.{with_loop};
 ghost use Rattle.sre_machine.specs.Turns.{Turn, AtOnBoard};
 
 use crate::machine::{ends_in_vain, opcode, refuses};
-use crate::strides::{may_stride, stride_on};
+use crate::strides::{may_stride, strided};
 use sre_board::Board;
 use sre_chars::constants::{MAXREPEAT, SreOpcode};
 use sre_chars::string::{StrDrive, StringCursor};
@@ -73,10 +73,10 @@ pub(super) fn repeat<S: StrDrive, A: Allocator, const STRIDES: bool>(
     }
 }
 
-// A further body of a greedy loop whose frame is off the stack, if one may be tried, or the loop's end.
+/// A further body of a greedy loop whose frame is off the stack, if one may be tried, or the loop's end.
 #[tactic(auto, using(sre_turns::proofs::semantics::StepsInLoops::until_operands))]
 #[inline(always)]
-fn body_or_end<S: StrDrive, A: Allocator>(
+pub(super) fn body_or_end<S: StrDrive, A: Allocator>(
     req: &Request<'_, S>,
     board: &mut Board<A>,
     place: usize,
@@ -103,28 +103,6 @@ fn body_or_end<S: StrDrive, A: Allocator>(
     board.save(Point::Instruction(place + 1), cursor)?;
     board.enter(next)?;
     Ok(Next::At(body, cursor))
-}
-
-// The same as `body_or_end`, after a batch of bodies. It is out of line, so that only batches pass values through
-// memory.
-#[inline(never)]
-fn strided<S: StrDrive, A: Allocator>(
-    req: &Request<'_, S>,
-    board: &mut Board<A>,
-    place: usize,
-    greatest: u32,
-    frame: Frame,
-    cursor: StringCursor,
-) -> Result<Next, Refusal<A>>
-    requires opcode { OpcodeAt req.now place SreOpcode.MAX_UNTIL }
-    requires greatest { Word (run_of req.now).words (frame.repeat + 3) greatest }
-    requires more { MayRepeat (run_of req.now).words frame cursor.position }
-    requires stands { AtOnBoard req.now (Instruction place) cursor (with_loop frame board.old) }
-    ensures { IfOk result
-        (λ next. Turn req.now place cursor (with_loop frame board.old) next board.new) }
-{
-    let end = stride_on(req, board, place, greatest, frame, cursor);
-    Ok(body_or_end(req, board, place, end.frame, end.cursor)?)
 }
 
 // A required body, or, once there are enough, a further body or the end.

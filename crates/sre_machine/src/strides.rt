@@ -7,25 +7,27 @@
 //! In a long batch one set decides the next characters, instead of the alternatives. It has the ASCII characters with
 //! which exactly one alternative begins, which is a single test.
 
-ghost use Rattle.std.specs.Prelude.{◌≡◌, ◌⊎◌, ◌+◌, ℕ, true, false, IfSome, ◌<◌, ◌≤◌, Some};
+ghost use Rattle.std.specs.Prelude.{◌≡◌, ◌⊎◌, ◌+◌, ℕ, true, false, IfOk, IfSome, ◌<◌, ◌≤◌, Some};
 ghost use Rattle.sre_machine.specs.Terms.{Word, Opcode, begins_test, contains, TellsBodies, Alternatives, run_of};
-ghost use Rattle.sre_machine.specs.Terms.{OpcodeAt, TellsTest, unlimited, next_frame, MayRepeat, end_of};
-ghost use Rattle.sre_machine.specs.Turns.{At, AtPoint, DemandedAt};
+ghost use Rattle.sre_machine.specs.Terms.{OpcodeAt, TellsTest, unlimited, next_frame, MayRepeat, end_of, Instruction};
+ghost use Rattle.sre_machine.specs.Terms.{with_loop};
+ghost use Rattle.sre_machine.specs.Turns.{At, AtPoint, AtOnBoard, DemandedAt, Turn};
 ghost use Rattle.sre_turns.specs.Strides.{EndsBody, Strides};
 
-use crate::branches::only_alternative;
-use crate::loops::next_frame;
+use crate::branches::{Ahead, only_alternative};
+use crate::loops::{body_or_end, next_frame};
 use crate::machine::{first_literal, opcode};
 use sre_board::Board;
 use sre_chars::constants::{MAXREPEAT, SreOpcode};
 use sre_chars::string::{StrDrive, StringCursor};
 use sre_code::ascii_set::AsciiSet;
+use sre_growth::Refusal;
 use sre_request::Request;
 use sre_request::ascii::ascii_taken;
 use sre_request::one_character::test_end;
 use sre_request::text::read;
 use sre_request::words::{operand, word, word_at};
-use sre_turns::Frame;
+use sre_turns::{Frame, Next};
 use std::alloc::Allocator;
 
 // The ASCII characters that a test takes, and where the machine continues: after the JUMP that ends the alternative, if
@@ -142,11 +144,11 @@ fn known_bodies<S: StrDrive>(
 // The most iterations of a batch, so that a run makes its memory requests between batches.
 const MOST_BODIES: usize = 65536;
 
-/// The end of a loop's body: the loop's frame, and the cursor.
+// The end of a loop's body: the loop's frame, and the cursor.
 #[derive(Clone, Copy)]
-pub(super) struct BodyEnd {
-    pub(super) frame: Frame,
-    pub(super) cursor: StringCursor,
+struct BodyEnd {
+    frame: Frame,
+    cursor: StringCursor,
 }
 
 // The end of the next body, if it is one character and nothing else may match here.
@@ -179,7 +181,12 @@ fn next_body<S: StrDrive>(
     if character < 128 && told.contains(character) {
         return Some(after);
     }
-    let behind = only_alternative(req, alternatives, place, character, after, cursor)?;
+    let ahead = Ahead {
+        cursor,
+        character,
+        after,
+    };
+    let behind = only_alternative(req, alternatives, place, &ahead)?;
     if behind.position() <= cursor.position() {
         return None;
     }
@@ -274,10 +281,10 @@ pub(super) fn may_stride<S: StrDrive, const STRIDES: bool>(
         && is_branch(req, body)
 }
 
-/// Batches bodies of one character each, in a loop without a greatest count over alternatives, with a literal after it.
+// Batches bodies of one character each, in a loop without a greatest count over alternatives, with a literal after it.
 #[tactic(auto, using(std::proofs::lemmas::Grind::elements))]
 #[inline(always)]
-pub(super) fn stride_on<S: StrDrive, A: Allocator>(
+fn stride_on<S: StrDrive, A: Allocator>(
     req: &Request<'_, S>,
     board: &mut Board<A>,
     place: usize,
@@ -309,4 +316,26 @@ pub(super) fn stride_on<S: StrDrive, A: Allocator>(
     let there = stride(req, place, body + 1, wanted, frame, cursor);
     board.note_bodies(there.cursor.position() - cursor.position());
     there
+}
+
+/// The same as `body_or_end`, after a batch of bodies. It is out of line, so that only batches pass values through
+/// memory.
+#[inline(never)]
+pub(super) fn strided<S: StrDrive, A: Allocator>(
+    req: &Request<'_, S>,
+    board: &mut Board<A>,
+    place: usize,
+    greatest: u32,
+    frame: Frame,
+    cursor: StringCursor,
+) -> Result<Next, Refusal<A>>
+    requires opcode { OpcodeAt req.now place SreOpcode.MAX_UNTIL }
+    requires greatest { Word (run_of req.now).words (frame.repeat + 3) greatest }
+    requires more { MayRepeat (run_of req.now).words frame cursor.position }
+    requires stands { AtOnBoard req.now (Instruction place) cursor (with_loop frame board.old) }
+    ensures { IfOk result
+        (λ next. Turn req.now place cursor (with_loop frame board.old) next board.new) }
+{
+    let end = stride_on(req, board, place, greatest, frame, cursor);
+    Ok(body_or_end(req, board, place, end.frame, end.cursor)?)
 }

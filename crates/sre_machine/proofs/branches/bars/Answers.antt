@@ -1,6 +1,6 @@
 use Rattle.sre_machine.proofs.Terms.{contains, Instruction, run_of}
 use Rattle.sre_machine.proofs.Analyses.{told_there, nothing_before}
-use Rattle.sre_machine.proofs.barring.bars.Goals as goal
+use Rattle.sre_machine.proofs.branches.bars.Goals as goal
 
 pub returns-in-Some : goal.returns-in-Some
 returns-in-Some g c = λ outside.
@@ -9,5 +9,5 @@ returns-in-Some g c = λ outside.
     let told =
     told_there r.words c.admitted.result.now c.args.place c.in-Some.admitted.now _ c.admitted.ensures.admitted
     found.0 found.1 in
-    nothing_before r (Instruction c.args.place) (contains c.in-Some.admitted.now.instruction) c.args.character
-    c.args.cursor.position told.instruction (c.is_outside.ensures outside) c.requires
+    nothing_before r (Instruction c.args.place) (contains c.in-Some.admitted.now.instruction) c.args.ahead.now.character
+    c.args.ahead.now.cursor.position told.instruction (c.is_outside.ensures outside) c.requires

@@ -1,5 +1,5 @@
 use Rattle.sre_machine.proofs.Terms.{run_of, strides_at, strides_goes}
-use Rattle.sre_machine.proofs.loops.strided.Goals as goal
+use Rattle.sre_machine.proofs.strides.strided.Goals as goal
 
 pub body_or_end-requires-clause-stands : goal.body_or_end-requires-clause-stands
 body_or_end-requires-clause-stands g c =
