@@ -332,9 +332,10 @@ fn longer_saved<S: StrDrive, A: Allocator, const KEEPS: bool>(
     longer::<S, A, false>(req, board, place, count, start)
 }
 
-// The newest choice, if there is one. Markers of tried instructions are popped.
+/// Continues with the newest choice, if there is one. Markers of tried instructions are popped: these failed, which is
+/// memoized if the memo is open.
 #[inline(always)]
-fn newest_choice<S: StrDrive, A: Allocator, const KEEPS: bool>(
+pub(super) fn back<S: StrDrive, A: Allocator, const KEEPS: bool>(
     req: &Request<'_, S>,
     board: &mut Board<A>,
     memo: &mut Memo<A>,
@@ -347,6 +348,7 @@ fn newest_choice<S: StrDrive, A: Allocator, const KEEPS: bool>(
     ensures remembers { RecallsOf req.now memo.new }
     ensures same { IfOk result (λ _. memo.new ≡ record memo.old { kept = memo.new.kept; marked = memo.new.marked }) }
 {
+    board.ask_allocator()?;
     'choice: loop {
         let Some(choice) = board.back() else {
             return Ok(None);
@@ -378,26 +380,6 @@ fn newest_choice<S: StrDrive, A: Allocator, const KEEPS: bool>(
             }
         }
     }
-}
-
-/// Continues with the newest choice, if there is one. Markers of tried instructions are popped: these failed, which is
-/// memoized if the memo is open.
-#[inline(always)]
-pub(super) fn back<S: StrDrive, A: Allocator, const KEEPS: bool>(
-    req: &Request<'_, S>,
-    board: &mut Board<A>,
-    memo: &mut Memo<A>,
-) -> Result<Option<Next>, Refusal<A>>
-    requires stands { IsBack (run_of req.now) board.old }
-    requires remembers { RecallsOf req.now memo.old }
-    ensures next { IfOk result (λ found. MatchOption found
-        (Finishes A req.now KEEPS board.old memo.old memo.new)
-        (λ next. Retreats A req.now KEEPS board.old memo.old next board.new memo.new)) }
-    ensures remembers { RecallsOf req.now memo.new }
-    ensures same { IfOk result (λ _. memo.new ≡ record memo.old { kept = memo.new.kept; marked = memo.new.marked }) }
-{
-    board.ask_allocator()?;
-    newest_choice::<S, A, KEEPS>(req, board, memo)
 }
 
 /// Executes one instruction, which may batch loop iterations if `STRIDES` is set. Each loop of steps has its own

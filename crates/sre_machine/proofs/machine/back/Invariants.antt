@@ -1,5 +1,5 @@
 use Rattle.sre_machine.proofs.Terms.{◌≡◌, length, GoesBack}
-use Rattle.sre_machine.proofs.machine.newest_choice.Given as goal
+use Rattle.sre_machine.proofs.machine.back.Given as goal
 
 abbrev pub invariant-choice : goal.invariant-choice
 invariant-choice g l = GoesBack g.row.A.Denot (g.row.KEEPS ≡ 0 → ⊥) l.req l.fn.board l.fn.memo l.board l.memo
