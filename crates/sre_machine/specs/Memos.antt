@@ -74,6 +74,10 @@ Recalls r m = Recalled r m.kept m.marked m.ends m.keeps_ends
 abbrev pub MarkedStays : MarkedValue → MarkedValue → Type 0
 MarkedStays m m' = (m'.marks ≡ m.marks) × (m'.kept ≡ m.kept)
 
+-- the failures are as they were
+abbrev pub FailuresStay : MemoValue → MemoValue → Type 0
+FailuresStay m m' = (m'.kept ≡ m.kept) × (m'.marked ≡ m.marked)
+
 -- the ends are as they were, and from which position on failures are kept
 abbrev pub EndsStay : MemoValue → MemoValue → Type 0
 EndsStay m m' = (m'.ends ≡ m.ends) × (m'.keeps_ends ≡ m.keeps_ends) × (m'.first ≡ m.first)

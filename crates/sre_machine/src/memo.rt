@@ -7,13 +7,14 @@
 //! then continues with the memo, but restarts if it has a step limit.
 
 ghost use Rattle.std.specs.Prelude.{[], ◌≡◌, ◌⊎◌, ◌+◌, ◌-◌, ◌*◌, ◌≤◌, IfSome, IfNone, true, false};
-ghost use Rattle.sre_machine.specs.Terms.{is_inside, spot_at, Refused, HoldsNone, Tells, Laid, kept_of, TellsEnd};
+ghost use Rattle.sre_machine.specs.Terms.{is_inside, spot_at, Refused, HoldsNone, Laid, kept_of, TellsEnd};
 ghost use Rattle.sre_machine.specs.Terms.{HoldsOpenMore, KeepsOpenEnds, HoldsOpenEnds, StringCursor, MarklessRegions};
 ghost use Rattle.sre_machine.specs.Terms.{run_of, start_of, end_of, KeepsSpot, repeats};
-ghost use Rattle.sre_machine.specs.Memos.{MakesRoom, RecallsOf, EndsStay, IsBlankMemo, KeepsEndsOf, KeepsFrom};
+ghost use Rattle.sre_machine.specs.Memos.{MakesRoom, RecallsOf, EndsStay, FailuresStay, IsBlankMemo, KeepsEndsOf};
+ghost use Rattle.sre_machine.specs.Memos.{KeepsFrom};
 
 use crate::marked::Marked;
-use sre_board::{Board, Ends, Failures, Known};
+use sre_board::{Board, Ends, Failures};
 use sre_chars::string::{StrDrive, StringCursor};
 use sre_code::operands::know_words;
 use sre_growth::Refusal;
@@ -258,8 +259,7 @@ impl<A: Allocator> Memo<A> {
     // Notes an event, and returns whether the memo is open from now on.
     #[inline(always)]
     pub(crate) fn opens<S: StrDrive>(&mut self, req: &Request<'_, S>, board: &mut Board<A>) -> bool
-        ensures kept { self.new.kept ≡ self.old.kept }
-        ensures marked { self.new.marked ≡ self.old.marked }
+        ensures failures { FailuresStay self.old self.new }
         ensures recalls { RecallsOf req.now self.old → RecallsOf req.now self.new }
         ensures stopped { self.new.stopped ≡ self.old.stopped }
         ensures opened { self.new.is_open ≡ result }
@@ -277,8 +277,7 @@ impl<A: Allocator> Memo<A> {
     #[inline(never)]
     fn looks<S: StrDrive>(&mut self, req: &Request<'_, S>, board: &mut Board<A>) -> bool
         requires { self.old.patience ≡ 0 }
-        ensures kept { self.new.kept ≡ self.old.kept }
-        ensures marked { self.new.marked ≡ self.old.marked }
+        ensures failures { FailuresStay self.old self.new }
         ensures recalls { RecallsOf req.now self.old → RecallsOf req.now self.new }
         ensures stopped { self.new.stopped ≡ self.old.stopped }
         ensures opened { self.new.is_open ≡ result }
@@ -331,19 +330,12 @@ impl<A: Allocator> Memo<A> {
         self.refused = Some(refusal);
     }
 
-    // What is known of a point at a position, under the present stack.
+    // The failures that are memoized without captures.
     #[inline(always)]
-    pub(crate) fn known(
-        &self,
-        words: &[u32],
-        board: &Board<A>,
-        point: Point,
-        position: usize,
-    ) -> Known
-        ensures { Tells result self.now.kept words.now (is_inside board.now.choices)
-            (spot_at point board.now.frames position board.now.marks) }
+    pub(crate) fn failures(&self) -> &Failures<A>
+        ensures { result.now ≡ self.now.kept }
     {
-        self.failures.known(words, board, point, position)
+        &self.failures
     }
 
     // Memoizes that a point fails at a position, under the present stack.

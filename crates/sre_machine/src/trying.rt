@@ -98,7 +98,7 @@ fn is_marked_so<S: StrDrive, A: Allocator>(
     ensures { result ≡ true → AlikeMarks req.now memo.now.marked.marks board.now.marks }
 {
     let first = 2 * req.pattern_codes().asked_from() as usize;
-    memo.agrees(board.marks().raw(), first)
+    memo.marked().agrees(board.marks().raw(), first)
 }
 
 // Whether no capture is live at a point, as far as that is known.
@@ -113,7 +113,7 @@ fn is_idle<S: StrDrive, A: Allocator>(
     ensures { result ≡ true → IdleThere req.now point board.now }
 {
     match point {
-        Point::Instruction(place) => memo.is_idle(board, place),
+        Point::Instruction(place) => memo.marked().is_idle(board, place),
         _ => false,
     }
 }
@@ -271,7 +271,9 @@ fn has_failed<S: StrDrive, A: Allocator>(
 {
     let words = req.pattern_codes().items();
     memo.prepare(words, board, point, req.end());
-    let known = memo.known(words, board, point, cursor.position());
+    let known = memo
+        .failures()
+        .known(words, board, point, cursor.position());
     is_left(board, known, point, cursor)
 }
 
@@ -295,7 +297,7 @@ fn has_failed_marked<S: StrDrive, A: Allocator>(
 {
     let words = req.pattern_codes().items();
     memo.prepare_marked(words, board, point, req.end());
-    let known = memo.known_marked(words, board, point, cursor.position());
+    let known = memo.marked().known(words, board, point, cursor.position());
     is_left(board, known, point, cursor)
 }
 

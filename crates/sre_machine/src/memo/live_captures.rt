@@ -1,32 +1,24 @@
 //! Failures that are memoized under live captures.
 
-ghost use Rattle.std.specs.Prelude.{ℕ, ◌≡◌, ◌⊎◌, ◌+◌, ◌*◌, ◌<◌, ◌≤◌, None, slice_index_or, true};
-ghost use Rattle.sre_machine.specs.Terms.{mark_at, is_inside, Asks, spot_at, AreIdle, SaysOf, items_of, Refused};
-ghost use Rattle.sre_machine.specs.Terms.{HoldsNone, HoldsNoMore, HoldsOneMore, Tells};
+ghost use Rattle.std.specs.Prelude.{ℕ, ◌≡◌, ◌⊎◌, ◌+◌, ◌*◌, ◌<◌, true};
+ghost use Rattle.sre_machine.specs.Terms.{is_inside, Asks, spot_at, AreIdle, items_of, Refused};
+ghost use Rattle.sre_machine.specs.Terms.{HoldsNone, HoldsNoMore, HoldsOneMore};
 ghost use Rattle.sre_machine.specs.Memos.{EndsStay, MarkedStays};
 
+use crate::marked::Marked;
 use crate::memo::Memo;
-use sre_board::{Board, Known};
+use sre_board::Board;
 use sre_code::Code;
 use sre_turns::Point;
 use std::alloc::Allocator;
 
 impl<A: Allocator> Memo<A> {
-    // Whether the captures from a slot on are those under which failures are memoized.
+    // The failures under live captures.
     #[inline(always)]
-    pub(crate) fn agrees(&self, raw: &[Option<usize>], from: usize) -> bool
-        ensures { result ≡ true → (k : ℕ) → from ≤ k → k < self.now.marked.end
-            → mark_at self.now.marked.marks k ≡ slice_index_or raw.now k None }
+    pub(crate) fn marked(&self) -> &Marked<A>
+        ensures { result.now ≡ self.now.marked }
     {
-        self.marked.agrees(raw, from)
-    }
-
-    // Whether no capture is live at an address, nor in a further body of a loop in progress, as far as that is known.
-    #[inline(always)]
-    pub(crate) fn is_idle(&self, board: &Board<A>, place: usize) -> bool
-        ensures { result ≡ true → SaysOf self.now.marked.idle board.now.frames place }
-    {
-        self.marked.is_idle(board, place)
+        &self.marked
     }
 
     // Notes that other live captures were met, and adopts them once that happened often enough. The first time it
@@ -69,21 +61,6 @@ impl<A: Allocator> Memo<A> {
         if let Err(refusal) = self.marked.prepare(words, board, point, self.first, end) {
             self.close(refusal);
         }
-    }
-
-    // What is known of a point at a position under live captures and the present stack.
-    #[inline(always)]
-    pub(crate) fn known_marked(
-        &self,
-        words: &[u32],
-        board: &Board<A>,
-        point: Point,
-        position: usize,
-    ) -> Known
-        ensures { Tells result self.now.marked.kept words.now (is_inside board.now.choices)
-            (spot_at point board.now.frames position board.now.marks) }
-    {
-        self.marked.known(words, board, point, position)
     }
 
     // Memoizes that a point fails at a position under live captures and the present stack.

@@ -10,7 +10,8 @@ returns-clause-leaves g c =
     leaves_prepared c.args.req.now c.args.memo.now c.prepare.new.self c.items-words.result.now c.position.result
     c.is_left.ensures words c.position.ensures c.end.result c.end.ensures.value c.prepare.ensures.makes
     c.prepare.ensures.same c.prepare.ensures.refused
-    c.requires.forks c.requires.remembers c.requires.no_end c.known-known.ensures c.requires.serves
+    c.requires.forks c.requires.remembers c.requires.no_end
+    (rw c.failures.ensures at c.known-known.ensures.told) c.requires.serves
 
 pub returns-clause-tries : goal.returns-clause-tries
 returns-clause-tries g c =
@@ -19,7 +20,8 @@ returns-clause-tries g c =
     tries_prepared c.args.req.now c.args.memo.now c.prepare.new.self c.items-words.result.now c.position.result
     c.is_left.ensures words c.position.ensures c.end.result c.end.ensures.value c.prepare.ensures.makes
     c.prepare.ensures.same c.prepare.ensures.refused
-    c.requires.forks c.requires.remembers c.requires.no_end c.known-known.ensures
+    c.requires.forks c.requires.remembers c.requires.no_end
+    (rw c.failures.ensures at c.known-known.ensures.told)
 
 pub returns-clause-remembers : goal.returns-clause-remembers
 returns-clause-remembers g c =

@@ -13,7 +13,7 @@ pub returns-clause-leaves : goal.returns-clause-leaves
 returns-clause-leaves g c =
     leaves_marked c.args.req.now c.args.memo.now c.prepare_marked.new.self c.items-words.result.now c.position.result
     c.is_left.ensures (c.items-words.ensures.same ∙ ap items_of c.pattern_codes.ensures) c.position.ensures
-    c.requires.refers c.known_marked-known.ensures c.requires.marked c.prepare_marked.ensures.no_more
+    c.requires.refers (rw c.marked.ensures at c.known-known.ensures) c.requires.marked c.prepare_marked.ensures.no_more
     c.requires.remembers
 
 pub returns-clause-tries : goal.returns-clause-tries
