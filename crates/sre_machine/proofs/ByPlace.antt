@@ -2,8 +2,8 @@
 -- The list by which branches skip alternatives rests on this; nothing else here does.
 use Rattle.std.proofs.Common.{◌≡◌, ◌⊎◌, inl, inr, Bool, true, false, not, ◌&&◌, ◌||◌, refl}
 use Rattle.sre_machine.proofs.Terms.{◌≡◌, ℕ, ◌+◌, Bool, true, false, not, ◌&&◌, ◌||◌, nat_lt, List, [], ◌∷◌, Some, refl}
-use Rattle.sre_machine.proofs.Terms.{sym, ap, ◌∙◌, arith, nat_tests, Opcode, contains, cond, Table, SetItem, Single}
-use Rattle.sre_machine.proofs.Terms.{Range, RangeUniIgnore, Category, Charset, BigCharset, Negate, item_holds, verdict}
+use Rattle.sre_machine.proofs.Terms.{sym, ap, ◌∙◌, arith, nat_tests, Opcode, contains, cond, Table, SetItem}
+use Rattle.sre_machine.proofs.Terms.{Negate, item_holds, verdict}
 use Rattle.sre_machine.proofs.Terms.{is_member, negated, nothing_left, AsciiSet, HoldsFor, AreTold}
 use Rattle.sre_chars.specs.declared.constants.SreOpcode.TheVariants as opcode
 

@@ -23,49 +23,6 @@ struct Item {
     next: usize,
 }
 
-// The item of a LITERAL, if its operand exists.
-fn literal(words: &[u32], place: usize) -> Option<Item>
-    requires { Opcode words.now place SreOpcode.LITERAL }
-    ensures { IfSome result (λ item. HoldsFor words.now place item.members item.next) }
-{
-    let _length = words.len(); // a slice has few items, so no address overflows
-    let value = word_at(words, place + 1)?;
-    Some(Item {
-        members: AsciiSet::of_character(value),
-        next: place + 2,
-    })
-}
-
-// The item of a RANGE, if its operands exist.
-fn range(words: &[u32], place: usize) -> Option<Item>
-    requires { Opcode words.now place SreOpcode.RANGE }
-    ensures { IfSome result (λ item. HoldsFor words.now place item.members item.next) }
-{
-    let _length = words.len(); // a slice has few items, so no address overflows
-    let low = word_at(words, place + 1)?;
-    let high = word_at(words, place + 2)?;
-    Some(Item {
-        members: AsciiSet::of_range(low, high),
-        next: place + 3,
-    })
-}
-
-// The item of a CATEGORY, if its operand is a category's number.
-fn category(words: &[u32], place: usize) -> Option<Item>
-    requires { Opcode words.now place SreOpcode.CATEGORY }
-    ensures { IfSome result (λ item. HoldsFor words.now place item.members item.next) }
-{
-    let _length = words.len(); // a slice has few items, so no address overflows
-    let number = word_at(words, place + 1)?;
-    match SreCatCode::try_from(number) {
-        Ok(code) => Some(Item {
-            members: AsciiSet::of_category(code),
-            next: place + 2,
-        }),
-        Err(_) => None,
-    }
-}
-
 // The ASCII characters whose bits are set in the words after a CHARSET.
 fn ascii_bits(words: &[u32], place: usize) -> AsciiSet
     requires { place + 9 ≤ length words.now }
@@ -96,15 +53,38 @@ fn charset(words: &[u32], place: usize) -> Option<Item>
     })
 }
 
-// The item at an address, if it is a LITERAL, a RANGE, a CATEGORY or a CHARSET.
+// The item at an address, if it is a LITERAL, a RANGE, a CATEGORY or a CHARSET whose operands exist.
 fn item_at(words: &[u32], place: usize, opcode: SreOpcode) -> Option<Item>
     requires { Opcode words.now place opcode }
     ensures { IfSome result (λ item. HoldsFor words.now place item.members item.next) }
 {
+    let _length = words.len(); // a slice has few items, so no address overflows
     match opcode {
-        SreOpcode::LITERAL => literal(words, place),
-        SreOpcode::RANGE => range(words, place),
-        SreOpcode::CATEGORY => category(words, place),
+        SreOpcode::LITERAL => {
+            let value = word_at(words, place + 1)?;
+            Some(Item {
+                members: AsciiSet::of_character(value),
+                next: place + 2,
+            })
+        }
+        SreOpcode::RANGE => {
+            let low = word_at(words, place + 1)?;
+            let high = word_at(words, place + 2)?;
+            Some(Item {
+                members: AsciiSet::of_range(low, high),
+                next: place + 3,
+            })
+        }
+        SreOpcode::CATEGORY => {
+            let number = word_at(words, place + 1)?;
+            match SreCatCode::try_from(number) {
+                Ok(code) => Some(Item {
+                    members: AsciiSet::of_category(code),
+                    next: place + 2,
+                }),
+                Err(_) => None,
+            }
+        }
         SreOpcode::CHARSET => charset(words, place),
         _ => None,
     }
