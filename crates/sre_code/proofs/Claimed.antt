@@ -1,13 +1,14 @@
 -- The prefix of the INFO block, and what is confirmed of the block.
 use Rattle.sre_code.proofs.Terms.{cases_lt, le-ltb, inl, inr, ℕ, ◌+◌, ◌-◌, ◌≡◌, ◌≢◌, ◌<◌, ◌≤◌, Bool, true, false, cond}
 use Rattle.sre_code.proofs.Terms.{nat_eq, List, ◌∷◌, length, Option, Some, None, slice_index, take, drop, refl, sym}
-use Rattle.sre_code.proofs.Terms.{◌∙◌, ap, subst, arith, nat_tests, SreOpcode, Tree, Empty, Then, One, Mark, Literal}
-use Rattle.sre_code.proofs.Terms.{Plain, role, is_end, Word, word, Opcode, Reads, ReadsItem, behind_marks}
-use Rattle.sre_code.proofs.Terms.{behind_adjacent, behind_spread, behind_literals, word_there, word_at, word_of}
-use Rattle.sre_code.proofs.Terms.{word_within, same_opcode, opcode_moved, reads_moved, item_same, Ends, MarksPassed}
-use Rattle.sre_code.proofs.Terms.{LeftAt, NoneLeft, LeftBehind, ◌*◌, ◌/◌, ◌%◌, nat_lt, nat_le, ◌&&◌, slice_range}
-use Rattle.sre_code.proofs.Terms.{Decides, Table, skip, WholeItems, opcode_within, operands_past, reads_within}
-use Rattle.sre_code.proofs.Terms.{has_flag, are_overlaps, HasFirstSet, HasBlock, Confirmed, IsLiteralAt, has_block}
+use Rattle.sre_code.proofs.Terms.{◌∙◌, ap, subst, arith, nat_tests, SreOpcode, Tree, Empty, Then, Plain, role, is_end}
+use Rattle.sre_code.proofs.Terms.{Word, word, Opcode, Reads, ReadsItem, behind_marks, behind_adjacent, behind_spread}
+use Rattle.sre_code.proofs.Terms.{behind_literals, word_there, word_at, word_of, word_within, same_opcode, opcode_moved}
+use Rattle.sre_code.proofs.Terms.{reads_moved, item_same, Ends, MarksPassed, LeftAt, NoneLeft, LeftBehind, ◌*◌, ◌/◌}
+use Rattle.sre_code.proofs.Terms.{◌%◌, nat_lt, nat_le, ◌&&◌, slice_range, Decides, Table, skip, WholeItems}
+use Rattle.sre_code.proofs.Terms.{opcode_within, operands_past, reads_within, has_flag, are_overlaps, HasFirstSet}
+use Rattle.sre_code.proofs.Terms.{HasBlock, Confirmed, IsLiteralAt, has_block}
+use Rattle.sre_model.specs.Tree.{One, Mark, Literal}
 use Rattle.std.proofs.lemmas.List.{at_drop_more, at_drop_all}
 use Rattle.sre_model.specs.Claims.{then_spread, prefix_length, prefix_skip, prefix_words, overlap_words, has_prefix}
 use Rattle.sre_model.specs.Claims.{behind_prefix, is_at_end, confirmed_width, is_literal}

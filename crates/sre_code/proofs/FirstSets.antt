@@ -1,13 +1,15 @@
 -- What is computed of the first items of trees, by the code words there.
 use Rattle.sre_code.proofs.Terms.{ℕ, ◌+◌, ◌-◌, ◌/◌, ◌%◌, ◌≡◌, ◌≢◌, ◌<◌, ◌≤◌, ◌⊎◌, inl, inr, ⊎_elim, Bool, true, false}
 use Rattle.sre_code.proofs.Terms.{List, length, slice_range, refl, sym, ◌∙◌, ap, subst, arith, Decides, opcode_number}
-use Rattle.sre_code.proofs.Terms.{Table, SreOpcode, Tree, Empty, Then, Item, One, Branch, Trees, Only, Or, Literal, In}
-use Rattle.sre_code.proofs.Terms.{Plain, SetItem, ToBranch, role, is_end, is_member, Word, word, skip, Opcode, Reads}
-use Rattle.sre_code.proofs.Terms.{ReadsItem, ReadsBranch, ReadsSet, WholeItems, item_opcode, SetStands, HasSet}
-use Rattle.sre_code.proofs.Terms.{behind_marks, HasFirstSet, has_flag, word_at, word_of, word_within, same_opcode}
-use Rattle.sre_code.proofs.Terms.{opcode_moved, opcode_within, set_within, alternative_long, is_branch, role_here}
-use Rattle.sre_code.proofs.Terms.{HasBlock, NoCode, IsSet, NoSet, Ends, MarksPassed, AreWords, word_moved, Tells}
-use Rattle.sre_code.proofs.Terms.{TellsEach}
+use Rattle.sre_code.proofs.Terms.{Table, SreOpcode, Tree, Empty, Then, Item, Trees, Only, Or, Plain, SetItem, role}
+use Rattle.sre_code.proofs.Terms.{is_end, is_member, Word, word, skip, Opcode, Reads, ReadsItem, ReadsBranch, ReadsSet}
+use Rattle.sre_code.proofs.Terms.{WholeItems, item_opcode, SetStands, HasSet, behind_marks, HasFirstSet, has_flag}
+use Rattle.sre_code.proofs.Terms.{word_at, word_of, word_within, same_opcode, opcode_moved, opcode_within, set_within}
+use Rattle.sre_code.proofs.Terms.{alternative_long, role_here, HasBlock, NoCode, IsSet, NoSet, Ends, MarksPassed}
+use Rattle.sre_code.proofs.Terms.{AreWords, word_moved, Tells, TellsEach}
+use Rattle.sre_model.specs.Tree.{One, Branch, Literal, In}
+use Rattle.sre_model.specs.Roles.{ToBranch}
+use Rattle.sre_model.proofs.Opcodes.{is_branch}
 use Rattle.sre_model.specs.Claims.{TestIn, EachTestIn, FirstIn}
 use Rattle.sre_model.proofs.SetWords.{same_words_set, same_set_words}
 use Rattle.sre_code.proofs.Claimed.{literal_tree, not_at_end, flag_set, flag_clear, by_one}

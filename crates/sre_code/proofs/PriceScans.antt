@@ -1,13 +1,14 @@
 -- A scan of items, and of the alternatives of a branch, computes the prices of their trees.
 use Rattle.sre_code.proofs.Terms.{ℕ, ◌+◌, ◌-◌, ◌*◌, ◌≡◌, ◌<◌, ◌≤◌, ◌⊎◌, inl, inr, Bool, true, false, cond, max, List}
 use Rattle.sre_code.proofs.Terms.{length, Option, Some, None, refl, sym, ap, ◌∙◌, subst, arith, or_parts, le-max_right}
-use Rattle.sre_code.proofs.Terms.{Tree, Empty, Then, Branch, Trees, Only, Or, SreOpcode, Word, word, skip, Opcode}
-use Rattle.sre_code.proofs.Terms.{Reads, ReadsBranch, role, of_item, of_branch, refers, by_references, nesting}
-use Rattle.sre_code.proofs.Terms.{loop_slots, steps_of, item_steps, cost_of, item_cost, most_steps, reads_within}
-use Rattle.sre_code.proofs.Terms.{operands_past, alternative_long, word_of, word_within, same_opcode, steps_at, cost_at}
-use Rattle.sre_code.proofs.Terms.{IsPrice, IsHeld, AreHeld, joined, straight_price, closed_price, loop_price}
-use Rattle.sre_code.proofs.Terms.{possessive_price, TreePriced, BodyPriced, ItemPriced, kind_of, PricedBy, PricedAt}
-use Rattle.sre_code.proofs.Terms.{Price, Prices, PricedItem, Kind, le-max_left, branch_steps, branch_cost, passed}
+use Rattle.sre_code.proofs.Terms.{Tree, Empty, Then, Trees, Only, Or, SreOpcode, Word, word, skip, Opcode, Reads}
+use Rattle.sre_code.proofs.Terms.{ReadsBranch, role, of_item, of_branch, refers, by_references, nesting, loop_slots}
+use Rattle.sre_code.proofs.Terms.{steps_of, item_steps, cost_of, item_cost, most_steps, reads_within, operands_past}
+use Rattle.sre_code.proofs.Terms.{alternative_long, word_of, word_within, same_opcode, steps_at, cost_at, IsPrice}
+use Rattle.sre_code.proofs.Terms.{IsHeld, AreHeld, joined, straight_price, closed_price, loop_price, possessive_price}
+use Rattle.sre_code.proofs.Terms.{TreePriced, BodyPriced, ItemPriced, kind_of, PricedBy, PricedAt, Price, Prices}
+use Rattle.sre_code.proofs.Terms.{PricedItem, Kind, le-max_left, branch_steps, branch_cost, passed}
+use Rattle.sre_model.specs.Tree.{Branch}
 use Rattle.std.proofs.lemmas.List.{get_or_past}
 use Rattle.sre_model.specs.Nesting.{by_nesting}
 use Rattle.sre_code.specs.Prices.{with_alternative, ArePriced, InsidePriced, LoopPriced, PossessivePriced, BranchPriced}

@@ -1,14 +1,14 @@
 -- Prices: numbers that saturate, how prices add up, and what is computed of items.
 use Rattle.sre_code.proofs.Terms.{ℕ, ◌+◌, ◌-◌, ◌*◌, ◌/◌, ◌^◌, ◌≡◌, ◌<◌, ◌≤◌, ◌⊎◌, inl, inr, max, min, sym, ap, ◌∙◌}
 use Rattle.sre_code.proofs.Terms.{arith, nat_le, mul-le-mul_left, nat_tests, room_by, Held, Bool, true, false, ◌&&◌}
-use Rattle.sre_code.proofs.Terms.{cond, refl, Tree, Item, Fail, Loop, Run, PossessiveLoop, Atomic, Order, Test, RunKind}
-use Rattle.sre_code.proofs.Terms.{loop_slots, steps_of, item_steps, cost_of, item_cost, steps_at, cost_at, IsPrice}
-use Rattle.sre_code.proofs.Terms.{IsItemPrice, joined, straight_price, closed_price, run_price, loop_price}
-use Rattle.sre_code.proofs.Terms.{possessive_price, Price, List, Option, Some, None, subst, true≢false, One, At, Mark}
-use Rattle.sre_code.proofs.Terms.{Branch, Look, Sign, GreedyRun, LazyRun, PossessiveRun, Operands, ReadsItem, Role}
-use Rattle.sre_code.proofs.Terms.{of_item, refers, by_references, HasRole, item_here, own_words, Behind, IsHeld}
+use Rattle.sre_code.proofs.Terms.{cond, refl, Tree, Item, Order, Test, RunKind, loop_slots, steps_of, item_steps}
+use Rattle.sre_code.proofs.Terms.{cost_of, item_cost, steps_at, cost_at, IsPrice, IsItemPrice, joined, straight_price}
+use Rattle.sre_code.proofs.Terms.{closed_price, run_price, loop_price, possessive_price, Price, List, Option, Some}
+use Rattle.sre_code.proofs.Terms.{None, subst, true≢false, Sign, GreedyRun, LazyRun, PossessiveRun, Operands, ReadsItem}
+use Rattle.sre_code.proofs.Terms.{Role, of_item, refers, by_references, HasRole, item_here, own_words, Behind, IsHeld}
 use Rattle.sre_code.proofs.Terms.{ItemPriced, kind_of, PricedBy, PricedAt, PricedItem, mul-le-mul_right, scan_price}
 use Rattle.sre_code.proofs.Terms.{item_role}
+use Rattle.sre_model.specs.Tree.{Fail, Loop, Run, PossessiveLoop, Atomic, One, At, Mark, Branch, Look}
 use Rattle.sre_code.specs.Prices.{run_ends, StraightPriced, RunPriced}
 use Rattle.sre_code.proofs.Walking.{role_behind, one_behind}
 

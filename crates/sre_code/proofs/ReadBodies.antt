@@ -1,13 +1,14 @@
 -- Bodies of loops and of regions: what the check reads of them is what the grammar says.
 use Rattle.sre_code.proofs.Terms.{ℕ, ◌+◌, ◌*◌, ◌≡◌, ◌≢◌, ◌<◌, ◌≤◌, List, length, refl, sym, ◌∙◌, ap, subst, arith}
-use Rattle.sre_code.proofs.Terms.{opcode_number, SreOpcode, Tree, Loop, Order, Word, Opcode, word, skip, until_opcode}
-use Rattle.sre_code.proofs.Terms.{Reads, capped, width, item_width, ToRepeat, NoCode, IsFault, ItemAt, Closes, Unclosed}
-use Rattle.sre_code.proofs.Terms.{Exactly, IsEnd, CodeError, Part, Past, Opens, word_of, word_within, word_there}
-use Rattle.sre_code.proofs.Terms.{same_opcode, reads_nothing, width_held, role_here, ◌-◌, PossessiveLoop, Atomic, Look}
-use Rattle.sre_code.proofs.Terms.{Positive, Negative, look_opcode, ToRepeatPossessively, ToGroupAtomically, ToLook}
-use Rattle.sre_code.proofs.Terms.{opcode_within, reads_within, IsUntil, LookAt, Nowhere}
+use Rattle.sre_code.proofs.Terms.{opcode_number, SreOpcode, Tree, Order, Word, Opcode, word, skip, until_opcode, Reads}
+use Rattle.sre_code.proofs.Terms.{capped, width, item_width, NoCode, IsFault, ItemAt, Closes, Unclosed, Exactly, IsEnd}
+use Rattle.sre_code.proofs.Terms.{CodeError, Part, Past, Opens, word_of, word_within, word_there, same_opcode}
+use Rattle.sre_code.proofs.Terms.{reads_nothing, width_held, role_here, ◌-◌, Positive, Negative, opcode_within}
+use Rattle.sre_code.proofs.Terms.{reads_within, IsUntil, LookAt, Nowhere}
+use Rattle.sre_model.specs.Roles.{ToRepeat, ToRepeatPossessively, ToGroupAtomically, ToLook}
+use Rattle.sre_model.specs.Grammar.{look_opcode}
 use Rattle.std.proofs.lemmas.Option.{slice_get_within}
-use Rattle.sre_model.specs.Tree.{Greedy, Lazy}
+use Rattle.sre_model.specs.Tree.{Greedy, Lazy, Loop, PossessiveLoop, Atomic, Look}
 use Rattle.sre_code.specs.declared.code.step.Part.TheVariants.{Body, Region}
 use Rattle.sre_model.proofs.Opcodes.{is_loop, is_possessive, is_atomic, is_look, look_role}
 use Rattle.sre_code.proofs.ReadBranches.{unclosed}

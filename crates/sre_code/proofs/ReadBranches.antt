@@ -2,14 +2,15 @@
 use Rattle.sre_code.proofs.Terms.{Part, ℕ, ◌+◌, ◌≡◌, ◌≢◌, false, List, length, refl, arith, opcode_number, SreOpcode}
 use Rattle.sre_code.proofs.Terms.{Tree, Empty, Then, Opcode, item_opcode, Reads, IsFault, NoCode, Closes, Unclosed}
 use Rattle.sre_code.proofs.Terms.{Exactly, IsEnd, IsInside, CodeError, Past, same_opcode, opcode_within, role, no_item}
-use Rattle.sre_code.proofs.Terms.{◌-◌, ◌<◌, ◌≤◌, min, Result, Ok, Err, sym, ◌∙◌, ap, subst, inl, inr, Branch, Trees}
-use Rattle.sre_code.proofs.Terms.{Only, Or, Word, word, skip, JumpsTo, ReadsBranch, capped, width, item_width, ToBranch}
-use Rattle.sre_code.proofs.Terms.{ItemAt, Nowhere, Leaves, Step, Opens, word_of, word_within, word_past, word_at}
-use Rattle.sre_code.proofs.Terms.{reads_within, alternative_long, reads_nothing, width_held, role_here, is_branch}
-use Rattle.sre_code.proofs.Terms.{⊎_elim, Exists, ExistsElse, ReadsItem, ToCheckGroup, word_there, reads_moved}
-use Rattle.sre_code.proofs.Terms.{EndGives, MoreAt, More, TreesAt, BoundsExactly, NoTrees, Else}
+use Rattle.sre_code.proofs.Terms.{◌-◌, ◌<◌, ◌≤◌, min, Result, Ok, Err, sym, ◌∙◌, ap, subst, inl, inr, Trees, Only, Or}
+use Rattle.sre_code.proofs.Terms.{Word, word, skip, JumpsTo, ReadsBranch, capped, width, item_width, ItemAt, Nowhere}
+use Rattle.sre_code.proofs.Terms.{Leaves, Step, Opens, word_of, word_within, word_past, word_at, reads_within}
+use Rattle.sre_code.proofs.Terms.{alternative_long, reads_nothing, width_held, role_here, ⊎_elim, ReadsItem, word_there}
+use Rattle.sre_code.proofs.Terms.{reads_moved, EndGives, MoreAt, More, TreesAt, BoundsExactly, NoTrees, Else}
+use Rattle.sre_model.specs.Tree.{Branch, Exists, ExistsElse}
+use Rattle.sre_model.specs.Roles.{ToBranch, ToCheckGroup}
 use Rattle.sre_code.specs.declared.code.step.Part.TheVariants.{Whole, Alternative, There, Absent}
-use Rattle.sre_model.proofs.Opcodes.{is_item_role, is_exists}
+use Rattle.sre_model.proofs.Opcodes.{is_item_role, is_exists, is_branch}
 use Rattle.sre_model.specs.Width.{least_width}
 use Rattle.sre_code.specs.declared.code.step.Bounds.{Bounds}
 use Rattle.sre_model.proofs.WideWays.{least_held}

@@ -2,18 +2,18 @@
 -- says.
 use Rattle.sre_code.proofs.Terms.{ℕ, ◌≡◌, ◌<◌, ◌≤◌, List, length, sym, ◌∙◌, arith, opcode_number, at_number}
 use Rattle.sre_code.proofs.Terms.{category_number, Word, word, NoCode, word_of, word_at, word_within, ◌+◌, ◌-◌, ◌≢◌}
-use Rattle.sre_code.proofs.Terms.{◌⊎◌, inl, inr, [], Err, refl, ap, subst, SreOpcode, SreCatCode, Test, Literal, In}
-use Rattle.sre_code.proofs.Terms.{Fold, Plain, Ascii, Locale, Unicode, SetItem, Opcode, skip, ReadsSet, FoldedAt}
-use Rattle.sre_code.proofs.Terms.{ReadsTest, TestExactly, NoTest, IsSet, word_there, opcode_within, opcode_moved}
-use Rattle.sre_code.proofs.Terms.{same_opcode, set_within, test_same, ToTest, role_here, test_here, SreAtCode, Item}
-use Rattle.sre_code.proofs.Terms.{Fail, One, At, Mark, Branch, Run, GreedyRun, LazyRun, Loop, PossessiveLoop, Atomic}
-use Rattle.sre_code.proofs.Terms.{Look, Positive, Negative, PossessiveRun, Reference, Exists, ExistsElse, item_opcode}
-use Rattle.sre_code.proofs.Terms.{ReadsItem, item_width, ToCheckPosition, ToMark, ToRefer, ItemAt, Exactly, Nowhere}
-use Rattle.sre_code.proofs.Terms.{Past, item_same, no_item, RunKind, test_opcode, ToRun, test_past, HasRole, opcode_low}
-use Rattle.sre_code.proofs.Terms.{at_low, category_low, literal_opcode, not_literal_opcode, set_opcode}
-use Rattle.sre_code.proofs.Terms.{reference_opcode, run_opcode, TestOperands, TestEnds, HasTest, BadItem}
-use Rattle.sre_code.proofs.Terms.{OfCategory, item_role, OnlyTests, RunAt}
-use Rattle.sre_model.specs.Tree.{Any, AnyAll, InCategory, NotLiteral}
+use Rattle.sre_code.proofs.Terms.{◌⊎◌, inl, inr, [], Err, refl, ap, subst, SreOpcode, SreCatCode, Test, Fold, Plain}
+use Rattle.sre_code.proofs.Terms.{Ascii, Locale, Unicode, SetItem, Opcode, skip, ReadsSet, FoldedAt, ReadsTest}
+use Rattle.sre_code.proofs.Terms.{TestExactly, NoTest, IsSet, word_there, opcode_within, opcode_moved, same_opcode}
+use Rattle.sre_code.proofs.Terms.{set_within, test_same, role_here, test_here, SreAtCode, Item, GreedyRun, LazyRun}
+use Rattle.sre_code.proofs.Terms.{Positive, Negative, PossessiveRun, item_opcode, ReadsItem, item_width, ItemAt}
+use Rattle.sre_code.proofs.Terms.{Exactly, Nowhere, Past, item_same, no_item, RunKind, test_opcode, test_past, HasRole}
+use Rattle.sre_code.proofs.Terms.{opcode_low, at_low, category_low, literal_opcode, not_literal_opcode, set_opcode}
+use Rattle.sre_code.proofs.Terms.{run_opcode, TestOperands, TestEnds, HasTest, BadItem, item_role, OnlyTests, RunAt}
+use Rattle.sre_model.specs.Roles.{ToTest, ToCheckPosition, ToMark, ToRefer, ToRun, OfCategory}
+use Rattle.sre_model.specs.Grammar.{reference_opcode}
+use Rattle.sre_model.specs.Tree.{Any, AnyAll, InCategory, NotLiteral, Fail, One, At, Mark, Branch, Run, Loop}
+use Rattle.sre_model.specs.Tree.{PossessiveLoop, Atomic, Look, Reference, Exists, ExistsElse, Literal, In}
 use Rattle.sre_model.proofs.Opcodes.{is_category, is_literal, is_not_literal, is_set, is_at, is_mark, is_reference}
 use Rattle.sre_model.proofs.Opcodes.{reference_role, role_at, run_role}
 use Rattle.sre_chars.specs.declared.constants.SreOpcode.TheVariants as opcode

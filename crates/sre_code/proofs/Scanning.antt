@@ -1,16 +1,18 @@
 -- Scans from instruction to instruction: where no MARK is among the code words of an atomic scope's body, no atomic
 -- scope sets a capture; and how many counter states items have, or that they have too many.
 use Rattle.sre_code.proofs.Terms.{ℕ, ◌+◌, ◌-◌, ◌≡◌, ◌<◌, ◌≤◌, Bool, false, ◌||◌, List, length, Some, refl, subst, arith}
-use Rattle.sre_code.proofs.Terms.{◌⊎◌, inl, inr, ⊎_elim, cases_lt, SreOpcode, Tree, Empty, Then, Item, Fail, One, At}
-use Rattle.sre_code.proofs.Terms.{Mark, Branch, Loop, Run, PossessiveLoop, Atomic, Look, Reference, Exists, ExistsElse}
-use Rattle.sre_code.proofs.Terms.{Trees, Only, Or, Sign, Positive, Folding, of_tree, of_branch, of_item, by_marks}
-use Rattle.sre_code.proofs.Terms.{sets_mark, by_marked_regions, marks_in_regions, Opcode, word, skip, Reads, Operands}
-use Rattle.sre_code.proofs.Terms.{ReadsItem, ReadsBranch, WholeItems, look_opcode, role, reads_within, operands_past}
-use Rattle.sre_code.proofs.Terms.{of_parts, branch_past, ◌*◌, ◌/◌, true, Option, None, max, sym, ap, ◌∙◌, true≢false}
-use Rattle.sre_code.proofs.Terms.{or_parts, le-max_right, mul-le-mul_left, refers, by_references, loop_slots}
-use Rattle.sre_code.proofs.Terms.{most_slots, Role, ToCheckGroup, ToMark, ToBranch, ToGroupAtomically, ToRefer}
-use Rattle.sre_code.proofs.Terms.{ToRepeat, ToRepeatPossessively, Word, HasRole, test_here, test_past, word_of}
-use Rattle.sre_code.proofs.Terms.{own_words, Behind, AreTold, ToldAt, div-mul-le_self}
+use Rattle.sre_code.proofs.Terms.{◌⊎◌, inl, inr, ⊎_elim, cases_lt, SreOpcode, Tree, Empty, Then, Item, Trees, Only, Or}
+use Rattle.sre_code.proofs.Terms.{Sign, Positive, Folding, of_tree, of_branch, of_item, by_marks, sets_mark}
+use Rattle.sre_code.proofs.Terms.{by_marked_regions, marks_in_regions, Opcode, word, skip, Reads, Operands, ReadsItem}
+use Rattle.sre_code.proofs.Terms.{ReadsBranch, WholeItems, role, reads_within, operands_past, of_parts, branch_past}
+use Rattle.sre_code.proofs.Terms.{◌*◌, ◌/◌, true, Option, None, max, sym, ap, ◌∙◌, true≢false, or_parts, le-max_right}
+use Rattle.sre_code.proofs.Terms.{mul-le-mul_left, refers, by_references, loop_slots, most_slots, Role, Word, HasRole}
+use Rattle.sre_code.proofs.Terms.{test_here, test_past, word_of, own_words, Behind, AreTold, ToldAt, div-mul-le_self}
+use Rattle.sre_model.specs.Tree.{Fail, One, At, Mark, Branch, Loop, Run, PossessiveLoop, Atomic, Look, Reference}
+use Rattle.sre_model.specs.Tree.{Exists, ExistsElse}
+use Rattle.sre_model.specs.Grammar.{look_opcode}
+use Rattle.sre_model.specs.Roles.{ToCheckGroup, ToMark, ToBranch, ToGroupAtomically, ToRefer, ToRepeat}
+use Rattle.sre_model.specs.Roles.{ToRepeatPossessively}
 use Rattle.sre_code.specs.Scans.{closing_place, RegionWord, LoopTold, OtherTold, kind_of, ToldBy}
 use Rattle.sre_chars.specs.declared.constants.SreOpcode.TheVariants as opcode
 use Rattle.std.proofs.lemmas.Nat.{le-div}

@@ -1,12 +1,14 @@
 -- A scan from instruction to instruction, into each body, computes a summary of the tree.
 use Rattle.sre_code.proofs.Terms.{ℕ, ◌+◌, ◌-◌, ◌^◌, ◌≡◌, ◌<◌, ◌≤◌, Bool, true, false, ◌||◌, nat_lt, min, max, List}
 use Rattle.sre_code.proofs.Terms.{length, Some, inl, refl, sym, ap, ◌∙◌, arith, true≢false, le-ltb, lt-ltb, SreOpcode}
-use Rattle.sre_code.proofs.Terms.{Tree, Empty, Then, Item, Trees, Atomic, Look, Folding, of_tree, of_item, of_branch}
-use Rattle.sre_code.proofs.Terms.{word, skip, Opcode, WholeItems, Role, ToMark, ToBranch, ToRun, ToRepeat}
-use Rattle.sre_code.proofs.Terms.{ToRepeatPossessively, ToGroupAtomically, ToLook, ToRefer, ToCheckGroup, role, refers}
-use Rattle.sre_code.proofs.Terms.{by_references, sets_mark, by_marks, marks_in_regions, by_marked_regions, HasRole}
-use Rattle.sre_code.proofs.Terms.{test_here, test_past, same_opcode, word_of, own_words, Behind, NoneBehind, IsSummary}
-use Rattle.sre_code.proofs.Terms.{Summary, or-true, or-false, or_assoc, or_right, by_backs, by_longest, forking, noted}
+use Rattle.sre_code.proofs.Terms.{Tree, Empty, Then, Item, Trees, Folding, of_tree, of_item, of_branch, word, skip}
+use Rattle.sre_code.proofs.Terms.{Opcode, WholeItems, Role, role, refers, by_references, sets_mark, by_marks}
+use Rattle.sre_code.proofs.Terms.{marks_in_regions, by_marked_regions, HasRole, test_here, test_past, same_opcode}
+use Rattle.sre_code.proofs.Terms.{word_of, own_words, Behind, NoneBehind, IsSummary, Summary, or-true, or-false}
+use Rattle.sre_code.proofs.Terms.{or_assoc, or_right, by_backs, by_longest, forking, noted}
+use Rattle.sre_model.specs.Tree.{Atomic, Look}
+use Rattle.sre_model.specs.Roles.{ToMark, ToBranch, ToRun, ToRepeat, ToRepeatPossessively, ToGroupAtomically, ToLook}
+use Rattle.sre_model.specs.Roles.{ToRefer, ToCheckGroup}
 use Rattle.sre_model.specs.References.{no_group, asked_from, by_groups, by_last_groups}
 use Rattle.sre_model.specs.Regions.{forks, by_forks, has_forked_region, by_forked_regions}
 use Rattle.sre_code.proofs.Walking.{behind_test, behind_role, role_behind, none_behind, Scanner, Instructions, Onto}

@@ -16,9 +16,9 @@ pub use Rattle.sre_chars.specs.declared.constants.SreAtCode.{SreAtCode}
 pub use Rattle.sre_chars.specs.declared.constants.SreCatCode.{SreCatCode}
 pub use Rattle.sre_chars.specs.declared.constants.SreOpcode.TheVariants.{NEGATE}
 pub use Rattle.sre_model.proofs.Opcodes.{category_unlike, category_within, opcode_unlike, word_known, HasRole}
-pub use Rattle.sre_model.proofs.Opcodes.{is_branch, item_here, item_role, no_item, role_here, test_here, are_words}
-pub use Rattle.sre_model.proofs.Opcodes.{at_low, category_low, opcode_low, opcode_moved, opcode_within, same_opcode}
-pub use Rattle.sre_model.proofs.Opcodes.{word_at, word_moved, word_of, word_past, word_there, word_within}
+pub use Rattle.sre_model.proofs.Opcodes.{item_here, item_role, no_item, role_here, test_here, are_words, at_low}
+pub use Rattle.sre_model.proofs.Opcodes.{category_low, opcode_low, opcode_moved, opcode_within, same_opcode, word_at}
+pub use Rattle.sre_model.proofs.Opcodes.{word_moved, word_of, word_past, word_there, word_within}
 pub use Rattle.sre_model.proofs.Members.{big_charset_says, big_charset_there, category_says, category_there}
 pub use Rattle.sre_model.proofs.Members.{charset_room, charset_says, folded_range_room, folded_range_says, left_all}
 pub use Rattle.sre_model.proofs.Members.{left_nothing, left_past, left_there, left_turned, negated, nothing_left}
@@ -31,15 +31,12 @@ pub use Rattle.sre_model.proofs.WideWays.{width_held}
 pub use Rattle.sre_model.specs.Claims.{are_overlaps, behind_adjacent, behind_literals, behind_spread, has_flag}
 pub use Rattle.sre_model.specs.Folding.{Folding, of_branch, of_item, of_parts, of_tree}
 pub use Rattle.sre_model.specs.Grammar.{AreItems, BlocksBelow, BytesBelow, JumpsTo, ReadsItem, ReadsSet, TestOperands}
-pub use Rattle.sre_model.specs.Grammar.{bytes_of, has_block, item_opcode, literal_opcode, look_opcode}
-pub use Rattle.sre_model.specs.Grammar.{not_literal_opcode, reference_opcode, run_opcode, set_opcode, test_opcode}
-pub use Rattle.sre_model.specs.Grammar.{until_opcode}
+pub use Rattle.sre_model.specs.Grammar.{bytes_of, has_block, item_opcode, literal_opcode, not_literal_opcode}
+pub use Rattle.sre_model.specs.Grammar.{run_opcode, set_opcode, test_opcode, until_opcode}
 pub use Rattle.sre_model.specs.MarksSet.{by_marked_regions, by_marks, sets_mark}
 pub use Rattle.sre_model.specs.References.{by_references}
-pub use Rattle.sre_model.specs.Roles.{OfCategory, ToCheckGroup, ToCheckPosition, ToEnd, ToFail, ToJump, ToLoop, ToTest}
-pub use Rattle.sre_model.specs.Tree.{Ascii, At, Atomic, Branch, Empty, Exists, ExistsElse, Fail, Fold, GreedyRun, In}
-pub use Rattle.sre_model.specs.Tree.{LazyRun, Literal, Locale, Look, Mark, Negative, One, Only, Or, Plain, Positive}
-pub use Rattle.sre_model.specs.Tree.{PossessiveLoop, PossessiveRun, Reference, Run, RunKind, Sign, Then, Unicode}
+pub use Rattle.sre_model.specs.Tree.{Ascii, Empty, Fold, GreedyRun, LazyRun, Locale, Negative, Only, Or, Plain}
+pub use Rattle.sre_model.specs.Tree.{Positive, PossessiveRun, RunKind, Sign, Then, Unicode}
 pub use Rattle.sre_model.specs.TreePrices.{branch_cost, branch_steps, cost_of, item_cost, item_steps, most_steps}
 pub use Rattle.sre_model.specs.TreePrices.{scan_price, steps_of}
 pub use Rattle.sre_model.specs.Width.{item_width}
@@ -60,12 +57,11 @@ pub use Rattle.sre_code.specs.Reading.{SetAt, SetItemEnds, SetItemExactly, TestE
 pub use Rattle.sre_code.specs.Steps.{BoundsExactly, Closes, Closing, Else, EndGives, Exactly, IsEnd, IsInside, IsUntil}
 pub use Rattle.sre_code.specs.Steps.{ItemAt, Leaves, LookAt, More, MoreAt, NoTrees, Nowhere, OnlyTests, Remains, RunAt}
 pub use Rattle.sre_code.specs.Steps.{TreesAt, Unclosed, next}
-pub use Rattle.sre_code.specs.Terms.{Charset, Decides, HasFirstSet, HasSet, IsCode, Item, Loop, Opcode, Operands, Order}
-pub use Rattle.sre_code.specs.Terms.{Reads, ReadsBranch, Role, SetItem, SetStands, SreOpcode, Table, Test, ToBranch}
-pub use Rattle.sre_code.specs.Terms.{ToGroupAtomically, ToLook, ToMark, ToRefer, ToRepeat, ToRepeatPossessively, ToRun}
-pub use Rattle.sre_code.specs.Terms.{Tree, Trees, Whole, WholeItems, Word, behind_block, behind_marks, bit_at, capped}
-pub use Rattle.sre_code.specs.Terms.{category, category_number, is_end, is_member, loop_slots, marks_in_regions}
-pub use Rattle.sre_code.specs.Terms.{most_slots, nesting, refers, role, skip, width, word}
+pub use Rattle.sre_code.specs.Terms.{Charset, Decides, HasFirstSet, HasSet, IsCode, Item, Opcode, Operands, Order}
+pub use Rattle.sre_code.specs.Terms.{Reads, ReadsBranch, Role, SetItem, SetStands, SreOpcode, Table, Test, Tree, Trees}
+pub use Rattle.sre_code.specs.Terms.{Whole, WholeItems, Word, behind_block, behind_marks, bit_at, capped, category}
+pub use Rattle.sre_code.specs.Terms.{category_number, is_end, is_member, loop_slots, marks_in_regions, most_slots}
+pub use Rattle.sre_code.specs.Terms.{nesting, refers, role, skip, width, word}
 pub use Rattle.sre_code.specs.declared.ascii_set.AsciiSet.{AsciiSet}
 pub use Rattle.sre_code.specs.declared.code.Hints.{Hints}
 pub use Rattle.sre_code.specs.declared.code.error.CodeError.{CodeError}

@@ -1,14 +1,15 @@
 -- Instructions one behind the other, and scans over them.
 use Rattle.sre_code.proofs.Terms.{ℕ, ◌+◌, ◌≡◌, ◌⊎◌, inl, inr, List, Some, None, refl, sym, ap, ◌∙◌, opcode_number}
-use Rattle.sre_code.proofs.Terms.{SreOpcode, Test, Role, ToTest, ToCheckGroup, role, Opcode, test_opcode, HasRole}
-use Rattle.sre_code.proofs.Terms.{same_opcode, test_same, ReadsTest, NoCode, own_words, Behind, NoneBehind, zero, suc}
-use Rattle.sre_code.proofs.Terms.{◌-◌, ◌<◌, ◌≤◌, Option, subst, arith, SreAtCode, Tree, Empty, Then, Item, Fail, One}
-use Rattle.sre_code.proofs.Terms.{At, Mark, Branch, Loop, Run, PossessiveLoop, Atomic, Look, Reference, Exists}
-use Rattle.sre_code.proofs.Terms.{ExistsElse, Trees, Only, Or, Fold, Order, RunKind, Sign, ToCheckPosition, ToMark}
-use Rattle.sre_code.proofs.Terms.{ToBranch, ToRun, ToRepeat, ToRepeatPossessively, ToGroupAtomically, ToLook, ToRefer}
-use Rattle.sre_code.proofs.Terms.{role_here, item_here, Word, skip, until_opcode, Operands, Reads, ReadsItem}
-use Rattle.sre_code.proofs.Terms.{ReadsBranch, test_past, reads_within, operands_past, alternative_long, ToFail, ToEnd}
-use Rattle.sre_code.proofs.Terms.{ToJump, ToLoop}
+use Rattle.sre_code.proofs.Terms.{SreOpcode, Test, Role, role, Opcode, test_opcode, HasRole, same_opcode, test_same}
+use Rattle.sre_code.proofs.Terms.{ReadsTest, NoCode, own_words, Behind, NoneBehind, zero, suc, ◌-◌, ◌<◌, ◌≤◌, Option}
+use Rattle.sre_code.proofs.Terms.{subst, arith, SreAtCode, Tree, Empty, Then, Item, Trees, Only, Or, Fold, Order}
+use Rattle.sre_code.proofs.Terms.{RunKind, Sign, role_here, item_here, Word, skip, until_opcode, Operands, Reads}
+use Rattle.sre_code.proofs.Terms.{ReadsItem, ReadsBranch, test_past, reads_within, operands_past, alternative_long}
+use Rattle.sre_model.specs.Tree.{Fail, One, At, Mark, Branch, Loop, Run, PossessiveLoop, Atomic, Look, Reference}
+use Rattle.sre_model.specs.Tree.{Exists, ExistsElse}
+use Rattle.sre_model.specs.Roles.{ToTest, ToCheckGroup, ToCheckPosition, ToMark, ToBranch, ToRun, ToRepeat}
+use Rattle.sre_model.specs.Roles.{ToRepeatPossessively, ToGroupAtomically, ToLook, ToRefer, ToFail, ToEnd, ToJump}
+use Rattle.sre_model.specs.Roles.{ToLoop}
 use Rattle.sre_model.proofs.Opcodes.{test_kind, test_role, until_role}
 use Rattle.sre_chars.specs.declared.constants.SreOpcode.TheVariants as opcode
 

@@ -3,11 +3,11 @@
 -- Definitions for the check's contracts; what sre_engine makes public does not rest on it.
 use Rattle.std.specs.Prelude.{ℕ, ◌-◌, ◌^◌, ◌≡◌, min, ◌+◌, ◌*◌, ◌<◌, ◌≤◌, Bool, true, false, ◌&&◌, cond, max, List}
 use Rattle.std.specs.Prelude.{Option, Some, None}
-use Rattle.sre_code.specs.Terms.{SreOpcode, Tree, Item, Loop, Trees, Order, Word, skip, Opcode, Operands, Reads}
-use Rattle.sre_code.specs.Terms.{ReadsBranch, Role, ToFail, ToRun, ToBranch, ToRepeat, ToRepeatPossessively}
-use Rattle.sre_code.specs.Terms.{ToGroupAtomically, ToLook, role, refers, nesting, scan_price, Branch, PossessiveLoop}
-use Rattle.sre_code.specs.Terms.{Atomic, PossessiveRun, by_references, of_item, by_nesting, steps_of, item_steps}
-use Rattle.sre_code.specs.Terms.{other_ends, cost_of, item_cost, most_steps}
+use Rattle.sre_code.specs.Terms.{SreOpcode, Tree, Item, Trees, Order, Word, skip, Opcode, Operands, Reads, ReadsBranch}
+use Rattle.sre_code.specs.Terms.{Role, role, refers, nesting, scan_price, PossessiveRun, by_references, of_item}
+use Rattle.sre_code.specs.Terms.{by_nesting, steps_of, item_steps, other_ends, cost_of, item_cost, most_steps}
+use Rattle.sre_model.specs.Roles.{ToFail, ToRun, ToBranch, ToRepeat, ToRepeatPossessively, ToGroupAtomically, ToLook}
+use Rattle.sre_model.specs.Tree.{Loop, Branch, PossessiveLoop, Atomic}
 use Rattle.sre_code.specs.Scans.{Behind, NoneBehind}
 use Rattle.sre_code.specs.declared.code.prices.Price.{Price}
 use Rattle.sre_code.specs.declared.code.prices.Prices.{Prices}

@@ -2,11 +2,12 @@
 -- Definitions for the check's contracts; what sre_engine makes public does not rest on it.
 use Rattle.std.specs.Prelude.{ℕ, ◌+◌, ◌-◌, ◌≡◌, List, Option, Some, None, ◌<◌, ◌⊎◌, ◌^◌, true, false, ◌||◌, nat_lt, min}
 use Rattle.std.specs.Prelude.{max, ◌*◌, ◌≤◌}
-use Rattle.sre_code.specs.Terms.{SreOpcode, Role, ToRepeatPossessively, ToGroupAtomically, ToLook, role, Opcode, skip}
-use Rattle.sre_code.specs.Terms.{Test, ToFail, ToMark, ToBranch, ToRun, ToRepeat, ToRefer, ToEnd, ToCheckPosition}
-use Rattle.sre_code.specs.Terms.{ToJump, ToLoop, Tree, refers, longest_lookbehind, marks_in_regions, has_forked_region}
-use Rattle.sre_code.specs.Terms.{no_group, asked_from, asked_to, backs, Loop, Order, Word, Operands, Reads, loop_slots}
-use Rattle.sre_code.specs.Terms.{most_slots}
+use Rattle.sre_code.specs.Terms.{SreOpcode, Role, role, Opcode, skip, Test, Tree, refers, longest_lookbehind}
+use Rattle.sre_code.specs.Terms.{marks_in_regions, has_forked_region, no_group, asked_from, asked_to, backs, Order}
+use Rattle.sre_code.specs.Terms.{Word, Operands, Reads, loop_slots, most_slots}
+use Rattle.sre_model.specs.Roles.{ToRepeatPossessively, ToGroupAtomically, ToLook, ToFail, ToMark, ToBranch, ToRun}
+use Rattle.sre_model.specs.Roles.{ToRepeat, ToRefer, ToEnd, ToCheckPosition, ToJump, ToLoop}
+use Rattle.sre_model.specs.Tree.{Loop}
 use Rattle.sre_chars.specs.declared.constants.SreOpcode.TheVariants as opcode
 use Rattle.sre_code.specs.Reading.{ReadsTest}
 use Rattle.sre_code.specs.declared.code.summary.Summary.{Summary}

@@ -1,9 +1,11 @@
 -- Steps of the check: what is left to read of an item or a part, and what the answers say of it.
 -- Definitions for the check's contracts; what sre_engine makes public does not rest on it.
 use Rattle.std.specs.Prelude.{ℕ, ◌+◌, ◌*◌, ◌≡◌, ◌<◌, ◌≤◌, ◌⊎◌, min, List, length, Option, Some, None, Result, Ok, Err}
-use Rattle.sre_code.specs.Terms.{Tree, Empty, Item, One, Trees, Order, RunKind, Sign, Test, Word, Opcode, run_opcode}
-use Rattle.sre_code.specs.Terms.{until_opcode, look_opcode, JumpsTo, Reads, ReadsItem, ReadsBranch, capped, width}
-use Rattle.sre_code.specs.Terms.{item_width, least_width}
+use Rattle.sre_code.specs.Terms.{Tree, Empty, Item, Trees, Order, RunKind, Sign, Test, Word, Opcode, run_opcode}
+use Rattle.sre_code.specs.Terms.{until_opcode, JumpsTo, Reads, ReadsItem, ReadsBranch, capped, width, item_width}
+use Rattle.sre_code.specs.Terms.{least_width}
+use Rattle.sre_model.specs.Tree.{One}
+use Rattle.sre_model.specs.Grammar.{look_opcode}
 use Rattle.sre_chars.specs.declared.constants.SreOpcode.TheVariants as opcode
 use Rattle.sre_code.specs.Reading.{IsFault, ReadsTest}
 use Rattle.sre_code.specs.declared.code.error.CodeError.{CodeError}

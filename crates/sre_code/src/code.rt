@@ -29,9 +29,7 @@ mod condition;
 mod descent;
 mod error;
 mod first_set;
-mod instructions;
 mod item;
-mod marked_regions;
 mod part;
 mod prefix;
 mod prices;
@@ -288,7 +286,7 @@ impl<'a> Code<'a> {
         ensures told { (tree : Tree) → Whole (words_of self.now) tree → references.refers tree ≡ false
             → result ≡ marks_in_regions tree }
     {
-        marked_regions::regions_set_marks(self.items())
+        summary::regions_set_marks(self.items())
     }
 
     /// The sum of the distances, in characters, that the lookbehinds of the code go back, at most 2^64 - 1. From no

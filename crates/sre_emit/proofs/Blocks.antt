@@ -2,8 +2,9 @@
 use Rattle.sre_emit.proofs.Terms.{ℕ, zero, suc, ◌+◌, ◌*◌, ◌-◌, ◌/◌, ◌%◌, ◌≡◌, ◌<◌, ◌≤◌, Bool, true, false, cond, nat_eq}
 use Rattle.sre_emit.proofs.Terms.{nat_lt, nat_le, List, [], ◌∷◌, ◌++◌, length, take, drop, Some, is_some, refl, sym}
 use Rattle.sre_emit.proofs.Terms.{◌∙◌, ap, subst, arith, length-append, ◌≢◌, drop-append_seam, take-append_seam}
-use Rattle.sre_emit.proofs.Terms.{append_assoc, and_parts, nat_tests, Tree, Empty, Then, One, Mark, Branch, Only, Or}
-use Rattle.sre_emit.proofs.Terms.{Literal, Plain, width, LawfulTree, leading, spread, has_literals_alone, Wrote}
+use Rattle.sre_emit.proofs.Terms.{append_assoc, and_parts, nat_tests, Tree, Empty, Then, Only, Or, Plain, width}
+use Rattle.sre_emit.proofs.Terms.{LawfulTree, leading, spread, has_literals_alone, Wrote}
+use Rattle.sre_model.specs.Tree.{One, Mark, Branch, Literal}
 use Rattle.sre_model.specs.Shown.{items, a, b, c, d}
 use Rattle.sre_model.specs.Claims.{border_length, has_prefix, prefix_words, overlap_words, behind_spread}
 use Rattle.sre_model.specs.Claims.{behind_literals, is_at_end, behind_prefix, confirmed_width, confirmed_prefix}

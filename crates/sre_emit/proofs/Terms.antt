@@ -9,7 +9,7 @@ pub use Rattle.std.proofs.lemmas.Bool.Decides.{nat_tests}
 pub use Rattle.std.proofs.lemmas.List.{append_assoc, get_or_default, reverse-reverse}
 pub use Rattle.std.proofs.lemmas.Result.{IfErr-weaker, IfOk-weaker, err_from_is_err_and}
 pub use Rattle.std.specs.List.{All}
-pub use Rattle.sre_model.specs.Tree.{Branch, Empty, Literal, Mark, One, Only, Or, Plain, Then, Tree}
+pub use Rattle.sre_model.specs.Tree.{Empty, Only, Or, Plain, Then, Tree}
 pub use Rattle.sre_emit.specs.Emitting.{BadPart, HasTree, HaveAlternatives, HaveTrees, Item, LawfulSet, LawfulTree}
 pub use Rattle.sre_emit.specs.Emitting.{Memory, Part, TooDeep, Wrote, all, capped, has_alternatives, has_literals_alone}
 pub use Rattle.sre_emit.specs.Emitting.{in_order, item_has_alternatives, item_of, items_depth, leading, packed}

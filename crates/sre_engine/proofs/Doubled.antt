@@ -2,15 +2,15 @@
 -- match.
 use Rattle.sre_engine.proofs.Terms.{◌≡◌, ◌⊎◌, ◌&&◌, ◌+◌, ◌-◌, ◌*◌, ◌<◌, ◌≤◌, ◌≢◌, ℕ, zero, suc, Bool, true, false, List}
 use Rattle.sre_engine.proofs.Terms.{length, refl, sym, ap, ◌∙◌, subst, arith, nat_tests, nat_le, nat_eq, cond, []}
-use Rattle.sre_engine.proofs.Terms.{Option, Some, None, inl, inr, cases_lt, Tree, Then, Item, One, At, Mark, Test}
-use Rattle.sre_engine.proofs.Terms.{is_member, Marks, set_mark, no_marks, Subject, char_at, passes, ways, Word, Opcode}
-use Rattle.sre_engine.proofs.Terms.{WholeItems, Whole, TreeStands, NoWay, is_end, is_anchored, Asked, at_start}
-use Rattle.sre_engine.proofs.Terms.{subject_of, Code, words_of, uni_of, items_of, StringCursor, NoneBetween, NoneUntil}
-use Rattle.sre_engine.proofs.Terms.{same_word, same_opcode, whole_stands, stands_up_to, items_whole}
+use Rattle.sre_engine.proofs.Terms.{Option, Some, None, inl, inr, cases_lt, Tree, Then, Item, Test, is_member, Marks}
+use Rattle.sre_engine.proofs.Terms.{set_mark, no_marks, Subject, char_at, passes, ways, Word, Opcode, WholeItems, Whole}
+use Rattle.sre_engine.proofs.Terms.{TreeStands, NoWay, is_end, is_anchored, Asked, at_start, subject_of, Code, words_of}
+use Rattle.sre_engine.proofs.Terms.{uni_of, items_of, StringCursor, NoneBetween, NoneUntil, same_word, same_opcode}
+use Rattle.sre_engine.proofs.Terms.{whole_stands, stands_up_to, items_whole}
 use Rattle.std.proofs.Common.{length-append, replicate}
 use Rattle.std.proofs.lemmas.List.{get_or-set_same, get_or-set_other, get_or_append_left, length-set, length-replicate}
 use Rattle.sre_chars.specs.declared.constants.SreOpcode.TheVariants as opcode
-use Rattle.sre_model.specs.Tree.{Reference, Plain, Fold, Order, Loop}
+use Rattle.sre_model.specs.Tree.{Reference, Plain, Fold, Order, Loop, One, At, Mark}
 use Rattle.sre_model.specs.Ways.{Way, here, reference_ways}
 use Rattle.sre_model.specs.Subject.{same_folded}
 use Rattle.sre_model.specs.Grammar.{Reads, reference_opcode, until_opcode, skip}

@@ -6,14 +6,15 @@ use Rattle.sre_engine.proofs.Terms.{Trees, Only, Or, Test, holds, Subject, char_
 use Rattle.sre_engine.proofs.Terms.{ReadsBranch, NoWay, NoneOf, NotPassed, TreeStands, HasTree, HasAlternatives, Leads}
 use Rattle.sre_engine.proofs.Terms.{TakesAscii, same_word, word_of, opcode_within, stands_up_to, NotAmong, word_within}
 use Rattle.sre_engine.proofs.Terms.{alternative_long, only_none, or_none, [], true≢false, ◌⊎◌, inl, inr, SreOpcode}
-use Rattle.sre_engine.proofs.Terms.{Empty, Then, RunKind, GreedyRun, LazyRun, PossessiveRun, Marks, Opcode, ToRun, role}
-use Rattle.sre_engine.proofs.Terms.{ways, longest_run, same_opcode, HasRole, role_here, PassesRun, most_from, is_end}
-use Rattle.sre_engine.proofs.Terms.{run_has, is_run, Reads, nat_eq, None, One, Mark, Literal, In, Plain, SetItem}
-use Rattle.sre_engine.proofs.Terms.{is_member, set_mark, after, words_of, hints_of, Code, code_tree, code_confirmed}
-use Rattle.sre_engine.proofs.Terms.{Branch, behind_marks, TestIn, EachTestIn, FirstIn, Option, Some, cases_lt}
-use Rattle.sre_engine.proofs.Terms.{StringCursor, no_marks, Whole, IsCode, HasSet, Asked, subject_of, at_start, uni_of}
-use Rattle.sre_engine.proofs.Terms.{IsFirstSet, is_among, NoneBetween, NoneUntil, HasFirstSet, NextMember}
-use Rattle.sre_model.specs.Tree.{Run}
+use Rattle.sre_engine.proofs.Terms.{Empty, Then, RunKind, GreedyRun, LazyRun, PossessiveRun, Marks, Opcode, role, ways}
+use Rattle.sre_engine.proofs.Terms.{longest_run, same_opcode, HasRole, role_here, PassesRun, most_from, is_end, run_has}
+use Rattle.sre_engine.proofs.Terms.{is_run, Reads, nat_eq, None, Plain, SetItem, is_member, set_mark, after, words_of}
+use Rattle.sre_engine.proofs.Terms.{hints_of, Code, code_tree, code_confirmed, behind_marks, TestIn, EachTestIn}
+use Rattle.sre_engine.proofs.Terms.{FirstIn, Option, Some, cases_lt, StringCursor, no_marks, Whole, IsCode, HasSet}
+use Rattle.sre_engine.proofs.Terms.{Asked, subject_of, at_start, uni_of, IsFirstSet, is_among, NoneBetween, NoneUntil}
+use Rattle.sre_engine.proofs.Terms.{HasFirstSet, NextMember}
+use Rattle.sre_model.specs.Roles.{ToRun}
+use Rattle.sre_model.specs.Tree.{Run, One, Mark, Branch, Literal, In}
 use Rattle.sre_chars.specs.declared.constants.SreOpcode.TheVariants as opcode
 use Rattle.sre_engine.proofs.LeadingStarts.{none_joined}
 

@@ -2,14 +2,14 @@
 use Rattle.sre_engine.proofs.Terms.{◌≡◌, ◌≤◌, ◌<◌, ◌+◌, ◌-◌, ◌*◌, ◌&&◌, ℕ, zero, suc, List, [], ◌∷◌, Bool, true, false}
 use Rattle.sre_engine.proofs.Terms.{cond, length, slice_range, nat_eq, nat_lt, nat_le, Option, Some, None, refl, sym}
 use Rattle.sre_engine.proofs.Terms.{ap, ◌∙◌, subst, arith, length-drop, and_parts, leb-true, nat_tests, Tree, Empty}
-use Rattle.sre_engine.proofs.Terms.{Then, One, Mark, Literal, Plain, width, word, skip, behind_block, Whole, spells}
-use Rattle.sre_engine.proofs.Terms.{behind_items, is_empty, prefix_of, overlaps_of, opcode_within, ◌/◌, ◌%◌, take, drop}
-use Rattle.sre_engine.proofs.Terms.{is_some, has_block, has_flag, has_prefix, prefix_length, prefix_skip, prefix_words}
-use Rattle.sre_engine.proofs.Terms.{overlap_words, are_overlaps, behind_adjacent, behind_spread, then_spread}
-use Rattle.sre_engine.proofs.Terms.{behind_literals, behind_prefix, confirmed_prefix, is_literal, is_at_end, ◌^◌, inl}
-use Rattle.sre_engine.proofs.Terms.{inr, cases_lt, IsCode, Asked, found, words_of, hints_of, Code, code_tree}
-use Rattle.sre_engine.proofs.Terms.{code_confirmed, IsPrefix, FitsAt, IsLast, Overlapping, SomeIff, length-take}
-use Rattle.sre_engine.proofs.Terms.{overlaps_right}
+use Rattle.sre_engine.proofs.Terms.{Then, Plain, width, word, skip, behind_block, Whole, spells, behind_items, is_empty}
+use Rattle.sre_engine.proofs.Terms.{prefix_of, overlaps_of, opcode_within, ◌/◌, ◌%◌, take, drop, is_some, has_block}
+use Rattle.sre_engine.proofs.Terms.{has_flag, has_prefix, prefix_length, prefix_skip, prefix_words, overlap_words}
+use Rattle.sre_engine.proofs.Terms.{are_overlaps, behind_adjacent, behind_spread, then_spread, behind_literals}
+use Rattle.sre_engine.proofs.Terms.{behind_prefix, confirmed_prefix, is_literal, is_at_end, ◌^◌, inl, inr, cases_lt}
+use Rattle.sre_engine.proofs.Terms.{IsCode, Asked, found, words_of, hints_of, Code, code_tree, code_confirmed, IsPrefix}
+use Rattle.sre_engine.proofs.Terms.{FitsAt, IsLast, Overlapping, SomeIff, length-take, overlaps_right}
+use Rattle.sre_model.specs.Tree.{One, Mark, Literal}
 use Rattle.sre_chars.specs.declared.constants.SreOpcode.TheVariants as opcode
 use Rattle.sre_engine.proofs.Steps.{overlapping}
 use Rattle.sre_engine.proofs.LeadingStarts.{NoneBefore, none_joined}

@@ -1,16 +1,17 @@
 -- What the first code words lead to: a tree's first test, and its first position code.
 use Rattle.sre_engine.proofs.Terms.{◌≡◌, ◌⊎◌, ◌+◌, ◌-◌, ◌<◌, ◌≤◌, ℕ, Bool, true, false, nat_lt, cond, List, Option}
 use Rattle.sre_engine.proofs.Terms.{Some, None, IfSome, refl, sym, ap, ◌∙◌, subst, inl, inr, arith, true≢false}
-use Rattle.sre_engine.proofs.Terms.{nat_tests, at_number, SreAtCode, SreOpcode, Tree, Empty, Then, One, At, Mark, Test}
-use Rattle.sre_engine.proofs.Terms.{RunKind, GreedyRun, LazyRun, PossessiveRun, Word, Opcode, Reads, Role, ToRun, role}
-use Rattle.sre_engine.proofs.Terms.{begins_test, TreeStands, same_word, same_opcode, HasRole, stands_up_to}
-use Rattle.sre_engine.proofs.Terms.{whole_stands, LeadsToTest, LeadsToCode, Wants, WantsFirst, First, Item, ReadsItem}
-use Rattle.sre_engine.proofs.Terms.{item_opcode, run_opcode, test_opcode, ToTest, is_test_role, opcode_low, item_role}
-use Rattle.sre_engine.proofs.Terms.{role_same, test_kind, test_role, run_role, first_test, first_code, is_passed}
-use Rattle.sre_engine.proofs.Terms.{IsPast, Ahead, IsTestAt, HasTree, IsElsewhere, Leads, NoWay, Subject, leads_further}
-use Rattle.sre_engine.proofs.Terms.{leads_tree, length, tree_within, leads_start}
+use Rattle.sre_engine.proofs.Terms.{nat_tests, at_number, SreAtCode, SreOpcode, Tree, Empty, Then, Test, RunKind}
+use Rattle.sre_engine.proofs.Terms.{GreedyRun, LazyRun, PossessiveRun, Word, Opcode, Reads, Role, role, begins_test}
+use Rattle.sre_engine.proofs.Terms.{TreeStands, same_word, same_opcode, HasRole, stands_up_to, whole_stands}
+use Rattle.sre_engine.proofs.Terms.{LeadsToTest, LeadsToCode, Wants, WantsFirst, First, Item, ReadsItem, item_opcode}
+use Rattle.sre_engine.proofs.Terms.{run_opcode, test_opcode, is_test_role, opcode_low, item_role, role_same, test_kind}
+use Rattle.sre_engine.proofs.Terms.{test_role, run_role, first_test, first_code, is_passed, IsPast, Ahead, IsTestAt}
+use Rattle.sre_engine.proofs.Terms.{HasTree, IsElsewhere, Leads, NoWay, Subject, leads_further, leads_tree, length}
+use Rattle.sre_engine.proofs.Terms.{tree_within, leads_start}
+use Rattle.sre_model.specs.Roles.{ToRun, ToTest}
 use Rattle.sre_chars.specs.declared.constants.SreOpcode.TheVariants as opcode
-use Rattle.sre_model.specs.Tree.{Run}
+use Rattle.sre_model.specs.Tree.{Run, One, At, Mark}
 
 -- The items before a first test, or a first position code
 

@@ -1,13 +1,14 @@
 -- What a tree's prefix says of its match paths, and what a search along its positions comes to.
 use Rattle.sre_engine.proofs.Terms.{◌≡◌, ◌≤◌, ◌<◌, ◌+◌, ◌-◌, ◌*◌, ◌&&◌, ℕ, zero, suc, List, [], ◌∷◌, Bool, true, false}
 use Rattle.sre_engine.proofs.Terms.{cond, length, slice_index, nat_lt, nat_eq, refl, sym, ap, ◌∙◌, subst, arith}
-use Rattle.sre_engine.proofs.Terms.{and_parts, nat_tests, Tree, Then, One, Mark, Literal, Plain, Marks, set_mark}
-use Rattle.sre_engine.proofs.Terms.{Subject, char_at, passes, Way, here, ways, Reads, NoWay, spells, behind_items}
-use Rattle.sre_engine.proofs.Terms.{stands_at, how_many, EachFar, Fits, Stands, flat_map, append-nil, each-cond, Far}
-use Rattle.sre_engine.proofs.Terms.{on-far, shorter, ways-far, ◌||◌, not, Option, Some, None, StringCursor, Empty, At}
-use Rattle.sre_engine.proofs.Terms.{is_anchored, no_marks, width, Whole, Asked, Match, subject_of, is_accepted}
-use Rattle.sre_engine.proofs.Terms.{at_start, found, Decides, outcomes, Run, is_empty, words_of, Code, none-found}
-use Rattle.sre_engine.proofs.Terms.{IsPrefix, NoPlace, NoneBetween, filter, first_accepted, narrow_none}
+use Rattle.sre_engine.proofs.Terms.{and_parts, nat_tests, Tree, Then, Plain, Marks, set_mark, Subject, char_at, passes}
+use Rattle.sre_engine.proofs.Terms.{Way, here, ways, Reads, NoWay, spells, behind_items, stands_at, how_many, EachFar}
+use Rattle.sre_engine.proofs.Terms.{Fits, Stands, flat_map, append-nil, each-cond, Far, on-far, shorter, ways-far, ◌||◌}
+use Rattle.sre_engine.proofs.Terms.{not, Option, Some, None, StringCursor, Empty, is_anchored, no_marks, width, Whole}
+use Rattle.sre_engine.proofs.Terms.{Asked, Match, subject_of, is_accepted, at_start, found, Decides, outcomes, Run}
+use Rattle.sre_engine.proofs.Terms.{is_empty, words_of, Code, none-found, IsPrefix, NoPlace, NoneBetween, filter}
+use Rattle.sre_engine.proofs.Terms.{first_accepted, narrow_none}
+use Rattle.sre_model.specs.Tree.{One, Mark, At, Literal}
 use Rattle.sre_engine.proofs.LeadingStarts.{NoneBefore, none_joined}
 
 -- Each match path of a tree begins with its prefix.

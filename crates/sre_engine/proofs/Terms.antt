@@ -25,10 +25,10 @@ pub use Rattle.sre_model.proofs.Each.{each-cond}
 pub use Rattle.sre_model.proofs.Opcodes.{HasRole, is_run, item_role, role_here, role_same, run_role, test_kind}
 pub use Rattle.sre_model.proofs.Opcodes.{test_role, opcode_low, opcode_within, same_opcode, same_word, word_of}
 pub use Rattle.sre_model.proofs.Opcodes.{word_within}
-pub use Rattle.sre_model.proofs.FirstCharacters.{at_bars_there, at_leads, at_operand, atomic_leads, body_leads}
-pub use Rattle.sre_model.proofs.FirstCharacters.{body_operand, branch_bars, branch_there, leads_further, leads_start}
-pub use Rattle.sre_model.proofs.FirstCharacters.{leads_tree, look_leads, look_operand, mark_leads, only_none, or_none}
-pub use Rattle.sre_model.proofs.FirstCharacters.{run_operand, run_there, stands_up_to, tree_within, whole_stands}
+pub use Rattle.sre_model.proofs.FirstCharacters.{at_bars_there, at_leads, at_operand, body_leads, body_operand}
+pub use Rattle.sre_model.proofs.FirstCharacters.{branch_bars, branch_there, leads_further, leads_start, leads_tree}
+pub use Rattle.sre_model.proofs.FirstCharacters.{look_leads, look_operand, mark_leads, only_none, or_none, run_operand}
+pub use Rattle.sre_model.proofs.FirstCharacters.{run_there, stands_up_to, tree_within, whole_stands}
 pub use Rattle.sre_model.proofs.FoundLaws.{none-found}
 pub use Rattle.sre_model.proofs.LeadingRuns.{none_in_run}
 pub use Rattle.sre_model.proofs.LeadingWords.{RunAhead, ahead_within, behind_test, front_test, mark_ahead, run_operands}
@@ -46,9 +46,9 @@ pub use Rattle.sre_model.specs.FirstCharacters.{is_end}
 pub use Rattle.sre_model.specs.Found.{first_accepted}
 pub use Rattle.sre_model.specs.Grammar.{ReadsItem, has_block, item_opcode, run_opcode, test_opcode}
 pub use Rattle.sre_model.specs.Remembered.{kept_positions, sides}
-pub use Rattle.sre_model.specs.Roles.{ToBranch, ToGroupAtomically, ToRepeat, ToRepeatPossessively, ToTest, is_test_role}
+pub use Rattle.sre_model.specs.Roles.{is_test_role}
 pub use Rattle.sre_model.specs.Shown.{whole, window}
-pub use Rattle.sre_model.specs.Tree.{Branch, Item, Single}
+pub use Rattle.sre_model.specs.Tree.{Item, Single}
 pub use Rattle.sre_model.specs.TreePrices.{cost_of}
 pub use Rattle.sre_model.specs.TurnBounds.{most_each, turns_of}
 pub use Rattle.sre_model.specs.Ways.{most_from}
@@ -71,22 +71,21 @@ pub use Rattle.sre_engine.specs.Scans.{Overlapping, Stands}
 pub use Rattle.sre_engine.specs.Searches.{Answered, AnsweredAtOnce, CountsInside, RunsOnceAnchored}
 pub use Rattle.sre_engine.specs.Starts.{BarredUpTo, Bars, IsElsewhere, IsLacking, NextStart, NoneBetween, NoneUntil}
 pub use Rattle.sre_engine.specs.Starts.{NotAmong, PassesRun, PassesTo, WantedFrom}
-pub use Rattle.sre_engine.specs.Terms.{Admitted, AllAdmitted, Allowance, AreInOrder, AreTold, AsciiSet, Asked, At}
+pub use Rattle.sre_engine.specs.Terms.{Admitted, AllAdmitted, Allowance, AreInOrder, AreTold, AsciiSet, Asked}
 pub use Rattle.sre_engine.specs.Terms.{BEGINNING_LINE, Code, Decides, Empty, FrontStands, Ghosts, GreedyRun, Halt}
-pub use Rattle.sre_engine.specs.Terms.{Halted, HasAlternatives, HasSet, HasTree, Hints, In, IsCode, IsRemembered}
-pub use Rattle.sre_engine.specs.Terms.{LazyRun, Leads, Literal, Mark, Marks, Match, MemoValue, NoWay, NoneOf, NotPassed}
-pub use Rattle.sre_engine.specs.Terms.{One, Only, Opcode, Or, Plain, PossessiveRun, Reads, ReadsBranch, Refused}
-pub use Rattle.sre_engine.specs.Terms.{Remembering, Request, Role, Run, RunKind, RunLeads, RunStands, RunsWithin}
-pub use Rattle.sre_engine.specs.Terms.{SetItem, Sought, SreAtCode, SreOpcode, StringCursor, Subject, TakesAscii, Test}
-pub use Rattle.sre_engine.specs.Terms.{TestStands, Then, ToCheckPosition, ToMark, ToRun, Tree, TreeStands, Trees, Way}
-pub use Rattle.sre_engine.specs.Terms.{Whole, WholeItems, Word, after, asked_after, asked_of, at_number, at_start, bare}
-pub use Rattle.sre_engine.specs.Terms.{begins_test, behind_block, behind_items, carrying, char_at, code_of, contains}
-pub use Rattle.sre_engine.specs.Terms.{each_of, end_of, found, here, hints_of, holds, holds_at, how_many, is_accepted}
-pub use Rattle.sre_engine.specs.Terms.{is_anchored, is_empty, is_limited, is_member, left_of, longest_run, most_matches}
-pub use Rattle.sre_engine.specs.Terms.{most_steps, must_advance_of, no_marks, outcomes, overlaps_of, passes, prefix_of}
-pub use Rattle.sre_engine.specs.Terms.{role, rows_from, run_of, set_mark, skip, spells, stands_at, stands_in, start_of}
-pub use Rattle.sre_engine.specs.Terms.{step_bound, string_of, subject_of, uni_of, unlimited, walk, ways, width, word}
-pub use Rattle.sre_engine.specs.Terms.{words_of}
+pub use Rattle.sre_engine.specs.Terms.{Halted, HasAlternatives, HasSet, HasTree, Hints, IsCode, IsRemembered, LazyRun}
+pub use Rattle.sre_engine.specs.Terms.{Leads, Marks, Match, MemoValue, NoWay, NoneOf, NotPassed, Only, Opcode, Or}
+pub use Rattle.sre_engine.specs.Terms.{Plain, PossessiveRun, Reads, ReadsBranch, Refused, Remembering, Request, Role}
+pub use Rattle.sre_engine.specs.Terms.{Run, RunKind, RunLeads, RunStands, RunsWithin, SetItem, Sought, SreAtCode}
+pub use Rattle.sre_engine.specs.Terms.{SreOpcode, StringCursor, Subject, TakesAscii, Test, TestStands, Then, Tree}
+pub use Rattle.sre_engine.specs.Terms.{TreeStands, Trees, Way, Whole, WholeItems, Word, after, asked_after, asked_of}
+pub use Rattle.sre_engine.specs.Terms.{at_number, at_start, bare, begins_test, behind_block, behind_items, carrying}
+pub use Rattle.sre_engine.specs.Terms.{char_at, code_of, contains, each_of, end_of, found, here, hints_of, holds}
+pub use Rattle.sre_engine.specs.Terms.{holds_at, how_many, is_accepted, is_anchored, is_empty, is_limited, is_member}
+pub use Rattle.sre_engine.specs.Terms.{left_of, longest_run, most_matches, most_steps, must_advance_of, no_marks}
+pub use Rattle.sre_engine.specs.Terms.{outcomes, overlaps_of, passes, prefix_of, role, rows_from, run_of, set_mark}
+pub use Rattle.sre_engine.specs.Terms.{skip, spells, stands_at, stands_in, start_of, step_bound, string_of, subject_of}
+pub use Rattle.sre_engine.specs.Terms.{uni_of, unlimited, walk, ways, width, word, words_of}
 unfoldable pub use Rattle.sre_engine.specs.Terms.{items_of}
 pub use Rattle.sre_engine.specs.Walks.{GoesOn}
 pub use Rattle.sre_engine.specs.Within.{AnsweredWithin}

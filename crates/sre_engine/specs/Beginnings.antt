@@ -3,9 +3,8 @@
 use Rattle.std.specs.Prelude.{ℕ, ◌≡◌, ◌<◌, ◌||◌, nat_le, nat_lt, cond, Bool, true, false, List, [], Option, Some, None}
 use Rattle.std.specs.Prelude.{IsSomeAnd}
 use Rattle.sre_engine.specs.Terms.{Table, SreAtCode, BEGINNING_LINE, contains, AsciiSet, holds, Whole, Marks, Subject}
-use Rattle.sre_engine.specs.Terms.{after, holds_at, Tree, Then, One, At, Mark, Test, Any, InCategory, Literal}
-use Rattle.sre_engine.specs.Terms.{NotLiteral, Plain, ways, BEGINNING, BEGINNING_STRING, Locale}
-use Rattle.sre_model.specs.Tree.{Run}
+use Rattle.sre_engine.specs.Terms.{after, holds_at, Tree, Then, Test, Plain, ways, BEGINNING, BEGINNING_STRING, Locale}
+use Rattle.sre_model.specs.Tree.{Run, One, At, Mark, Any, InCategory, Literal, NotLiteral}
 
 -- each match path of a code begins with a character of a set, or with one past ASCII
 pub record BeginsIn (ws : List ℕ) (set : AsciiSet) : Type 0 where

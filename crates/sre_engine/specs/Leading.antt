@@ -1,8 +1,9 @@
 -- What a code's first words lead to: its first test, and its first position code.
 -- Definitions for the search's contracts; what is public does not rest on it.
 use Rattle.std.specs.Prelude.{ℕ, ◌≡◌, ◌⊎◌, Bool, true, false, List, Option, Some, None}
-use Rattle.sre_engine.specs.Terms.{SreAtCode, SreOpcode, Tree, Test, Opcode, WholeItems, Role, ToMark, ToCheckPosition}
-use Rattle.sre_engine.specs.Terms.{role, TestStands, TreeStands}
+use Rattle.sre_engine.specs.Terms.{SreAtCode, SreOpcode, Tree, Test, Opcode, WholeItems, Role, role, TestStands}
+use Rattle.sre_engine.specs.Terms.{TreeStands}
+use Rattle.sre_model.specs.Roles.{ToMark, ToCheckPosition}
 use Rattle.sre_engine.specs.Beginnings.{first_test, first_code}
 use Rattle.sre_engine.specs.declared.engine.first_characters.First.{First}
 use Rattle.sre_engine.specs.declared.engine.first_characters.Wanted.{Wanted}

@@ -1,8 +1,9 @@
 -- That FIRST sets are those of a code holds in one way, as the invariants of iterators need it: a test at an address is
 -- the only one there, and so is a repeat.
 use Rattle.std.specs.Prelude.{ℕ, ◌-◌, ◌+◌, ◌≡◌, List, Option, Some, None, IfSome}
-use Rattle.sre_engine.specs.Terms.{ap, props, is_prop→PathP, Tree, Test, In, TestStands, HasTest, FrontStands, RunLeads}
+use Rattle.sre_engine.specs.Terms.{ap, props, is_prop→PathP, Tree, Test, TestStands, HasTest, FrontStands, RunLeads}
 use Rattle.sre_engine.specs.Terms.{RunStands, TestOperands, set_prop, test_same}
+use Rattle.sre_model.specs.Tree.{In}
 use Rattle.sre_engine.specs.Starts.{TestsThere}
 use Rattle.sre_engine.specs.FirstSets.{Opens, Sets, SetsOf}
 use Rattle.sre_engine.specs.declared.engine.first_characters.Wanted.{Wanted}

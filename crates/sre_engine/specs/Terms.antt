@@ -39,13 +39,12 @@ pub use Rattle.sre_model.specs.Marks.{Marks, no_marks, set_mark}
 pub use Rattle.sre_model.specs.Prefixes.{ReadsBehind, behind_items, how_many, is_empty, overlaps_of, prefix_of, spells}
 pub use Rattle.sre_model.specs.Prefixes.{stands_at}
 pub use Rattle.sre_model.specs.Remembered.{IsRemembered, step_bound}
-pub use Rattle.sre_model.specs.Roles.{Role, ToCheckPosition, ToMark, ToRun, begins_test, role}
+pub use Rattle.sre_model.specs.Roles.{Role, begins_test, role}
 pub use Rattle.sre_model.specs.Runs.{Run}
 pub use Rattle.sre_model.specs.Standing.{HasSet, HasTest, TestStands}
 pub use Rattle.sre_model.specs.Subject.{Subject, after, char_at, holds_at, passes}
-pub use Rattle.sre_model.specs.Tree.{Any, At, Empty, GreedyRun, In, InCategory, LazyRun, Literal, Locale, Mark}
-pub use Rattle.sre_model.specs.Tree.{NotLiteral, One, Only, Or, Plain, PossessiveRun, RunKind, SetItem, Test, Then}
-pub use Rattle.sre_model.specs.Tree.{Tree, Trees}
+pub use Rattle.sre_model.specs.Tree.{Empty, GreedyRun, LazyRun, Locale, Only, Or, Plain, PossessiveRun, RunKind}
+pub use Rattle.sre_model.specs.Tree.{SetItem, Test, Then, Tree, Trees}
 pub use Rattle.sre_model.specs.TreePrices.{most_steps}
 pub use Rattle.sre_model.specs.TurnBounds.{RunsWithin}
 pub use Rattle.sre_model.specs.WalkBounds.{AreInOrder, most_matches}

@@ -9,12 +9,13 @@ use Rattle.sre_machine.proofs.Terms.{Option, Some, None, slice_get, refl, AreIdl
 use Rattle.sre_machine.proofs.Terms.{AlternativesAsk, AskedMarks, AskedPlace, range_of, any_marks, asks_for_any}
 use Rattle.sre_machine.proofs.Terms.{told_or_any, asks_of, AllAsked, AreMarks, HaveAll, InstructionAsks, zero, suc}
 use Rattle.sre_machine.proofs.Terms.{slice_set, PlacesAsk, are_idle, IsNarrower, IsSameBut, one_place_told}
-use Rattle.sre_machine.proofs.Terms.{told_everywhere, Test, Any, InCategory, Literal, NotLiteral, Plain, Ascii, Unicode}
-use Rattle.sre_machine.proofs.Terms.{Word, Opcode, skip, AnyAll, In, test_opcode, TestOperands, same_opcode}
-use Rattle.sre_machine.proofs.Terms.{GroupLies, MarkLeads, GroupAsked, whole_asks, LetGo, Order, until_opcode, HasTest}
-use Rattle.sre_machine.proofs.Terms.{Instruction, AdmitsOnly, category_number, SreCatCode, TestsOnly, RepeatsOnly}
-use Rattle.sre_machine.proofs.Terms.{RunsOnly, LeadsOnly, leads_admit, nat_lt, slice_index_or, nat_tests, Run, char_at}
-use Rattle.sre_machine.proofs.Terms.{Point, AllAdmitted, IsOutside, Exhausted, get_some, IsAdmitted, Admitted}
+use Rattle.sre_machine.proofs.Terms.{told_everywhere, Test, Plain, Ascii, Unicode, Word, Opcode, skip, test_opcode}
+use Rattle.sre_machine.proofs.Terms.{TestOperands, same_opcode, GroupLies, MarkLeads, GroupAsked, whole_asks, LetGo}
+use Rattle.sre_machine.proofs.Terms.{Order, until_opcode, HasTest, Instruction, AdmitsOnly, category_number, SreCatCode}
+use Rattle.sre_machine.proofs.Terms.{TestsOnly, RepeatsOnly, RunsOnly, LeadsOnly, leads_admit, nat_lt, slice_index_or}
+use Rattle.sre_machine.proofs.Terms.{nat_tests, Run, char_at, Point, AllAdmitted, IsOutside, Exhausted, get_some}
+use Rattle.sre_machine.proofs.Terms.{IsAdmitted, Admitted}
+use Rattle.sre_model.specs.Tree.{Any, InCategory, Literal, NotLiteral, AnyAll, In}
 use Rattle.sre_model.specs.Roles.{TestKind, ToTest}
 use Rattle.sre_chars.specs.declared.constants.SreOpcode.TheVariants as opcode
 

@@ -49,13 +49,11 @@ pub use Rattle.sre_model.specs.MarksSet.{marks_in_regions}
 pub use Rattle.sre_model.specs.Prefixes.{ReadsBehind}
 pub use Rattle.sre_model.specs.References.{asked_from, asked_to, no_group, refers}
 pub use Rattle.sre_model.specs.Regions.{has_forked_region}
-pub use Rattle.sre_model.specs.Roles.{ToCheckPosition}
 pub use Rattle.sre_model.specs.Standing.{AreWords, HasTest, TestStands}
 pub use Rattle.sre_model.specs.Subject.{char_at, holds_at, passes, same_folded}
-pub use Rattle.sre_model.specs.Tree.{Any, AnyAll, Ascii, BigCharset, Category, Charset, Greedy, GreedyRun, In}
-pub use Rattle.sre_model.specs.Tree.{InCategory, Lazy, LazyRun, Literal, Negate, Negative, NotLiteral, Order}
-pub use Rattle.sre_model.specs.Tree.{Plain, Positive, PossessiveRun, Range, RangeUniIgnore, RunKind, SetItem, Single}
-pub use Rattle.sre_model.specs.Tree.{Unicode}
+pub use Rattle.sre_model.specs.Tree.{Ascii, BigCharset, Category, Charset, Greedy, GreedyRun, Lazy, LazyRun, Negate}
+pub use Rattle.sre_model.specs.Tree.{Negative, Order, Plain, Positive, PossessiveRun, Range, RangeUniIgnore, RunKind}
+pub use Rattle.sre_model.specs.Tree.{SetItem, Single, Unicode}
 pub use Rattle.sre_model.specs.TreePrices.{most_steps}
 pub use Rattle.sre_model.specs.TurnBounds.{most_each}
 pub use Rattle.sre_model.specs.Ways.{may_repeat, run_length}
@@ -72,7 +70,7 @@ pub use Rattle.sre_turns.proofs.bound.FaringInRegions.{opened_first}
 pub use Rattle.sre_turns.proofs.bound.GrantedTolls.{no_scan, no_toll, split_few, toll_few}
 pub use Rattle.sre_turns.proofs.bound.HereMoves.{here_forked, here_settled}
 pub use Rattle.sre_turns.proofs.bound.SettledMoves.{settled_behind}
-pub use Rattle.sre_turns.proofs.bound.TreePrices.{role_there, steps_behind}
+pub use Rattle.sre_turns.proofs.bound.Prices.{role_there, steps_behind}
 pub use Rattle.sre_turns.proofs.memoization.Asked.{few_unmarked, from_alike}
 pub use Rattle.sre_turns.proofs.memoization.Bodies.{markless_regions}
 pub use Rattle.sre_turns.proofs.memoization.BodyEnds.{end_taken, tried_end}
@@ -113,8 +111,8 @@ pub use Rattle.sre_turns.proofs.semantics.StepsInLoops.{until_below, until_done,
 pub use Rattle.sre_turns.proofs.semantics.StepsInLoops.{until_operands, until_refused, until_runs}
 pub use Rattle.sre_turns.proofs.semantics.StepsInRegions.{InPossessiveLoop, again_done, again_further, again_operands}
 pub use Rattle.sre_turns.proofs.semantics.StepsInRegions.{again_owed, again_place, begun_board, possessive_step}
-pub use Rattle.sre_turns.proofs.semantics.StepsInRegions.{ahead_early, atomic_operand, atomic_step, look_operand}
-pub use Rattle.sre_turns.proofs.semantics.StepsInRegions.{look_step, not_ahead_early, region_closes}
+pub use Rattle.sre_turns.proofs.semantics.StepsInRegions.{ahead_early, look_operand, look_step, not_ahead_early}
+pub use Rattle.sre_turns.proofs.semantics.StepsInRegions.{region_closes}
 pub use Rattle.sre_turns.proofs.semantics.StepsInPossessiveRuns.{longest_short, longest_step}
 pub use Rattle.sre_turns.proofs.semantics.StepsInRuns.{longer_end, longer_full, longer_passes, longer_past}
 pub use Rattle.sre_turns.proofs.semantics.StepsInRuns.{longer_skips, longer_there, longer_unlike, operands_within}

@@ -25,7 +25,7 @@ pub use Rattle.sre_model.specs.MarksSet.{marks_in_regions}
 pub use Rattle.sre_model.specs.Prefixes.{ReadsBehind, behind_items}
 pub use Rattle.sre_model.specs.References.{refers}
 pub use Rattle.sre_model.specs.Regions.{has_forked_region}
-pub use Rattle.sre_model.specs.Roles.{ToRefer, begins_test, role}
+pub use Rattle.sre_model.specs.Roles.{begins_test, role}
 pub use Rattle.sre_model.specs.Runs.{Run}
 pub use Rattle.sre_model.specs.Standing.{TestStands}
 pub use Rattle.sre_model.specs.Subject.{passes}

@@ -10,7 +10,6 @@
 pub mod admitting;
 pub mod allowance;
 mod asked_places;
-mod atomic_scopes;
 mod branches;
 mod character_repeats;
 mod long_repeats;
@@ -19,6 +18,7 @@ mod machine;
 mod marked;
 pub mod memo;
 pub mod runner;
+mod scopes;
 mod set_members;
 mod strides;
 mod trying;

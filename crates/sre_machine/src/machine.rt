@@ -6,12 +6,12 @@
 
 ghost use Rattle.std.specs.Prelude.{◌≡◌, ℕ, ◌+◌, ◌^◌, ◌<◌, IfOk, MatchOption, true, nat_le};
 ghost use Rattle.sre_machine.specs.Terms.{BoardValue, Instruction, Longer, Point, IsBack, Chooses, begins_test, Test};
-ghost use Rattle.sre_machine.specs.Terms.{run_of, OpcodeAt, TestAt, Standing, TestStandsAt, test_takes, role, ToRefer};
+ghost use Rattle.sre_machine.specs.Terms.{run_of, OpcodeAt, TestAt, Standing, TestStandsAt, test_takes, role};
+ghost use Rattle.sre_model.specs.Roles.{ToRefer};
 ghost use Rattle.sre_machine.specs.Memos.{RecallsOf};
 ghost use Rattle.sre_machine.specs.Turns.{At, AtPoint, AtOnBoard, Turn, TurnAt, DemandedAt, RefusesAt, Retreats};
 ghost use Rattle.sre_machine.specs.Turns.{Finishes};
 
-use crate::atomic_scopes::{assert, assert_not, atomic_group, possessive_repeat, without_outcome};
 use crate::branches::{alternatives, branch};
 use crate::character_repeats::{
     longer, min_repeat_one, possessive_repeat_one, repeat_one, shorter_saved,
@@ -19,6 +19,7 @@ use crate::character_repeats::{
 use crate::long_repeats::later_run;
 use crate::loops::{max_until, min_until, repeat};
 use crate::memo::Memo;
+use crate::scopes::{assert, assert_not, atomic_group, possessive_repeat, without_outcome};
 use crate::trying::keep;
 use sre_board::{Board, LOOK_SPEED};
 use sre_chars::constants::{SreAtCode, SreOpcode};

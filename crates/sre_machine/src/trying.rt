@@ -12,11 +12,11 @@ ghost use Rattle.sre_machine.specs.Turns.{RefersToGroups, UnaskedMarks, AlikeMar
 ghost use Rattle.sre_machine.specs.Turns.{ServesThere, IdleThere};
 ghost use Rattle.sre_machine.specs.Turns.{BringsNoTolls, NoEndTold, RunsOnAt, RunsAtOnce, TriesKnown};
 
-use crate::atomic_scopes::{again, known_end};
 use crate::character_repeats::scan_price;
 use crate::long_repeats::{endless_run, is_better_at_once, is_endless_run};
 use crate::machine::{instruction, opcode};
 use crate::memo::Memo;
+use crate::scopes::{again, known_end};
 use sre_board::{Board, Known};
 use sre_chars::constants::SreOpcode;
 use sre_chars::string::{StrDrive, StringCursor};

@@ -9,9 +9,9 @@ ghost use Rattle.sre_machine.specs.Paying.{Remembering, each_of, Stops};
 ghost use Rattle.sre_machine.specs.Turns.{WithinTurns};
 
 use crate::allowance::Allowance;
-use crate::atomic_scopes::{again, end, keep_ends};
 use crate::machine::{back, instruction};
 use crate::memo::Memo;
+use crate::scopes::{again, end, keep_ends};
 use crate::trying::{again_or_back, instruction_or_back};
 use sre_board::Board;
 use sre_chars::string::{StrDrive, StringCursor};

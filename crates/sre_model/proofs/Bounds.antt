@@ -1,11 +1,12 @@
 -- Each match path ends between its position and the range's end, and is at least as long as the tree's least width.
 use Rattle.sre_model.proofs.Terms.{◌≡◌, ℕ, zero, suc, ◌+◌, ◌*◌, ◌<◌, ◌≤◌, Bool, true, false, ◌&&◌, ◌||◌, true≢false}
 use Rattle.sre_model.proofs.Terms.{nat_le, List, refl, sym, ap, arith, AllByRecursion, nat_tests, mul-le-mul_right}
-use Rattle.sre_model.proofs.Terms.{Tree, Empty, Then, Item, Fail, One, At, Mark, Branch, Loop, Run, PossessiveLoop}
-use Rattle.sre_model.proofs.Terms.{Atomic, Look, Reference, Exists, ExistsElse, Trees, Only, Or, Test, Marks, set_mark}
-use Rattle.sre_model.proofs.Terms.{group, refers, by_references, of_item, of_branch, Subject, passes, holds_at, Way}
-use Rattle.sre_model.proofs.Terms.{Body, here, most_from, longest_run, within, ways, item_ways, width, least_width}
-use Rattle.sre_model.proofs.Terms.{branch_ways, item_width}
+use Rattle.sre_model.proofs.Terms.{Tree, Empty, Then, Item, Trees, Only, Or, Test, Marks, set_mark, group, refers}
+use Rattle.sre_model.proofs.Terms.{by_references, of_item, of_branch, Subject, passes, holds_at, Way, Body, here}
+use Rattle.sre_model.proofs.Terms.{most_from, longest_run, within, ways, item_ways, width, least_width, branch_ways}
+use Rattle.sre_model.proofs.Terms.{item_width}
+use Rattle.sre_model.specs.Tree.{Fail, One, At, Mark, Branch, Loop, Run, PossessiveLoop, Atomic, Look, Reference}
+use Rattle.sre_model.specs.Tree.{Exists, ExistsElse}
 use Rattle.sre_model.proofs.Each.{each-weaken, filter-each, each-filter}
 use Rattle.sre_model.proofs.Along.{Times, Counted, Goes, none, pair, each_way, weaken, by_cond, by_first, goes-then}
 use Rattle.sre_model.proofs.Along.{goes-or, goes-present, goes-look, goes-loop, goes-possessive, run_rounds, goes-run}

@@ -1,14 +1,15 @@
 -- Where the first code words leave no match path.
 use Rattle.sre_model.proofs.Terms.{◌≡◌, ℕ, zero, suc, ◌+◌, ◌-◌, ◌<◌, true, false, List, [], length, nat_lt, nat_le, ◌⊎◌}
 use Rattle.sre_model.proofs.Terms.{inl, inr, refl, sym, ap, ◌∙◌, subst, arith, true≢false, cases_lt, nat_tests}
-use Rattle.sre_model.proofs.Terms.{at_number, SreOpcode, SreAtCode, Tree, Empty, Then, Item, One, At, Mark, Branch}
-use Rattle.sre_model.proofs.Terms.{Loop, Run, PossessiveLoop, Atomic, Look, Test, Trees, Only, Or, RunKind, GreedyRun}
-use Rattle.sre_model.proofs.Terms.{LazyRun, PossessiveRun, Positive, Marks, set_mark, Subject, passes, holds_at, Word}
-use Rattle.sre_model.proofs.Terms.{Opcode, skip, until_opcode, Reads, ReadsBranch, Operands, ReadsItem, WholeItems}
-use Rattle.sre_model.proofs.Terms.{Role, ToTest, role, ToCheckPosition, ToMark, ToBranch, ToRun, ToRepeat}
-use Rattle.sre_model.proofs.Terms.{ToRepeatPossessively, ToGroupAtomically, ToLook, TestKind, begins_test, Way, Body}
-use Rattle.sre_model.proofs.Terms.{first, most_from, longest_run, run_ways, within, least, ways, item_ways}
-use Rattle.sre_model.proofs.Terms.{HasTest, is_end, TreeStands}
+use Rattle.sre_model.proofs.Terms.{at_number, SreOpcode, SreAtCode, Tree, Empty, Then, Item, Test, Trees, Only, Or}
+use Rattle.sre_model.proofs.Terms.{RunKind, GreedyRun, LazyRun, PossessiveRun, Positive, Marks, set_mark, Subject}
+use Rattle.sre_model.proofs.Terms.{passes, holds_at, Word, Opcode, skip, until_opcode, Reads, ReadsBranch, Operands}
+use Rattle.sre_model.proofs.Terms.{ReadsItem, WholeItems, Role, role, TestKind, begins_test, Way, Body, first}
+use Rattle.sre_model.proofs.Terms.{most_from, longest_run, run_ways, within, least, ways, item_ways, HasTest, is_end}
+use Rattle.sre_model.proofs.Terms.{TreeStands}
+use Rattle.sre_model.specs.Tree.{One, At, Mark, Branch, Loop, Run, PossessiveLoop, Atomic, Look}
+use Rattle.sre_model.specs.Roles.{ToTest, ToCheckPosition, ToMark, ToBranch, ToRun, ToRepeat, ToRepeatPossessively}
+use Rattle.sre_model.specs.Roles.{ToGroupAtomically, ToLook}
 use Rattle.sre_chars.specs.declared.constants.SreOpcode.TheVariants as opcode
 use Rattle.sre_model.specs.FirstCharacters.{NoWay, NoneOf, NotPassed, HasTree, HasAlternatives, Leads}
 use Rattle.sre_model.proofs.Opcodes.{same_word, same_opcode, same_at, word_within, opcode_within, HasRole, until_role}

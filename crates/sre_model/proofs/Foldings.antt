@@ -1,6 +1,7 @@
 -- Folds of trees: what holds of two folds' values of each item holds of trees.
-use Rattle.sre_model.proofs.Terms.{◌≡◌, refl, ap, ap₂, Tree, Empty, Then, Item, Branch, Loop, PossessiveLoop, Atomic}
-use Rattle.sre_model.proofs.Terms.{Look, Exists, ExistsElse, Trees, Only, Or, Folding, of_tree, of_parts, of_branch}
+use Rattle.sre_model.proofs.Terms.{◌≡◌, refl, ap, ap₂, Tree, Empty, Then, Item, Trees, Only, Or, Folding, of_tree}
+use Rattle.sre_model.proofs.Terms.{of_parts, of_branch}
+use Rattle.sre_model.specs.Tree.{Branch, Loop, PossessiveLoop, Atomic, Look, Exists, ExistsElse}
 
 -- two folds' values are related where what they have and make of nothing, of two parts and of an item is
 module _ {A B : Type 0} (f : Folding A) (g : Folding B) (R : A → B → Type 0) (nothing : R f.nothing g.nothing)

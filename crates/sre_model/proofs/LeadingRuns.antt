@@ -1,11 +1,12 @@
 -- Starts inside the repeat that a tree begins with have no match where the repeat's own start has none.
 use Rattle.sre_model.proofs.Terms.{◌≡◌, ◌≤◌, ◌<◌, ◌+◌, ◌-◌, ℕ, zero, suc, List, [], ◌∷◌, ◌++◌, Bool, true, false, map}
 use Rattle.sre_model.proofs.Terms.{nat_le, Option, Some, None, refl, sym, ap, subst, arith, flat_map, AllByRecursion}
-use Rattle.sre_model.proofs.Terms.{nat_tests, Tree, Then, One, Mark, Run, Test, RunKind, GreedyRun, LazyRun}
-use Rattle.sre_model.proofs.Terms.{PossessiveRun, Marks, no_marks, set_mark, refers, Subject, passes, Way, unlimited}
-use Rattle.sre_model.proofs.Terms.{run_length, longest_run, rising, falling, counts, ways, Asked, subject_of}
-use Rattle.sre_model.proofs.Terms.{is_accepted, first_accepted, at_start, RunLeads, inl, inr, cases_lt, append-nil}
-use Rattle.sre_model.proofs.Terms.{front_passes, front_length, NoneEnds, cases_Bool}
+use Rattle.sre_model.proofs.Terms.{nat_tests, Tree, Then, Test, RunKind, GreedyRun, LazyRun, PossessiveRun, Marks}
+use Rattle.sre_model.proofs.Terms.{no_marks, set_mark, refers, Subject, passes, Way, unlimited, run_length, longest_run}
+use Rattle.sre_model.proofs.Terms.{rising, falling, counts, ways, Asked, subject_of, is_accepted, first_accepted}
+use Rattle.sre_model.proofs.Terms.{at_start, RunLeads, inl, inr, cases_lt, append-nil, front_passes, front_length}
+use Rattle.sre_model.proofs.Terms.{NoneEnds, cases_Bool}
+use Rattle.sre_model.specs.Tree.{One, Mark, Run}
 use Rattle.sre_model.proofs.Each.{each-flat_map, each-map}
 use Rattle.sre_model.proofs.MarksApart.{SameStops, ways-apart}
 use Rattle.sre_model.proofs.Along.{IsCount, counts_each}

@@ -1,10 +1,11 @@
 -- Which code words begin with a repeat.
 use Rattle.sre_model.proofs.Terms.{◌≡◌, ℕ, ◌+◌, ◌-◌, ◌<◌, ◌⊎◌, inl, inr, List, length, Option, Some, None, refl, false}
-use Rattle.sre_model.proofs.Terms.{sym, ap, ◌∙◌, subst, arith, true, SreOpcode, Tree, Then, Item, One, Mark, Run, Test}
-use Rattle.sre_model.proofs.Terms.{RunKind, GreedyRun, LazyRun, PossessiveRun, refers, by_references, of_item}
-use Rattle.sre_model.proofs.Terms.{unlimited, Word, Opcode, Reads, ReadsItem, WholeItems, Role, role, ToRun}
-use Rattle.sre_model.proofs.Terms.{begins_test, ToTest, ToMark, TestStands, HasTest, RunLeads, TreeStands, is_end}
-use Rattle.sre_model.proofs.Terms.{or_parts, FrontStands, RunStands}
+use Rattle.sre_model.proofs.Terms.{sym, ap, ◌∙◌, subst, arith, true, SreOpcode, Tree, Then, Item, Test, RunKind}
+use Rattle.sre_model.proofs.Terms.{GreedyRun, LazyRun, PossessiveRun, refers, by_references, of_item, unlimited, Word}
+use Rattle.sre_model.proofs.Terms.{Opcode, Reads, ReadsItem, WholeItems, Role, role, begins_test, TestStands, HasTest}
+use Rattle.sre_model.proofs.Terms.{RunLeads, TreeStands, is_end, or_parts, FrontStands, RunStands}
+use Rattle.sre_model.specs.Tree.{One, Mark, Run}
+use Rattle.sre_model.specs.Roles.{ToRun, ToTest, ToMark}
 use Rattle.sre_chars.specs.declared.constants.SreOpcode.TheVariants as opcode
 use Rattle.sre_model.proofs.Opcodes.{same_word, word_within, HasRole, is_one, is_mark, is_run, role_here, some_test}
 use Rattle.sre_model.proofs.FirstCharacters.{Begins, begins, known, tree_within}

@@ -1,8 +1,8 @@
 -- Which opcodes begin a test of one character.
 use Rattle.sre_model.proofs.Terms.{ℕ, ◌+◌, ◌≡◌, ◌≢◌, ◌⊎◌, ◌-◌, Bool, List, sym, subst, arith, Table, holds, SreOpcode}
-use Rattle.sre_model.proofs.Terms.{Test, Any, AnyAll, InCategory, Literal, NotLiteral, In, Plain, Ascii, Locale}
-use Rattle.sre_model.proofs.Terms.{Unicode, Word, Opcode, test_opcode, TestOperands, SetStands, HasSet, ItemSays}
-use Rattle.sre_model.proofs.Terms.{TestStands, HasTest}
+use Rattle.sre_model.proofs.Terms.{Test, Plain, Ascii, Locale, Unicode, Word, Opcode, test_opcode, TestOperands}
+use Rattle.sre_model.proofs.Terms.{SetStands, HasSet, ItemSays, TestStands, HasTest}
+use Rattle.sre_model.specs.Tree.{Any, AnyAll, InCategory, Literal, NotLiteral, In}
 use Rattle.sre_chars.specs.declared.constants.SreOpcode.TheVariants as opcode
 use Rattle.sre_model.proofs.Opcodes.{word_of, same_opcode}
 use Rattle.sre_model.proofs.Members.{one_item_member}

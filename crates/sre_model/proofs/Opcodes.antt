@@ -3,15 +3,16 @@ use Rattle.sre_model.proofs.Terms.{ℕ, ◌≡◌, ◌<◌, ◌≤◌, List, [],
 use Rattle.sre_model.proofs.Terms.{ap, subst, arith, slice_get_within, opcode_number, at_number, category_number}
 use Rattle.sre_model.proofs.Terms.{SreOpcode, SreAtCode, SreCatCode, Word, word, Opcode, AreWords}
 use Rattle.sre_model.proofs.Terms.{get_or_from_slice_get, slice_get-get_or, get_or_past, HasCategory, ◌⊎◌, Bool, true}
-use Rattle.sre_model.proofs.Terms.{false, inl, inr, Tree, Item, Fail, One, At, Mark, Branch, Loop, Run, PossessiveLoop}
-use Rattle.sre_model.proofs.Terms.{Atomic, Look, Reference, Exists, ExistsElse, Trees, Test, Any, AnyAll, InCategory}
-use Rattle.sre_model.proofs.Terms.{Literal, NotLiteral, In, Order, RunKind, GreedyRun, Sign, Positive, Fold, Plain}
-use Rattle.sre_model.proofs.Terms.{SetItem, Greedy, TestKind, Role, ToTest, ToCheckPosition, ToMark, ToBranch, ToRun}
-use Rattle.sre_model.proofs.Terms.{ToRepeat, ToRepeatPossessively, ToGroupAtomically, ToLook, role, begins_test}
-use Rattle.sre_model.proofs.Terms.{test_opcode, until_opcode, reference_opcode, item_opcode, ReadsItem, TestOperands}
-use Rattle.sre_model.proofs.Terms.{true≢false, OfAny, OfAnyAll, OfCategory, OfLiteral, OfNotLiteral, OfSet, ToFail}
-use Rattle.sre_model.proofs.Terms.{ToEnd, ToJump, ToLoop, ToRefer, ToCheckGroup, ToNothing, is_test_role, run_opcode}
-use Rattle.sre_model.proofs.Terms.{look_opcode}
+use Rattle.sre_model.proofs.Terms.{false, inl, inr, Tree, Item, Trees, Test, Order, RunKind, GreedyRun, Sign, Positive}
+use Rattle.sre_model.proofs.Terms.{Fold, Plain, SetItem, Greedy, TestKind, Role, role, begins_test, test_opcode}
+use Rattle.sre_model.proofs.Terms.{until_opcode, item_opcode, ReadsItem, TestOperands, true≢false, is_test_role}
+use Rattle.sre_model.proofs.Terms.{run_opcode}
+use Rattle.sre_model.specs.Tree.{Fail, One, At, Mark, Branch, Loop, Run, PossessiveLoop, Atomic, Look, Reference}
+use Rattle.sre_model.specs.Tree.{Exists, ExistsElse, Any, AnyAll, InCategory, Literal, NotLiteral, In}
+use Rattle.sre_model.specs.Roles.{ToTest, ToCheckPosition, ToMark, ToBranch, ToRun, ToRepeat, ToRepeatPossessively}
+use Rattle.sre_model.specs.Roles.{ToGroupAtomically, ToLook, ToFail, ToEnd, ToJump, ToLoop, ToRefer, ToCheckGroup}
+use Rattle.sre_model.specs.Roles.{ToNothing, OfAny, OfAnyAll, OfCategory, OfLiteral, OfNotLiteral, OfSet}
+use Rattle.sre_model.specs.Grammar.{reference_opcode, look_opcode}
 use Rattle.sre_chars.specs.declared.constants.SreOpcode.TheVariants as opcode
 use Rattle.sre_chars.specs.declared.constants.SreAtCode.TheVariants as at
 use Rattle.sre_chars.specs.declared.constants.SreCatCode.TheVariants as category

@@ -1,6 +1,7 @@
 -- Which characters a test passes, in terms of a text that is read.
 use Rattle.sre_model.proofs.Terms.{◌≡◌, ℕ, ◌<◌, ◌≤◌, Bool, true, false, nat_lt, refl, sym, ap, ◌∙◌, subst, arith}
-use Rattle.sre_model.proofs.Terms.{nat_tests, StringCursor, Test, Literal, Plain, holds, Subject, passes, char_at}
+use Rattle.sre_model.proofs.Terms.{nat_tests, StringCursor, Test, Plain, holds, Subject, passes, char_at}
+use Rattle.sre_model.specs.Tree.{Literal}
 
 -- a character that is read before the window's end decides
 pub read_passes : (s : Subject) (t : Test) (p c : ℕ) (b : Bool) → p < s.end → c ≡ char_at s p → b ≡ holds s.table t c

@@ -1,11 +1,10 @@
 -- A tree is related in one way, and a FIRST set is confirmed in one way.
 use Rattle.sre_model.proofs.Terms.{ℕ, ◌+◌, ◌*◌, ◌-◌, ◌≡◌, List, [], ◌∷◌, length, props, is_prop→PathP, Tree, Empty}
-use Rattle.sre_model.proofs.Terms.{Then, Item, One, Branch, Loop, Run, PossessiveLoop, Atomic, Look, Exists, ExistsElse}
-use Rattle.sre_model.proofs.Terms.{Trees, Only, Or, Test, In, SetItem, Single, Range, RangeUniIgnore, Category, Charset}
-use Rattle.sre_model.proofs.Terms.{BigCharset, Negate, word, skip, Reads, ReadsItem, ReadsBranch, TestOperands}
+use Rattle.sre_model.proofs.Terms.{Then, Item, Trees, Only, Or, Test, SetItem, Single, Range, RangeUniIgnore, Category}
+use Rattle.sre_model.proofs.Terms.{Charset, BigCharset, Negate, word, skip, Reads, ReadsItem, ReadsBranch, TestOperands}
 use Rattle.sre_model.proofs.Terms.{ReadsSet, Whole, WholeItems, behind_block, ∥∥₁_elim, IsCode, true, false, Table}
-use Rattle.sre_model.proofs.Terms.{Literal, Plain, Opcode, HasFirstSet, has_flag, behind_marks, TestIn, EachTestIn}
-use Rattle.sre_model.proofs.Terms.{FirstIn}
+use Rattle.sre_model.proofs.Terms.{Plain, Opcode, HasFirstSet, has_flag, behind_marks, TestIn, EachTestIn, FirstIn}
+use Rattle.sre_model.specs.Tree.{One, Branch, Loop, Run, PossessiveLoop, Atomic, Look, Exists, ExistsElse, In, Literal}
 use Rattle.sre_model.proofs.TreeOf.{item_same, whole_same, set_same}
 use Rattle.sre_chars.specs.declared.constants.SreOpcode.TheVariants as opcode
 

@@ -39,8 +39,8 @@ pub use Rattle.sre_model.specs.Found.{Asked, Match, asked_after, at_start, first
 pub use Rattle.sre_model.specs.Found.{is_accepted, subject_of, walk}
 pub use Rattle.sre_model.specs.Grammar.{BlocksBelow, BytesBelow, IsCode, JumpsTo, Opcode, Operands, Reads, ReadsBranch}
 pub use Rattle.sre_model.specs.Grammar.{ReadsItem, ReadsSet, TestOperands, Whole, WholeItems, Word, behind_block}
-pub use Rattle.sre_model.specs.Grammar.{bytes_of, fits_block, has_block, item_opcode, look_opcode, reference_opcode}
-pub use Rattle.sre_model.specs.Grammar.{run_opcode, skip, test_opcode, until_opcode, word}
+pub use Rattle.sre_model.specs.Grammar.{bytes_of, fits_block, has_block, item_opcode, run_opcode, skip, test_opcode}
+pub use Rattle.sre_model.specs.Grammar.{until_opcode, word}
 pub use Rattle.sre_model.specs.Written.{LawfulTree, branch_words, code_words, item_words, packed, repeated, set_words}
 pub use Rattle.sre_model.specs.Written.{test_words, tree_words}
 pub use Rattle.sre_model.specs.Loops.{first_of_body, followed, loop_from, or_here}
@@ -48,21 +48,16 @@ pub use Rattle.sre_model.specs.Marks.{Marks, group, no_marks, set_mark}
 pub use Rattle.sre_model.specs.References.{by_references, refers}
 pub use Rattle.sre_model.specs.Remembered.{IsRemembered, kept_positions, looks_at_most, sides, step_bound}
 pub use Rattle.sre_model.specs.Remembered.{words_at_place}
-pub use Rattle.sre_model.specs.Roles.{OfAny, OfAnyAll, OfCategory, OfLiteral, OfNotLiteral, OfSet, Role, TestKind}
-pub use Rattle.sre_model.specs.Roles.{ToBranch, ToCheckGroup, ToCheckPosition, ToEnd, ToFail, ToGroupAtomically, ToJump}
-pub use Rattle.sre_model.specs.Roles.{ToLook, ToLoop, ToMark, ToNothing, ToRefer, ToRepeat, ToRepeatPossessively, ToRun}
-pub use Rattle.sre_model.specs.Roles.{ToTest, begins_test, is_test_role, numbered, opcode_at, role}
+pub use Rattle.sre_model.specs.Roles.{Role, TestKind, begins_test, is_test_role, numbered, opcode_at, role}
 pub use Rattle.sre_model.specs.Shown.{a, b, c, d, is_a, items}
 pub use Rattle.sre_model.specs.Slots.{counted_to, loop_slots, most_slots}
 pub use Rattle.sre_model.specs.Standing.{AreWords, HasCategory, HasSet, HasTest, ItemSays, SetStands, TestStands}
 pub use Rattle.sre_model.specs.Standing.{VerdictLeft}
 pub use Rattle.sre_model.specs.Subject.{Subject, char_at, holds_at, passes, same_folded}
-pub use Rattle.sre_model.specs.Tree.{Any, AnyAll, Ascii, At, Atomic, BigCharset, Branch, Category, Charset, Empty}
-pub use Rattle.sre_model.specs.Tree.{Exists, ExistsElse, Fail, Fold, Greedy, GreedyRun, In, InCategory, Item, Lazy}
-pub use Rattle.sre_model.specs.Tree.{LazyRun, Literal, Locale, Look, Loop, Mark, Negate, Negative, NotLiteral, One}
-pub use Rattle.sre_model.specs.Tree.{Only, Or, Order, Plain, Positive, PossessiveLoop, PossessiveRun, Range}
-pub use Rattle.sre_model.specs.Tree.{RangeUniIgnore, Reference, Run, RunKind, SetItem, Sign, Single, Test, Then, Tree}
-pub use Rattle.sre_model.specs.Tree.{Trees, Unicode}
+pub use Rattle.sre_model.specs.Tree.{Ascii, BigCharset, Category, Charset, Empty, Fold, Greedy, GreedyRun, Item, Lazy}
+pub use Rattle.sre_model.specs.Tree.{LazyRun, Locale, Negate, Negative, Only, Or, Order, Plain, Positive, PossessiveRun}
+pub use Rattle.sre_model.specs.Tree.{Range, RangeUniIgnore, RunKind, SetItem, Sign, Single, Test, Then, Tree, Trees}
+pub use Rattle.sre_model.specs.Tree.{Unicode}
 pub use Rattle.sre_model.specs.TreePrices.{branch_cost, cost_of, item_cost, most_steps, other_ends, scan_price}
 pub use Rattle.sre_model.specs.TreePrices.{steps_of}
 pub use Rattle.sre_model.specs.WalkBounds.{AreInOrder, most_matches}

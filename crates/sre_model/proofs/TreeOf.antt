@@ -1,16 +1,16 @@
 -- The tree of bytecode, by a function: a run of the machine is measured by it, and the grammar relates no other tree to
 -- the words.
 use Rattle.sre_model.proofs.Terms.{opcode_at, ℕ, ◌+◌, ◌*◌, ◌-◌, ◌≡◌, ◌<◌, ◌≤◌, List, [], ◌∷◌, length, refl, arith, Tree}
-use Rattle.sre_model.proofs.Terms.{Empty, Then, Item, One, Branch, ExistsElse, Trees, Only, Or, Test, Any, SetItem}
-use Rattle.sre_model.proofs.Terms.{Single, Range, RangeUniIgnore, Category, Charset, BigCharset, Negate, word, skip}
-use Rattle.sre_model.proofs.Terms.{Reads, ReadsBranch, ReadsSet, Operands, TestOperands, zero, suc, ◌⊎◌, inl, inr, Bool}
-use Rattle.sre_model.proofs.Terms.{true, false, nat_lt, nat_eq, Option, None, Some, slice_index_or, sym, ap, ◌∙◌}
-use Rattle.sre_model.proofs.Terms.{nat_tests, at_number, SreOpcode, SreAtCode, Fail, At, Mark, Loop, Run}
-use Rattle.sre_model.proofs.Terms.{PossessiveLoop, Atomic, Look, Reference, Exists, AnyAll, InCategory, Literal}
-use Rattle.sre_model.proofs.Terms.{NotLiteral, In, Order, Greedy, Lazy, RunKind, GreedyRun, LazyRun, PossessiveRun}
-use Rattle.sre_model.proofs.Terms.{Sign, Positive, Negative, Fold, Plain, Ascii, Locale, Unicode, Word, Opcode}
-use Rattle.sre_model.proofs.Terms.{test_opcode, item_opcode, until_opcode, WholeItems, reference_opcode, ReadsItem}
-use Rattle.sre_model.proofs.Terms.{Whole, behind_block, same_Some}
+use Rattle.sre_model.proofs.Terms.{Empty, Then, Item, Trees, Only, Or, Test, SetItem, Single, Range, RangeUniIgnore}
+use Rattle.sre_model.proofs.Terms.{Category, Charset, BigCharset, Negate, word, skip, Reads, ReadsBranch, ReadsSet}
+use Rattle.sre_model.proofs.Terms.{Operands, TestOperands, zero, suc, ◌⊎◌, inl, inr, Bool, true, false, nat_lt, nat_eq}
+use Rattle.sre_model.proofs.Terms.{Option, None, Some, slice_index_or, sym, ap, ◌∙◌, nat_tests, at_number, SreOpcode}
+use Rattle.sre_model.proofs.Terms.{SreAtCode, Order, Greedy, Lazy, RunKind, GreedyRun, LazyRun, PossessiveRun, Sign}
+use Rattle.sre_model.proofs.Terms.{Positive, Negative, Fold, Plain, Ascii, Locale, Unicode, Word, Opcode, test_opcode}
+use Rattle.sre_model.proofs.Terms.{item_opcode, until_opcode, WholeItems, ReadsItem, Whole, behind_block, same_Some}
+use Rattle.sre_model.specs.Tree.{One, Branch, ExistsElse, Fail, At, Mark, Loop, Run, PossessiveLoop, Atomic, Look}
+use Rattle.sre_model.specs.Tree.{Reference, Exists, Any, AnyAll, InCategory, Literal, NotLiteral, In}
+use Rattle.sre_model.specs.Grammar.{reference_opcode}
 use Rattle.sre_chars.specs.declared.constants.SreOpcode.TheVariants as opcode
 use Rattle.sre_chars.specs.declared.constants.SreAtCode.TheVariants as at
 use Rattle.sre_model.proofs.Opcodes.{word_of, opcode_within, at_codes, at_back, same_opcode}

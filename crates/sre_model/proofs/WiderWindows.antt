@@ -1,10 +1,10 @@
 -- What is memoized and counted for a range holds of each range inside it.
 use Rattle.sre_model.proofs.Terms.{ℕ, ◌+◌, ◌-◌, ◌*◌, ◌/◌, ◌≤◌, Bool, true, false, cond, nat_eq, arith, mul-le-mul_right}
-use Rattle.sre_model.proofs.Terms.{Tree, Empty, Then, Item, Branch, Loop, Run, PossessiveLoop, Atomic, Look, Exists}
-use Rattle.sre_model.proofs.Terms.{ExistsElse, Trees, Only, Or, PossessiveRun, unlimited, Asked, min, mul-le-mul}
-use Rattle.sre_model.proofs.Terms.{mul-le-mul_left, counted_to, loop_slots, most_slots, steps_of, other_ends}
-use Rattle.sre_model.proofs.Terms.{scan_price, cost_of, item_cost, branch_cost, most_steps, kept_positions}
+use Rattle.sre_model.proofs.Terms.{Tree, Empty, Then, Item, Trees, Only, Or, PossessiveRun, unlimited, Asked, min}
+use Rattle.sre_model.proofs.Terms.{mul-le-mul, mul-le-mul_left, counted_to, loop_slots, most_slots, steps_of}
+use Rattle.sre_model.proofs.Terms.{other_ends, scan_price, cost_of, item_cost, branch_cost, most_steps, kept_positions}
 use Rattle.sre_model.proofs.Terms.{words_at_place, IsRemembered, looks_at_most, sides, step_bound}
+use Rattle.sre_model.specs.Tree.{Branch, Loop, Run, PossessiveLoop, Atomic, Look, Exists, ExistsElse}
 
 -- one window lies inside another
 pub record IsInside (a b : Asked) : Type 0 where

@@ -1,10 +1,11 @@
 -- Worked rows of reading and of writing bytecode, by computation.
 use Rattle.sre_model.proofs.Terms.{refl, ◌≡◌, [], ◌∷◌, ◌++◌, replicate, false, END, WORD, UNI_NOT_LINEBREAK, Empty}
-use Rattle.sre_model.proofs.Terms.{Fail, One, At, Mark, Branch, Loop, Run, PossessiveLoop, Atomic, Look, Reference}
-use Rattle.sre_model.proofs.Terms.{Exists, ExistsElse, Only, Or, Any, AnyAll, InCategory, Literal, NotLiteral, In}
-use Rattle.sre_model.proofs.Terms.{Single, Range, RangeUniIgnore, Category, Charset, BigCharset, Negate, Plain, Ascii}
-use Rattle.sre_model.proofs.Terms.{Locale, Unicode, Greedy, Lazy, GreedyRun, LazyRun, PossessiveRun, Positive, Negative}
-use Rattle.sre_model.proofs.Terms.{unlimited, behind_block, fits_block, items, is_a, a, b, c, d, code_words}
+use Rattle.sre_model.proofs.Terms.{Only, Or, Single, Range, RangeUniIgnore, Category, Charset, BigCharset, Negate}
+use Rattle.sre_model.proofs.Terms.{Plain, Ascii, Locale, Unicode, Greedy, Lazy, GreedyRun, LazyRun, PossessiveRun}
+use Rattle.sre_model.proofs.Terms.{Positive, Negative, unlimited, behind_block, fits_block, items, is_a, a, b, c, d}
+use Rattle.sre_model.proofs.Terms.{code_words}
+use Rattle.sre_model.specs.Tree.{Fail, One, At, Mark, Branch, Loop, Run, PossessiveLoop, Atomic, Look, Reference}
+use Rattle.sre_model.specs.Tree.{Exists, ExistsElse, Any, AnyAll, InCategory, Literal, NotLiteral, In}
 use Rattle.sre_model.proofs.TreeOf.{tree_of, items_at, trees_at, set_at}
 
 -- (a)b

@@ -2,15 +2,15 @@
 -- words.
 use Rattle.sre_model.proofs.Terms.{ℕ, ◌+◌, ◌*◌, ◌-◌, ◌/◌, ◌≡◌, ◌<◌, List, [], ◌∷◌, ◌++◌, length, slice_range}
 use Rattle.sre_model.proofs.Terms.{slice_index, refl, sym, ◌∙◌, ap, subst, arith, length-append, flat_map}
-use Rattle.sre_model.proofs.Terms.{opcode_number, at_number, category_number, Tree, Empty, Then, Item, Fail, One, At}
-use Rattle.sre_model.proofs.Terms.{Mark, Branch, Loop, Run, PossessiveLoop, Atomic, Look, Reference, Exists, ExistsElse}
-use Rattle.sre_model.proofs.Terms.{Trees, Only, Or, Test, Any, AnyAll, InCategory, Literal, NotLiteral, In, SetItem}
-use Rattle.sre_model.proofs.Terms.{Single, Range, RangeUniIgnore, Category, Charset, BigCharset, Negate, word, skip}
-use Rattle.sre_model.proofs.Terms.{bytes_of, BytesBelow, BlocksBelow, ReadsSet, TestOperands, until_opcode, JumpsTo}
-use Rattle.sre_model.proofs.Terms.{Reads, Operands, ReadsBranch, packed, set_words, test_words, tree_words}
+use Rattle.sre_model.proofs.Terms.{opcode_number, at_number, category_number, Tree, Empty, Then, Item, Trees, Only, Or}
+use Rattle.sre_model.proofs.Terms.{Test, SetItem, Single, Range, RangeUniIgnore, Category, Charset, BigCharset, Negate}
+use Rattle.sre_model.proofs.Terms.{word, skip, bytes_of, BytesBelow, BlocksBelow, ReadsSet, TestOperands, until_opcode}
+use Rattle.sre_model.proofs.Terms.{JumpsTo, Reads, Operands, ReadsBranch, packed, set_words, test_words, tree_words}
 use Rattle.sre_model.proofs.Terms.{branch_words, item_words, LawfulTree, zero, suc, ◌%◌, ◌≤◌, drop, take, Word, Opcode}
 use Rattle.sre_model.proofs.Terms.{test_opcode, item_opcode, AreWords, drop-cons, take-append_seam, append_assoc}
 use Rattle.sre_model.proofs.Terms.{drop_split, repeated}
+use Rattle.sre_model.specs.Tree.{Fail, One, At, Mark, Branch, Loop, Run, PossessiveLoop, Atomic, Look, Reference}
+use Rattle.sre_model.specs.Tree.{Exists, ExistsElse, Any, AnyAll, InCategory, Literal, NotLiteral, In}
 use Rattle.sre_chars.specs.declared.constants.SreOpcode.TheVariants as opcode
 use Rattle.sre_model.proofs.Opcodes.{word_moved, word_of, word_there, word_at, word_within}
 use Rattle.sre_model.specs.Written.{NumbersBelow, LawfulSet, LawfulTest, LawfulItem, LawfulTrees}

@@ -3,12 +3,12 @@ use Rattle.sre_patterns.proofs.Terms.{◌≡◌, ℕ, zero, suc, ◌-◌, ◌<�
 use Rattle.sre_patterns.proofs.Terms.{Option, Some, None, inl, inr, refl, sym, subst, arith, List, ◌+◌, [], ◌∷◌, ap}
 use Rattle.sre_patterns.proofs.Terms.{nat_tests, none-some, same_Some, Re, cat, plus, empty, alt, byte_in, Rounds}
 use Rattle.sre_patterns.proofs.Terms.{one_round, next_round, Matches, unlimited, Way, Body, here, ways, item_ways}
-use Rattle.sre_patterns.proofs.Terms.{branch_ways, repeated, AllByRecursion, SreAtCode, Table, Tree, Then, Item, Fail}
-use Rattle.sre_patterns.proofs.Terms.{At, Mark, Run, Test, AnyAll, Order, RunKind, Sign, Marks, no_marks, holds}
-use Rattle.sre_patterns.proofs.Terms.{Subject, passes, holds_at, char_at, each-weaken, each-cond, ways-bounded, Leads}
-use Rattle.sre_patterns.proofs.Terms.{Along, IsWider, View, CoversBody, Covers, CoversItem, CoversTest, group}
-use Rattle.sre_patterns.proofs.Terms.{each-first, passes-below, Atomic}
-use Rattle.sre_model.specs.Tree.{Empty, Reference, Trees, Only, Or, Fold, Exists, ExistsElse, Look}
+use Rattle.sre_patterns.proofs.Terms.{branch_ways, repeated, AllByRecursion, SreAtCode, Table, Tree, Then, Item, Test}
+use Rattle.sre_patterns.proofs.Terms.{Order, RunKind, Sign, Marks, no_marks, holds, Subject, passes, holds_at, char_at}
+use Rattle.sre_patterns.proofs.Terms.{each-weaken, each-cond, ways-bounded, Leads, Along, IsWider, View, CoversBody}
+use Rattle.sre_patterns.proofs.Terms.{Covers, CoversItem, CoversTest, group, each-first, passes-below}
+use Rattle.sre_model.specs.Tree.{Empty, Reference, Trees, Only, Or, Fold, Exists, ExistsElse, Look, Fail, At, Mark, Run}
+use Rattle.sre_model.specs.Tree.{Atomic, AnyAll}
 use Rattle.regex_hir.specs.Meaning.{optional, copies, up_to, at_least, repeat}
 use Rattle.sre_model.proofs.Along.{Times, Counted, Alike, Goes, none, pair, each_way, weaken, goes-then, goes-or}
 use Rattle.sre_model.proofs.Along.{goes-present, goes-look, goes-loop, goes-possessive, goes-run, goes-reference}

@@ -3,9 +3,10 @@
 use Rattle.sre_patterns.proofs.Terms.{◌≡◌, ℕ, zero, suc, ◌+◌, ◌-◌, ◌<◌, ◌≤◌, Bool, true, false, cond, not, ◌&&◌, ◌||◌}
 use Rattle.sre_patterns.proofs.Terms.{nat_eq, nat_lt, List, length, Option, None, Some, slice_get, refl, sym, ap, ap₂}
 use Rattle.sre_patterns.proofs.Terms.{◌∙◌, subst, inl, inr, arith, slice_index, and_parts, cases_lt, nat_tests}
-use Rattle.sre_patterns.proofs.Terms.{slice_get_past, slice_get-get_or, look, Look, Table, SreAtCode, At, Subject}
-use Rattle.sre_patterns.proofs.Terms.{char_at, holds_at, View, CoversItem, InBytes, InUtf8, exact_look, len_utf8_bounds}
+use Rattle.sre_patterns.proofs.Terms.{slice_get_past, slice_get-get_or, look, Look, Table, SreAtCode, Subject, char_at}
+use Rattle.sre_patterns.proofs.Terms.{holds_at, View, CoversItem, InBytes, InUtf8, exact_look, len_utf8_bounds}
 use Rattle.sre_patterns.proofs.Terms.{len_utf8, look_of, in_ascii, is_boundary, is_on_nothing, bars_non_boundary}
+use Rattle.sre_model.specs.Tree.{At}
 use Rattle.regex_hir.proofs.TextLemmas.{char_at_fits, byte_before-zero, byte_before-add-one}
 use Rattle.std.proofs.Common.{◌==◌, is_some}
 use Rattle.ucd_perl.specs.Perl.{is_word_byte}

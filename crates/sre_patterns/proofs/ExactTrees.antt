@@ -6,10 +6,11 @@ use Rattle.sre_patterns.proofs.Terms.{len_utf8_bounds, Re, empty, byte_in, char_
 use Rattle.sre_patterns.proofs.Terms.{one_round, next_round, Matches, Subject, char_at, InBytes, InUtf8, IsPlace}
 use Rattle.sre_patterns.proofs.Terms.{true≢false, Matches-IsSpan, min, cond, nat_lt, slice_get, refl, ap₂}
 use Rattle.sre_patterns.proofs.Terms.{AllByRecursion, nat_tests, slice_get_past, IsScalar, IsMinLen, Table, SreAtCode}
-use Rattle.sre_patterns.proofs.Terms.{Tree, Fail, One, At, Loop, Run, Test, Order, Marks, holds, passes, holds_at, Body}
-use Rattle.sre_patterns.proofs.Terms.{here, unlimited, ways, item_ways, loop_ways, branch_ways, each-cond, Between}
-use Rattle.sre_patterns.proofs.Terms.{Bounded, ways-bounded, item-bounded, View, ExactBody, ExactTree, Rises, AreKept}
-use Rattle.sre_patterns.proofs.Terms.{repeated, is_greedy, kind_of, exact_look, most_kept, option_or, option_or-None}
+use Rattle.sre_patterns.proofs.Terms.{Tree, Test, Order, Marks, holds, passes, holds_at, Body, here, unlimited, ways}
+use Rattle.sre_patterns.proofs.Terms.{item_ways, loop_ways, branch_ways, each-cond, Between, Bounded, ways-bounded}
+use Rattle.sre_patterns.proofs.Terms.{item-bounded, View, ExactBody, ExactTree, Rises, AreKept, repeated, is_greedy}
+use Rattle.sre_patterns.proofs.Terms.{kind_of, exact_look, most_kept, option_or, option_or-None}
+use Rattle.sre_model.specs.Tree.{Fail, One, At, Loop, Run}
 use Rattle.regex_hir.proofs.TextLemmas.{char_at_fits, char_at_parts, char_at_past}
 use Rattle.sre_patterns.specs.Covers.{AtPlaces, tried, Exact, ExactItem, ExactTest}
 use Rattle.regex_hir.specs.Meaning.{optional, copies, up_to, at_least, repeat}

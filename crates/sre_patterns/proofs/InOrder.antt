@@ -3,10 +3,11 @@
 use Rattle.sre_patterns.proofs.Terms.{◌≡◌, ℕ, zero, suc, ◌+◌, ◌-◌, ◌<◌, ◌≤◌, Bool, true, false, cond, ◌&&◌, ◌||◌}
 use Rattle.sre_patterns.proofs.Terms.{nat_lt, nat_eq, List, [], ◌∷◌, ◌++◌, Option, Some, None, refl, sym, ap, ap₂, ◌∙◌}
 use Rattle.sre_patterns.proofs.Terms.{arith, flat_map, AllByRecursion, nat_tests, Re, cat, plus, holds, Order, Greedy}
-use Rattle.sre_patterns.proofs.Terms.{Lazy, One, Test, Marks, Subject, char_at, Way, Body, here, unlimited, loop_ways}
+use Rattle.sre_patterns.proofs.Terms.{Lazy, Test, Marks, Subject, char_at, Way, Body, here, unlimited, loop_ways}
 use Rattle.sre_patterns.proofs.Terms.{item_ways, Between, Bounded, is_greedy, cond-true, each-both, IsMinLen, none-some}
 use Rattle.sre_patterns.proofs.Terms.{option_or, Trace, accept, max, map, passes, item-bounded, kind_of, append-nil}
 use Rattle.sre_patterns.proofs.Terms.{longest_run-fits, option_or-None, option_or_assoc, option_or_none}
+use Rattle.sre_model.specs.Tree.{One}
 use Rattle.sre_model.specs.Ways.{ordered, may_repeat, longest_run, rising, falling, counts, run_ways}
 use Rattle.sre_model.specs.Loops.{loop_from}
 use Rattle.regex_hir.specs.Re.{Rest, prefer, more_rounds, attempt}

@@ -1,11 +1,11 @@
 -- What is read at an address, by its opcode: the item has a property if all items of this form have it.
 use Rattle.sre_patterns.proofs.Terms.{◌≡◌, ℕ, ◌+◌, ◌-◌, ◌<◌, ◌≤◌, ◌⊎◌, List, length, refl, sym, ap, ◌∙◌, subst, inl}
-use Rattle.sre_patterns.proofs.Terms.{inr, arith, ⊎_elim, Option, Some, None, cases_lt, SreOpcode, Tree, Item, One}
-use Rattle.sre_patterns.proofs.Terms.{Mark, Loop, Run, Test, Order, RunKind, Sign, Word, word, skip, Opcode, Reads}
-use Rattle.sre_patterns.proofs.Terms.{ReadsItem, HasTest, TestStands, role_here, Atomic, Negative, item_opcode}
-use Rattle.sre_patterns.proofs.Terms.{until_opcode, item_same}
+use Rattle.sre_patterns.proofs.Terms.{inr, arith, ⊎_elim, Option, Some, None, cases_lt, SreOpcode, Tree, Item, Test}
+use Rattle.sre_patterns.proofs.Terms.{Order, RunKind, Sign, Word, word, skip, Opcode, Reads, ReadsItem, HasTest}
+use Rattle.sre_patterns.proofs.Terms.{TestStands, role_here, Negative, item_opcode, until_opcode, item_same}
 use Rattle.sre_patterns.specs.Patterns.{HasItems, AtItem, HasItem, HasRun, HasAtomic, HasLoop}
 use Rattle.sre_model.specs.Tree.{Reference, Fold, PossessiveLoop, Look, GreedyRun, LazyRun, PossessiveRun, Positive}
+use Rattle.sre_model.specs.Tree.{One, Mark, Loop, Run, Atomic}
 use Rattle.sre_model.specs.Roles.{role, ToRun, ToMark, ToRepeat, ToRepeatPossessively, ToLook, ToRefer}
 use Rattle.sre_model.proofs.Opcodes.{same_word, opcode_within, word_past, test_here, is_one, is_mark, is_loop, is_run}
 use Rattle.sre_model.proofs.Opcodes.{is_possessive, is_look, is_reference}

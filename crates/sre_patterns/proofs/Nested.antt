@@ -3,10 +3,10 @@ use Rattle.sre_patterns.proofs.Terms.{⊎_elim, ◌≡◌, ℕ, ◌<◌, ◌≤�
 use Rattle.sre_patterns.proofs.Terms.{Re, empty, cat, Tree, Then, Item, Word, Opcode, Reads, ReadsItem, cat_onto}
 use Rattle.sre_patterns.proofs.Terms.{no_item, ◌≢◌, ◌+◌, ◌-◌, [], ◌∷◌, ◌++◌, ap, ◌∙◌, byte_in, alt, skip, branch_ways}
 use Rattle.sre_patterns.proofs.Terms.{uni_of, view_of, alt_onto, Serves, ServesItem, ServesBody, ReadsBranch, Table}
-use Rattle.sre_patterns.proofs.Terms.{word, role_here, View, Covers, IsWider, OnlyCovers, is_exists, item_opcode}
+use Rattle.sre_patterns.proofs.Terms.{word, role_here, View, Covers, IsWider, OnlyCovers, item_opcode}
 use Rattle.sre_patterns.specs.Patterns.{HasItems, HasItem, AtItems, AtItem, Stops, HasBranch, HasCondition}
 use Rattle.sre_model.specs.Tree.{Empty, Trees, Only, Or, Branch, Exists, ExistsElse}
-use Rattle.sre_model.proofs.Opcodes.{opcode_within, same_word, opcode_moved, word_within, word_of}
+use Rattle.sre_model.proofs.Opcodes.{opcode_within, same_word, opcode_moved, word_within, word_of, is_exists}
 use Rattle.sre_model.proofs.TreeOf.{reads_within, operands_past, alternative_long}
 use Rattle.sre_patterns.specs.declared.task.Task.{Task}
 use Rattle.sre_model.specs.Roles.{ToCheckGroup}

@@ -2,8 +2,9 @@
 use Rattle.sre_patterns.proofs.Terms.{◌≡◌, ℕ, zero, suc, ◌+◌, ◌<◌, ◌≤◌, true, refl, ap, sym, ◌∙◌, arith, List, [], ◌∷◌}
 use Rattle.sre_patterns.proofs.Terms.{◌++◌, length, take, drop, get_or, Some, and_parts, nat_tests, get_or-take}
 use Rattle.sre_patterns.proofs.Terms.{length-take-le, len_utf8_bounds, IsScalar, len_utf8, in_ranges, literal, char_in}
-use Rattle.sre_patterns.proofs.Terms.{cat, Matches, Table, Test, Plain, Literal, holds, Subject, char_at, InUtf8}
-use Rattle.sre_patterns.proofs.Terms.{CoversTest, length-append, take-take, append_assoc, encode_utf8, read_utf8}
+use Rattle.sre_patterns.proofs.Terms.{cat, Matches, Table, Test, Plain, holds, Subject, char_at, InUtf8, CoversTest}
+use Rattle.sre_patterns.proofs.Terms.{length-append, take-take, append_assoc, encode_utf8, read_utf8}
+use Rattle.sre_model.specs.Tree.{Literal}
 use Rattle.std.proofs.Math.Seq.{drop-cons, take-suc}
 use Rattle.regex_hir.proofs.TextLemmas.{char_at_parts, has_bytes_at_from, char_at_from, has_bytes_at_parts}
 use Rattle.std.proofs.lemmas.Str.{encodes-append, scalars-chars, chars_from_encodes, length-encode, IsUtf8-take}

@@ -1,9 +1,10 @@
 -- Patterns that serve a purpose for the parts of a tree, combined to one that serves it for the tree.
 use Rattle.sre_patterns.proofs.Terms.{◌≡◌, ℕ, ◌≤◌, ◌<◌, Bool, List, Option, Some, None, sym, ◌∙◌, subst, Re, look}
-use Rattle.sre_patterns.proofs.Terms.{IsMinLen, Look, Table, SreAtCode, SreOpcode, Tree, One, At, Run, Test, Order}
-use Rattle.sre_patterns.proofs.Terms.{RunKind, Opcode, Subject, Body, unlimited, item_ways, View, CoversBody, ExactBody}
-use Rattle.sre_patterns.proofs.Terms.{Rises, AreKept, repeated, kind_of, Purpose, view_of, position_in, ServesBody}
-use Rattle.sre_patterns.proofs.Terms.{look_for, OnlyCovers}
+use Rattle.sre_patterns.proofs.Terms.{IsMinLen, Look, Table, SreAtCode, SreOpcode, Tree, Test, Order, RunKind, Opcode}
+use Rattle.sre_patterns.proofs.Terms.{Subject, Body, unlimited, item_ways, View, CoversBody, ExactBody, Rises, AreKept}
+use Rattle.sre_patterns.proofs.Terms.{repeated, kind_of, Purpose, view_of, position_in, ServesBody, look_for}
+use Rattle.sre_patterns.proofs.Terms.{OnlyCovers}
+use Rattle.sre_model.specs.Tree.{One, At, Run}
 use Rattle.sre_model.specs.Roles.{role, ToRun}
 use Rattle.sre_patterns.proofs.Composed.{Composes, covers-parts, covers-wider, covers-run, covers-loop}
 use Rattle.sre_patterns.proofs.Edges.{covers-look_of}

@@ -20,12 +20,12 @@ pub use Rattle.regex_hir.specs.Matches.{Rounds, next_round, one_round}
 pub use Rattle.regex_hir.specs.Re.{accept, byte_in, char_in, look, plus}
 pub use Rattle.sre_model.proofs.Bounds.{Between, Bounded, item-bounded, longest_run-fits, passes-below, ways-bounded}
 pub use Rattle.sre_model.proofs.Each.{each-both, each-cond, each-first, each-weaken}
-pub use Rattle.sre_model.proofs.Opcodes.{is_exists, no_item, role_here}
+pub use Rattle.sre_model.proofs.Opcodes.{no_item, role_here}
 pub use Rattle.sre_model.proofs.TreeOf.{item_same, set_same}
 pub use Rattle.sre_model.specs.Grammar.{ReadsBranch, TestOperands, skip, test_opcode, word}
 pub use Rattle.sre_model.specs.Marks.{Marks, group, no_marks}
 pub use Rattle.sre_model.specs.Subject.{bars_non_boundary, holds_at, is_boundary, is_on_nothing, passes}
-pub use Rattle.sre_model.specs.Tree.{At, Charset, Fail, Loop, Mark, Negative, Sign, Then}
+pub use Rattle.sre_model.specs.Tree.{Charset, Negative, Sign, Then}
 pub use Rattle.sre_model.specs.Ways.{branch_ways, here, loop_ways}
 pub use Rattle.sre_patterns.specs.Covers.{Along, Covers, CoversBody, CoversItem, CoversStart, CoversTest, Fronts}
 pub use Rattle.sre_patterns.specs.Covers.{InBytes, InUtf8, IsWider, Leads, View, place, read_bytes, read_utf8, AreKept}
@@ -34,9 +34,9 @@ pub use Rattle.sre_patterns.specs.Looks.{exact_look, in_ascii, look_of}
 pub use Rattle.sre_patterns.specs.Patterns.{HasBelow, HasJust, alt_onto, cat_onto, position_in, view_of, is_greedy}
 pub use Rattle.sre_patterns.specs.Patterns.{kind_of, most_kept, repeated}
 pub use Rattle.sre_patterns.specs.Purposes.{HasFor, OnlyCovers, Serves, ServesBody, ServesItem, look_for}
-pub use Rattle.sre_patterns.specs.Terms.{AnyAll, Atomic, Body, Greedy, HasTest, IsMinLen, Item, Lazy, Literal, Look}
-pub use Rattle.sre_patterns.specs.Terms.{Matches, One, Opcode, Order, Plain, Re, Reads, ReadsItem, Run, RunKind}
-pub use Rattle.sre_patterns.specs.Terms.{SreAtCode, SreOpcode, Subject, Table, Test, TestStands, Trace, Tree, Way, Word}
-pub use Rattle.sre_patterns.specs.Terms.{alt, attempt, cat, category_number, char_at, empty, holds, item_opcode}
-pub use Rattle.sre_patterns.specs.Terms.{item_ways, items_of, literal, meaning, uni_of, unlimited, until_opcode, ways}
+pub use Rattle.sre_patterns.specs.Terms.{Body, Greedy, HasTest, IsMinLen, Item, Lazy, Look, Matches, Opcode, Order}
+pub use Rattle.sre_patterns.specs.Terms.{Plain, Re, Reads, ReadsItem, RunKind, SreAtCode, SreOpcode, Subject, Table}
+pub use Rattle.sre_patterns.specs.Terms.{Test, TestStands, Trace, Tree, Way, Word, alt, attempt, cat, category_number}
+pub use Rattle.sre_patterns.specs.Terms.{char_at, empty, holds, item_opcode, item_ways, items_of, literal, meaning}
+pub use Rattle.sre_patterns.specs.Terms.{uni_of, unlimited, until_opcode, ways}
 pub use Rattle.sre_patterns.specs.declared.task.Purpose.{Purpose}

@@ -1,10 +1,11 @@
 -- Classes that have what a test takes, or just that, and from which character on a set or a test gives one answer.
 use Rattle.sre_patterns.proofs.Terms.{◌≡◌, ℕ, ◌+◌, ◌<◌, ◌≤◌, Bool, true, List, [], ◌∷◌, ◌++◌, sym, ap, ◌∙◌, arith, drop}
 use Rattle.sre_patterns.proofs.Terms.{get_or, suc, false, ◌&&◌, nat_lt, refl, nat_tests, IsScalar, literal, byte_in}
-use Rattle.sre_patterns.proofs.Terms.{char_in, Table, Word, Opcode, TestStands, char_at, Test, Literal, Plain, One}
-use Rattle.sre_patterns.proofs.Terms.{CoversTest, InBytes, InUtf8, HasJust, holds, item_ways, Purpose, ServesBody}
-use Rattle.sre_patterns.proofs.Terms.{HasBelow, HasFor, test_opcode, TestOperands, not, cond, nat_eq, ap₂, word}
-use Rattle.sre_patterns.proofs.Terms.{slice_get-get_or, slice_range, category_number, Charset, set_same}
+use Rattle.sre_patterns.proofs.Terms.{char_in, Table, Word, Opcode, TestStands, char_at, Test, Plain, CoversTest}
+use Rattle.sre_patterns.proofs.Terms.{InBytes, InUtf8, HasJust, holds, item_ways, Purpose, ServesBody, HasBelow, HasFor}
+use Rattle.sre_patterns.proofs.Terms.{test_opcode, TestOperands, not, cond, nat_eq, ap₂, word, slice_get-get_or}
+use Rattle.sre_patterns.proofs.Terms.{slice_range, category_number, Charset, set_same}
+use Rattle.sre_model.specs.Tree.{One, Literal}
 use Rattle.std.proofs.Math.Seq.{drop-cons}
 use Rattle.regex_hir.proofs.TextLemmas.{has_bytes_at_from}
 use Rattle.sre_model.proofs.Opcodes.{same_word, same_opcode}

@@ -1,7 +1,8 @@
 -- When a pattern of bytes has a match wherever a tree has a match path, and when it tries these paths in their order.
 use Rattle.std.specs.Prelude.{ℕ, ◌≡◌, ◌+◌, ◌≤◌, ◌<◌, List, [], length, Some, take, slice_get, ◌⊎◌, ◌∷◌, Option, None}
-use Rattle.sre_patterns.specs.Terms.{Re, Matches, Table, Tree, Item, One, Test, Subject, Body, ways, item_ways, char_at}
+use Rattle.sre_patterns.specs.Terms.{Re, Matches, Table, Tree, Item, Test, Subject, Body, ways, item_ways, char_at}
 use Rattle.sre_patterns.specs.Terms.{Rest, Trace, attempt, Way, unlimited}
+use Rattle.sre_model.specs.Tree.{One}
 use Rattle.sre_model.specs.Marks.{Marks}
 use Rattle.std.specs.List.{AllByRecursion}
 use Rattle.std.specs.Char.{len_utf8}

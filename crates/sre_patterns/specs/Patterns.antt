@@ -2,8 +2,9 @@
 use Rattle.std.specs.Prelude.{ℕ, Bool, true, Option, Some, None, nat_lt, min, false, ◌||◌, cond, ◌≡◌, ◌<◌, ◌≤◌, ◌⊎◌}
 use Rattle.std.specs.Prelude.{List, [], ◌∷◌, ◌&&◌}
 use Rattle.sre_patterns.specs.Terms.{Re, repeat, Order, RunKind, Greedy, Lazy, GreedyRun, LazyRun, cat, alt, Table}
-use Rattle.sre_patterns.specs.Terms.{SreOpcode, SreAtCode, Tree, Item, Test, Opcode, TestStands, Branch, Run, Atomic}
-use Rattle.sre_patterns.specs.Terms.{Trees, item_opcode, Reads, ReadsItem}
+use Rattle.sre_patterns.specs.Terms.{SreOpcode, SreAtCode, Tree, Item, Test, Opcode, TestStands, Trees, item_opcode}
+use Rattle.sre_patterns.specs.Terms.{Reads, ReadsItem}
+use Rattle.sre_model.specs.Tree.{Branch, Run, Atomic}
 use Rattle.sre_model.specs.Roles.{role, ToRun, ToRepeat, ToRepeatPossessively, ToCheckGroup}
 use Rattle.regex_class.specs.Ranges.{in_ranges}
 use Rattle.sre_patterns.specs.Covers.{View, InBytes, InUtf8, CoversStart}

@@ -1,7 +1,8 @@
 -- What a pattern does for a tree, by its purpose.
 use Rattle.std.specs.Prelude.{ℕ, ◌≡◌, Bool, List, Option, ⊤}
-use Rattle.sre_patterns.specs.Terms.{Re, Look, Table, SreAtCode, SreOpcode, Tree, Item, One, Test, Order, Opcode}
-use Rattle.sre_patterns.specs.Terms.{Subject, Body, ways, item_ways, uni_of, until_opcode}
+use Rattle.sre_patterns.specs.Terms.{Re, Look, Table, SreAtCode, SreOpcode, Tree, Item, Test, Order, Opcode, Subject}
+use Rattle.sre_patterns.specs.Terms.{Body, ways, item_ways, uni_of, until_opcode}
+use Rattle.sre_model.specs.Tree.{One}
 use Rattle.sre_model.specs.Roles.{role, ToRun}
 use Rattle.sre_patterns.specs.Covers.{View, IsWider, CoversBody, ExactBody}
 use Rattle.sre_patterns.specs.Looks.{look_of, exact_look}

@@ -12,6 +12,6 @@ pub use Rattle.sre_model.specs.Characters.{holds, verdict}
 pub use Rattle.sre_model.specs.Grammar.{Opcode, Reads, ReadsItem, Word, item_opcode, until_opcode}
 pub use Rattle.sre_model.specs.Standing.{HasSet, HasTest, SetStands, TestStands}
 pub use Rattle.sre_model.specs.Subject.{Subject, char_at}
-pub use Rattle.sre_model.specs.Tree.{AnyAll, Atomic, Branch, Greedy, GreedyRun, Item, Lazy, LazyRun, Literal, One}
-pub use Rattle.sre_model.specs.Tree.{Order, Plain, Run, RunKind, SetItem, Test, Tree, Trees}
+pub use Rattle.sre_model.specs.Tree.{Greedy, GreedyRun, Item, Lazy, LazyRun, Order, Plain, RunKind, SetItem, Test, Tree}
+pub use Rattle.sre_model.specs.Tree.{Trees}
 pub use Rattle.sre_model.specs.Ways.{Body, Way, item_ways, unlimited, ways}

@@ -2,7 +2,8 @@
 
 ghost use Rattle.std.specs.Prelude.{encode_utf8, ◌≡◌, ◌<◌, ℕ, IfOk, IfSome, Some, [], ◌∷◌};
 ghost use Rattle.sre_patterns.specs.Terms.{literal, meaning, Test, Opcode, TestStands, HasTest, items_of, uni_of};
-ghost use Rattle.sre_patterns.specs.Terms.{holds, Table, AnyAll, Literal, Plain};
+ghost use Rattle.sre_patterns.specs.Terms.{holds, Table, Plain};
+ghost use Rattle.sre_model.specs.Tree.{AnyAll, Literal};
 ghost use Rattle.sre_request.specs.AsciiSets.{TakesAscii};
 ghost use Rattle.sre_patterns.specs.Covers.{CoversTest};
 ghost use Rattle.sre_patterns.specs.Patterns.{view_of, AtTest, HasBelow, HasJust};

@@ -1,6 +1,7 @@
 -- How far the characters of a group are repeated.
 use Rattle.sre_request.proofs.Terms.{ℕ, zero, suc, ◌+◌, ◌-◌, ◌≡◌, ◌≢◌, ◌<◌, ◌≤◌, true, false, nat_eq, refl, ◌∙◌, ap}
-use Rattle.sre_request.proofs.Terms.{arith, SreOpcode, StringCursor, Table, Fold, folded, reference_opcode, ◌&&◌}
+use Rattle.sre_request.proofs.Terms.{arith, SreOpcode, StringCursor, Table, Fold, folded, ◌&&◌}
+use Rattle.sre_model.specs.Grammar.{reference_opcode}
 use Rattle.std.proofs.lemmas.Bool.Decides.{nat_tests}
 use Rattle.sre_model.specs.Runs.{Run}
 use Rattle.sre_model.specs.Subject.{Subject, char_at, same_folded}

@@ -6,4 +6,4 @@ pub use Rattle.sre_model.proofs.OneCharacter.{one_item_takes, set_stands, set_te
 pub use Rattle.sre_model.specs.LeadingRuns.{Counted}
 pub use Rattle.sre_request.specs.Runs.{run_of}
 pub use Rattle.sre_request.specs.Terms.{Fold, SetStands, SreOpcode, StringCursor, Table, Word, contains, folded, holds}
-pub use Rattle.sre_request.specs.Terms.{is_member, items_of, reference_opcode}
+pub use Rattle.sre_request.specs.Terms.{is_member, items_of}

@@ -8,6 +8,6 @@ pub use Rattle.sre_code.specs.AsciiSet.{contains}
 pub use Rattle.sre_code.specs.Codes.{items_of, uni_of}
 pub use Rattle.sre_model.specs.Characters.{folded, holds, in_set, is_literal, is_member, item_holds}
 pub use Rattle.sre_model.specs.Found.{Asked, is_accepted, subject_of}
-pub use Rattle.sre_model.specs.Grammar.{Opcode, Word, reference_opcode}
+pub use Rattle.sre_model.specs.Grammar.{Opcode, Word}
 pub use Rattle.sre_model.specs.Standing.{HasSet, SetStands, TestStands}
 pub use Rattle.sre_model.specs.Tree.{Charset, Fold, Locale, SetItem, Test}

@@ -3,7 +3,8 @@
 //! The opcode is matched once, before a loop of its own that folds case as the opcode does.
 
 ghost use Rattle.std.specs.Prelude.{◌≡◌, ◌+◌, ◌≤◌, length, is_ok, IfOk};
-ghost use Rattle.sre_request.specs.Terms.{Fold, folded, reference_opcode};
+ghost use Rattle.sre_request.specs.Terms.{Fold, folded};
+ghost use Rattle.sre_model.specs.Grammar.{reference_opcode};
 ghost use Rattle.sre_model.specs.Subject.{same_folded};
 ghost use Rattle.sre_model.specs.Roles.{ToRefer, role};
 ghost use Rattle.sre_request.specs.Requests.{end_of};

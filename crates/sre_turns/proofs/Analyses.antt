@@ -6,13 +6,15 @@ use Rattle.sre_turns.proofs.Terms.{◌≡◌, ℕ, ◌+◌, ◌-◌, ◌<◌, �
 use Rattle.sre_turns.proofs.Terms.{◌∷◌, Some, None, refl, sym, ◌∙◌, ap, subst, arith, ⊤, nat_tests, true≢false}
 use Rattle.sre_turns.proofs.Terms.{and_parts, SreOpcode, Test, Order, Greedy, Lazy, Positive, Negative, holds, Marks}
 use Rattle.sre_turns.proofs.Terms.{group, char_at, passes, Way, unlimited, may_repeat, longest_run, run_length, Word}
-use Rattle.sre_turns.proofs.Terms.{Opcode, word, skip, until_opcode, Role, ToLoop, role, TestStands, Region}
-use Rattle.sre_turns.proofs.Terms.{AtomicGroup, Owed, Further, Shorter, Longer, Again, Point, Spot, Move, End, Split}
-use Rattle.sre_turns.proofs.Terms.{Enter, closing_move, RunOperands, first_frame, next_frame, UntilMove, again_move}
-use Rattle.sre_turns.proofs.Terms.{AgainMove, in_order, InRole, Moves, Runs, turns, Comes, stops, goes, splits, enters}
-use Rattle.sre_turns.proofs.Terms.{until_role, run_none, word_of, same_opcode, Subject, Frame, Instruction, spot_at}
-use Rattle.sre_turns.proofs.Terms.{Stop, Go, ◌⊎◌, inl, inr, ToTest, ToMark, ToBranch, Asks, Within, PlacesAsk}
-use Rattle.sre_turns.proofs.Terms.{GroupLies, AsksAt, AskedByPlace, rules, MarkRange, AlternativesAsk, GroupAsked}
+use Rattle.sre_turns.proofs.Terms.{Opcode, word, skip, until_opcode, Role, role, TestStands, Region, Owed, Further}
+use Rattle.sre_turns.proofs.Terms.{Shorter, Longer, Again, Point, Spot, Move, End, Split, Enter, closing_move}
+use Rattle.sre_turns.proofs.Terms.{RunOperands, first_frame, next_frame, UntilMove, again_move, AgainMove, in_order}
+use Rattle.sre_turns.proofs.Terms.{InRole, Moves, Runs, turns, Comes, stops, goes, splits, enters, until_role, run_none}
+use Rattle.sre_turns.proofs.Terms.{word_of, same_opcode, Subject, Frame, Instruction, spot_at, Stop, Go, ◌⊎◌, inl, inr}
+use Rattle.sre_turns.proofs.Terms.{Asks, Within, PlacesAsk, GroupLies, AsksAt, AskedByPlace, rules, MarkRange}
+use Rattle.sre_turns.proofs.Terms.{AlternativesAsk, GroupAsked}
+use Rattle.sre_turns.specs.declared.Region.TheVariants.{AtomicGroup}
+use Rattle.sre_model.specs.Roles.{ToLoop, ToTest, ToMark, ToBranch}
 use Rattle.sre_turns.specs.Admitting.{NextOutside, AdmitsOnly, TestsOnly, HasAll, RepeatsOnly, RunsOnly, LeadsOnly}
 use Rattle.sre_turns.proofs.semantics.OneTurn.{GoesOn, behind_test, behind_reference, behind_run, run_on, group_there}
 use Rattle.sre_turns.proofs.semantics.OneTurn.{group_missing, Forks, greedy_run, lazy_run, Begins, plain_loop}

@@ -34,12 +34,12 @@ pub use Rattle.sre_model.proofs.Passing.{other_taken, past_end, read_passes, sta
 pub use Rattle.sre_model.proofs.TreeOf.{alternative_long, branch_past, operands_past, reads_within, items_same}
 pub use Rattle.sre_model.proofs.TreeOf.{same_reference_fold, test_same}
 pub use Rattle.sre_model.proofs.WrittenWords.{read_tree}
-pub use Rattle.sre_model.specs.Cost.{Costs, atomic_cost, condition_cost, cost, ending, further_cost, item_cost}
-pub use Rattle.sre_model.specs.Cost.{lazy_run_cost, least_cost, longer_cost, longest_run_cost, look_cost, looked_cost}
-pub use Rattle.sre_model.specs.Cost.{more_cost, owed_cost, possessive_cost, reference_cost, run_cost, shorter_cost}
+pub use Rattle.sre_model.specs.Cost.{Costs, condition_cost, cost, ending, further_cost, item_cost, lazy_run_cost}
+pub use Rattle.sre_model.specs.Cost.{least_cost, longer_cost, longest_run_cost, look_cost, looked_cost, more_cost}
+pub use Rattle.sre_model.specs.Cost.{owed_cost, possessive_cost, reference_cost, run_cost, shorter_cost}
 pub use Rattle.sre_model.specs.Folding.{Folding, of_branch, of_item, of_parts, of_tree}
 pub use Rattle.sre_model.specs.Grammar.{JumpsTo, Operands, ReadsBranch, ReadsItem, TestOperands, item_opcode}
-pub use Rattle.sre_model.specs.Grammar.{look_opcode, reference_opcode, run_opcode, test_opcode, until_opcode}
+pub use Rattle.sre_model.specs.Grammar.{run_opcode, test_opcode, until_opcode}
 pub use Rattle.sre_model.specs.LooksBehind.{backs, by_backs}
 pub use Rattle.sre_model.specs.Loops.{first_of_body, or_here}
 pub use Rattle.sre_model.specs.Marks.{group, lengthened, set_mark}
@@ -48,13 +48,12 @@ pub use Rattle.sre_model.specs.Prefixes.{ReadsBehind, behind_items}
 pub use Rattle.sre_model.specs.References.{asked_from, asked_to, by_groups, by_last_groups, by_references}
 pub use Rattle.sre_model.specs.Regions.{by_forked_regions, by_forks, forks, has_forked_region}
 pub use Rattle.sre_model.proofs.SetItems.{opcode-read}
-pub use Rattle.sre_model.specs.Roles.{OfAny, TestKind, ToNothing, begins_test}
+pub use Rattle.sre_model.specs.Roles.{TestKind, begins_test}
 pub use Rattle.sre_model.specs.Slots.{loop_slots}
 pub use Rattle.sre_model.specs.Standing.{AreWords}
 pub use Rattle.sre_model.specs.Subject.{holds_at, same_folded}
-pub use Rattle.sre_model.specs.Tree.{Any, AnyAll, At, Atomic, Branch, Empty, Exists, ExistsElse, Fail, Fold, Greedy, In}
-pub use Rattle.sre_model.specs.Tree.{InCategory, Item, Lazy, Literal, Look, Loop, Mark, Negative, NotLiteral, One, Only}
-pub use Rattle.sre_model.specs.Tree.{Or, Plain, Positive, PossessiveLoop, Reference, RunKind, Sign, Then, Trees}
+pub use Rattle.sre_model.specs.Tree.{Empty, Fold, Greedy, Item, Lazy, Negative, Only, Or, Plain, Positive, RunKind}
+pub use Rattle.sre_model.specs.Tree.{Sign, Then, Trees}
 pub use Rattle.sre_model.specs.TreePrices.{branch_cost, branch_steps, cost_of, other_ends, scan_price, steps_of}
 pub use Rattle.sre_model.specs.Ways.{Body, branch_ways, falling, item_ways, least, longest_run, look_ways, loop_ways}
 pub use Rattle.sre_model.specs.Ways.{more, most_from, ordered, possessive_more, possessive_ways, reference_ways, rising}
@@ -86,8 +85,7 @@ pub use Rattle.sre_turns.specs.Machine.{without_outcome}
 pub use Rattle.sre_turns.specs.Moves.{End, Enter, Move, Split, Spot, TestMove, closing_move, to_point, Asks}
 pub use Rattle.sre_turns.specs.Moves.{HasReference, MayAsk, asks, condition_place, reference_turn, AgainMove, LoopMove}
 pub use Rattle.sre_turns.specs.Moves.{UntilMove, again_move, at_body, behind, enter_body, first_frame, in_order}
-pub use Rattle.sre_turns.specs.Moves.{next_frame, until_move, OperandsOfRun}
-pub use Rattle.sre_turns.specs.Turning.{look, RunOperands, run_turn}
+pub use Rattle.sre_turns.specs.Moves.{next_frame, until_move, OperandsOfRun, look, RunOperands, run_turn}
 pub use Rattle.sre_turns.specs.Nested.{AllBegunBy, BegunBy, ClosesAt, IsAt, LeadsTo, Lies, LiesIn, LiesInBranch}
 pub use Rattle.sre_turns.specs.Nested.{LiesInItem, Passed, by_slots, is_again, most_slots, place_of, place_under}
 pub use Rattle.sre_turns.specs.Nested.{repeats, slots}
@@ -100,14 +98,12 @@ pub use Rattle.sre_turns.specs.Settled.{Counted, Settled, SettledIn}
 pub use Rattle.sre_turns.specs.Strides.{EndsBody, MayRepeat, Strides, TellsAlternatives, TellsBodies, TellsTest, Yields}
 pub use Rattle.sre_turns.specs.Strides.{YieldsTo}
 pub use Rattle.sre_turns.specs.Terms.{AllByRecursion, GreedyRun, HasTest, LazyRun, Marks, Opcode, Order, PossessiveRun}
-pub use Rattle.sre_turns.specs.Terms.{Reads, Role, SreOpcode, Test, TestStands, ToBranch, ToCheckGroup, ToCheckPosition}
-pub use Rattle.sre_turns.specs.Terms.{ToEnd, ToFail, ToGroupAtomically, ToJump, ToLook, ToLoop, ToMark, ToRefer}
-pub use Rattle.sre_turns.specs.Terms.{ToRepeat, ToRepeatPossessively, ToRun, ToTest, Tree, Way, WholeItems, Word}
-pub use Rattle.sre_turns.specs.Terms.{char_at, first, here, holds, mark_at, may_repeat, no_marks, passes, refers, role}
-pub use Rattle.sre_turns.specs.Terms.{skip, unlimited, word}
+pub use Rattle.sre_turns.specs.Terms.{Reads, Role, SreOpcode, Test, TestStands, Tree, Way, WholeItems, Word, char_at}
+pub use Rattle.sre_turns.specs.Terms.{first, here, holds, mark_at, may_repeat, no_marks, passes, refers, role, skip}
+pub use Rattle.sre_turns.specs.Terms.{unlimited, word}
 pub use Rattle.sre_turns.specs.declared.Next.{Next}
 pub use Rattle.sre_turns.specs.declared.Point.{Point}
 pub use Rattle.sre_turns.specs.declared.Point.TheVariants.{Again, Alternatives, Inside, Longer, Shorter, Tried}
 pub use Rattle.sre_turns.specs.declared.Point.TheVariants.{TriedAgain}
 pub use Rattle.sre_turns.specs.declared.Region.{Region}
-pub use Rattle.sre_turns.specs.declared.Region.TheVariants.{Ahead, AtomicGroup, Further, NotAhead, Owed}
+pub use Rattle.sre_turns.specs.declared.Region.TheVariants.{Ahead, Further, NotAhead, Owed}

@@ -5,7 +5,6 @@ pub mod NestedMoves
 pub mod NestedPlaces
 pub mod HereMoves
 pub mod FaringInRegions
-pub mod TreePrices
-pub mod PriceMoves
+pub mod Prices
 pub mod TreeCosts
 pub mod GrantedTolls

@@ -3,14 +3,15 @@
 -- Definitions for the machine's contracts. What is public rests on `AdmitsOnly`, by the lists that a request may carry.
 use Rattle.std.specs.Prelude.{⊤, ℕ, ◌+◌, ◌≡◌, ◌<◌, Bool, true, false, List, []}
 use Rattle.sre_turns.specs.Terms.{Table, Test, Order, holds, Marks, Subject, char_at, Way, Opcode, word, skip, Role}
-use Rattle.sre_turns.specs.Terms.{ToFail, ToEnd, ToTest, ToCheckPosition, ToMark, ToBranch, ToJump, ToRun, ToRepeat}
-use Rattle.sre_turns.specs.Terms.{ToLoop, ToRepeatPossessively, ToGroupAtomically, ToLook, ToRefer, ToCheckGroup}
-use Rattle.sre_turns.specs.Terms.{ToNothing, TestStands, until_opcode}
+use Rattle.sre_turns.specs.Terms.{TestStands, until_opcode}
+use Rattle.sre_model.specs.Roles.{ToFail, ToEnd, ToTest, ToCheckPosition, ToMark, ToBranch, ToJump, ToRun, ToRepeat}
+use Rattle.sre_model.specs.Roles.{ToLoop, ToRepeatPossessively, ToGroupAtomically, ToLook, ToRefer, ToCheckGroup}
+use Rattle.sre_model.specs.Roles.{ToNothing}
 use Rattle.sre_turns.specs.declared.Frame.{Frame}
 use Rattle.sre_turns.specs.declared.Point.TheVariants.{Instruction, Alternatives}
 use Rattle.sre_turns.specs.declared.Point.{Point}
 use Rattle.sre_turns.specs.Moves.{spot_at}
-use Rattle.sre_turns.specs.Turning.{Runs}
+use Rattle.sre_turns.specs.Outcomes.{Runs}
 
 -- a character is ASCII and not in a set
 abbrev pub IsOutside : (ℕ → Bool) → ℕ → Type 0

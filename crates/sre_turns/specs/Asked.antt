@@ -3,17 +3,18 @@
 -- outcomes of a configuration.
 -- Definitions for the machine's contracts; what sre_engine makes public does not rest on it.
 use Rattle.std.specs.Prelude.{⊤, ℕ, ◌+◌, ◌*◌, ◌≡◌, ◌⊎◌, List, [], ◌∷◌, ◌<◌, ◌≤◌, Bool, true, Some, slice_get}
-use Rattle.sre_turns.specs.Terms.{Marks, no_marks, mark_at, Way, SreOpcode, Test, Word, Opcode, word, skip, Role}
-use Rattle.sre_turns.specs.Terms.{ToFail, ToEnd, ToTest, ToCheckPosition, ToMark, ToBranch, ToJump, ToRun, ToRepeat}
-use Rattle.sre_turns.specs.Terms.{ToLoop, ToRepeatPossessively, ToGroupAtomically, ToLook, ToRefer, ToCheckGroup}
-use Rattle.sre_turns.specs.Terms.{ToNothing, role, TestStands, Subject, SameStops}
+use Rattle.sre_turns.specs.Terms.{Marks, no_marks, mark_at, Way, SreOpcode, Test, Word, Opcode, word, skip, Role, role}
+use Rattle.sre_turns.specs.Terms.{TestStands, Subject, SameStops}
+use Rattle.sre_model.specs.Roles.{ToFail, ToEnd, ToTest, ToCheckPosition, ToMark, ToBranch, ToJump, ToRun, ToRepeat}
+use Rattle.sre_model.specs.Roles.{ToLoop, ToRepeatPossessively, ToGroupAtomically, ToLook, ToRefer, ToCheckGroup}
+use Rattle.sre_model.specs.Roles.{ToNothing}
 use Rattle.sre_turns.specs.Moves.{Asks, Spot, spot_at}
+use Rattle.sre_turns.specs.Outcomes.{Runs}
 use Rattle.sre_turns.specs.declared.Frame.{Frame}
 use Rattle.sre_turns.specs.declared.Point.TheVariants.{Instruction, Alternatives, Shorter, Longer, Again}
 use Rattle.sre_turns.specs.declared.Point.{Point}
 use Rattle.sre_turns.specs.declared.Region.TheVariants.{AtomicGroup, Ahead, NotAhead, Owed, Further}
 use Rattle.sre_turns.specs.declared.Region.{Region}
-use Rattle.sre_turns.specs.Turning.{Runs}
 use Rattle.sre_turns.specs.Alike.{Alike}
 
 -- some marks are the same in both

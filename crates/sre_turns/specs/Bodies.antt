@@ -1,9 +1,9 @@
 -- Bodies of atomic scopes: where one is, whether it sets a capture, and where it has one way to go on at most.
 -- Definitions for the machine's contracts; what sre_engine makes public does not rest on it.
 use Rattle.std.specs.Prelude.{ℕ, ◌≡◌, false, List, [], ◌+◌, ◌≤◌, Bool, true, ⊤, ◌∷◌}
-use Rattle.sre_turns.specs.Terms.{Tree, Opcode, Reads, WholeItems, sets_mark, marks_in_regions, SreOpcode, Role}
-use Rattle.sre_turns.specs.Terms.{ToBranch, ToRun, ToRepeat, ToLoop, ToRepeatPossessively, role, Run, backs, forks}
-use Rattle.sre_turns.specs.Terms.{has_forked_region}
+use Rattle.sre_turns.specs.Terms.{Tree, Opcode, Reads, WholeItems, sets_mark, marks_in_regions, SreOpcode, Role, role}
+use Rattle.sre_turns.specs.Terms.{Run, backs, forks, has_forked_region}
+use Rattle.sre_model.specs.Roles.{ToBranch, ToRun, ToRepeat, ToLoop, ToRepeatPossessively}
 use Rattle.sre_chars.specs.declared.constants.SreOpcode.TheVariants as opcode
 use Rattle.sre_turns.specs.declared.Point.{Point}
 use Rattle.sre_turns.specs.Moves.{Spot}

@@ -1,10 +1,10 @@
 pub mod Board
 pub mod Moves
+pub mod Outcomes
 pub mod Attempts
 pub mod Asked
 pub mod Nested
 pub mod Bodies
-pub mod Turning
 pub mod Alike
 pub mod Settled
 pub mod Limits

@@ -4,7 +4,8 @@
 use Rattle.std.specs.Prelude.{⊤, ℕ, suc, ◌+◌, ◌≡◌, ◌<◌, ◌≤◌, Bool, false, List, [], ◌∷◌, ◌++◌, drop, length, Option}
 use Rattle.std.specs.Prelude.{Some, None}
 use Rattle.sre_turns.specs.Terms.{filter, SreOpcode, Table, Tree, Test, holds, mark_at, no_marks, char_at, first, here}
-use Rattle.sre_turns.specs.Terms.{TestStands, Literal, Plain, ways}
+use Rattle.sre_turns.specs.Terms.{TestStands, Plain, ways}
+use Rattle.sre_model.specs.Tree.{Literal}
 pub use Rattle.sre_chars.specs.declared.string.StringCursor.{StringCursor}
 pub use Rattle.sre_model.specs.Marks.{Marks}
 pub use Rattle.sre_model.specs.Subject.{Subject, passes}
@@ -20,8 +21,9 @@ pub use Rattle.sre_turns.specs.declared.Region.TheVariants.{AtomicGroup, Ahead, 
 pub use Rattle.sre_turns.specs.declared.Region.{Region}
 pub use Rattle.sre_turns.specs.declared.Point.TheVariants.{Instruction, Alternatives, Shorter, Longer, Inside, Again}
 pub use Rattle.sre_turns.specs.declared.Point.{Point}
-pub use Rattle.sre_turns.specs.Moves.{Spot, spot_at, Move, Stop, End, Go, Split, Enter, closing_move}
-pub use Rattle.sre_turns.specs.Turning.{InRole, MovesAt, Moves, Runs, turns, Comes, stops, ends, goes, splits, enters}
+pub use Rattle.sre_turns.specs.Moves.{Spot, spot_at, Move, Stop, End, Go, Split, Enter, closing_move, InRole, MovesAt}
+pub use Rattle.sre_turns.specs.Moves.{Moves}
+pub use Rattle.sre_turns.specs.Outcomes.{Runs, turns, Comes, stops, ends, goes, splits, enters}
 use Rattle.sre_turns.specs.Prices.{price_of}
 pub use Rattle.sre_turns.specs.Settled.{Counted}
 pub use Rattle.sre_turns.specs.Limits.{Limit, earlier}

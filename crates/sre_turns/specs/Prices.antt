@@ -5,10 +5,10 @@
 use Rattle.std.specs.Prelude.{ℕ, suc, ◌+◌, ◌-◌, ◌*◌, ◌≤◌, ◌≡◌, Bool, true, List, [], ◌∷◌, length, cond, min, nat_eq}
 use Rattle.std.specs.Prelude.{zero, max}
 use Rattle.sre_turns.specs.Terms.{SreOpcode, opcode_at, GreedyRun, LazyRun, PossessiveRun, word, skip, unlimited, Role}
-use Rattle.sre_turns.specs.Terms.{ToEnd, ToTest, ToCheckPosition, ToMark, ToBranch, ToJump, ToRun, ToRepeat, ToLoop}
-use Rattle.sre_turns.specs.Terms.{ToRepeatPossessively, ToGroupAtomically, ToLook, ToRefer, ToCheckGroup, role}
-use Rattle.sre_turns.specs.Terms.{other_ends, scan_price, TestKind, OfAny, OfAnyAll, OfCategory, OfLiteral}
-use Rattle.sre_turns.specs.Terms.{OfNotLiteral, OfSet}
+use Rattle.sre_turns.specs.Terms.{role, other_ends, scan_price, TestKind}
+use Rattle.sre_model.specs.Roles.{ToEnd, ToTest, ToCheckPosition, ToMark, ToBranch, ToJump, ToRun, ToRepeat, ToLoop}
+use Rattle.sre_model.specs.Roles.{ToRepeatPossessively, ToGroupAtomically, ToLook, ToRefer, ToCheckGroup, OfAny}
+use Rattle.sre_model.specs.Roles.{OfAnyAll, OfCategory, OfLiteral, OfNotLiteral, OfSet}
 use Rattle.sre_turns.specs.declared.Point.TheVariants.{Instruction, Alternatives, Shorter, Longer, Again}
 use Rattle.sre_turns.specs.declared.Point.{Point}
 use Rattle.sre_turns.specs.declared.Region.{Region}

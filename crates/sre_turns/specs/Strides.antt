@@ -6,9 +6,9 @@ use Rattle.sre_turns.specs.Bodies.{Confined}
 use Rattle.sre_turns.specs.Machine.{IsAt, with_loop, Refuses, Exhausted, Continues, IsRead}
 use Rattle.sre_turns.specs.Board.{BoardValue, Choice}
 use Rattle.sre_turns.specs.Moves.{Spot, spot_at}
+use Rattle.sre_turns.specs.Outcomes.{Runs}
 use Rattle.sre_turns.specs.Settled.{Counted}
 use Rattle.sre_turns.specs.Limits.{HereIn}
-use Rattle.sre_turns.specs.Turning.{Runs}
 use Rattle.sre_turns.specs.declared.Frame.{Frame}
 use Rattle.sre_turns.specs.declared.Point.{Point}
 use Rattle.sre_turns.specs.declared.Point.TheVariants.{Instruction, Alternatives}

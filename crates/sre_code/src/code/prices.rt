@@ -11,8 +11,8 @@ ghost use Rattle.sre_code.specs.Prices.{straight_price, run_ends, scope_price, l
 ghost use Rattle.sre_code.specs.Prices.{with_alternative, BodyPriced, ArePriced, StraightPriced, RunPriced, LoopPriced};
 ghost use Rattle.sre_code.specs.Prices.{PossessivePriced, ScopePriced, BranchPriced, PricedAt};
 
-use crate::code::instructions::next;
 use crate::code::slots::{counted_to, loop_slots};
+use crate::code::summary::next;
 use crate::code::words;
 use crate::operands::word_or_zero;
 use sre_chars::constants::SreOpcode;

@@ -12,7 +12,7 @@ ghost use Rattle.std.specs.Prelude.{◌≡◌, ◌<◌, ◌≤◌, length, IfSom
 ghost use Rattle.sre_code.specs.Terms.{Opcode, role, loop_slots, counted_to};
 ghost use Rattle.sre_code.specs.Scans.{kind_of, AreTold, LoopTold, OtherTold, PossessiveTold, ToldAt};
 
-use crate::code::instructions::next;
+use crate::code::summary::next;
 use crate::code::words;
 use crate::operands::word_or_zero;
 use sre_chars::constants::SreOpcode;

@@ -8,7 +8,7 @@ use Rattle.sre_turns.proofs.Terms.{end_share, FaresBoth, Wider, Stage, share, Co
 use Rattle.sre_turns.proofs.Terms.{Run, Frame, Instruction, spot_at, Stop, Go, repeats, MovesAt, Moves, Runs, turns}
 use Rattle.sre_chars.specs.declared.constants.SreOpcode.TheVariants as opcode
 use Rattle.sre_turns.proofs.bound.HereMoves.{OntoHere, here_moves}
-use Rattle.sre_turns.proofs.bound.PriceMoves.{enters_at, step_covered, IsPlace, is_place, some_price}
+use Rattle.sre_turns.proofs.bound.Prices.{enters_at, step_covered, IsPlace, is_place, some_price}
 
 -- an instruction has an opcode, and another point needs none
 pub code_at : (r : Run) (x : Spot) (mv : Move) → Moves r.words r.subject x mv

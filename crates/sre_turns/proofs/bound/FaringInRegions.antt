@@ -8,7 +8,7 @@ use Rattle.sre_turns.proofs.Terms.{EndsIn, end_share, tried_spots, is_inside, pr
 use Rattle.sre_turns.proofs.Terms.{Point, Region, Further, StringCursor, Run, spot_at, Frame, Instruction}
 use Rattle.sre_turns.specs.Limits.{waiting, open_attempts}
 use Rattle.sre_turns.proofs.bound.Faring.{fares_earlier}
-use Rattle.sre_turns.proofs.bound.PriceMoves.{behind_covered}
+use Rattle.sre_turns.proofs.bound.Prices.{behind_covered}
 
 -- above the innermost atomic scope there are choices that are settled, and what is tried
 module _ (rest : List Choice) (g : Region) (fs : List Frame) (c : StringCursor) (m : Marks) where

@@ -3,14 +3,14 @@
 -- That the step bound suffices (`enough` of sre_engine) rests on this.
 use Rattle.sre_turns.proofs.Terms.{◌≡◌, ℕ, ◌+◌, ◌*◌, ◌≤◌, ◌⊎◌, inl, inr, false, List, refl, subst, sym, ap, ◌∙◌, arith}
 use Rattle.sre_turns.proofs.Terms.{add-mul, one-mul, mul-le-mul_right, nat_tests, SreOpcode, RunKind, GreedyRun}
-use Rattle.sre_turns.proofs.Terms.{LazyRun, PossessiveRun, Way, unlimited, word, Opcode, Word, Role, ToBranch, ToRun}
-use Rattle.sre_turns.proofs.Terms.{ToRepeat, ToLoop, ToRepeatPossessively, role, other_ends, word_of, CodeAt, Frame}
-use Rattle.sre_turns.proofs.Terms.{Instruction, spot_at, Subject, Runs, toll, toll_by, bit_by, bit_toll, end_price}
-use Rattle.sre_turns.proofs.Terms.{ends_beside, split_toll, split_by, role_at, forking, Point, Again, Marks, has_toll}
-use Rattle.sre_turns.proofs.Terms.{scan_by, scan_toll, RunsOn}
+use Rattle.sre_turns.proofs.Terms.{LazyRun, PossessiveRun, Way, unlimited, word, Opcode, Word, Role, role, other_ends}
+use Rattle.sre_turns.proofs.Terms.{word_of, CodeAt, Frame, Instruction, spot_at, Subject, Runs, toll, toll_by, bit_by}
+use Rattle.sre_turns.proofs.Terms.{bit_toll, end_price, ends_beside, split_toll, split_by, role_at, forking, Point}
+use Rattle.sre_turns.proofs.Terms.{Again, Marks, has_toll, scan_by, scan_toll, RunsOn}
+use Rattle.sre_model.specs.Roles.{ToBranch, ToRun, ToRepeat, ToLoop, ToRepeatPossessively}
 use Rattle.sre_chars.specs.declared.constants.SreOpcode.TheVariants as opcode
 use Rattle.sre_turns.proofs.semantics.Moving.{in_role}
-use Rattle.sre_turns.proofs.bound.TreePrices.{role_there}
+use Rattle.sre_turns.proofs.bound.Prices.{role_there}
 
 module _ (ws : List ℕ) (e i : ℕ) (ks : List ℕ) where
   -- a repeat with a greatest count

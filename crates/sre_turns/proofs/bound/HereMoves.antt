@@ -6,8 +6,9 @@ use Rattle.sre_turns.proofs.Terms.{arith, ⊤, true≢false, Tree, Opcode, Reads
 use Rattle.sre_turns.proofs.Terms.{least_from, Choice, Else, Keep, Trying, is_inside, HereIn, Reopens, EndsIn, Moves}
 use Rattle.sre_turns.proofs.Terms.{Spot, Move, End, Split, Enter, repeats, LiesIn, AllBegunBy, ClosesAt, LeadsTo}
 use Rattle.sre_turns.proofs.Terms.{Counted, SettledIn, point_behind, goes_behind, BodyOf, IsBodyIn, InBody, Point}
-use Rattle.sre_turns.proofs.Terms.{AtomicGroup, Further, Region, first, LiesInBody, Run, spot_at, Stop, Go, Frame}
-use Rattle.sre_turns.proofs.Terms.{Instruction, Passed}
+use Rattle.sre_turns.proofs.Terms.{Further, Region, first, LiesInBody, Run, spot_at, Stop, Go, Frame, Instruction}
+use Rattle.sre_turns.proofs.Terms.{Passed}
+use Rattle.sre_turns.specs.declared.Region.TheVariants.{AtomicGroup}
 use Rattle.sre_chars.specs.declared.constants.SreOpcode.TheVariants as opcode
 use Rattle.sre_turns.proofs.bound.NestedMoves.{begins, body_moves}
 use Rattle.sre_turns.proofs.semantics.Onward.{outer_begun, Reaches, Reaching, point_reaches, all_later, least_position}

@@ -1,17 +1,18 @@
 -- Each step of a configuration in the bytecode of a tree leads to configurations there.
 -- That the step bound suffices (`enough` of sre_engine) rests on this.
 use Rattle.sre_turns.proofs.Terms.{◌≡◌, ℕ, ◌+◌, ◌-◌, inl, inr, false, nat_eq, List, [], ◌∷◌, refl, ap, ◌∙◌, subst}
-use Rattle.sre_turns.proofs.Terms.{arith, nat_tests, SreOpcode, Tree, Empty, Then, Item, Fail, One, At, Mark, Branch}
-use Rattle.sre_turns.proofs.Terms.{Loop, PossessiveLoop, Atomic, Look, Reference, Exists, ExistsElse, RunKind}
-use Rattle.sre_turns.proofs.Terms.{GreedyRun, LazyRun, Order, Sign, Positive, Negative, Marks, group, word, skip}
-use Rattle.sre_turns.proofs.Terms.{Opcode, Reads, ReadsItem, Operands, until_opcode, Role, ToEnd, ToMark, ToJump, ToRun}
-use Rattle.sre_turns.proofs.Terms.{ToRepeat, ToLoop, ToRepeatPossessively, ToGroupAtomically, ToLook, role, same_opcode}
-use Rattle.sre_turns.proofs.Terms.{word_of, test_same, item_role, until_role, Region, Alternatives, Shorter, Longer}
-use Rattle.sre_turns.proofs.Terms.{Again, Point, Spot, Move, Moves, repeats, LiesIn, LiesInItem, LeadsTo, ClosesAt}
-use Rattle.sre_turns.proofs.Terms.{Subject, Frame, Instruction, item_opcode, role_same, Trees, Test, Folding, of_tree}
-use Rattle.sre_turns.proofs.Terms.{of_item, of_parts, HasRole, role_here}
+use Rattle.sre_turns.proofs.Terms.{arith, nat_tests, SreOpcode, Tree, Empty, Then, Item, RunKind, GreedyRun, LazyRun}
+use Rattle.sre_turns.proofs.Terms.{Order, Sign, Positive, Negative, Marks, group, word, skip, Opcode, Reads, ReadsItem}
+use Rattle.sre_turns.proofs.Terms.{Operands, until_opcode, Role, role, same_opcode, word_of, test_same, item_role}
+use Rattle.sre_turns.proofs.Terms.{until_role, Region, Alternatives, Shorter, Longer, Again, Point, Spot, Move, Moves}
+use Rattle.sre_turns.proofs.Terms.{repeats, LiesIn, LiesInItem, LeadsTo, ClosesAt, Subject, Frame, Instruction}
+use Rattle.sre_turns.proofs.Terms.{item_opcode, role_same, Trees, Test, Folding, of_tree, of_item, of_parts, HasRole}
+use Rattle.sre_turns.proofs.Terms.{role_here}
+use Rattle.sre_model.specs.Roles.{ToEnd, ToMark, ToJump, ToRun, ToRepeat, ToLoop, ToRepeatPossessively}
+use Rattle.sre_model.specs.Roles.{ToGroupAtomically, ToLook}
 use Rattle.sre_chars.specs.declared.constants.SreOpcode.TheVariants as opcode
-use Rattle.sre_model.specs.Tree.{Run}
+use Rattle.sre_model.specs.Tree.{Run, Fail, One, At, Mark, Branch, Loop, PossessiveLoop, Atomic, Look, Reference}
+use Rattle.sre_model.specs.Tree.{Exists, ExistsElse}
 pub use Rattle.sre_turns.proofs.semantics.Parts.{begins}
 use Rattle.sre_turns.proofs.semantics.Parts.{branch_begins, Own, Ends, Law, lies_law, alternative, no_more, shorter}
 use Rattle.sre_turns.proofs.semantics.Parts.{longer, possessive, with_item, jump, until, success}

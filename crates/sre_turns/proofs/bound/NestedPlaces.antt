@@ -3,14 +3,13 @@
 -- That the step bound suffices (`enough` of sre_engine) rests on this.
 use Rattle.sre_turns.proofs.Terms.{◌≡◌, ℕ, ◌+◌, ◌-◌, ◌<◌, ◌≤◌, ◌⊎◌, inl, inr, List, [], ◌∷◌, length, refl, true, false}
 use Rattle.sre_turns.proofs.Terms.{ap, Option, Some, None, sym, ◌∙◌, subst, arith, true≢false, Tree, Empty, Then, Item}
-use Rattle.sre_turns.proofs.Terms.{Branch, Loop, PossessiveLoop, Atomic, Look, Exists, ExistsElse, Trees, Only, Or}
-use Rattle.sre_turns.proofs.Terms.{word, skip, Reads, Operands, ReadsBranch, WholeItems, reads_within, Alternatives}
-use Rattle.sre_turns.proofs.Terms.{Shorter, Longer, Again, least_from, Point, Spot, repeats, IsAt, LiesIn, LiesInItem}
-use Rattle.sre_turns.proofs.Terms.{LiesInBranch, Lies, place_under, place_of, Instruction, operands_past, is_again, ◌*◌}
-use Rattle.sre_turns.proofs.Terms.{Word, word_of, counted_to, slots, of_tree, of_parts, of_item, max, mul_assoc}
-use Rattle.sre_turns.proofs.Terms.{mul_left_comm, mul-le-mul_left, one-le-mul, le-max_left, le-max_right, mul-one}
-use Rattle.sre_turns.proofs.Terms.{loop_slots, most_slots, by_slots}
-use Rattle.sre_model.specs.Tree.{Run}
+use Rattle.sre_turns.proofs.Terms.{Trees, Only, Or, word, skip, Reads, Operands, ReadsBranch, WholeItems, reads_within}
+use Rattle.sre_turns.proofs.Terms.{Alternatives, Shorter, Longer, Again, least_from, Point, Spot, repeats, IsAt, LiesIn}
+use Rattle.sre_turns.proofs.Terms.{LiesInItem, LiesInBranch, Lies, place_under, place_of, Instruction, operands_past}
+use Rattle.sre_turns.proofs.Terms.{is_again, ◌*◌, Word, word_of, counted_to, slots, of_tree, of_parts, of_item, max}
+use Rattle.sre_turns.proofs.Terms.{mul_assoc, mul_left_comm, mul-le-mul_left, one-le-mul, le-max_left, le-max_right}
+use Rattle.sre_turns.proofs.Terms.{mul-one, loop_slots, most_slots, by_slots}
+use Rattle.sre_model.specs.Tree.{Run, Branch, Loop, PossessiveLoop, Atomic, Look, Exists, ExistsElse}
 use Rattle.sre_turns.proofs.semantics.Parts.{Own, Ends, Law, lies_law, alternative, no_more, shorter, longer}
 use Rattle.sre_turns.proofs.semantics.Parts.{possessive, with_item, jump, until, success, IsIn}
 use Rattle.std.proofs.Math.Nat.{mul-le-mul_right}

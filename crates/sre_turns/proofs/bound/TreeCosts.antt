@@ -4,22 +4,22 @@
 use Rattle.sre_turns.proofs.Terms.{◌≡◌, ℕ, zero, suc, ◌+◌, ◌-◌, ◌*◌, ◌<◌, ◌≤◌, ◌⊎◌, inl, inr, Bool, true, false, cond}
 use Rattle.sre_turns.proofs.Terms.{List, [], ◌∷◌, length, refl, sym, ap, ◌∙◌, subst, arith, nat_eq, mul-le-mul}
 use Rattle.sre_turns.proofs.Terms.{mul-le-mul_right, add-mul, map, ◌||◌, ⊤, AllByRecursion, each-weaken, each-both}
-use Rattle.sre_turns.proofs.Terms.{Tree, Empty, Then, Item, Branch, Loop, PossessiveLoop, Atomic, Look, Exists}
-use Rattle.sre_turns.proofs.Terms.{ExistsElse, Trees, Only, Or, PossessiveRun, word, skip, Opcode, Reads, ReadsItem}
-use Rattle.sre_turns.proofs.Terms.{ReadsBranch, JumpsTo, WholeItems, until_opcode, Role, ToEnd, ToJump, ToLoop}
-use Rattle.sre_turns.proofs.Terms.{steps_of, other_ends, HasRole, role_here, item_role, item_here, until_role, word_of}
+use Rattle.sre_turns.proofs.Terms.{Tree, Empty, Then, Item, Trees, Only, Or, PossessiveRun, word, skip, Opcode, Reads}
+use Rattle.sre_turns.proofs.Terms.{ReadsItem, ReadsBranch, JumpsTo, WholeItems, until_opcode, Role, steps_of}
+use Rattle.sre_turns.proofs.Terms.{other_ends, HasRole, role_here, item_role, item_here, until_role, word_of}
 use Rattle.sre_turns.proofs.Terms.{Alternatives, Shorter, Longer, Again, Point, IsAt, LiesIn, LiesInItem, LiesInBranch}
 use Rattle.sre_turns.proofs.Terms.{slots, steps, bit_by, bit_toll, end_price, nat_tests, loop_slots, Instruction, eqb}
 use Rattle.sre_turns.proofs.Terms.{eqb-true, length-map, All-from_recursion, sum_by-cons, sum_by-le}
 use Rattle.sre_turns.proofs.Terms.{length-le_from_distinct_below, list_any, sum_by, each-map, branch_steps, cost_of}
 use Rattle.sre_turns.proofs.Terms.{branch_cost, scan_price}
+use Rattle.sre_model.specs.Roles.{ToEnd, ToJump, ToLoop}
 use Rattle.std.specs.List.{IsDistinct}
 use Rattle.sre_chars.specs.declared.constants.SreOpcode.TheVariants as opcode
-use Rattle.sre_model.specs.Tree.{Run}
+use Rattle.sre_model.specs.Tree.{Run, Branch, Loop, PossessiveLoop, Atomic, Look, Exists, ExistsElse}
 use Rattle.sre_model.specs.TreePrices.{item_cost}
 use Rattle.sre_turns.specs.Prices.{branch_in}
 use Rattle.sre_turns.proofs.bound.NestedMoves.{begins}
-use Rattle.sre_turns.proofs.bound.TreePrices.{role_there, steps_told, tree_steps, body_steps, body_end, jump_steps}
+use Rattle.sre_turns.proofs.bound.Prices.{role_there, steps_told, tree_steps, body_steps, body_end, jump_steps}
 
 regrouped : {A B C D : Type 0} → A ⊎ ((B ⊎ C) ⊎ D) → A ⊎ (B ⊎ (C ⊎ D))
 regrouped (inl x) = inl x

@@ -3,14 +3,16 @@
 use Rattle.sre_turns.proofs.Terms.{◌≡◌, ℕ, ◌+◌, ◌*◌, ◌≤◌, Bool, true, false, cond, nat_lt, List, [], ◌∷◌, Option, Some}
 use Rattle.sre_turns.proofs.Terms.{refl, sym, ap, subst, arith, ◌⊎◌, inl, inr, drop, ◌<◌, ⊤, nat_tests, true≢false}
 use Rattle.sre_turns.proofs.Terms.{SreOpcode, Order, Greedy, Lazy, Positive, Negative, Marks, group, Way, may_repeat}
-use Rattle.sre_turns.proofs.Terms.{first, Word, Opcode, word, skip, same_word, Role, ToRefer, ToCheckGroup, role}
-use Rattle.sre_turns.proofs.Terms.{AtomicGroup, Ahead, NotAhead, Owed, Further, Region, Again, Point, Spot, Move, End}
-use Rattle.sre_turns.proofs.Terms.{Split, Enter, closing_move, first_frame, next_frame, at_body, behind, in_order}
-use Rattle.sre_turns.proofs.Terms.{until_move, enter_body, again_move, LoopMove, Asks, asks, MarksAgree, OutcomesAlike}
-use Rattle.sre_turns.proofs.Terms.{Within, PlacesAsk, GroupLies, AsksAt, AskedByPlace, PointAsks, LoopsAsk, Matters}
-use Rattle.sre_turns.proofs.Terms.{MattersBehind, Moves, MovesAt, is_last, LoopsAlike, FramesAlike, least_from, Alike}
-use Rattle.sre_turns.proofs.Terms.{goes_behind, Subject, Frame, Instruction, spot_at, Stop, Go, MarkLeads, RegionAsks}
-use Rattle.sre_turns.proofs.Terms.{not, ◌&&◌, ◌||◌, min, nat_eq, None, ◌∙◌, unlimited, counted_to}
+use Rattle.sre_turns.proofs.Terms.{first, Word, Opcode, word, skip, same_word, Role, role, Ahead, NotAhead, Owed}
+use Rattle.sre_turns.proofs.Terms.{Further, Region, Again, Point, Spot, Move, End, Split, Enter, closing_move}
+use Rattle.sre_turns.proofs.Terms.{first_frame, next_frame, at_body, behind, in_order, until_move, enter_body}
+use Rattle.sre_turns.proofs.Terms.{again_move, LoopMove, Asks, asks, MarksAgree, OutcomesAlike, Within, PlacesAsk}
+use Rattle.sre_turns.proofs.Terms.{GroupLies, AsksAt, AskedByPlace, PointAsks, LoopsAsk, Matters, MattersBehind, Moves}
+use Rattle.sre_turns.proofs.Terms.{MovesAt, is_last, LoopsAlike, FramesAlike, least_from, Alike, goes_behind, Subject}
+use Rattle.sre_turns.proofs.Terms.{Frame, Instruction, spot_at, Stop, Go, MarkLeads, RegionAsks, not, ◌&&◌, ◌||◌, min}
+use Rattle.sre_turns.proofs.Terms.{nat_eq, None, ◌∙◌, unlimited, counted_to}
+use Rattle.sre_model.specs.Roles.{ToRefer, ToCheckGroup}
+use Rattle.sre_turns.specs.declared.Region.TheVariants.{AtomicGroup}
 use Rattle.sre_turns.specs.Asked.{Lies}
 use Rattle.sre_turns.proofs.memoization.Asked.{agree_less, agree_set, group_agrees}
 use Rattle.sre_turns.proofs.semantics.Onward.{EndFrom}

@@ -2,15 +2,17 @@
 -- body, and no step there is that of a MARK.
 -- The memo of body ends rests on this.
 use Rattle.sre_turns.proofs.Terms.{◌≡◌, ℕ, Bool, true, false, List, [], ◌∷◌, refl, sym, ap, ◌∙◌, subst, ⊤, or_parts}
-use Rattle.sre_turns.proofs.Terms.{true≢false, SreOpcode, Tree, Item, Mark, Marks, group, marks_in_regions, Way}
-use Rattle.sre_turns.proofs.Terms.{of_item, of_parts, Opcode, WholeItems, Role, ToEnd, ToMark, role, each-append}
-use Rattle.sre_turns.proofs.Terms.{HasRole, role_here, item_role, item_here, items_same, same_opcode, NotAhead, Further}
-use Rattle.sre_turns.proofs.Terms.{Region, Point, Spot, Move, End, Split, Enter, closing_move, Moves, Runs, turns}
-use Rattle.sre_turns.proofs.Terms.{Comes, stops, ends, goes, splits, enters, repeats, ClosesAt, LeadsTo, LoopsAlike}
-use Rattle.sre_turns.proofs.Terms.{Alike, LiesInBody, Confined, MarklessRegions, AllMarked, MarksStay, Subject, Run}
-use Rattle.sre_turns.proofs.Terms.{Frame, Instruction, Stop, Go, by_marks, MarklessBody, no_marks, spot_at}
-use Rattle.sre_turns.proofs.Terms.{StringCursor, is_inside, IsConfined, ConfinedInside, AllConfined, ChoicesConfined}
-use Rattle.sre_turns.proofs.Terms.{StandsConfined, BothConfined, Choice, Else, Keep, Trying, from_region}
+use Rattle.sre_turns.proofs.Terms.{true≢false, SreOpcode, Tree, Item, Marks, group, marks_in_regions, Way, of_item}
+use Rattle.sre_turns.proofs.Terms.{of_parts, Opcode, WholeItems, Role, role, each-append, HasRole, role_here, item_role}
+use Rattle.sre_turns.proofs.Terms.{item_here, items_same, same_opcode, NotAhead, Further, Region, Point, Spot, Move}
+use Rattle.sre_turns.proofs.Terms.{End, Split, Enter, closing_move, Moves, Runs, turns, Comes, stops, ends, goes}
+use Rattle.sre_turns.proofs.Terms.{splits, enters, repeats, ClosesAt, LeadsTo, LoopsAlike, Alike, LiesInBody, Confined}
+use Rattle.sre_turns.proofs.Terms.{MarklessRegions, AllMarked, MarksStay, Subject, Run, Frame, Instruction, Stop, Go}
+use Rattle.sre_turns.proofs.Terms.{by_marks, MarklessBody, no_marks, spot_at, StringCursor, is_inside, IsConfined}
+use Rattle.sre_turns.proofs.Terms.{ConfinedInside, AllConfined, ChoicesConfined, StandsConfined, BothConfined, Choice}
+use Rattle.sre_turns.proofs.Terms.{Else, Keep, Trying, from_region}
+use Rattle.sre_model.specs.Tree.{Mark}
+use Rattle.sre_model.specs.Roles.{ToEnd, ToMark}
 use Rattle.sre_chars.specs.declared.constants.SreOpcode.TheVariants as opcode
 use Rattle.sre_turns.proofs.bound.NestedMoves.{body_moves, HoldsInGood, tree_holds}
 use Rattle.sre_turns.proofs.semantics.OneTurn.{Turned, stopped, ended, went, forked, marked, grouped, begun, entered}

@@ -2,17 +2,17 @@
 -- entered has a body, with what its tree has.
 -- That the step bound suffices (`enough` of sre_engine) rests on this.
 use Rattle.sre_turns.proofs.Terms.{◌≡◌, ℕ, ◌+◌, ◌-◌, ◌≤◌, Bool, true, false, List, [], ◌∷◌, refl, sym, ap, ◌∙◌, subst}
-use Rattle.sre_turns.proofs.Terms.{arith, ⊤, or_parts, true≢false, or_left, or_right, SreOpcode, Tree, Item, Branch}
-use Rattle.sre_turns.proofs.Terms.{Loop, PossessiveLoop, Atomic, Look, Sign, Marks, group, Folding, of_tree, of_item}
-use Rattle.sre_turns.proofs.Terms.{of_parts, skip, Opcode, Operands, ReadsItem, backs, forks, has_forked_region, Role}
-use Rattle.sre_turns.proofs.Terms.{ToEnd, role, HasRole, item_role, item_here, same_opcode, same_word, Owed, Further}
-use Rattle.sre_turns.proofs.Terms.{Region, Again, Point, Spot, Move, Enter, MovesAt, repeats, LiesIn, forking, BodyOf}
-use Rattle.sre_turns.proofs.Terms.{IsBodyIn, Subject, Frame, Instruction, spot_at, by_backs, by_forks}
-use Rattle.sre_turns.proofs.Terms.{by_forked_regions, paired, tree_paired, ForksAt}
+use Rattle.sre_turns.proofs.Terms.{arith, ⊤, or_parts, true≢false, or_left, or_right, SreOpcode, Tree, Item, Sign}
+use Rattle.sre_turns.proofs.Terms.{Marks, group, Folding, of_tree, of_item, of_parts, skip, Opcode, Operands, ReadsItem}
+use Rattle.sre_turns.proofs.Terms.{backs, forks, has_forked_region, Role, role, HasRole, item_role, item_here}
+use Rattle.sre_turns.proofs.Terms.{same_opcode, same_word, Owed, Further, Region, Again, Point, Spot, Move, Enter}
+use Rattle.sre_turns.proofs.Terms.{MovesAt, repeats, LiesIn, forking, BodyOf, IsBodyIn, Subject, Frame, Instruction}
+use Rattle.sre_turns.proofs.Terms.{spot_at, by_backs, by_forks, by_forked_regions, paired, tree_paired, ForksAt}
+use Rattle.sre_model.specs.Roles.{ToEnd}
 use Rattle.sre_chars.specs.declared.constants.SreOpcode.TheVariants as opcode
-use Rattle.sre_model.specs.Tree.{Run}
+use Rattle.sre_model.specs.Tree.{Run, Branch, Loop, PossessiveLoop, Atomic, Look}
 use Rattle.sre_turns.proofs.bound.NestedMoves.{HoldsInGood, tree_holds}
-use Rattle.sre_turns.proofs.bound.PriceMoves.{enters}
+use Rattle.sre_turns.proofs.bound.Prices.{enters}
 use Rattle.sre_turns.proofs.semantics.OneTurn.{Enters, atomic_group, lookaround, Turned, grouped, entered, looped}
 use Rattle.sre_turns.proofs.semantics.OneTurn.{repeated, point_turned, until_holds, again_holds}
 

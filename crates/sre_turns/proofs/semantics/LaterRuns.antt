@@ -8,7 +8,7 @@ use Rattle.sre_turns.proofs.Terms.{IsAt, LiesIn, repeats, price_of, AllPass, Poi
 use Rattle.sre_turns.proofs.Terms.{Marks, passes, Run}
 use Rattle.sre_chars.specs.declared.constants.SreOpcode.TheVariants as opcode
 use Rattle.sre_model.specs.Runs as runs
-use Rattle.sre_turns.proofs.bound.PriceMoves.{later_run_covered}
+use Rattle.sre_turns.proofs.bound.Prices.{later_run_covered}
 use Rattle.sre_turns.proofs.bound.Faring.{fares_less}
 use Rattle.sre_turns.proofs.bound.HereMoves.{here_reached}
 use Rattle.sre_turns.proofs.semantics.LazyRunEnds.{longer_run}

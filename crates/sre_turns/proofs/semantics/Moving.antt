@@ -7,9 +7,10 @@ use Rattle.sre_turns.proofs.Terms.{Going, Splitting, spare, share, FaresBoth, pr
 use Rattle.sre_turns.proofs.Terms.{Counted, StandsConfined, BothConfined, Placed, InRole, Moves, MovesAt, Runs, turns}
 use Rattle.sre_turns.proofs.Terms.{Comes, stops, ends, goes, splits, enters, Waits, outermost, otherwise, kept, tried}
 use Rattle.sre_turns.proofs.Terms.{Goes, Arrives, Tries, GoesBoth, Later, spot, HasRun, GoesWith, Refuses, Skips}
-use Rattle.sre_turns.proofs.Terms.{SkipsBoth, Exhausted, Continues, Advances, Chooses, Role, ToTest, role, begins_test}
+use Rattle.sre_turns.proofs.Terms.{SkipsBoth, Exhausted, Continues, Advances, Chooses, Role, role, begins_test}
 use Rattle.sre_turns.proofs.Terms.{same_opcode, opcode_within, some_test, MarklessRegions, StringCursor, Subject}
 use Rattle.sre_turns.proofs.Terms.{BoardValue, Frame, Instruction, spot_at, Stop, Go, repeats, Run, TestMove}
+use Rattle.sre_model.specs.Roles.{ToTest}
 use Rattle.sre_turns.proofs.memoization.Bodies.{turn_confined, goes_confined, splits_confined, first_confined}
 use Rattle.sre_turns.proofs.memoization.Bodies.{first_left, second_left}
 use Rattle.sre_turns.proofs.bound.Faring.{FreeOfToll, turn_leaves, fares_less, first_waits, first_alone, second_alone}

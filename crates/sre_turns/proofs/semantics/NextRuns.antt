@@ -7,10 +7,11 @@ use Rattle.sre_turns.proofs.Terms.{SreOpcode, Way, unlimited, run_length, longes
 use Rattle.sre_turns.proofs.Terms.{FaresAt, FaresBoth, Splitting, Coming, Frame, Instruction, spot_at, Stop, BoardValue}
 use Rattle.sre_turns.proofs.Terms.{Run, StringCursor, Subject, Moves, Tries, GoesBoth, Later, spot, RunOperands}
 use Rattle.sre_turns.proofs.Terms.{price_of, end_price, split_toll, steps, RunKind, GreedyRun, LazyRun, PossessiveRun}
-use Rattle.sre_turns.proofs.Terms.{Test, ToRun, role, word_of, AllPass, append-nil, Shorter, Spot, Split, Choice}
-use Rattle.sre_turns.proofs.Terms.{Counted, passes, Word, Opcode, skip, Marks}
+use Rattle.sre_turns.proofs.Terms.{Test, role, word_of, AllPass, append-nil, Shorter, Spot, Split, Choice, Counted}
+use Rattle.sre_turns.proofs.Terms.{passes, Word, Opcode, skip, Marks}
+use Rattle.sre_model.specs.Roles.{ToRun}
 use Rattle.sre_chars.specs.declared.constants.SreOpcode.TheVariants as opcode
-use Rattle.sre_turns.proofs.bound.PriceMoves.{split_is}
+use Rattle.sre_turns.proofs.bound.Prices.{split_is}
 use Rattle.sre_turns.specs.declared.Next.TheVariants as next
 use Rattle.sre_turns.proofs.memoization.Bodies.{splits_confined, first_left}
 use Rattle.sre_turns.proofs.bound.Faring.{fares_less, fares_earlier, run_code}

@@ -8,15 +8,16 @@ use Rattle.sre_turns.proofs.Terms.{Further, Split, at_body, behind, in_order, en
 use Rattle.sre_turns.proofs.Terms.{◌<◌, ◌≤◌, ◌&&◌, ◌||◌, nat_eq, nat_le, length, [], Option, None, ap, arith, nat_tests}
 use Rattle.sre_turns.proofs.Terms.{leb-true, and_parts, true≢false, SreOpcode, Test, RunKind, GreedyRun, LazyRun}
 use Rattle.sre_turns.proofs.Terms.{PossessiveRun, Sign, Positive, Negative, Fold, set_mark, passes, holds_at}
-use Rattle.sre_turns.proofs.Terms.{same_folded, unlimited, longest_run, run_length, Opcode, word, Role, ToFail, ToEnd}
-use Rattle.sre_turns.proofs.Terms.{ToTest, ToCheckPosition, ToMark, ToBranch, ToJump, ToRun, ToRepeat, ToLoop}
-use Rattle.sre_turns.proofs.Terms.{ToRepeatPossessively, ToGroupAtomically, ToLook, ToRefer, ToCheckGroup, role}
+use Rattle.sre_turns.proofs.Terms.{same_folded, unlimited, longest_run, run_length, Opcode, word, Role, role}
 use Rattle.sre_turns.proofs.Terms.{TestStands, longest_run-fits, passes-below, run_passes, run_none, test_same}
-use Rattle.sre_turns.proofs.Terms.{same_opcode, word_of, word_within, AtomicGroup, Region, Alternatives, Shorter}
-use Rattle.sre_turns.proofs.Terms.{Longer, Again, least_from, End, Enter, closing_move, RunOperands, run_turn}
-use Rattle.sre_turns.proofs.Terms.{first_frame, look, Asks, asks, reference_turn, condition_place, InRole, MovesAt}
-use Rattle.sre_turns.proofs.Terms.{goes_behind, Instruction, spot_at, Stop, TestKind, ToNothing, same_reference_fold}
-use Rattle.sre_turns.proofs.Terms.{same_at}
+use Rattle.sre_turns.proofs.Terms.{same_opcode, word_of, word_within, Region, Alternatives, Shorter, Longer, Again}
+use Rattle.sre_turns.proofs.Terms.{least_from, End, Enter, closing_move, RunOperands, run_turn, first_frame, look, Asks}
+use Rattle.sre_turns.proofs.Terms.{asks, reference_turn, condition_place, InRole, MovesAt, goes_behind, Instruction}
+use Rattle.sre_turns.proofs.Terms.{spot_at, Stop, TestKind, same_reference_fold, same_at}
+use Rattle.sre_turns.specs.declared.Region.TheVariants.{AtomicGroup}
+use Rattle.sre_model.specs.Roles.{ToFail, ToEnd, ToTest, ToCheckPosition, ToMark, ToBranch, ToJump, ToRun, ToRepeat}
+use Rattle.sre_model.specs.Roles.{ToLoop, ToRepeatPossessively, ToGroupAtomically, ToLook, ToRefer, ToCheckGroup}
+use Rattle.sre_model.specs.Roles.{ToNothing}
 
 -- from an instruction of a role and a position one goes on at others, under the loops in progress: the control flow
 pub data GoesOn (ws : List ℕ) (s : Subject) (i p : ℕ) : Role → Point → ℕ → Type 0 where

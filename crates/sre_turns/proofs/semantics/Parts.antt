@@ -2,12 +2,12 @@
 -- that an item has by itself, and goes up from a part to its item, holds wherever a point lies.
 -- That the step bound suffices (`enough` of sre_engine) rests on this.
 use Rattle.sre_turns.proofs.Terms.{◌≡◌, ℕ, ◌+◌, ◌-◌, ◌<◌, inl, inr, List, ◌∷◌, [], refl, arith, Tree, Empty, Then, Item}
-use Rattle.sre_turns.proofs.Terms.{Branch, Loop, PossessiveLoop, Atomic, Look, Exists, ExistsElse, Trees, Only, Or}
-use Rattle.sre_turns.proofs.Terms.{Order, RunKind, Test, Folding, of_tree, of_parts, of_branch, word, skip, Word}
-use Rattle.sre_turns.proofs.Terms.{Opcode, Reads, Operands, ReadsBranch, JumpsTo, until_opcode, Alternatives, Shorter}
-use Rattle.sre_turns.proofs.Terms.{Longer, Again, Point, IsAt, LiesIn, LiesInItem, LiesInBranch, Instruction}
+use Rattle.sre_turns.proofs.Terms.{Trees, Only, Or, Order, RunKind, Test, Folding, of_tree, of_parts, of_branch, word}
+use Rattle.sre_turns.proofs.Terms.{skip, Word, Opcode, Reads, Operands, ReadsBranch, JumpsTo, until_opcode}
+use Rattle.sre_turns.proofs.Terms.{Alternatives, Shorter, Longer, Again, Point, IsAt, LiesIn, LiesInItem, LiesInBranch}
+use Rattle.sre_turns.proofs.Terms.{Instruction}
 use Rattle.sre_chars.specs.declared.constants.SreOpcode.TheVariants as opcode
-use Rattle.sre_model.specs.Tree.{Run}
+use Rattle.sre_model.specs.Tree.{Run, Branch, Loop, PossessiveLoop, Atomic, Look, Exists, ExistsElse}
 
 -- what holds of the values of a whole, whatever they are values of, holds of a part's, where it does of both of two
 abbrev pub IsIn : ((A : Type 0) → Folding A → A) → ((A : Type 0) → Folding A → A) → Type 1

@@ -1,27 +1,27 @@
 -- The bytecode of a tree has the tree's match paths.
 use Rattle.sre_turns.proofs.Terms.{◌≡◌, ℕ, suc, ◌+◌, ◌-◌, ◌<◌, ◌≤◌, true, false, ◌||◌, List, [], length, refl, sym}
-use Rattle.sre_turns.proofs.Terms.{arith, or_left, or_right, or_parts, flat_map-append, Tree, Atomic, Look, Empty, Then}
-use Rattle.sre_turns.proofs.Terms.{Item, Fail, One, At, Mark, Branch, GreedyRun, Trees, Only, Or, Loop, LazyRun}
-use Rattle.sre_turns.proofs.Terms.{PossessiveRun, PossessiveLoop, Reference, Exists, ExistsElse, refers, by_references}
+use Rattle.sre_turns.proofs.Terms.{arith, or_left, or_right, or_parts, flat_map-append, Tree, Empty, Then, Item}
+use Rattle.sre_turns.proofs.Terms.{GreedyRun, Trees, Only, Or, LazyRun, PossessiveRun, refers, by_references}
 use Rattle.sre_turns.proofs.Terms.{asked_from, asked_to, of_item, of_branch, Marks, group, Way, Body, here, ways}
 use Rattle.sre_turns.proofs.Terms.{item_ways, marks_in_regions, by_marked_regions, word, skip, Opcode, Reads, ReadsItem}
 use Rattle.sre_turns.proofs.Terms.{ReadsBranch, AreWords, IsConfined, MarklessRegions, MayAsk, Frame, Instruction}
-use Rattle.sre_turns.proofs.Terms.{spot_at, Stop, Go, Subject, Runs, turns, stops, goes, ToFail, ToBranch}
-use Rattle.sre_turns.proofs.Terms.{flat_map-flat_map, opcode_within, reads_within, Costs, cost, item_cost, Alternatives}
-use Rattle.sre_turns.proofs.Terms.{by_groups, by_last_groups, branch_ways, sets_mark, ways-bounded, word_there}
-use Rattle.sre_turns.proofs.Terms.{alternative_long, branch_past, zero, ◌⊎◌, inl, inr, Bool, cond, ◌&&◌, not, nat_lt}
-use Rattle.sre_turns.proofs.Terms.{nat_eq, min, Option, Some, None, ◌∷◌, ◌++◌, ap, ◌∙◌, subst, flat_map, append-nil}
-use Rattle.sre_turns.proofs.Terms.{nat_tests, Order, Greedy, Lazy, unlimited, may_repeat, first, Word, until_opcode}
-use Rattle.sre_turns.proofs.Terms.{in_order, until_move, again_move, Moves, splits, enters, Comes, ToRepeat, ToLoop}
-use Rattle.sre_turns.proofs.Terms.{ToRepeatPossessively, until_role, Bounded, EachBetween, word_within, ending}
-use Rattle.sre_turns.proofs.Terms.{atomic_cost, Again, Owed, Further, Spot, Move, Split, Enter, closing_move, within}
-use Rattle.sre_turns.proofs.Terms.{ordered, more, least, loop_ways, possessive_more, possessive_ways, within-all}
-use Rattle.sre_turns.proofs.Terms.{Between, stays, least_cost, more_cost, owed_cost, further_cost, possessive_cost}
-use Rattle.sre_turns.proofs.Terms.{first_of_body, or_here, first-bounded, first_of_body-all}
-use Rattle.sre_turns.proofs.Terms.{RunKind, Test, Operands, RunOperands}
+use Rattle.sre_turns.proofs.Terms.{spot_at, Stop, Go, Subject, Runs, turns, stops, goes, flat_map-flat_map}
+use Rattle.sre_turns.proofs.Terms.{opcode_within, reads_within, Costs, cost, item_cost, Alternatives, by_groups}
+use Rattle.sre_turns.proofs.Terms.{by_last_groups, branch_ways, sets_mark, ways-bounded, word_there, alternative_long}
+use Rattle.sre_turns.proofs.Terms.{branch_past, zero, ◌⊎◌, inl, inr, Bool, cond, ◌&&◌, not, nat_lt, nat_eq, min, Option}
+use Rattle.sre_turns.proofs.Terms.{Some, None, ◌∷◌, ◌++◌, ap, ◌∙◌, subst, flat_map, append-nil, nat_tests, Order}
+use Rattle.sre_turns.proofs.Terms.{Greedy, Lazy, unlimited, may_repeat, first, Word, until_opcode, in_order, until_move}
+use Rattle.sre_turns.proofs.Terms.{again_move, Moves, splits, enters, Comes, until_role, Bounded, EachBetween}
+use Rattle.sre_turns.proofs.Terms.{word_within, ending, Again, Owed, Further, Spot, Move, Split, Enter, closing_move}
+use Rattle.sre_turns.proofs.Terms.{within, ordered, more, least, loop_ways, possessive_more, possessive_ways}
+use Rattle.sre_turns.proofs.Terms.{within-all, Between, stays, least_cost, more_cost, owed_cost, further_cost}
+use Rattle.sre_turns.proofs.Terms.{possessive_cost, first_of_body, or_here, first-bounded, first_of_body-all, RunKind}
+use Rattle.sre_turns.proofs.Terms.{Test, Operands, RunOperands}
+use Rattle.sre_model.specs.Roles.{ToFail, ToBranch, ToRepeat, ToLoop, ToRepeatPossessively}
 use Rattle.sre_chars.specs.declared.constants.SreOpcode.TheVariants as opcode
-use Rattle.sre_model.specs.Tree.{Run}
-use Rattle.sre_model.specs.Cost.{branch_cost}
+use Rattle.sre_model.specs.Tree.{Run, Atomic, Look, Fail, One, At, Mark, Branch, Loop, PossessiveLoop, Reference}
+use Rattle.sre_model.specs.Tree.{Exists, ExistsElse}
+use Rattle.sre_model.specs.Cost.{branch_cost, atomic_cost}
 use Rattle.sre_turns.proofs.semantics.Moving.{at_instruction}
 use Rattle.sre_turns.proofs.bound.NestedMoves.{begins}
 use Rattle.sre_turns.proofs.semantics.RanAtItems.{followed, Follows, Ran, moved, alone, one-ran, at-ran, mark-ran}

@@ -2,21 +2,25 @@
 -- back-references and conditionals, of atomic groups and lookarounds.
 use Rattle.sre_turns.proofs.Terms.{◌≡◌, ℕ, suc, ◌+◌, ◌<◌, ◌≤◌, Bool, true, false, cond, nat_lt, nat_eq, List, [], ◌++◌}
 use Rattle.sre_turns.proofs.Terms.{length, refl, subst, arith, ◌-◌, ◌&&◌, nat_le, ap, Option, Some, None, ◌∷◌, map}
-use Rattle.sre_turns.proofs.Terms.{append-nil, nat_tests, at_number, SreAtCode, One, At, Mark, Test, Fold, Sign}
-use Rattle.sre_turns.proofs.Terms.{Positive, Negative, Marks, set_mark, group, passes, holds_at, same_folded, Way, Body}
-use Rattle.sre_turns.proofs.Terms.{here, item_ways, first, Word, Opcode, skip, JumpsTo, test_opcode, TestOperands, word}
-use Rattle.sre_turns.proofs.Terms.{reference_opcode, look_opcode, passes-below, Bounded, EachBetween, Frame}
-use Rattle.sre_turns.proofs.Terms.{Instruction, spot_at, Stop, Go, Runs, turns, stops, goes, splits, Moves, enters}
-use Rattle.sre_turns.proofs.Terms.{Comes, ToTest, ToCheckPosition, ToMark, ToJump, ToRefer, ToCheckGroup}
-use Rattle.sre_turns.proofs.Terms.{ToGroupAtomically, ToLook, test_kind, test_role, reference_role, look_role}
-use Rattle.sre_turns.proofs.Terms.{word_past, Costs, item_cost, ending, atomic_cost, leb-true, and_parts, MayAsk, Asks}
-use Rattle.sre_turns.proofs.Terms.{asks, reference_turn, condition_place, IsConfined, MarklessRegions, look, Subject}
-use Rattle.sre_turns.proofs.Terms.{Alternatives, AtomicGroup, Spot, Move, Enter, closing_move, reference_ways}
-use Rattle.sre_turns.proofs.Terms.{look_ways, reference_cost, condition_cost, look_cost, looked_cost, flat_map, ends}
-use Rattle.sre_turns.proofs.Terms.{ToEnd, zero, GreedyRun, LazyRun, PossessiveRun, unlimited, run_length, longest_run}
-use Rattle.sre_turns.proofs.Terms.{RunOperands, longest_run-fits, goes_on, Shorter, Longer, falling, rising, run_ways}
+use Rattle.sre_turns.proofs.Terms.{append-nil, nat_tests, at_number, SreAtCode, Test, Fold, Sign, Positive, Negative}
+use Rattle.sre_turns.proofs.Terms.{Marks, set_mark, group, passes, holds_at, same_folded, Way, Body, here, item_ways}
+use Rattle.sre_turns.proofs.Terms.{first, Word, Opcode, skip, JumpsTo, test_opcode, TestOperands, word, passes-below}
+use Rattle.sre_turns.proofs.Terms.{Bounded, EachBetween, Frame, Instruction, spot_at, Stop, Go, Runs, turns, stops}
+use Rattle.sre_turns.proofs.Terms.{goes, splits, Moves, enters, Comes, test_kind, test_role, reference_role, look_role}
+use Rattle.sre_turns.proofs.Terms.{word_past, Costs, item_cost, ending, leb-true, and_parts, MayAsk, Asks, asks}
+use Rattle.sre_turns.proofs.Terms.{reference_turn, condition_place, IsConfined, MarklessRegions, look, Subject}
+use Rattle.sre_turns.proofs.Terms.{Alternatives, Spot, Move, Enter, closing_move, reference_ways, look_ways}
+use Rattle.sre_turns.proofs.Terms.{reference_cost, condition_cost, look_cost, looked_cost, flat_map, ends, zero}
+use Rattle.sre_turns.proofs.Terms.{GreedyRun, LazyRun, PossessiveRun, unlimited, run_length, longest_run, RunOperands}
+use Rattle.sre_turns.proofs.Terms.{longest_run-fits, goes_on, Shorter, Longer, falling, rising, run_ways}
 use Rattle.sre_turns.proofs.Terms.{longest_goes_on, longest_stops, least_there, least_short, shorter_cost, run_cost}
 use Rattle.sre_turns.proofs.Terms.{longer_cost, lazy_run_cost, longest_run_cost}
+use Rattle.sre_model.specs.Tree.{One, At, Mark}
+use Rattle.sre_model.specs.Grammar.{reference_opcode, look_opcode}
+use Rattle.sre_model.specs.Cost.{atomic_cost}
+use Rattle.sre_turns.specs.declared.Region.TheVariants.{AtomicGroup}
+use Rattle.sre_model.specs.Roles.{ToTest, ToCheckPosition, ToMark, ToJump, ToRefer, ToCheckGroup, ToGroupAtomically}
+use Rattle.sre_model.specs.Roles.{ToLook, ToEnd}
 use Rattle.sre_chars.specs.declared.constants.SreOpcode.TheVariants as opcode
 use Rattle.sre_turns.specs.Machine.{Point, End}
 use Rattle.sre_turns.proofs.semantics.Moving.{at_instruction}

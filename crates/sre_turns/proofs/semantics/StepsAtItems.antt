@@ -1,17 +1,19 @@
 -- Steps at tests, positions, MARKs, jumps, back-references, conditionals and branches, and at the ends of an atomic
 -- scope.
 use Rattle.sre_turns.proofs.Terms.{◌≡◌, ℕ, ◌+◌, ◌<◌, ◌≤◌, Bool, true, false, List, length, refl, ◌∙◌, arith, nat_tests}
-use Rattle.sre_turns.proofs.Terms.{at_number, SreAtCode, SreOpcode, Test, Literal, Plain, Marks, set_mark, holds}
-use Rattle.sre_turns.proofs.Terms.{passes, char_at, holds_at, Frame, Instruction, spot_at, Go, BoardValue, Run}
-use Rattle.sre_turns.proofs.Terms.{StringCursor, Moves, HasRun, Refuses, Demands, Continues, Advances, TestStands}
-use Rattle.sre_turns.proofs.Terms.{HasTest, ToFail, ToEnd, ToCheckPosition, ToMark, ToJump, begins_test, same_word}
-use Rattle.sre_turns.proofs.Terms.{word_of, word_within, past_end, read_passes, Subject, repeats, Word, Opcode, ◌≢◌}
-use Rattle.sre_turns.proofs.Terms.{sym, at_low, stands_at_own, is_literal, zero, suc, ◌⊎◌, inl, inr, ⊎_elim, [], ◌∷◌}
-use Rattle.sre_turns.proofs.Terms.{slice_set, slice_index_or, Option, Some, None, mark_at, no_marks, lengthened, Placed}
-use Rattle.sre_turns.proofs.Terms.{◌-◌, nat_le, subst, Fold, group, same_folded, reference_opcode, Asks, reference_turn}
-use Rattle.sre_turns.proofs.Terms.{condition_place, ToRefer, role, ToCheckGroup, Stop, Goes, spot, reference_role}
-use Rattle.sre_turns.proofs.Terms.{same_opcode, Move, Limit, Way, nat_eq, Spot, Split, Runs, turns, GoesBoth, Exhausted}
-use Rattle.sre_turns.proofs.Terms.{ToBranch, Alternatives, earlier, to_point}
+use Rattle.sre_turns.proofs.Terms.{at_number, SreAtCode, SreOpcode, Test, Plain, Marks, set_mark, holds, passes}
+use Rattle.sre_turns.proofs.Terms.{char_at, holds_at, Frame, Instruction, spot_at, Go, BoardValue, Run, StringCursor}
+use Rattle.sre_turns.proofs.Terms.{Moves, HasRun, Refuses, Demands, Continues, Advances, TestStands, HasTest}
+use Rattle.sre_turns.proofs.Terms.{begins_test, same_word, word_of, word_within, past_end, read_passes, Subject}
+use Rattle.sre_turns.proofs.Terms.{repeats, Word, Opcode, ◌≢◌, sym, at_low, stands_at_own, is_literal, zero, suc, ◌⊎◌}
+use Rattle.sre_turns.proofs.Terms.{inl, inr, ⊎_elim, [], ◌∷◌, slice_set, slice_index_or, Option, Some, None, mark_at}
+use Rattle.sre_turns.proofs.Terms.{no_marks, lengthened, Placed, ◌-◌, nat_le, subst, Fold, group, same_folded, Asks}
+use Rattle.sre_turns.proofs.Terms.{reference_turn, condition_place, role, Stop, Goes, spot, reference_role, same_opcode}
+use Rattle.sre_turns.proofs.Terms.{Move, Limit, Way, nat_eq, Spot, Split, Runs, turns, GoesBoth, Exhausted}
+use Rattle.sre_turns.proofs.Terms.{Alternatives, earlier, to_point}
+use Rattle.sre_model.specs.Tree.{Literal}
+use Rattle.sre_model.specs.Grammar.{reference_opcode}
+use Rattle.sre_model.specs.Roles.{ToFail, ToEnd, ToCheckPosition, ToMark, ToJump, ToRefer, ToCheckGroup, ToBranch}
 use Rattle.sre_chars.specs.declared.constants.SreOpcode.TheVariants as opcode
 use Rattle.sre_turns.specs.declared.Next.TheVariants as next
 use Rattle.sre_turns.proofs.memoization.Asked.{longer}

@@ -3,12 +3,12 @@ use Rattle.sre_turns.proofs.Terms.{◌≡◌, ℕ, ◌+◌, ◌<◌, ◌≤◌, 
 use Rattle.sre_turns.proofs.Terms.{arith, nat_tests, Order, Greedy, Lazy, Way, may_repeat, Word, Opcode, until_opcode}
 use Rattle.sre_turns.proofs.Terms.{skip, first_frame, next_frame, at_body, behind, in_order, until_move, Limit, earlier}
 use Rattle.sre_turns.proofs.Terms.{share, Going, Frame, Instruction, BoardValue, Run, StringCursor, Moves, Goes, Later}
-use Rattle.sre_turns.proofs.Terms.{spot, HasRun, Refuses, with_loop, Advances, Next, ToRepeat, ToLoop, role, steps}
-use Rattle.sre_turns.proofs.Terms.{toll, toll_by, loop_toll, until_role, same_opcode, word_of, word_within, Spot, Move}
-use Rattle.sre_turns.proofs.Terms.{Else, repeats}
+use Rattle.sre_turns.proofs.Terms.{spot, HasRun, Refuses, with_loop, Advances, Next, role, steps, toll, toll_by}
+use Rattle.sre_turns.proofs.Terms.{loop_toll, until_role, same_opcode, word_of, word_within, Spot, Move, Else, repeats}
+use Rattle.sre_model.specs.Roles.{ToRepeat, ToLoop}
 use Rattle.sre_chars.specs.declared.constants.SreOpcode.TheVariants as opcode
 use Rattle.sre_turns.specs.Machine.{IsAt}
-use Rattle.sre_turns.proofs.bound.TreePrices.{some_steps}
+use Rattle.sre_turns.proofs.bound.Prices.{some_steps}
 use Rattle.sre_turns.specs.declared.Next.TheVariants as next
 use Rattle.sre_turns.proofs.semantics.Moving.{in_role, at_instruction, turn_goes, turn_splits, both_wait_there}
 use Rattle.sre_turns.proofs.semantics.Moving.{both_first, both_second, standing}

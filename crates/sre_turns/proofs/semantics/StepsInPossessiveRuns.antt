@@ -9,7 +9,7 @@ use Rattle.sre_turns.proofs.Terms.{run_length, run_passes, run_stopped, run_has,
 use Rattle.sre_turns.proofs.Terms.{turns, goes, Spot, Marks}
 use Rattle.sre_chars.specs.declared.constants.SreOpcode.TheVariants as opcode
 use Rattle.sre_turns.specs.declared.Next.TheVariants as next
-use Rattle.sre_turns.proofs.bound.TreePrices.{some_steps}
+use Rattle.sre_turns.proofs.bound.Prices.{some_steps}
 use Rattle.sre_turns.proofs.memoization.Bodies.{goes_confined}
 use Rattle.sre_turns.proofs.bound.Faring.{fares_earlier}
 use Rattle.sre_turns.proofs.bound.HereMoves.{here_moves}

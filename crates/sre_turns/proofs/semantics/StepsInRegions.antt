@@ -1,15 +1,18 @@
 -- Steps at an atomic scope: ATOMIC_GROUP, the lookarounds, POSSESSIVE_REPEAT, and the end of a body.
 use Rattle.sre_turns.proofs.Terms.{◌≡◌, ℕ, ◌+◌, ◌-◌, ◌<◌, ◌≤◌, true, false, nat_lt, List, [], ◌∷◌, length, drop, refl}
-use Rattle.sre_turns.proofs.Terms.{sym, subst, arith, nat_tests, Sign, Positive, Negative, Word, Opcode, look_opcode}
-use Rattle.sre_turns.proofs.Terms.{Keep, look, MarklessRegions, ConfinedInside, AllConfined, is_inside, repeats}
-use Rattle.sre_turns.proofs.Terms.{ClosesAt, point_behind, Limit, earlier, without_open, FaresAt, FaresBack, FaresEnd}
-use Rattle.sre_turns.proofs.Terms.{Coming, price, price_of, Instruction, spot_at, Stop, Go, Run, StringCursor, Moves}
-use Rattle.sre_turns.proofs.Terms.{Comes, stops, goes, Waits, kept, Arrives, Placed, Ends, Later, spot, HasRun}
-use Rattle.sre_turns.proofs.Terms.{without_outcome, without_loop, Advances, ToGroupAtomically, ToLook, look_role}
-use Rattle.sre_turns.proofs.Terms.{word_of, word_within, BoardValue, Point, Region, AtomicGroup, Ahead, NotAhead}
-use Rattle.sre_turns.proofs.Terms.{Further, Spot, closing_move, Counted, Marks, Way, Cuts, after_outcome, Option, Some}
-use Rattle.sre_turns.proofs.Terms.{ap, may_repeat, place_under, place_of, first_frame, next_frame, enter_body}
-use Rattle.sre_turns.proofs.Terms.{again_move, Frame, Runs, turns, ToRepeatPossessively, Again, Owed, Move}
+use Rattle.sre_turns.proofs.Terms.{sym, subst, arith, nat_tests, Sign, Positive, Negative, Word, Opcode, Keep, look}
+use Rattle.sre_turns.proofs.Terms.{MarklessRegions, ConfinedInside, AllConfined, is_inside, repeats, ClosesAt}
+use Rattle.sre_turns.proofs.Terms.{point_behind, Limit, earlier, without_open, FaresAt, FaresBack, FaresEnd, Coming}
+use Rattle.sre_turns.proofs.Terms.{price, price_of, Instruction, spot_at, Stop, Go, Run, StringCursor, Moves, Comes}
+use Rattle.sre_turns.proofs.Terms.{stops, goes, Waits, kept, Arrives, Placed, Ends, Later, spot, HasRun}
+use Rattle.sre_turns.proofs.Terms.{without_outcome, without_loop, Advances, look_role, word_of, word_within, BoardValue}
+use Rattle.sre_turns.proofs.Terms.{Point, Region, Ahead, NotAhead, Further, Spot, closing_move, Counted, Marks, Way}
+use Rattle.sre_turns.proofs.Terms.{Cuts, after_outcome, Option, Some, ap, may_repeat, place_under, place_of}
+use Rattle.sre_turns.proofs.Terms.{first_frame, next_frame, enter_body, again_move, Frame, Runs, turns, Again, Owed}
+use Rattle.sre_turns.proofs.Terms.{Move}
+use Rattle.sre_model.specs.Grammar.{look_opcode}
+use Rattle.sre_turns.specs.declared.Region.TheVariants.{AtomicGroup}
+use Rattle.sre_model.specs.Roles.{ToGroupAtomically, ToLook, ToRepeatPossessively}
 use Rattle.sre_chars.specs.declared.constants.SreOpcode.TheVariants as opcode
 use Rattle.sre_turns.proofs.memoization.Bodies.{region_confined}
 use Rattle.sre_turns.proofs.bound.FaringInRegions.{cut_fares, region_on, region_off, loop_left}

@@ -5,10 +5,11 @@ use Rattle.sre_turns.proofs.Terms.{RunKind, GreedyRun, passes, char_at, holds, W
 use Rattle.sre_turns.proofs.Terms.{Word, Opcode, test_opcode, run_opcode, RunOperands, OperandsOfRun, Frame}
 use Rattle.sre_turns.proofs.Terms.{Instruction, spot_at, Stop, BoardValue, Run, StringCursor, Moves, Runs, turns, Goes}
 use Rattle.sre_turns.proofs.Terms.{GoesBoth, spot, HasRun, Skips, SkipsBoth, Exhausted, Refuses, Demands, Advances}
-use Rattle.sre_turns.proofs.Terms.{Chooses, TestStands, HasTest, ToRun, run_role, opcode_within, past_end, read_passes}
+use Rattle.sre_turns.proofs.Terms.{Chooses, TestStands, HasTest, run_role, opcode_within, past_end, read_passes}
 use Rattle.sre_turns.proofs.Terms.{goes_on, run_passes, run_at_most, run_inside, run_none, Point, Shorter, Longer}
 use Rattle.sre_turns.proofs.Terms.{Split, Limit, Marks, DemandsAny, Excludes, other_taken, LazyRun, PossessiveRun, skip}
 use Rattle.sre_turns.proofs.Terms.{Go, Subject, run_turn}
+use Rattle.sre_model.specs.Roles.{ToRun}
 use Rattle.sre_chars.specs.declared.constants.SreOpcode.TheVariants as opcode
 use Rattle.sre_turns.specs.declared.Next.TheVariants as next
 use Rattle.sre_turns.specs.Machine.{Move}

@@ -1,12 +1,13 @@
 -- Batched loop iterations: bodies of one character each, gone over in one step.
 use Rattle.sre_turns.proofs.Terms.{◌≡◌, ℕ, ◌+◌, ◌<◌, ◌≤◌, ◌⊎◌, inl, inr, Bool, true, false, nat_eq, nat_lt, ◌++◌, List}
 use Rattle.sre_turns.proofs.Terms.{[], ◌∷◌, Some, refl, sym, ap, ◌∙◌, subst, arith, nat_tests, append-nil, SreOpcode}
-use Rattle.sre_turns.proofs.Terms.{passes, char_at, Greedy, Test, Literal, Plain, holds, begins_test, HasTest}
-use Rattle.sre_turns.proofs.Terms.{TestStands, Way, unlimited, Limit, Fares, Going, price, toll, Frame, Instruction}
-use Rattle.sre_turns.proofs.Terms.{spot_at, Go, BoardValue, Run, StringCursor, Moves, Runs, Goes, HasRun, Exhausted}
-use Rattle.sre_turns.proofs.Terms.{Refuses, Continues, Demands, with_loop, spot, next_frame, Subject, repeats, Point}
+use Rattle.sre_turns.proofs.Terms.{passes, char_at, Greedy, Test, Plain, holds, begins_test, HasTest, TestStands, Way}
+use Rattle.sre_turns.proofs.Terms.{unlimited, Limit, Fares, Going, price, toll, Frame, Instruction, spot_at, Go}
+use Rattle.sre_turns.proofs.Terms.{BoardValue, Run, StringCursor, Moves, Runs, Goes, HasRun, Exhausted, Refuses}
+use Rattle.sre_turns.proofs.Terms.{Continues, Demands, with_loop, spot, next_frame, Subject, repeats, Point}
 use Rattle.sre_turns.proofs.Terms.{Alternatives, Spot, Split, Marks, Word, Opcode, Yields, YieldsTo, MayRepeat}
 use Rattle.sre_turns.proofs.Terms.{EndsBody, Strides, TellsTest, TellsAlternatives, TellsBodies}
+use Rattle.sre_model.specs.Tree.{Literal}
 use Rattle.sre_chars.specs.declared.constants.SreOpcode.TheVariants as opcode
 use Rattle.sre_turns.specs.Machine.{IsAt}
 use Rattle.sre_turns.proofs.memoization.Bodies.{confined_leads}

@@ -1,6 +1,6 @@
 use Rattle.sre_machine.proofs.Terms.{◌≡◌, ◌+◌, false, refl, sym, ◌∙◌, subst, Word, run_of, at_operand, not-true, ℕ}
-use Rattle.sre_machine.proofs.Terms.{Opcode, Run, Refuses, run_nothing, at_number, SreAtCode, ToCheckPosition, holds_at}
-use Rattle.sre_machine.proofs.Terms.{at_instruction}
+use Rattle.sre_machine.proofs.Terms.{Opcode, Run, Refuses, run_nothing, at_number, SreAtCode, holds_at, at_instruction}
+use Rattle.sre_model.specs.Roles.{ToCheckPosition}
 use Rattle.sre_turns.proofs.semantics.StepsAtItems.{at_known}
 use Rattle.sre_chars.specs.declared.constants.SreOpcode.TheVariants as opcode
 use Rattle.sre_machine.proofs.machine.is_elsewhere.Goals as goal

@@ -1,4 +1,5 @@
-use Rattle.sre_patterns.proofs.Terms.{◌∙◌, [], arith, meaning-Bytes, meaning-Chars, AnyAll}
+use Rattle.sre_patterns.proofs.Terms.{◌∙◌, [], arith, meaning-Bytes, meaning-Chars}
+use Rattle.sre_model.specs.Tree.{AnyAll}
 use Rattle.sre_patterns.proofs.OverBytes.{bytes-take}
 use Rattle.sre_patterns.proofs.OverUtf8.{utf8-take}
 use Rattle.sre_patterns.proofs.Tests.{added, scalar-most}

@@ -1,6 +1,7 @@
 use Rattle.sre_patterns.proofs.Terms.{◌+◌, ◌-◌, ◌∙◌, ap, sym, subst, [], ◌∷◌, map, refl, arith, inl, inr, true}
-use Rattle.sre_patterns.proofs.Terms.{map-append, meaning, meaning-Empty, meaning-Bytes, Fail, Opcode, items_of, uni_of}
+use Rattle.sre_patterns.proofs.Terms.{map-append, meaning, meaning-Empty, meaning-Bytes, Opcode, items_of, uni_of}
 use Rattle.sre_patterns.proofs.Terms.{view_of, meaning-Alternation}
+use Rattle.sre_model.specs.Tree.{Fail}
 use Rattle.sre_patterns.proofs.Composed.{covers-atomic, covers-look, covers-reference}
 use Rattle.sre_patterns.proofs.Onto.{alt-all}
 use Rattle.sre_patterns.proofs.Items.{items-to, loop-read, atomic-read, at-item, marks, loops, atomics, looks}

@@ -1,4 +1,5 @@
-use Rattle.sre_patterns.proofs.Terms.{◌∙◌, ap, refl, sym, At, uni_of, view_of, look_for, meaning-Look}
+use Rattle.sre_patterns.proofs.Terms.{◌∙◌, ap, refl, sym, uni_of, view_of, look_for, meaning-Look}
+use Rattle.sre_model.specs.Tree.{At}
 use Rattle.sre_patterns.proofs.Composed.{covers-at}
 use Rattle.sre_patterns.proofs.Items.{at-item}
 use Rattle.sre_patterns.proofs.Serving.{serves-look, serves-covered}

@@ -1,7 +1,7 @@
 use Rattle.sre_machine.proofs.Terms.{sym, ap, ◌∙◌, Some, arith, next_frame, run_of, again_done, again_owed}
 use Rattle.sre_machine.proofs.Terms.{again_further, begun_board, again_operands}
 use Rattle.sre_machine.proofs.LoopCounts.{in_possessive}
-use Rattle.sre_machine.proofs.atomic_scopes.again.Goals as goal
+use Rattle.sre_machine.proofs.scopes.again.Goals as goal
 
 pub returns-then-frame-least : goal.returns-then-frame-least
 returns-then-frame-least g c =

@@ -1,6 +1,6 @@
 use Rattle.sre_code.proofs.Terms.{arith, common_steps}
 use Rattle.sre_code.proofs.Scanning.{word_scanned, scanned_all}
-use Rattle.sre_code.proofs.code.marked_regions.may_set_marks.Goals as goal
+use Rattle.sre_code.proofs.code.summary.may_set_marks.Goals as goal
 
 pub word-preserved : goal.word-preserved
 word-preserved c =

@@ -1,7 +1,7 @@
 use Rattle.sre_machine.proofs.Terms.{ap, subst, sym, ◌∙◌, List, ℕ, items_of, no_marks, HoldsOpenEnds, run_of, tried_end}
 use Rattle.sre_machine.proofs.Terms.{HoldsOpenMore, right_open}
 use Rattle.sre_machine.proofs.Recalling.{recalls_ended}
-use Rattle.sre_machine.proofs.atomic_scopes.keep_ends.Goals as goal
+use Rattle.sre_machine.proofs.scopes.keep_ends.Goals as goal
 
 pub returns-then-is_unmarked-clause-remembers : goal.returns-then-is_unmarked-clause-remembers
 returns-then-is_unmarked-clause-remembers g c =

@@ -1,5 +1,5 @@
 use Rattle.sre_machine.proofs.Terms.{arith, ◌∙◌, run_of, look_operand, look_step, Positive, ahead_early}
-use Rattle.sre_machine.proofs.atomic_scopes.assert.Goals as goal
+use Rattle.sre_machine.proofs.scopes.assert.Goals as goal
 
 pub operand-skip-requires : goal.operand-skip-requires
 operand-skip-requires g c =

@@ -1,6 +1,6 @@
 use Rattle.sre_code.proofs.Terms.{◌-◌, length}
 use Rattle.sre_code.proofs.Scanning.{ScannedTo}
-use Rattle.sre_code.proofs.code.marked_regions.may_set_marks.Given as goal
+use Rattle.sre_code.proofs.code.summary.may_set_marks.Given as goal
 
 abbrev pub invariant-word : goal.invariant-word
 invariant-word l = ScannedTo l.items l.place l.farthest

@@ -1,5 +1,5 @@
 use Rattle.sre_machine.proofs.Terms.{arith, ◌∙◌, run_of, look_operand, look_step, Negative, not_ahead_early}
-use Rattle.sre_machine.proofs.atomic_scopes.assert_not.Goals as goal
+use Rattle.sre_machine.proofs.scopes.assert_not.Goals as goal
 
 pub operand-skip-requires : goal.operand-skip-requires
 operand-skip-requires g c =

@@ -1,5 +1,5 @@
 use Rattle.sre_machine.proofs.Terms.{[], ◌∷◌, true, false, sym, ap, subst, run_of, Closes, region_closes}
-use Rattle.sre_machine.proofs.atomic_scopes.end.Goals as goal
+use Rattle.sre_machine.proofs.scopes.end.Goals as goal
 
 pub returns : goal.returns
 returns g c =
