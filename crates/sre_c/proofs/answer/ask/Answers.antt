@@ -1,4 +1,4 @@
-use Rattle.sre_c.proofs.Terms.{refl, arith, code_of}
+use Rattle.sre_c.proofs.Terms.{refl, arith, code_of, rules}
 use Rattle.sre_c.proofs.Matches.{finds_any}
 use Rattle.sre_c.proofs.answer.ask.Goals as goal
 
@@ -16,3 +16,6 @@ returns-else-steps-eq-NO_LIMIT-clause-finds g c =
       unlimited = λ none. absurd (c.if-steps-eq-NO_LIMIT.false none);
       memory = said.refused;
     })
+
+pub returns-then-search-clause-finds : goal.returns-then-search-clause-finds
+returns-then-search-clause-finds g c = search rules

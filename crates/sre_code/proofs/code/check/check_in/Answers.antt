@@ -1,5 +1,6 @@
 use Rattle.sre_code.proofs.Terms.{ℕ, ◌≡◌, List, subst, Tree, WholeItems, width, Confirmed, HasWhole}
 use Rattle.sre_code.proofs.Descending.{front_refused, front_confirmed}
+use Rattle.std.proofs.Common.{rules}
 use Rattle.sre_code.proofs.code.check.check_in.Goals as goal
 
 pub returns-in-Err-clause-refused : goal.returns-in-Err-clause-refused
@@ -20,3 +21,18 @@ invariant_of-result-clause-checked g c =
     (subst (λ (ws : List ℕ). HasWhole ws 0 least) c.split_at.ensures.back c.in-Ok.ensures)
     (subst (λ (ws : List ℕ). (t : Tree) → WholeItems ws t → least ≡ width t → Confirmed words c.args.uni.now t hints)
     c.split_at.ensures.back c.confirmed.ensures)
+
+pub returns-clause-words : goal.returns-clause-words
+returns-clause-words g c = search rules
+
+pub invariant_of-result-clause-behind : goal.invariant_of-result-clause-behind
+invariant_of-result-clause-behind g c = search rules
+
+pub invariant_of-result-clause-scanned : goal.invariant_of-result-clause-scanned
+invariant_of-result-clause-scanned g c = search rules
+
+pub invariant_of-result-clause-asked : goal.invariant_of-result-clause-asked
+invariant_of-result-clause-asked g c = search rules
+
+pub invariant_of-result-clause-counted : goal.invariant_of-result-clause-counted
+invariant_of-result-clause-counted g c = search rules

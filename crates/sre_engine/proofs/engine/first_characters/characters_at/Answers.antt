@@ -1,4 +1,5 @@
-use Rattle.sre_engine.proofs.Terms.{refl, rules, role_here, tree_within, ToBranch, branch_there, branch_bars}
+use Rattle.sre_engine.proofs.Terms.{refl, rules, role_here, tree_within, branch_there, branch_bars}
+use Rattle.sre_model.specs.Roles.{ToBranch}
 use Rattle.sre_chars.specs.declared.constants.SreOpcode.TheVariants as opcode
 use Rattle.sre_engine.proofs.engine.first_characters.characters_at.Goals as goal
 

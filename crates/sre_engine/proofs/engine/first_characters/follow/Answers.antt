@@ -1,9 +1,10 @@
 use Rattle.sre_engine.proofs.Terms.{◌≡◌, ◌⊎◌, ◌+◌, ℕ, List, inl, inr, refl, ap, subst, Option, None, Some, IfSome}
 use Rattle.sre_engine.proofs.Terms.{rules, arith, SreOpcode, SreAtCode, at_number, Tree, Subject, Word, Opcode, NoWay}
-use Rattle.sre_engine.proofs.Terms.{TreeStands, Leads, ToCheckPosition, ToMark, role, HasRole, role_here, leads_tree}
-use Rattle.sre_engine.proofs.Terms.{IsElsewhere, ToRepeat, ToRepeatPossessively, ToGroupAtomically, mark_leads}
-use Rattle.sre_engine.proofs.Terms.{atomic_leads, look_operand, look_leads, at_operand, at_leads, at_bars_there}
-use Rattle.sre_engine.proofs.Terms.{body_operand, body_leads}
+use Rattle.sre_engine.proofs.Terms.{TreeStands, Leads, role, HasRole, role_here, leads_tree, IsElsewhere, mark_leads}
+use Rattle.sre_engine.proofs.Terms.{look_operand, look_leads, at_operand, at_leads, at_bars_there, body_operand}
+use Rattle.sre_engine.proofs.Terms.{body_leads}
+use Rattle.sre_model.specs.Roles.{ToCheckPosition, ToMark, ToRepeat, ToRepeatPossessively, ToGroupAtomically}
+use Rattle.sre_model.proofs.FirstCharacters.{atomic_leads}
 use Rattle.sre_chars.specs.declared.constants.SreOpcode.TheVariants as opcode
 use Rattle.sre_engine.proofs.Leading.{test_past, code_past, code_read, loop_role, followed, follow_stuck}
 use Rattle.sre_engine.proofs.Leading.{followed_start}

@@ -1,4 +1,4 @@
-use Rattle.sre_finder.proofs.Terms.{refl, sym, subst, words_of, uni_of, string_of, code_of, EndStands}
+use Rattle.sre_finder.proofs.Terms.{refl, sym, subst, words_of, uni_of, string_of, code_of, EndStands, rules}
 use Rattle.sre_finder.proofs.Covered.{suits_same}
 use Rattle.sre_finder.proofs.kept.Kept.search.Goals as goal
 
@@ -24,3 +24,6 @@ returns-clause-suits g c =
     let code = code_of c.args.req in
     suits_same (words_of code) (uni_of code) _ _ (record { encoding = refl; seeker = refl; whole = refl })
     c.note_search.ensures.encoding c.note_search.ensures.exact refl c.search_by-found-2.ensures.suits.0
+
+pub returns-clause-answer : goal.returns-clause-answer
+returns-clause-answer g c = search rules

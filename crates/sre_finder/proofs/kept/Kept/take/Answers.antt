@@ -1,4 +1,4 @@
-use Rattle.sre_finder.proofs.Terms.{◌∙◌, sym, subst, words_of, uni_of, Suits}
+use Rattle.sre_finder.proofs.Terms.{◌∙◌, sym, subst, words_of, uni_of, Suits, rules}
 use Rattle.sre_finder.proofs.kept.Kept.take.Goals.{then-eq, else-eq}
 use Rattle.sre_finder.proofs.kept.Kept.take.Goals as goal
 
@@ -14,3 +14,6 @@ into_finder-requires c =
 pub returns-clause-suits : goal.returns-clause-suits
 returns-clause-suits c = λ ws uni.
     subst (Suits ws uni) (sym c.replace-before.ensures.after) (c.new.ensures.suits ws uni)
+
+pub returns-clause-encoding : goal.returns-clause-encoding
+returns-clause-encoding c = search rules

@@ -1,4 +1,4 @@
-use Rattle.sre_finder.proofs.Terms.{◌≡◌, ◌&&◌, nat_eq, start_of, must_advance_of, StepsFrom}
+use Rattle.sre_finder.proofs.Terms.{◌≡◌, ◌&&◌, nat_eq, start_of, must_advance_of, StepsFrom, rules}
 use Rattle.sre_finder.proofs.Spans.{shown_behind}
 use Rattle.sre_finder.proofs.span_finder.SpanFinder.next_match.Goals as goal
 
@@ -14,3 +14,6 @@ returns-clause-shows g c = λ _.
     at c.bars-advances.ensures in
     shown_behind r from.position (start_of u) u c.bars-advances.result c.in_ok-_shown._shown c.show_at.new.state
     steps.goes_on steps.finds bars c.in_ok-_shown.ensures.answer c.in_ok-_shown.ensures.cursor
+
+pub returns-then-step-clause-some : goal.returns-then-step-clause-some
+returns-then-step-clause-some g c = search rules

@@ -1,4 +1,4 @@
-use Rattle.sre_finder.proofs.Terms.{◌∙◌, sym, subst, ap₂, arith, string_of, start_of, asked_of, EndStands}
+use Rattle.sre_finder.proofs.Terms.{◌∙◌, sym, subst, ap₂, arith, string_of, start_of, asked_of, EndStands, rules}
 use Rattle.sre_finder.proofs.span_finder.SpanFinder.walk.Goals as goal
 
 pub invariant_of-result : goal.invariant_of-result
@@ -27,3 +27,6 @@ returns-clause-last g c =
     let here = rw (c.string.ensures, c.start.ensures.value) at c.create_cursor-cursor.ensures in
     let at = (g.met.S.StrDrive.stands_at (string_of asked) cursor (start_of asked) here).0 in
     ap₂ (λ p b. record (asked_of asked) { start = p; must_advance = b }) at c.must_advance-advances.ensures
+
+pub returns-clause-open : goal.returns-clause-open
+returns-clause-open g c = search rules

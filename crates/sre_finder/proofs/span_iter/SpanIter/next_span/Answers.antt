@@ -1,4 +1,4 @@
-use Rattle.sre_finder.proofs.Terms.{◌≡◌, ◌&&◌, nat_eq, Some, ap₂, sym, subst, ◌∙◌, arith, ∥∥₁_elim, Whole, found}
+use Rattle.sre_finder.proofs.Terms.{◌≡◌, ◌&&◌, nat_eq, Some, ap₂, sym, subst, ◌∙◌, arith, ∥∥₁_elim, Whole, found, rules}
 use Rattle.sre_finder.proofs.Terms.{words_of, hints_of, code_tree, string_of, start_of, code_of, must_advance_of}
 use Rattle.sre_finder.proofs.Terms.{asked_of, match_with, StepsFrom, GoesOnBehind, FindsSpan}
 use Rattle.sre_finder.proofs.Covered.{end_once}
@@ -92,3 +92,6 @@ returns-in-Ok-Some-clause-falls g c =
     let tree = code_tree (words_of code) (hints_of code) code.checked in
     let less = span_falls r start end u goes finds tree in
     rw c.if-self.false (omega (arith, less))
+
+pub returns-in-Ok-None-clause-gives : goal.returns-in-Ok-None-clause-gives
+returns-in-Ok-None-clause-gives g c = search rules

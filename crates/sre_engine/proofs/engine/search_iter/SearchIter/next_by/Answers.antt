@@ -1,4 +1,4 @@
-use Rattle.sre_engine.proofs.Terms.{∥∥₁_elim, arith, string_of, start_of}
+use Rattle.sre_engine.proofs.Terms.{∥∥₁_elim, arith, string_of, start_of, rules}
 use Rattle.std.proofs.lemmas.Grind.{merely}
 use Rattle.sre_engine.proofs.engine.search_iter.SearchIter.next_by.Goals as goal
 
@@ -15,3 +15,6 @@ invariant_of-self-in-Ok-false g c = grind (arith, merely)
 
 pub invariant_of-self-in-Err : goal.invariant_of-self-in-Err
 invariant_of-self-in-Err g c = grind (arith, merely)
+
+pub returns-in-Ok-true-clause-gives : goal.returns-in-Ok-true-clause-gives
+returns-in-Ok-true-clause-gives g c = search rules

@@ -1,4 +1,4 @@
-use Rattle.sre_engine.proofs.Terms.{∥∥₁_elim, arith, string_of, start_of}
+use Rattle.sre_engine.proofs.Terms.{∥∥₁_elim, arith, string_of, start_of, rules}
 use Rattle.std.proofs.lemmas.Grind.{merely}
 use Rattle.sre_engine.proofs.engine.search_iter.SearchIter.next_within_by.Goals as goal
 
@@ -18,3 +18,9 @@ invariant_of-self-in-Ok-None g c = grind (arith, merely)
 
 pub invariant_of-self-in-Err : goal.invariant_of-self-in-Err
 invariant_of-self-in-Err g c = grind (arith, merely)
+
+pub returns-in-Ok-None-clause-gives : goal.returns-in-Ok-None-clause-gives
+returns-in-Ok-None-clause-gives g c = search rules
+
+pub returns-in-Ok-Some-true-clause-steps : goal.returns-in-Ok-Some-true-clause-steps
+returns-in-Ok-Some-true-clause-steps g c = search rules

@@ -1,4 +1,4 @@
-use Rattle.sre_engine.proofs.Terms.{refl}
+use Rattle.sre_engine.proofs.Terms.{refl, rules}
 use Rattle.sre_engine.proofs.CountLaws.{once}
 use Rattle.sre_engine.proofs.Spending.{keeps_to, used_up}
 use Rattle.sre_engine.proofs.engine.state.State.search_within_by.Goals as goal
@@ -20,3 +20,6 @@ pub returns-in-Err-Refused-clause-steps : goal.returns-in-Err-Refused-clause-ste
 returns-in-Err-Refused-clause-steps g c =
     keeps_to c.args.req c.args.steps.now _ _ _ _ _ _ _ c.search_from-told.ensures.charged refl refl c.left.ensures
     (once _ _ _ _ _ c.search_from-told.ensures.answers.counts) tt
+
+pub returns-clause-answers : goal.returns-clause-answers
+returns-clause-answers g c = search rules

@@ -1,0 +1,5 @@
+use Rattle.std.proofs.Common.{rules}
+use Rattle.sre_finder.proofs.finder.Finder.new.Goals as goal
+
+pub returns-clause-encoding : goal.returns-clause-encoding
+returns-clause-encoding c = search rules

@@ -1,0 +1,5 @@
+use Rattle.std.proofs.Common.{rules}
+use Rattle.sre_finder.proofs.finder.Finder.on_demand.Goals as goal
+
+pub returns-clause-encoding : goal.returns-clause-encoding
+returns-clause-encoding c = search rules
