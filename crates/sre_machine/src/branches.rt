@@ -117,14 +117,6 @@ fn begins_otherwise<S: StrDrive>(
     by_opcode!(LITERAL LITERAL_IGNORE LITERAL_UNI_IGNORE IN IN_UNI_IGNORE)
 }
 
-/// The character at a cursor inside the range, and the cursor after it.
-#[derive(Clone, Copy)]
-pub(super) struct Ahead {
-    pub(super) cursor: StringCursor,
-    pub(super) character: u32,
-    pub(super) after: StringCursor,
-}
-
 // Whether a character is ASCII and not in a set.
 #[inline(always)]
 fn is_outside(set: AsciiSet, character: u32) -> bool
@@ -133,26 +125,36 @@ fn is_outside(set: AsciiSet, character: u32) -> bool
     character < 128 && !set.contains(character)
 }
 
-// Whether the instruction at an address fails before the character ahead, by FIRST sets.
+// Whether the instruction at an address fails before a character, by FIRST sets.
 #[inline(always)]
-fn bars<S: StrDrive>(req: &Request<'_, S>, place: usize, ahead: &Ahead) -> bool
-    requires { ahead.now.character ≡ character_at req.now ahead.now.cursor.position }
-    ensures { result ≡ true → RefusesAt req.now place ahead.now.cursor.position }
+fn bars<S: StrDrive>(
+    req: &Request<'_, S>,
+    place: usize,
+    character: u32,
+    cursor: StringCursor,
+) -> bool
+    requires { character ≡ character_at req.now cursor.position }
+    ensures { result ≡ true → RefusesAt req.now place cursor.position }
 {
     match req.admitted().get(place) {
-        Some(admitted) => is_outside(admitted.instruction, ahead.character),
+        Some(admitted) => is_outside(admitted.instruction, character),
         None => false,
     }
 }
 
-// Whether the alternatives from a length word on fail before the character ahead, by FIRST sets.
+// Whether the alternatives from a length word on fail before a character, by FIRST sets.
 #[inline(always)]
-fn bars_alternatives<S: StrDrive>(req: &Request<'_, S>, place: usize, ahead: &Ahead) -> bool
-    requires { ahead.now.character ≡ character_at req.now ahead.now.cursor.position }
-    ensures { result ≡ true → Exhausted (run_of req.now) (Alternatives place) ahead.now.cursor.position }
+fn bars_alternatives<S: StrDrive>(
+    req: &Request<'_, S>,
+    place: usize,
+    character: u32,
+    cursor: StringCursor,
+) -> bool
+    requires { character ≡ character_at req.now cursor.position }
+    ensures { result ≡ true → Exhausted (run_of req.now) (Alternatives place) cursor.position }
 {
     match req.admitted().get(place) {
-        Some(admitted) => is_outside(admitted.alternatives, ahead.character),
+        Some(admitted) => is_outside(admitted.alternatives, character),
         None => false,
     }
 }
@@ -164,25 +166,27 @@ struct Onward {
     cursor: StringCursor,
 }
 
-// The address and cursor after a test of one character, if it takes the one ahead.
+// The address and cursor after a test of one character, if it takes the one at the cursor.
 #[inline(always)]
 fn behind_test<S: StrDrive>(
     req: &Request<'_, S>,
     opcode: SreOpcode,
     place: usize,
-    ahead: &Ahead,
+    character: u32,
+    after: StringCursor,
+    cursor: StringCursor,
 ) -> Option<Onward>
     requires opcode { OpcodeAt req.now place opcode }
     requires tests { begins_test opcode ≡ true }
-    requires stands { At req.now place ahead.now.cursor }
-    requires read { ReadAt req.now ahead.now.cursor ahead.now.character ahead.now.after }
-    ensures { MatchOption result (RefusesAt req.now place ahead.now.cursor.position)
-        (λ x. ContinuesTo req.now (Instruction place) ahead.now.cursor (Instruction x.place) x.cursor) }
+    requires stands { At req.now place cursor }
+    requires read { ReadAt req.now cursor character after }
+    ensures { MatchOption result (RefusesAt req.now place cursor.position)
+        (λ x. ContinuesTo req.now (Instruction place) cursor (Instruction x.place) x.cursor) }
 {
-    if takes(req, place, opcode, ahead.character) {
+    if takes(req, place, opcode, character) {
         Some(Onward {
             place: test_end(req, place, opcode),
-            cursor: ahead.after,
+            cursor: after,
         })
     } else {
         None
@@ -202,16 +206,23 @@ fn behind_jump<S: StrDrive>(req: &Request<'_, S>, place: usize, cursor: StringCu
     place
 }
 
-// Continues after a set that takes the character ahead, and after the JUMP that ends an alternative of one character.
+// Continues after a set that takes the character at the cursor, and after the JUMP that ends an alternative of one
+// character.
 #[inline(always)]
-fn behind_set<S: StrDrive>(req: &Request<'_, S>, place: usize, ahead: &Ahead) -> Option<Onward>
+fn behind_set<S: StrDrive>(
+    req: &Request<'_, S>,
+    place: usize,
+    character: u32,
+    after: StringCursor,
+    cursor: StringCursor,
+) -> Option<Onward>
     requires opcode { OpcodeAt req.now place SreOpcode.IN }
-    requires stands { At req.now place ahead.now.cursor }
-    requires read { ReadAt req.now ahead.now.cursor ahead.now.character ahead.now.after }
-    ensures { MatchOption result (RefusesAt req.now place ahead.now.cursor.position)
-        (λ x. ContinuesTo req.now (Instruction place) ahead.now.cursor (Instruction x.place) x.cursor) }
+    requires stands { At req.now place cursor }
+    requires read { ReadAt req.now cursor character after }
+    ensures { MatchOption result (RefusesAt req.now place cursor.position)
+        (λ x. ContinuesTo req.now (Instruction place) cursor (Instruction x.place) x.cursor) }
 {
-    let Some(behind) = behind_test(req, SreOpcode::IN, place, ahead) else {
+    let Some(behind) = behind_test(req, SreOpcode::IN, place, character, after, cursor) else {
         return None;
     };
     Some(Onward {
@@ -220,42 +231,48 @@ fn behind_set<S: StrDrive>(req: &Request<'_, S>, place: usize, ahead: &Ahead) ->
     })
 }
 
-// Where the machine continues from an instruction that may match: after a LITERAL or an IN that takes the character
-// ahead, else at the instruction itself. FIRST sets decide whether others may match. Without them the words do, and the
+// Where the machine continues from an instruction that may match: after a LITERAL or an IN that takes the character,
+// else at the instruction itself. FIRST sets decide whether others may match. Without them the words do, and the
 // machine also continues after a NOT_LITERAL or a LITERAL_UNI_IGNORE.
 #[inline(always)]
 fn begin<S: StrDrive, const ADMITTED: bool>(
     req: &Request<'_, S>,
     place: usize,
-    ahead: &Ahead,
+    character: u32,
+    after: StringCursor,
+    cursor: StringCursor,
 ) -> Option<Onward>
-    requires stands { At req.now place ahead.now.cursor }
-    requires read { ReadAt req.now ahead.now.cursor ahead.now.character ahead.now.after }
-    ensures { MatchOption result (RefusesAt req.now place ahead.now.cursor.position)
-        (λ x. ContinuesTo req.now (Instruction place) ahead.now.cursor (Instruction x.place) x.cursor) }
+    requires stands { At req.now place cursor }
+    requires read { ReadAt req.now cursor character after }
+    ensures { MatchOption result (RefusesAt req.now place cursor.position)
+        (λ x. ContinuesTo req.now (Instruction place) cursor (Instruction x.place) x.cursor) }
 {
-    if ADMITTED && bars(req, place, ahead) {
+    if ADMITTED && bars(req, place, character, cursor) {
         return None;
     }
     if word(req, place) == SreOpcode::LITERAL as u32 {
-        return behind_test(req, SreOpcode::LITERAL, place, ahead);
+        return behind_test(req, SreOpcode::LITERAL, place, character, after, cursor);
     }
-    match opcode(req, place, ahead.cursor) {
-        SreOpcode::IN => behind_set(req, place, ahead),
+    match opcode(req, place, cursor) {
+        SreOpcode::IN => behind_set(req, place, character, after, cursor),
         SreOpcode::NOT_LITERAL if !ADMITTED => {
-            behind_test(req, SreOpcode::NOT_LITERAL, place, ahead)
+            behind_test(req, SreOpcode::NOT_LITERAL, place, character, after, cursor)
         }
         SreOpcode::LITERAL_UNI_IGNORE if !ADMITTED => {
-            behind_test(req, SreOpcode::LITERAL_UNI_IGNORE, place, ahead)
+            behind_test(
+                req,
+                SreOpcode::LITERAL_UNI_IGNORE,
+                place,
+                character,
+                after,
+                cursor,
+            )
         }
         _ => {
-            if !ADMITTED && begins_otherwise(req, place, ahead.character, ahead.cursor) {
+            if !ADMITTED && begins_otherwise(req, place, character, cursor) {
                 None
             } else {
-                Some(Onward {
-                    place,
-                    cursor: ahead.cursor,
-                })
+                Some(Onward { place, cursor })
             }
         }
     }
@@ -274,15 +291,17 @@ struct Alternative {
 fn first_alternative<S: StrDrive, const ADMITTED: bool>(
     req: &Request<'_, S>,
     start: usize,
-    ahead: &Ahead,
+    character: u32,
+    after: StringCursor,
+    cursor: StringCursor,
 ) -> Option<Alternative>
-    requires stands { AtPoint req.now (Alternatives start) ahead.now.cursor }
-    requires read { ReadAt req.now ahead.now.cursor ahead.now.character ahead.now.after }
-    ensures { MatchOption result (Exhausted (run_of req.now) (Alternatives start) ahead.now.cursor.position)
-        (λ x. AtPoint req.now (Alternatives x.length_word) ahead.now.cursor
+    requires stands { AtPoint req.now (Alternatives start) cursor }
+    requires read { ReadAt req.now cursor character after }
+    ensures { MatchOption result (Exhausted (run_of req.now) (Alternatives start) cursor.position)
+        (λ x. AtPoint req.now (Alternatives x.length_word) cursor
         × (0 < word (run_of req.now).words x.length_word)
-        × ContinuesTo req.now (Alternatives start) ahead.now.cursor (Alternatives x.length_word) ahead.now.cursor
-        × ContinuesTo req.now (Instruction (x.length_word + 1)) ahead.now.cursor (Instruction x.place) x.cursor) }
+        × ContinuesTo req.now (Alternatives start) cursor (Alternatives x.length_word) cursor
+        × ContinuesTo req.now (Instruction (x.length_word + 1)) cursor (Instruction x.place) x.cursor) }
 {
     let mut place = start;
     'alternative: loop {
@@ -290,7 +309,7 @@ fn first_alternative<S: StrDrive, const ADMITTED: bool>(
         if length == 0 {
             return None;
         }
-        let first = begin::<S, ADMITTED>(req, place + 1, ahead);
+        let first = begin::<S, ADMITTED>(req, place + 1, character, after, cursor);
         if let Some(begun) = first {
             return Some(Alternative {
                 length_word: place,
@@ -309,20 +328,21 @@ pub(super) fn only_alternative<S: StrDrive>(
     req: &Request<'_, S>,
     start: usize,
     end: usize,
-    ahead: &Ahead,
+    character: u32,
+    after: StringCursor,
+    cursor: StringCursor,
 ) -> Option<StringCursor>
-    requires stands { AtPoint req.now (Alternatives start) ahead.now.cursor }
-    requires read { ReadAt req.now ahead.now.cursor ahead.now.character ahead.now.after }
-    ensures { IfSome result
-        (λ behind. YieldsTo (run_of req.now) (Alternatives start) ahead.now.cursor (Instruction end) behind) }
+    requires stands { AtPoint req.now (Alternatives start) cursor }
+    requires read { ReadAt req.now cursor character after }
+    ensures { IfSome result (λ behind. YieldsTo (run_of req.now) (Alternatives start) cursor (Instruction end) behind) }
 {
-    let first = first_alternative::<S, false>(req, start, ahead)?;
+    let first = first_alternative::<S, false>(req, start, character, after, cursor)?;
     let length = word(req, first.length_word) as usize;
     if behind_jump(req, first.place, first.cursor) != end {
         return None;
     }
     let following = first.length_word + length;
-    match first_alternative::<S, false>(req, following, ahead) {
+    match first_alternative::<S, false>(req, following, character, after, cursor) {
         Some(_) => None,
         None => Some(first.cursor),
     }
@@ -376,41 +396,45 @@ fn choose_alternative<S: StrDrive, A: Allocator>(
 fn other_alternative<S: StrDrive, const ADMITTED: bool>(
     req: &Request<'_, S>,
     start: usize,
-    ahead: &Ahead,
+    character: u32,
+    after: StringCursor,
+    cursor: StringCursor,
 ) -> Option<Alternative>
-    requires stands { AtPoint req.now (Alternatives start) ahead.now.cursor }
-    requires read { ReadAt req.now ahead.now.cursor ahead.now.character ahead.now.after }
-    ensures { MatchOption result (Exhausted (run_of req.now) (Alternatives start) ahead.now.cursor.position)
-        (λ x. ContinuesTo req.now (Alternatives start) ahead.now.cursor (Alternatives x.length_word) ahead.now.cursor) }
+    requires stands { AtPoint req.now (Alternatives start) cursor }
+    requires read { ReadAt req.now cursor character after }
+    ensures { MatchOption result (Exhausted (run_of req.now) (Alternatives start) cursor.position)
+        (λ x. ContinuesTo req.now (Alternatives start) cursor (Alternatives x.length_word) cursor) }
 {
-    if ADMITTED && bars_alternatives(req, start, ahead) {
+    if ADMITTED && bars_alternatives(req, start, character, cursor) {
         return None;
     }
-    first_alternative::<S, ADMITTED>(req, start, ahead)
+    first_alternative::<S, ADMITTED>(req, start, character, after, cursor)
 }
 
-// The alternatives from a length word on, before the character ahead.
+// The alternatives from a length word on, before a character.
 #[inline(always)]
 fn alternatives_before<S: StrDrive, A: Allocator, const ADMITTED: bool>(
     req: &Request<'_, S>,
     board: &mut Board<A>,
     start: usize,
-    ahead: &Ahead,
+    character: u32,
+    after: StringCursor,
+    cursor: StringCursor,
 ) -> Result<Next, Refusal<A>>
-    requires stands { AtPoint req.now (Alternatives start) ahead.now.cursor }
-    requires read { ReadAt req.now ahead.now.cursor ahead.now.character ahead.now.after }
-    ensures { IfOk result (λ next. TurnAt req.now (Alternatives start) ahead.now.cursor board.old next board.new) }
+    requires stands { AtPoint req.now (Alternatives start) cursor }
+    requires read { ReadAt req.now cursor character after }
+    ensures { IfOk result (λ next. TurnAt req.now (Alternatives start) cursor board.old next board.new) }
 {
-    let Some(first) = first_alternative::<S, ADMITTED>(req, start, ahead) else {
+    let Some(first) = first_alternative::<S, ADMITTED>(req, start, character, after, cursor) else {
         return Ok(Next::Back);
     };
     let length = word(req, first.length_word) as usize;
     let following = first.length_word + length;
-    let others = other_alternative::<S, ADMITTED>(req, following, ahead);
+    let others = other_alternative::<S, ADMITTED>(req, following, character, after, cursor);
     let Some(other) = others else {
         return Ok(Next::At(first.place, first.cursor));
     };
-    Ok(choose_alternative(req, board, first, other.length_word, ahead.cursor)?)
+    Ok(choose_alternative(req, board, first, other.length_word, cursor)?)
 }
 
 /// The alternatives of a BRANCH from a length word on: `length body JUMP skip ... 0`.
@@ -428,15 +452,10 @@ pub(super) fn alternatives<S: StrDrive, A: Allocator>(
         return Ok(alternatives_at_end(req, board, start, cursor)?);
     }
     let (character, after) = read(req, cursor);
-    let ahead = Ahead {
-        cursor,
-        character,
-        after,
-    };
     if character < 128 && !req.admitted().is_empty() {
-        return alternatives_before::<S, A, true>(req, board, start, &ahead);
+        return alternatives_before::<S, A, true>(req, board, start, character, after, cursor);
     }
-    alternatives_before::<S, A, false>(req, board, start, &ahead)
+    alternatives_before::<S, A, false>(req, board, start, character, after, cursor)
 }
 
 /// `BRANCH length body JUMP skip ... 0`: the first alternative, then the others.

@@ -14,7 +14,7 @@ ghost use Rattle.sre_machine.specs.Terms.{with_loop};
 ghost use Rattle.sre_machine.specs.Turns.{At, AtPoint, AtOnBoard, DemandedAt, Turn};
 ghost use Rattle.sre_turns.specs.Strides.{EndsBody, Strides};
 
-use crate::branches::{Ahead, only_alternative};
+use crate::branches::only_alternative;
 use crate::loops::{body_or_end, next_frame};
 use crate::machine::{first_literal, opcode};
 use sre_board::Board;
@@ -181,12 +181,7 @@ fn next_body<S: StrDrive>(
     if character < 128 && told.contains(character) {
         return Some(after);
     }
-    let ahead = Ahead {
-        cursor,
-        character,
-        after,
-    };
-    let behind = only_alternative(req, alternatives, place, &ahead)?;
+    let behind = only_alternative(req, alternatives, place, character, after, cursor)?;
     if behind.position() <= cursor.position() {
         return None;
     }

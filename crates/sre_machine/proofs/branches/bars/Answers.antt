@@ -9,5 +9,5 @@ returns-in-Some g c = λ outside.
     let told =
     told_there r.words c.admitted.result.now c.args.place c.in-Some.admitted.now _ c.admitted.ensures.admitted
     found.0 found.1 in
-    nothing_before r (Instruction c.args.place) (contains c.in-Some.admitted.now.instruction) c.args.ahead.now.character
-    c.args.ahead.now.cursor.position told.instruction (c.is_outside.ensures outside) c.requires
+    nothing_before r (Instruction c.args.place) (contains c.in-Some.admitted.now.instruction) c.args.character
+    c.args.cursor.position told.instruction (c.is_outside.ensures outside) c.requires

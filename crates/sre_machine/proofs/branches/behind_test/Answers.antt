@@ -11,15 +11,15 @@ test_end-requires-clause-stands g c =
 
 pub returns-then-takes : goal.returns-then-takes
 returns-then-takes g c =
-    test_continues (run_of c.args.req.now) c.args.place c.args.ahead.now.character c.args.opcode c.takes.result
-    c.args.ahead.now.cursor c.requires.opcode c.requires.tests
+    test_continues (run_of c.args.req.now) c.args.place c.args.character c.args.opcode c.takes.result c.args.cursor
+    c.requires.opcode c.requires.tests
     (test_there (run_of c.args.req.now) _ _ _ c.requires.opcode c.requires.tests c.requires.stands)
-    c.requires.read.inside c.requires.read.character c.takes.ensures c.test_end.result c.args.ahead.now.after
-    c.if-takes.true c.test_end.ensures c.requires.read.position c.requires.read.stands
+    c.requires.read.inside c.requires.read.character c.takes.ensures c.test_end.result c.args.after c.if-takes.true
+    c.test_end.ensures c.requires.read.position c.requires.read.stands
 
 pub returns-else-takes : goal.returns-else-takes
 returns-else-takes g c =
-    test_misses (run_of c.args.req.now) c.args.place c.args.ahead.now.character c.args.opcode c.takes.result
-    c.args.ahead.now.cursor c.requires.opcode c.requires.tests
+    test_misses (run_of c.args.req.now) c.args.place c.args.character c.args.opcode c.takes.result c.args.cursor
+    c.requires.opcode c.requires.tests
     (test_there (run_of c.args.req.now) _ _ _ c.requires.opcode c.requires.tests c.requires.stands)
     c.requires.read.inside c.requires.read.character c.takes.ensures c.if-takes.false

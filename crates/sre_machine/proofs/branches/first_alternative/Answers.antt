@@ -9,8 +9,7 @@ word-length-requires g c = alternatives_there (run_of c.args.req.now) _ _ c.alte
 
 pub returns-then-length-eq0 : goal.returns-then-length-eq0
 returns-then-length-eq0 g c =
-    let here = c.args.ahead.now.cursor in
-    continues_exhausted (run_of c.args.req.now) _ _ here here c.alternative.invariant.on
+    continues_exhausted (run_of c.args.req.now) _ _ c.args.cursor c.args.cursor c.alternative.invariant.on
     (alternatives_exhausted (run_of c.args.req.now) _ _ _ c.word-length.ensures.word c.if-length-eq0.true)
 
 pub overflow_add-place : goal.overflow_add-place
@@ -18,18 +17,17 @@ overflow_add-place g c = omega (arith, c.word-length.ensures.room)
 
 pub begin-first-requires-clause-stands : goal.begin-first-requires-clause-stands
 begin-first-requires-clause-stands g c =
-    (alternatives_run (run_of c.args.req.now) _ _ c.args.ahead.now.cursor c.word-length.ensures.word
+    (alternatives_run (run_of c.args.req.now) _ _ c.args.cursor c.word-length.ensures.word
     (positive _ c.if-length-eq0.false) c.alternative.invariant.at).0
 
 pub alternative-preserved : goal.alternative-preserved
 alternative-preserved g c =
     let r = run_of c.args.req.now in
-    let here = c.args.ahead.now.cursor in
-    let passed = alternatives_pass r c.alternative.place c.word-length.result here
+    let passed = alternatives_pass r c.alternative.place c.word-length.result c.args.cursor
     c.word-length.ensures.word (positive _ c.if-length-eq0.false) c.requires.stands.stands c.in_default.ensures in
     record {
-      at = continues_run r _ _ here here passed c.alternative.invariant.at;
-      on = continues_then r _ _ here here c.alternative.invariant.on _ here passed;
+      at = continues_run r _ _ c.args.cursor c.args.cursor passed c.alternative.invariant.at;
+      on = continues_then r _ _ c.args.cursor c.args.cursor c.alternative.invariant.on _ c.args.cursor passed;
     }
 
 pub returns-in-Some : goal.returns-in-Some

@@ -3,8 +3,8 @@ use Rattle.sre_machine.proofs.branches.first_alternative.Given as goal
 
 abbrev pub invariant-alternative : goal.invariant-alternative
 invariant-alternative g l = record {
-  at : HasRun (run_of l.req) (Alternatives l.place) l.ahead.cursor;
-  on : Continues (run_of l.req) (Alternatives l.start) l.ahead.cursor (Alternatives l.place) l.ahead.cursor;
+  at : HasRun (run_of l.req) (Alternatives l.place) l.cursor;
+  on : Continues (run_of l.req) (Alternatives l.start) l.cursor (Alternatives l.place) l.cursor;
 }
 
 abbrev pub decreases-alternative : goal.decreases-alternative
